@@ -1,0 +1,5 @@
+pub mod Digits
+pub mod Readings
+pub mod Marks
+pub mod Orders
+pub mod Room

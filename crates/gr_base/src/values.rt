@@ -1,0 +1,34 @@
+//! Values of programs.
+
+ghost use Rattle.std.specs.Prelude.{◌≡◌, IfOk};
+
+use crate::memory::NoMemory;
+use crate::names::ChName;
+use std::alloc::Global;
+
+/// A value that a variable holds or a channel carries.
+#[derive(Debug, PartialEq, Eq, Drop)]
+pub enum Value {
+    /// A value of type `int`.
+    Int(i64),
+    Bool(bool),
+    /// The one value of `struct{}`.
+    Unit,
+    /// A channel, or nil.
+    Chan(Option<ChName>),
+}
+
+impl Value {
+    /// The same value once more.
+    pub fn copy(&self, alloc: Global) -> Result<Value, NoMemory>
+        ensures { IfOk result (λ value. value ≡ self.now) }
+    {
+        match self {
+            Value::Int(n) => Ok(Value::Int(*n)),
+            Value::Bool(b) => Ok(Value::Bool(*b)),
+            Value::Unit => Ok(Value::Unit),
+            Value::Chan(None) => Ok(Value::Chan(None)),
+            Value::Chan(Some(name)) => Ok(Value::Chan(Some(name.copy(alloc)?))),
+        }
+    }
+}
