@@ -1,0 +1,16 @@
+pub mod ListLemmas
+pub mod StepLemmas
+pub mod PathLemmas
+pub mod OrderLemmas
+pub mod AsideLemmas
+pub mod DependenceLemmas
+pub mod SwapLemmas
+pub mod RollbackLemmas
+pub mod RuleLemmas
+pub mod NameLemmas
+pub mod OrderByNamesLemmas
+pub mod MiddleLemmas
+pub mod MailboxLemmas
+pub mod PartLemmas
+pub mod UniqueLemmas
+pub mod PlaceLemmas

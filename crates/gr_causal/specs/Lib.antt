@@ -1,0 +1,9 @@
+pub mod Sequences
+pub mod Dependence
+pub mod Orders
+pub mod Machine
+pub mod Rules
+pub mod OrderByNames
+pub mod StepNames
+pub mod Mailboxes
+pub mod WorkedLog
