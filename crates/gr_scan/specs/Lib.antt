@@ -1,0 +1,6 @@
+pub mod Tokens
+pub mod Marks
+pub mod Pieces
+pub mod Numbers
+pub mod Scan
+pub mod Scanning

@@ -1,0 +1,203 @@
+//! The pieces that a text is cut into.
+ghost use Rattle.std.specs.Prelude.{◌≡◌, ℕ, ◌+◌, ◌<◌, ◌≤◌, length, slice_index, IfSome, IfNone, true, false};
+ghost use Rattle.gr_scan.specs.Pieces.{is_letter, is_word, is_digit, is_space, is_quote, IsPiece, NoPiece};
+ghost use Rattle.gr_scan.specs.Scanning.{class_of, OnlyMarks, Letter, Digit, Slash, Point};
+
+use crate::marks::operator;
+use crate::token::Mark;
+
+/// What a piece of a text is.
+#[derive(Clone, Copy, Debug, PartialEq, Eq)]
+pub enum Piece {
+    /// A space, a tab or a carriage return.
+    Space,
+    Newline,
+    /// A line comment, without the newline after it.
+    Comment,
+    /// A name or a keyword.
+    Word,
+    /// A run of digits, letters and `_` that begins with a digit.
+    Number,
+    Operator(Mark),
+    /// A number and the point after it, or a point and the digit after it.
+    Fraction,
+    /// The quote that begins a string or a character.
+    Quote,
+    /// The two bytes that begin a general comment.
+    GeneralComment,
+}
+
+/// What a byte may begin.
+#[derive(Clone, Copy, Debug, PartialEq, Eq)]
+pub enum Class {
+    Letter,
+    Digit,
+    Space,
+    Newline,
+    Quote,
+    Slash,
+    Point,
+    Other,
+}
+
+fn letter(b: u8) -> bool
+    ensures { result ≡ is_letter b }
+{
+    b.is_ascii_alphabetic() || b == b'_'
+}
+
+/// Whether a byte is a decimal digit.
+pub fn digit(b: u8) -> bool
+    ensures { result ≡ is_digit b }
+{
+    b.is_ascii_digit()
+}
+
+fn word(b: u8) -> bool
+    ensures { result ≡ is_word b }
+{
+    letter(b) || digit(b)
+}
+
+fn space(b: u8) -> bool
+    ensures { result ≡ is_space b }
+{
+    b == b' ' || b == b'\t' || b == b'\r'
+}
+
+fn quote(b: u8) -> bool
+    ensures { result ≡ is_quote b }
+{
+    b == b'"' || b == b'\'' || b == b'`'
+}
+
+fn classify(b: u8) -> Class
+    ensures { result ≡ class_of b }
+{
+    if letter(b) {
+        Class::Letter
+    } else if digit(b) {
+        Class::Digit
+    } else if space(b) {
+        Class::Space
+    } else if b == b'\n' {
+        Class::Newline
+    } else if quote(b) {
+        Class::Quote
+    } else if b == b'/' {
+        Class::Slash
+    } else if b == b'.' {
+        Class::Point
+    } else {
+        Class::Other
+    }
+}
+
+/// The byte at a place, and 0 past the end.
+pub fn byte(text: &[u8], at: usize) -> u8
+    ensures { result ≡ slice_index text.now at }
+{
+    if at < text.len() { text[at] } else { 0 }
+}
+
+// How far the bytes of names go on.
+fn run_end(text: &[u8], from: usize) -> usize
+    requires { from ≤ length text.now }
+    ensures low { from ≤ result }
+    ensures high { result ≤ length text.now }
+    ensures inside { (k : ℕ) → from ≤ k → k < result → is_word (slice_index text.now k) ≡ true }
+    ensures longest { result < length text.now → is_word (slice_index text.now result) ≡ false }
+{
+    for i in from..text.len() {
+        if !word(text[i]) {
+            return i;
+        }
+    }
+    text.len()
+}
+
+// How far a line goes on.
+fn line_end(text: &[u8], from: usize) -> usize
+    requires { from ≤ length text.now }
+    ensures low { from ≤ result }
+    ensures high { result ≤ length text.now }
+    ensures inside { (k : ℕ) → from ≤ k → k < result → slice_index text.now k ≡ 10 → ⊥ }
+    ensures longest { result < length text.now → slice_index text.now result ≡ 10 }
+{
+    for i in from..text.len() {
+        if text[i] == b'\n' {
+            return i;
+        }
+    }
+    text.len()
+}
+
+fn number(text: &[u8]) -> (Piece, usize)
+    requires filled { 0 < length text.now }
+    requires digit { class_of (slice_index text.now 0) ≡ Digit }
+    ensures { IsPiece result.0 result.1 text.now }
+{
+    let end = run_end(text, 1);
+    if byte(text, end) == b'.' {
+        (Piece::Fraction, end + 1)
+    } else {
+        (Piece::Number, end)
+    }
+}
+
+fn mark(text: &[u8]) -> Option<(Piece, usize)>
+    requires { OnlyMarks text.now }
+    ensures some { IfSome result (λ p. IsPiece p.0 p.1 text.now) }
+    ensures none { IfNone result (NoPiece text.now) }
+{
+    match operator(text) {
+        Some((mark, size)) => Some((Piece::Operator(mark), size)),
+        None => None,
+    }
+}
+
+fn slash(text: &[u8]) -> Option<(Piece, usize)>
+    requires filled { 0 < length text.now }
+    requires class { class_of (slice_index text.now 0) ≡ Slash }
+    ensures some { IfSome result (λ p. IsPiece p.0 p.1 text.now) }
+    ensures none { IfNone result (NoPiece text.now) }
+{
+    let second = byte(text, 1);
+    if second == b'/' {
+        return Some((Piece::Comment, line_end(text, 2)));
+    }
+    if second == b'*' {
+        return Some((Piece::GeneralComment, 2));
+    }
+    mark(text)
+}
+
+fn point(text: &[u8]) -> Option<(Piece, usize)>
+    requires filled { 0 < length text.now }
+    requires class { class_of (slice_index text.now 0) ≡ Point }
+    ensures some { IfSome result (λ p. IsPiece p.0 p.1 text.now) }
+    ensures none { IfNone result (NoPiece text.now) }
+{
+    if digit(byte(text, 1)) {
+        return Some((Piece::Fraction, 2));
+    }
+    mark(text)
+}
+
+/// The longest piece at the front, and its length in bytes; `None` where no piece begins.
+pub fn longest_piece(text: &[u8]) -> Option<(Piece, usize)>
+    requires { 0 < length text.now }
+    ensures some { IfSome result (λ p. IsPiece p.0 p.1 text.now) }
+    ensures none { IfNone result (NoPiece text.now) }
+{
+    match classify(text[0]) {
+        Class::Letter => Some((Piece::Word, run_end(text, 1))),
+        Class::Digit => Some(number(text)),
+        Class::Space => Some((Piece::Space, 1)),
+        Class::Newline => Some((Piece::Newline, 1)),
+        Class::Quote => Some((Piece::Quote, 1)),
+        Class::Slash => slash(text),
+        Class::Point => point(text),
+        Class::Other => mark(text),
+    }
+}

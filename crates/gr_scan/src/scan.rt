@@ -1,0 +1,193 @@
+//! From a text to its tokens.
+ghost use Rattle.std.specs.Prelude.{◌≡◌, ◌+◌, ◌-◌, ◌<◌, ◌≤◌, ◌^◌, ◌↔◌, ℕ, List, [], ◌∷◌, ◌++◌, length, OnOk, IfOk, IfErr};
+ghost use Rattle.gr_scan.specs.Tokens.{Tok, token_of, tokens_of};
+ghost use Rattle.gr_scan.specs.Scan.{IsScan, HasNoTokens, items_of, line_after, mark_size, semicolon};
+ghost use Rattle.gr_scan.specs.Scan as spec;
+ghost use Rattle.gr_scan.specs.Scanning.{Puts};
+ghost use Rattle.gr_scan.specs.declared.scan.ScanError.TheVariants.{Memory, TooLong};
+
+use crate::marks::keyword;
+use crate::number;
+use crate::piece::{Piece, longest_piece};
+use crate::token::{Kind, Mark, Place, Token};
+use std::alloc::{AllocError, AllocFailed, Global};
+
+/// The most bytes that a text may have.
+pub const TEXT_LIMIT: usize = 1_048_576;
+
+/// Why a text has no tokens. Each fault that has a number gives the number of bytes before it.
+#[derive(Clone, Copy, Debug, PartialEq, Eq)]
+pub enum ScanError {
+    /// S1: a byte that begins no token.
+    Strange(usize),
+    /// S3: a number over 2^63.
+    TooGreat(usize),
+    /// S6: a literal or a comment of a kind that is left out.
+    LeftOut(usize),
+    /// S7: the text is longer than 1,048,576 bytes.
+    TooLong,
+    /// S8: there was not enough memory, which says nothing about the text.
+    Memory,
+}
+
+impl From<AllocError> for ScanError {
+    ghost from_gives = { λ _ e. e ≡ Memory };
+
+    fn from(_: AllocError) -> Self {
+        ScanError::Memory
+    }
+}
+
+impl<T: Drop> From<AllocFailed<T>> for ScanError {
+    ghost from_gives = { λ _ e. e ≡ Memory };
+
+    fn from(_: AllocFailed<T>) -> Self {
+        ScanError::Memory
+    }
+}
+
+fn ends_line(mark: Mark) -> bool
+    ensures { result ≡ spec.ends_line mark }
+{
+    matches!(
+        mark,
+        Mark::Break
+            | Mark::Continue
+            | Mark::Fallthrough
+            | Mark::Return
+            | Mark::PlusPlus
+            | Mark::MinusMinus
+            | Mark::RightParen
+            | Mark::RightBracket
+            | Mark::RightBrace
+    )
+}
+
+#[tactic(auto, using(crate::proofs::Goes::tokens_of_push))]
+fn push(tokens: &mut Vec<Token>, kind: Kind, place: Place) -> Result<(), AllocError>
+    ensures { OnOk result (tokens_of tokens.new.items ≡ tokens_of tokens.old.items ++ (token_of (record { kind = kind; place = place }) ∷ [])) }
+{
+    tokens.push(Token { kind, place })?;
+    Ok(())
+}
+
+// Puts the semicolon at the end of a line that wants one.
+fn end_line(tokens: &mut Vec<Token>, wanted: bool, at: usize, line: usize) -> Result<(), AllocError>
+    ensures { OnOk result (tokens_of tokens.new.items ≡ tokens_of tokens.old.items ++ semicolon wanted at line) }
+{
+    if wanted {
+        let place = Place {
+            start: at,
+            end: at,
+            line,
+        };
+        push(tokens, Kind::Mark(Mark::Semicolon), place)?;
+    }
+    Ok(())
+}
+
+// Adds what a piece is; answers whether the line so far wants a semicolon at its end.
+fn put(
+    alloc: Global,
+    tokens: &mut Vec<Token>,
+    wanted: bool,
+    piece: Piece,
+    bytes: &[u8],
+    place: Place,
+) -> Result<bool, ScanError>
+    requires { place.end ≡ place.start + length bytes.now }
+    ensures { Puts result wanted (items_of piece bytes.now place.start place.line) (tokens_of tokens.old.items) (tokens_of tokens.new.items) }
+{
+    match piece {
+        Piece::Space | Piece::Comment => Ok(wanted),
+        Piece::Newline => {
+            end_line(tokens, wanted, place.start, place.line)?;
+            Ok(false)
+        }
+        Piece::Word => {
+            if let Some(mark) = keyword(bytes) {
+                push(tokens, Kind::Mark(mark), place)?;
+                return Ok(ends_line(mark));
+            }
+            push(tokens, Kind::Name(bytes.to_vec(alloc)?), place)?;
+            Ok(true)
+        }
+        Piece::Number => {
+            if !number::is_plain(bytes) {
+                return Err(ScanError::LeftOut(place.start));
+            }
+            let Some(n) = number::value(bytes) else {
+                return Err(ScanError::TooGreat(place.start));
+            };
+            push(tokens, Kind::Number(n), place)?;
+            Ok(true)
+        }
+        Piece::Operator(mark) => {
+            push(tokens, Kind::Mark(mark), place)?;
+            Ok(ends_line(mark))
+        }
+        Piece::Fraction | Piece::Quote | Piece::GeneralComment => {
+            Err(ScanError::LeftOut(place.start))
+        }
+    }
+}
+
+fn next_line(piece: Piece, line: usize) -> usize
+    requires { line < 2 ^ 64 - 1 }
+    ensures after { result ≡ line_after piece line }
+    ensures near { result ≤ line + 1 }
+{
+    if piece == Piece::Newline {
+        line + 1
+    } else {
+        line
+    }
+}
+
+fn byte_order_mark(text: &[u8]) -> usize
+    ensures size { result ≡ mark_size text.now }
+    ensures within { result ≤ length text.now }
+{
+    if text.starts_with(b"\xef\xbb\xbf") {
+        3
+    } else {
+        0
+    }
+}
+
+/// The tokens of a text.
+pub fn scan(alloc: Global, text: &[u8]) -> Result<Vec<Token>, ScanError>
+    // What is answered are the tokens of the text.
+    ensures tokens { IfOk result (λ v. IsScan text.now (tokens_of v.items)) }
+    // An error says that it has none.
+    ensures none { IfErr result (λ e. HasNoTokens e text.now) }
+    ensures too_long { (result ≡ Err TooLong) ↔ (1048576 < length text.now) }
+{
+    if text.len() > TEXT_LIMIT {
+        return Err(ScanError::TooLong);
+    }
+    let mut tokens = Vec::new(alloc);
+    let mut start = byte_order_mark(text);
+    let (_, mut rest) = text.split_at(start);
+    let mut line = 1;
+    let mut wanted = false;
+    while !rest.is_empty() {
+        let Some((piece, size)) = longest_piece(rest) else {
+            return Err(ScanError::Strange(start));
+        };
+        let (bytes, after) = rest.split_at(size);
+        let end = start + size;
+        let place = Place { start, end, line };
+        wanted = put(alloc, &mut tokens, wanted, piece, bytes, place)?;
+        line = next_line(piece, line);
+        start = end;
+        rest = after;
+    }
+    end_line(&mut tokens, wanted, start, line)?;
+    Ok(tokens)
+}
+
+/// A text has at most one list of tokens.
+pub fn one_list()
+    ensures { (text : List ℕ) (a b : List Tok) → IsScan text a → IsScan text b → a ≡ b }
+{}

@@ -1,0 +1,106 @@
+//! Tokens: names, numbers, keywords, operators and punctuation.
+
+/// A keyword, an operator or a punctuation mark (Go: Keywords, Operators and punctuation).
+#[derive(Clone, Copy, Debug, PartialEq, Eq)]
+pub enum Mark {
+    Break,
+    Case,
+    Chan,
+    Const,
+    Continue,
+    Default,
+    Defer,
+    Else,
+    Fallthrough,
+    For,
+    Func,
+    Go,
+    Goto,
+    If,
+    Import,
+    Interface,
+    Map,
+    Package,
+    Range,
+    Return,
+    Select,
+    Struct,
+    Switch,
+    Type,
+    Var,
+    Plus,
+    Minus,
+    Star,
+    Slash,
+    Percent,
+    And,
+    Or,
+    Caret,
+    ShiftLeft,
+    ShiftRight,
+    AndNot,
+    PlusAssign,
+    MinusAssign,
+    StarAssign,
+    SlashAssign,
+    PercentAssign,
+    AndAssign,
+    OrAssign,
+    CaretAssign,
+    ShiftLeftAssign,
+    ShiftRightAssign,
+    AndNotAssign,
+    AndAnd,
+    OrOr,
+    Arrow,
+    PlusPlus,
+    MinusMinus,
+    Equal,
+    Less,
+    Greater,
+    Assign,
+    Not,
+    NotEqual,
+    LessEqual,
+    GreaterEqual,
+    Define,
+    Ellipsis,
+    LeftParen,
+    LeftBracket,
+    LeftBrace,
+    Comma,
+    Dot,
+    RightParen,
+    RightBracket,
+    RightBrace,
+    Semicolon,
+    Colon,
+}
+
+/// What a token is.
+#[derive(Debug, Drop)]
+pub enum Kind {
+    /// An identifier.
+    Name(Vec<u8>),
+    /// A whole number, at most 2^63.
+    Number(u64),
+    Mark(Mark),
+}
+
+/// Where a token stands.
+#[derive(Clone, Copy, Debug, PartialEq, Eq)]
+pub struct Place {
+    /// The number of bytes before the token.
+    pub start: usize,
+    /// The number of bytes up to its end; an inserted semicolon ends where it starts.
+    pub end: usize,
+    /// The line on which it starts; the first is 1.
+    pub line: usize,
+}
+
+/// A token of a text.
+#[derive(Debug, Drop)]
+pub struct Token {
+    pub kind: Kind,
+    pub place: Place,
+}

@@ -1,0 +1,12 @@
+pub mod Bound
+pub mod Loops
+pub mod Cases
+pub mod SoundExprs
+pub mod CompleteExprs
+pub mod Lists
+pub mod Names
+pub mod Statements
+pub mod Blocks
+pub mod Files
+pub mod Turns
+pub mod Long

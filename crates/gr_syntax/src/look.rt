@@ -1,0 +1,161 @@
+//! Looking at the first of the tokens that are left.
+
+ghost use Rattle.std.specs.Prelude.{◌≡◌, ◌<◌, IfSome, IfOk, length};
+ghost use Rattle.gr_scan.specs.Tokens.{tokens_of};
+ghost use Rattle.gr_syntax.specs.Reading.{after_mark, binary_of, unary_of, operator_at, need, name_at};
+ghost use Rattle.gr_syntax.specs.Views.{Gives, Splits, Sees, SeesOperator};
+ghost use Rattle.gr_syntax.specs.declared.look.Fault.TheVariants as faults;
+
+use gr_scan::token::{Kind, Mark, Place, Token};
+use gr_tree::{BinaryOp, UnaryOp};
+use std::alloc::{AllocError, AllocFailed};
+
+/// Why reading stopped, and how many tokens were left there.
+#[derive(Debug, Drop)]
+pub(crate) enum Fault {
+    /// No file goes on with the first of them.
+    Wrong { left: usize },
+    /// What begins there, or before, is too high.
+    TooHigh { left: usize },
+    Memory,
+}
+
+impl From<AllocError> for Fault {
+    ghost from_gives = { λ _ e. e ≡ faults.Memory };
+
+    fn from(_: AllocError) -> Self {
+        Fault::Memory
+    }
+}
+
+impl<T: Drop> From<AllocFailed<T>> for Fault {
+    ghost from_gives = { λ _ e. e ≡ faults.Memory };
+
+    fn from(_: AllocFailed<T>) -> Self {
+        Fault::Memory
+    }
+}
+
+/// What is read: a value, its height, and the tokens after it.
+#[derive(Drop)]
+pub(crate) struct Found<'a, T> {
+    pub(crate) value: T,
+    pub(crate) height: u32,
+    pub(crate) rest: &'a [Token],
+}
+
+/// The first token, and the others.
+pub(crate) fn next(tokens: &[Token]) -> Option<(&Token, &[Token])>
+    ensures value { Splits result (tokens_of tokens.now) }
+    ensures shorter { IfSome result (λ p. length p.1.now < length tokens.now) }
+{
+    tokens.split_first()
+}
+
+/// The tokens after this mark, if it comes first.
+#[tactic(auto, unfolding(crate::specs::Reading::after_mark))]
+pub(crate) fn after(mark: Mark, tokens: &[Token]) -> Option<&[Token]>
+    ensures value { Sees result (after_mark mark (tokens_of tokens.now)) }
+    ensures shorter { IfSome result (λ rest. length rest.now < length tokens.now) }
+{
+    let (token, rest) = next(tokens)?;
+    match &token.kind {
+        Kind::Mark(first) => { if *first == mark { Some(rest) } else { None } }
+        Kind::Name(_) => None,
+        Kind::Number(_) => None,
+    }
+}
+
+#[tactic(auto, unfolding(crate::specs::Reading::binary_of))]
+fn binary_op(mark: Mark) -> Option<BinaryOp>
+    ensures { result ≡ binary_of mark }
+{
+    match mark {
+        Mark::Plus => Some(BinaryOp::Add),
+        Mark::Minus => Some(BinaryOp::Subtract),
+        Mark::Star => Some(BinaryOp::Multiply),
+        _ => None,
+    }
+}
+
+#[tactic(auto, unfolding(crate::specs::Reading::unary_of))]
+fn unary_op(mark: Mark) -> Option<UnaryOp>
+    ensures { result ≡ unary_of mark }
+{
+    match mark {
+        Mark::Plus => Some(UnaryOp::Plus),
+        Mark::Minus => Some(UnaryOp::Negate),
+        _ => None,
+    }
+}
+
+/// The binary operator that comes first, if one does.
+pub(crate) fn binary(tokens: &[Token]) -> Option<(BinaryOp, &[Token])>
+    ensures value { SeesOperator result (operator_at binary_of (tokens_of tokens.now)) }
+    ensures shorter { IfSome result (λ p. length p.1.now < length tokens.now) }
+{
+    let (token, rest) = next(tokens)?;
+    match &token.kind {
+        Kind::Mark(mark) => {
+            let op = binary_op(*mark)?;
+            Some((op, rest))
+        }
+        Kind::Name(_) => None,
+        Kind::Number(_) => None,
+    }
+}
+
+/// The unary operator that comes first, if one does.
+pub(crate) fn unary(tokens: &[Token]) -> Option<(UnaryOp, &[Token])>
+    ensures value { SeesOperator result (operator_at unary_of (tokens_of tokens.now)) }
+    ensures shorter { IfSome result (λ p. length p.1.now < length tokens.now) }
+{
+    let (token, rest) = next(tokens)?;
+    match &token.kind {
+        Kind::Mark(mark) => {
+            let op = unary_op(*mark)?;
+            Some((op, rest))
+        }
+        Kind::Name(_) => None,
+        Kind::Number(_) => None,
+    }
+}
+
+/// The place of this mark and the tokens after it; refused where another token comes first.
+#[tactic(auto, unfolding(crate::specs::Reading::need))]
+pub(crate) fn needed(mark: Mark, tokens: &[Token]) -> Result<(Place, &[Token]), Fault>
+    ensures gives { Gives (λ p. (p.0, tokens_of p.1.now)) result (need mark (tokens_of tokens.now)) }
+    ensures shorter { IfOk result (λ p. length p.1.now < length tokens.now) }
+{
+    let Some((token, _)) = next(tokens) else {
+        return Err(Fault::Wrong { left: 0 });
+    };
+    let Some(rest) = after(mark, tokens) else {
+        return Err(Fault::Wrong { left: tokens.len() });
+    };
+    Ok((token.place, rest))
+}
+
+/// The name that comes first, and the tokens after it.
+#[tactic(auto, unfolding(crate::specs::Reading::name_at))]
+pub(crate) fn name(tokens: &[Token]) -> Result<(&Vec<u8>, &[Token]), Fault>
+    ensures gives { Gives (λ p. (p.0.now.items, tokens_of p.1.now)) result (name_at (tokens_of tokens.now)) }
+    ensures shorter { IfOk result (λ p. length p.1.now < length tokens.now) }
+{
+    let left = tokens.len();
+    let Some((token, rest)) = next(tokens) else {
+        return Err(Fault::Wrong { left });
+    };
+    match &token.kind {
+        Kind::Name(name) => Ok((name, rest)),
+        Kind::Number(_) => Err(Fault::Wrong { left }),
+        Kind::Mark(_) => Err(Fault::Wrong { left }),
+    }
+}
+
+/// A name of its own with these letters.
+pub(crate) fn copy(name: &Vec<u8>) -> Result<Vec<u8>, AllocError>
+    ensures { IfOk result (λ v. v.items ≡ name.now.items) }
+{
+    name.clone()
+}
