@@ -28,6 +28,6 @@ both t a b = absurd (true≢false (sym a ∙ b))
 
 pub equal_texts : (xs ys : List ℕ) → xs ≡ ys → pointwise nat_eq xs ys ≡ true
 equal_texts xs ys e = elim (true_or_false (pointwise nat_eq xs ys)) [
-    | inl t ↦ t
-    | inr f ↦ absurd (other_text xs ys (sym f) e)
-  ]
+  | inl t ↦ t
+  | inr f ↦ absurd (other_text xs ys (sym f) e)
+]

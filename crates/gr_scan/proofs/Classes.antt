@@ -73,9 +73,9 @@ digit_class b e = let other : is_letter b ≡ false = grind (arith, nat_tests) i
 of_three : (Z : ℕ → Type 0) (x y z b : ℕ) → (b == x || b == y || b == z) ≡ true → Z x → Z y → Z z → Z b
 of_three Z x y z b e f g h = ⊎_elim
     (λ v. ⊎_elim
-      (λ w. subst Z (sym (eqb-true b x w)) f)
-      (λ w. subst Z (sym (eqb-true b y w)) g)
-      (or_cases (b == x) (b == y) v))
+    (λ w. subst Z (sym (eqb-true b x w)) f)
+    (λ w. subst Z (sym (eqb-true b y w)) g)
+    (or_cases (b == x) (b == y) v))
     (λ w. subst Z (sym (eqb-true b z w)) h)
     (or_cases (b == x || b == y) (b == z) e)
 

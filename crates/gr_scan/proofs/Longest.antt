@@ -59,8 +59,11 @@ word_piece text n pos le c all stop =
     let first : is_letter (get_or text 0 0) ≡ true = holds_at (get_or text 0 0) Letter c in
     record {
       fits = le;
-      spelled = (omega (arith, size text n le), ap is_letter (byte text n 0 (omega arith)) ∙ first,
-        λ k lt. run_front text n n (omega arith) (or_left (is_letter (get_or text 0 0)) (is_digit (get_or text 0 0)) first) all k (omega (arith, size text n le)));
+      spelled = (
+        omega (arith, size text n le),
+        ap is_letter (byte text n 0 (omega arith)) ∙ first,
+        λ k lt. run_front text n n (omega arith) (or_left (is_letter (get_or text 0 0)) (is_digit (get_or text 0 0)) first) all k (omega (arith, size text n le)),
+      );
       longest = λ q m lem sp. word_longest text n c stop q m (at text q m Letter c lem sp) lem sp;
     }
 
@@ -73,10 +76,10 @@ IsLone c = (q : Piece) (s : List ℕ) → may q c ≡ true → Spells q s → le
 
 lone_piece : (text : List ℕ) (p : Piece) (c : Class) → 0 < length text → IsLone c → class_of (get_or text 0 0) ≡ c → Spells p (take 1 text) → IsPiece p 1 text
 lone_piece text p c pos lone e sp = record {
-    fits = omega arith;
-    spelled = sp;
-    longest = λ q m lem s. omega (arith, lone q (take m text) (at text q m c e lem s) s, size text m lem);
-  }
+  fits = omega arith;
+  spelled = sp;
+  longest = λ q m lem s. omega (arith, lone q (take m text) (at text q m c e lem s) s, size text m lem);
+}
 
 lone_space : IsLone Space
 lone_space pieces.Space s ok sp = sp.0
@@ -142,15 +145,15 @@ number_longest text n pos c stop other pieces.Number m ok le sp =
     run_within text m m n (omega arith) le stop (λ k lt. sp.2 k (omega (arith, size text m le)))
 number_longest text n pos c stop other pieces.Fraction m ok le sp = ⊎_elim
     (λ w.
-      let long : 1 < m = omega (arith, w.0, size text m le) in
-      let most : m - 1 ≤ n = run_within text m (m - 1) n (omega arith) le stop (λ k lt. w.2 k (omega (arith, size text m le))) in
-      ⊎_elim
-        (λ lt.
-          let here : n ≡ m - 1 = omega arith in
-          let place : length (take m text) - 1 ≡ n = omega (arith, size text m le) in
-          absurd (other (omega arith) (sym (byte text m n (omega arith)) ∙ ap (λ k. get_or (take m text) k 0) (sym place) ∙ w.3)))
-        (λ le. le)
-        (cases_lt n m))
+    let long : 1 < m = omega (arith, w.0, size text m le) in
+    let most : m - 1 ≤ n = run_within text m (m - 1) n (omega arith) le stop (λ k lt. w.2 k (omega (arith, size text m le))) in
+    ⊎_elim
+    (λ lt.
+    let here : n ≡ m - 1 = omega arith in
+    let place : length (take m text) - 1 ≡ n = omega (arith, size text m le) in
+    absurd (other (omega arith) (sym (byte text m n (omega arith)) ∙ ap (λ k. get_or (take m text) k 0) (sym place) ∙ w.3)))
+    (λ le. le)
+    (cases_lt n m))
     (λ w. digit_not_point text m (omega (arith, w.0, size text m le)) c w.1)
     sp
 number_longest text n pos c stop other pieces.Space m ok le sp = not_here ok
@@ -166,8 +169,11 @@ number_piece text n pos le c all stop other =
     let first : is_digit (get_or text 0 0) ≡ true = holds_at (get_or text 0 0) Digit c in
     record {
       fits = le;
-      spelled = (omega (arith, size text n le), ap is_digit (byte text n 0 (omega arith)) ∙ first,
-        λ k lt. run_front text n n (omega arith) (or_right (is_letter (get_or text 0 0)) (is_digit (get_or text 0 0)) first) all k (omega (arith, size text n le)));
+      spelled = (
+        omega (arith, size text n le),
+        ap is_digit (byte text n 0 (omega arith)) ∙ first,
+        λ k lt. run_front text n n (omega arith) (or_right (is_letter (get_or text 0 0)) (is_digit (get_or text 0 0)) first) all k (omega (arith, size text n le)),
+      );
       longest = λ q m lem sp. number_longest text n pos c stop other q m (at text q m Digit c lem sp) lem sp;
     }
 
@@ -176,8 +182,8 @@ pointed_longest text n pos c stop pieces.Number m ok le sp =
     let most : m ≤ n = run_within text m m n (omega arith) le stop (λ k lt. sp.2 k (omega (arith, size text m le))) in omega arith
 pointed_longest text n pos c stop pieces.Fraction m ok le sp = ⊎_elim
     (λ w.
-      let most : m - 1 ≤ n = run_within text m (m - 1) n (omega arith) le stop (λ k lt. w.2 k (omega (arith, size text m le))) in
-      omega arith)
+    let most : m - 1 ≤ n = run_within text m (m - 1) n (omega arith) le stop (λ k lt. w.2 k (omega (arith, size text m le))) in
+    omega arith)
     (λ w. digit_not_point text m (omega (arith, w.0, size text m le)) c w.1)
     sp
 pointed_longest text n pos c stop pieces.Space m ok le sp = not_here ok
@@ -195,9 +201,12 @@ pointed_piece text n pos lt c all stop point =
     let place : length (take (n + 1) text) - 1 ≡ n = omega arith in
     record {
       fits = omega arith;
-      spelled = inl (omega arith, ap is_digit (byte text (n + 1) 0 (omega arith)) ∙ first,
+      spelled = inl (
+        omega arith,
+        ap is_digit (byte text (n + 1) 0 (omega arith)) ∙ first,
         (λ k lt. run_front text (n + 1) n (omega arith) (or_right (is_letter (get_or text 0 0)) (is_digit (get_or text 0 0)) first) all k (omega arith)),
-        ap (λ k. get_or (take (n + 1) text) k 0) place ∙ byte text (n + 1) n (omega arith) ∙ point);
+        ap (λ k. get_or (take (n + 1) text) k 0) place ∙ byte text (n + 1) n (omega arith) ∙ point,
+      );
       longest = λ q m lem sp. pointed_longest text n pos c stop q m (at text q m Digit c lem sp) lem sp;
     }
 
@@ -209,8 +218,8 @@ mark_piece text k n only e =
       fits = w.0;
       spelled = w.1;
       longest = λ q m lem sp.
-        let o = only q m lem sp in
-        prefix_longest operators text k o.0 n m operators_descend e lem (subst (λ p. Spells p (take m text)) o.1 sp);
+          let o = only q m lem sp in
+          prefix_longest operators text k o.0 n m operators_descend e lem (subst (λ p. Spells p (take m text)) o.1 sp);
     }
 
 pub no_mark : (text : List ℕ) → OnlyMarks text → first_prefix operators text ≡ None → NoPiece text
@@ -234,12 +243,12 @@ slash_facts : (s : List ℕ) → follows_so s ≡ true → get_or s 0 0 ≡ 47 �
 slash_facts s f e =
     let w = and_true (not (get_or s 0 0 == 47) || (nat_le (length s) 2 && not (get_or s 1 0 == 47) && not (get_or s 1 0 == 42))) (not (get_or s 0 0 == 46) || not (is_digit (get_or s 1 0))) f in
     ⊎_elim
-      (λ a. absurd (not_true (get_or s 0 0 == 47) a (rw e refl)))
-      (λ a.
-        let b = and_true (nat_le (length s) 2 && not (get_or s 1 0 == 47)) (not (get_or s 1 0 == 42)) a in
-        let d = and_true (nat_le (length s) 2) (not (get_or s 1 0 == 47)) b.0 in
-        (le_two (length s) d.0, not_is (get_or s 1 0 == 47) d.1, not_is (get_or s 1 0 == 42) b.1))
-      (or_cases (not (get_or s 0 0 == 47)) (nat_le (length s) 2 && not (get_or s 1 0 == 47) && not (get_or s 1 0 == 42)) w.0)
+    (λ a. absurd (not_true (get_or s 0 0 == 47) a (rw e refl)))
+    (λ a.
+    let b = and_true (nat_le (length s) 2 && not (get_or s 1 0 == 47)) (not (get_or s 1 0 == 42)) a in
+    let d = and_true (nat_le (length s) 2) (not (get_or s 1 0 == 47)) b.0 in
+    (le_two (length s) d.0, not_is (get_or s 1 0 == 47) d.1, not_is (get_or s 1 0 == 42) b.1))
+    (or_cases (not (get_or s 0 0 == 47)) (nat_le (length s) 2 && not (get_or s 1 0 == 47) && not (get_or s 1 0 == 42)) w.0)
 
 pub slash_second : (s : List ℕ) → follows_so s ≡ true → get_or s 0 0 ≡ 47 → ((get_or s 1 0 == 47) ≡ false) × ((get_or s 1 0 == 42) ≡ false)
 slash_second s f e = let w = slash_facts s f e in (w.1, w.2)
@@ -248,9 +257,9 @@ point_follow : (s : List ℕ) → follows_so s ≡ true → get_or s 0 0 ≡ 46 
 point_follow s f e d =
     let w = and_true (not (get_or s 0 0 == 47) || (nat_le (length s) 2 && not (get_or s 1 0 == 47) && not (get_or s 1 0 == 42))) (not (get_or s 0 0 == 46) || not (is_digit (get_or s 1 0))) f in
     ⊎_elim
-      (λ a. not_true (get_or s 0 0 == 46) a (rw e refl))
-      (λ a. not_true (is_digit (get_or s 1 0)) a d)
-      (or_cases (not (get_or s 0 0 == 46)) (not (is_digit (get_or s 1 0))) w.1)
+    (λ a. not_true (get_or s 0 0 == 46) a (rw e refl))
+    (λ a. not_true (is_digit (get_or s 1 0)) a d)
+    (or_cases (not (get_or s 0 0 == 46)) (not (is_digit (get_or s 1 0))) w.1)
 
 pub point_second : (s : List ℕ) → follows_so s ≡ true → get_or s 0 0 ≡ 46 → is_digit (get_or s 1 0) ≡ false
 point_second s f e = elim (true_or_false (is_digit (get_or s 1 0))) [ inl t ↦ absurd (point_follow s f e t) | inr t ↦ t ]
@@ -286,8 +295,12 @@ comment_piece text n two le c second all stop =
     let first : get_or text 0 0 ≡ 47 = holds_at (get_or text 0 0) Slash c in
     record {
       fits = le;
-      spelled = (omega (arith, size text n le), byte text n 0 (omega arith) ∙ first, byte text n 1 (omega arith) ∙ second,
-        λ k lt. comment_inside text n le first second all k (omega (arith, size text n le)));
+      spelled = (
+        omega (arith, size text n le),
+        byte text n 0 (omega arith) ∙ first,
+        byte text n 1 (omega arith) ∙ second,
+        λ k lt. comment_inside text n le first second all k (omega (arith, size text n le)),
+      );
       longest = λ q m lem sp. comment_longest text n two c stop q m (at text q m Slash c lem sp) lem sp;
     }
 
@@ -305,10 +318,10 @@ general_longest text c second pieces.Quote m ok le sp = not_here ok
 
 pub general_piece : (text : List ℕ) → 1 < length text → class_of (get_or text 0 0) ≡ Slash → get_or text 1 0 ≡ 42 → IsPiece pieces.GeneralComment 2 text
 general_piece text long c second = record {
-    fits = omega arith;
-    spelled = front_two text long ∙ rw (holds_at (get_or text 0 0) Slash c, second) refl;
-    longest = λ q m lem sp. general_longest text c second q m (at text q m Slash c lem sp) lem sp;
-  }
+  fits = omega arith;
+  spelled = front_two text long ∙ rw (holds_at (get_or text 0 0) Slash c, second) refl;
+  longest = λ q m lem sp. general_longest text c second q m (at text q m Slash c lem sp) lem sp;
+}
 
 slash_only_at : (text : List ℕ) → (get_or text 1 0 ≡ 47 → ⊥) → (get_or text 1 0 ≡ 42 → ⊥) → (q : Piece) (m : ℕ) → may q Slash ≡ true → m ≤ length text → Spells q (take m text) → (mark : Mark) × (q ≡ pieces.Operator mark)
 slash_only_at text line general (pieces.Operator k) m ok le sp = (k, refl)
@@ -332,8 +345,8 @@ point_not_digit text m pos c d =
 point_longest : (text : List ℕ) → class_of (get_or text 0 0) ≡ Point → is_digit (get_or text 1 0) ≡ true → (q : Piece) (m : ℕ) → may q Point ≡ true → m ≤ length text → Spells q (take m text) → m ≤ 2
 point_longest text c digit (pieces.Operator k) m ok le sp = ⊎_elim
     (λ lt. absurd (point_follow (take m text) (operator_follows k (take m text) sp)
-      (byte text m 0 (omega arith) ∙ holds_at (get_or text 0 0) Point c)
-      (ap is_digit (byte text m 1 (omega arith)) ∙ digit)))
+    (byte text m 0 (omega arith) ∙ holds_at (get_or text 0 0) Point c)
+    (ap is_digit (byte text m 1 (omega arith)) ∙ digit)))
     (λ le. le)
     (cases_lt 2 m)
 point_longest text c digit pieces.Fraction m ok le sp = ⊎_elim
@@ -350,10 +363,10 @@ point_longest text c digit pieces.GeneralComment m ok le sp = not_here ok
 
 pub point_piece : (text : List ℕ) → 1 < length text → class_of (get_or text 0 0) ≡ Point → is_digit (get_or text 1 0) ≡ true → IsPiece pieces.Fraction 2 text
 point_piece text long c digit = record {
-    fits = omega arith;
-    spelled = inr (size text 2 (omega arith), byte text 2 0 (omega arith) ∙ holds_at (get_or text 0 0) Point c, ap is_digit (byte text 2 1 (omega arith)) ∙ digit);
-    longest = λ q m lem sp. point_longest text c digit q m (at text q m Point c lem sp) lem sp;
-  }
+  fits = omega arith;
+  spelled = inr (size text 2 (omega arith), byte text 2 0 (omega arith) ∙ holds_at (get_or text 0 0) Point c, ap is_digit (byte text 2 1 (omega arith)) ∙ digit);
+  longest = λ q m lem sp. point_longest text c digit q m (at text q m Point c lem sp) lem sp;
+}
 
 point_only_at : (text : List ℕ) → class_of (get_or text 0 0) ≡ Point → is_digit (get_or text 1 0) ≡ false → (q : Piece) (m : ℕ) → may q Point ≡ true → m ≤ length text → Spells q (take m text) → (mark : Mark) × (q ≡ pieces.Operator mark)
 point_only_at text c other (pieces.Operator k) m ok le sp = (k, refl)

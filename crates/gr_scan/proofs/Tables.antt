@@ -1,6 +1,6 @@
 -- Look-ups in tables of spellings.
-use Rattle.std.proofs.Common.{◌≡◌, ℕ, ◌≤◌, Bool, true, false, List, [], ◌∷◌, length, take, refl, ap, sym, ◌∙◌, subst, arith, length-take, inl, inr, nat_eq}
-use Rattle.std.specs.Prelude.{◌&&◌, nat_le, Option, Some, None}
+use Rattle.std.proofs.Common.{◌≡◌, ℕ, ◌≤◌, Bool, true, List, [], ◌∷◌, length, take, refl, ap, sym, ◌∙◌, subst, arith, length-take, inl, inr, nat_eq}
+use Rattle.std.specs.Prelude.{◌&&◌, nat_le, Some, None}
 use Rattle.std.specs.Cmp.Lexicographic.{pointwise, same_text}
 use Rattle.std.specs.List.{list_all, starts_with}
 use Rattle.gr_scan.specs.declared.token.Mark.{Mark}
@@ -12,9 +12,9 @@ use Rattle.gr_scan.proofs.Bools.{true_or_false, and_true, both, equal_texts}
 pub found : (P : List ℕ → Bool) (t : List Spelling) (s : List ℕ) (m : Mark) → list_all (λ entry. P entry.0) t ≡ true → mark_in t s ≡ Some m → P s ≡ true
 found P [] s m all e = absurd (cc)
 found P (entry ∷ t) s m all e = elim (true_or_false (pointwise nat_eq entry.0 s)) [
-    | inl w ↦ subst (λ x. P x ≡ true) (same_text entry.0 s (sym w)) ((and_true (P entry.0) (list_all (λ entry. P entry.0) t) all).0)
-    | inr w ↦ found P t s m ((and_true (P entry.0) (list_all (λ entry. P entry.0) t) all).1) (rw w at e)
-  ]
+  | inl w ↦ subst (λ x. P x ≡ true) (same_text entry.0 s (sym w)) ((and_true (P entry.0) (list_all (λ entry. P entry.0) t) all).0)
+  | inr w ↦ found P t s m ((and_true (P entry.0) (list_all (λ entry. P entry.0) t) all).1) (rw w at e)
+]
 
 some_inj : {A : Type 0} {x y : A} → Some x ≡ Some y → x ≡ y
 some_inj e = cc
@@ -40,20 +40,22 @@ front_is_prefix e text n le w =
 pub prefix_some : (t : List Spelling) (text : List ℕ) (m : Mark) (n : ℕ) → first_prefix t text ≡ Some (m, n) → (n ≤ length text) × (mark_in t (take n text) ≡ Some m)
 prefix_some [] text m n e = absurd (cc)
 prefix_some (entry ∷ t) text m n e = elim (true_or_false (starts_with nat_eq text entry.0)) [
-    | inl w ↦
+  | inl w ↦
       let q = taken entry t text m n w e in
       let mark = q.0 in
       let size = q.1 in
       let test : pointwise nat_eq entry.0 (take n text) ≡ true = subst (λ k. pointwise nat_eq entry.0 (take k text) ≡ true) size w in
       (subst (λ k. k ≤ length text) size (prefix_length entry.0 text w), rw test (ap Some mark))
-    | inr w ↦
+  | inr w ↦
       let q : first_prefix t text ≡ Some (m, n) = rw w at e in
-      let r = prefix_some t text m n q in
-      (r.0, elim (true_or_false (pointwise nat_eq entry.0 (take n text))) [
-        | inl v ↦ both (starts_with nat_eq text entry.0) ((front_is_prefix entry.0 text n r.0 v).1) w
-        | inr v ↦ rw v r.1
-      ])
-  ]
+      let r = prefix_some t text m n q in (
+        r.0,
+        elim (true_or_false (pointwise nat_eq entry.0 (take n text))) [
+          | inl v ↦ both (starts_with nat_eq text entry.0) ((front_is_prefix entry.0 text n r.0 v).1) w
+          | inr v ↦ rw v r.1
+        ],
+      )
+]
 
 -- each entry is at least as long as those after it
 abbrev pub descending : List Spelling → Bool
@@ -69,17 +71,17 @@ prefix_longest (entry ∷ t) text m k n size d e le f =
     let parts = and_true (list_all (λ other. nat_le (length other.0) (length entry.0)) t) (descending t) d in
     elim (true_or_false (pointwise nat_eq entry.0 (take size text))) [
       | inl v ↦
-        let r = front_is_prefix entry.0 text size le v in
-        omega (arith, r.0, (taken entry t text m n r.1 e).1)
+          let r = front_is_prefix entry.0 text size le v in
+          omega (arith, r.0, (taken entry t text m n r.1 e).1)
       | inr v ↦
-        let g : mark_in t (take size text) ≡ Some k = rw v at f in
-        elim (true_or_false (starts_with nat_eq text entry.0)) [
-          | inl w ↦
-            let same = (taken entry t text m n w e).1 in
-            let small = le_of (length (take size text)) (length entry.0) (found (λ s. nat_le (length s) (length entry.0)) t (take size text) k parts.0 g) in
-            omega (arith, small, same, length-take size text)
-          | inr w ↦ prefix_longest t text m k n size parts.1 (rw w at e) le g
-        ]
+          let g : mark_in t (take size text) ≡ Some k = rw v at f in
+          elim (true_or_false (starts_with nat_eq text entry.0)) [
+            | inl w ↦
+                let same = (taken entry t text m n w e).1 in
+                let small = le_of (length (take size text)) (length entry.0) (found (λ s. nat_le (length s) (length entry.0)) t (take size text) k parts.0 g) in
+                omega (arith, small, same, length-take size text)
+            | inr w ↦ prefix_longest t text m k n size parts.1 (rw w at e) le g
+          ]
     ]
 
 some_none : (p : Mark × ℕ) → Some p ≡ None → ⊥
@@ -88,12 +90,12 @@ some_none p e = cc
 pub prefix_none : (t : List Spelling) (text : List ℕ) (k : Mark) (size : ℕ) → first_prefix t text ≡ None → size ≤ length text → mark_in t (take size text) ≡ Some k → ⊥
 prefix_none [] text k size e le f = cc
 prefix_none (entry ∷ t) text k size e le f = elim (true_or_false (starts_with nat_eq text entry.0)) [
-    | inl w ↦ some_none (entry.1, length entry.0) (rw w at e)
-    | inr w ↦ elim (true_or_false (pointwise nat_eq entry.0 (take size text))) [
-      | inl v ↦ both (starts_with nat_eq text entry.0) ((front_is_prefix entry.0 text size le v).1) w
-      | inr v ↦ prefix_none t text k size (rw w at e) le (rw v at f)
-    ]
+  | inl w ↦ some_none (entry.1, length entry.0) (rw w at e)
+  | inr w ↦ elim (true_or_false (pointwise nat_eq entry.0 (take size text))) [
+    | inl v ↦ both (starts_with nat_eq text entry.0) ((front_is_prefix entry.0 text size le v).1) w
+    | inr v ↦ prefix_none t text k size (rw w at e) le (rw v at f)
   ]
+]
 
 pub operators_descend : descending operators ≡ true
 unfolding operators

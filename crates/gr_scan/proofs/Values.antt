@@ -15,5 +15,5 @@ pub beyond : (g v u i : ℕ) (s : List ℕ) → (g - u) / 10 < v → u ≡ get_o
 beyond g v u i s h e lt so =
     let next : drop i s ≡ get_or s i 0 ∷ drop (i + 1) s = rw (add-one, drop-cons s i 0) in
     let same : value_after (10 * v + u) (drop (i + 1) s) ≡ value_after 0 s =
-      ap (λ k. value_after (10 * v + k) (drop (i + 1) s)) e ∙ sym (ap (value_after v) next) ∙ so in
+    ap (λ k. value_after (10 * v + k) (drop (i + 1) s)) e ∙ sym (ap (value_after v) next) ∙ so in
     omega (arith, too_much g v u h, grows (10 * v + u) (drop (i + 1) s), same)

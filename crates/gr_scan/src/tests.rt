@@ -5,10 +5,21 @@ use std::test::Fail;
 #[test]
 fn cuts_a_text(rt: HostRuntime) -> Result<(), Fail> {
     let tokens = scan(rt.alloc(), b"\xef\xbb\xbfgo x<<=7 // y\n}")?;
-    let places = [(3, 5, 1), (6, 7, 1), (7, 10, 1), (10, 11, 1), (16, 16, 1), (17, 18, 2), (18, 18, 2)];
+    let places = [
+        (3, 5, 1),
+        (6, 7, 1),
+        (7, 10, 1),
+        (10, 11, 1),
+        (16, 16, 1),
+        (17, 18, 2),
+        (18, 18, 2),
+    ];
     assert_eq!(rt; tokens.len(), places.len());
     for (token, (start, end, line)) in tokens.iter().zip(places) {
-        assert_eq!(rt; (token.place.start, token.place.end, token.place.line), (start, end, line));
+        assert_eq!(rt;
+            (token.place.start, token.place.end, token.place.line),
+            (start, end, line)
+        );
     }
     assert!(rt; matches!(tokens[0].kind, Kind::Mark(Mark::Go)));
     assert!(rt; matches!(tokens[2].kind, Kind::Mark(Mark::ShiftLeftAssign)));

@@ -1,0 +1,7 @@
+pub mod Exchanges
+pub mod Journals
+pub mod Lists
+pub mod Outcomes
+pub mod Paths
+pub mod Runs
+pub mod Sources

@@ -1,0 +1,25 @@
+use Rattle.std.proofs.Common.{◌≡◌, ◌<◌, ◌≤◌, length, refl, arith, rules}
+use Rattle.gr_session.specs.declared.TheConstants.{JOURNAL_LIMIT}
+use Rattle.gr_session.proofs.Journals.{keeps_entry}
+use Rattle.gr_session.proofs.session.Session.ask.Goals as goal
+
+pub invariant_of-self-in-Ok : goal.invariant_of-self-in-Ok
+invariant_of-self-in-Ok c =
+    let asker : (1 ≤ c.args.desk.number) × (c.args.desk.number ≤ c.self.inside.askers) = search rules in
+    let room : length c.self.inside.journal.items < JOURNAL_LIMIT = omega arith in
+    rw (c.push_reserved.ensures.items, c.reserve.ensures.items)
+    (keeps_entry _ _ _ _ _ _ _ _ _ c.self.invariant asker.0 asker.1 room c.in-Ok.ensures.leads c.in-Ok.ensures.run)
+
+pub returns-in-Ok-clause-entry : goal.returns-in-Ok-clause-entry
+returns-in-Ok-clause-entry c =
+    let counted : c.len-in-Ok.result ≡ length c.push_reserved.new.self.items = search rules in
+    rw (← c.self.view_is, c.push_reserved.ensures.items, c.reserve.ensures.items)
+    (record {
+      memory = c.in-Ok.memory;
+      entered = refl;
+      number_is = rw (c.push_reserved.ensures.items, c.reserve.ensures.items) at counted;
+      before = _;
+      stood = c.self.invariant.means;
+      after = _;
+      meant = c.in-Ok.ensures.leads;
+    })

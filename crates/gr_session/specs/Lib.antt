@@ -1,0 +1,7 @@
+pub mod Values
+pub mod Run
+pub mod Records
+pub mod Journal
+pub mod Keeps
+pub mod Source
+pub mod Refused

@@ -1,0 +1,24 @@
+//! A session: a program, its run so far, and the journal of what was asked.
+#![tactic(auto)]
+
+mod carry;
+pub mod command;
+mod evaluate;
+mod open;
+mod session;
+mod store;
+
+pub use command::{
+    AskRefused, Command, DeskId, EnrolRefused, Entry, Memory, Receipt, Refusal, Reply,
+};
+pub use open::{OpenError, Position};
+pub use session::Session;
+
+/// The most steps that a log keeps.
+pub const LOG_LIMIT: usize = 1_000_000;
+
+/// The most entries that a journal keeps.
+pub const JOURNAL_LIMIT: usize = 2_000_000;
+
+/// The most askers of a session.
+pub const ASKER_LIMIT: u32 = 1_000;

@@ -1,0 +1,131 @@
+//! Sessions: what a program did so far, asked of under one journal.
+ghost use Rattle.std.specs.Prelude.{◌≡◌, ◌↔◌, ◌+◌, ◌≤◌, [], length, IfOk, OnOk, OnErr, IsErrOf};
+ghost use Rattle.gr_types.specs.Programs.{program_of};
+ghost use Rattle.gr_session.specs.Journal.{said_of, Enters, IsLegal};
+
+use crate::carry::carry_out;
+use crate::command::{AskRefused, Command, DeskId, EnrolRefused, Entry, Receipt};
+use crate::store::{Record, Store};
+use crate::{ASKER_LIMIT, JOURNAL_LIMIT};
+use gr_base::NoMemory;
+use gr_types::program::Program;
+use std::alloc::Global;
+use std::marker::Model;
+
+/// A program, its run so far, and the journal of what was asked. The journal is legal, and the log and the state are
+/// those that it means.
+#[derive(Drop)]
+pub struct Session {
+    program: Program,
+    store: Store,
+    log: Vec<Record>,
+    journal: Vec<Entry>,
+    askers: u32,
+}
+
+impl Model for Session {
+    ghost use Rattle.gr_types.specs.Programs.{program_of};
+    ghost use Rattle.gr_types.specs.contracts.program.Term as term;
+    ghost use Rattle.std.specs.Coded.{codes};
+    ghost use Rattle.gr_session.specs.Records.{state_of};
+    ghost use Rattle.gr_session.specs.Keeps.{Seen, Keeps};
+
+    ghost Value = { Seen };
+
+    ghost coded = { Prim.hlevel (codes, term.the_row.coded) };
+
+    ghost view = { λ s. record { program = s.program; journal = s.journal.items; askers = s.askers } };
+
+    ghost invariant = { λ s. Keeps (program_of s.program) s.journal.items s.askers s.log.items (state_of s.store) };
+}
+
+impl Session {
+    // A session with an empty journal and no asker.
+    pub(crate) fn new(alloc: Global, program: Program) -> Result<Session, NoMemory>
+        ensures program { IfOk result (λ s. s.program ≡ program) }
+        ensures journal { IfOk result (λ s. s.journal ≡ []) }
+        ensures askers { IfOk result (λ s. s.askers ≡ 0) }
+    {
+        let store = Store::start(alloc, &program)?;
+        Ok(Session {
+            program,
+            store,
+            log: Vec::new(alloc),
+            journal: Vec::new(alloc),
+            askers: 0,
+        })
+    }
+
+    /// The next asker. There may be 1,000.
+    pub fn enrol(&mut self) -> Result<DeskId, EnrolRefused>
+        ensures number { IfOk result (λ desk. (desk.number ≡ self.old.askers + 1) × (self.new.askers ≡ desk.number)) }
+        ensures full { IsErrOf result EnrolRefused.Full ↔ (self.old.askers ≡ ASKER_LIMIT) }
+        ensures others { (self.new.program ≡ self.old.program) × (self.new.journal ≡ self.old.journal) }
+        ensures err { OnErr result (self.new ≡ self.old) }
+    {
+        if self.askers >= ASKER_LIMIT {
+            return Err(EnrolRefused::Full);
+        }
+        self.askers += 1;
+        Ok(DeskId {
+            number: self.askers,
+        })
+    }
+
+    /// How many askers there are.
+    pub fn askers(&self) -> u32
+        ensures { result ≡ self.now.askers }
+    {
+        self.askers
+    }
+
+    /// Asks a command, which the journal keeps with its reply. The asker is one that `enrol` of this session gave.
+    pub fn ask(
+        &mut self,
+        alloc: Global,
+        desk: DeskId,
+        command: Command,
+    ) -> Result<Receipt, AskRefused>
+        requires { (1 ≤ desk.number) × (desk.number ≤ self.old.askers) }
+        ensures entry { IfOk result (λ receipt. Enters (program_of self.old.program) desk.number command
+            self.old.journal self.new.journal receipt.number (said_of receipt.reply)) }
+        ensures full { IsErrOf result AskRefused.JournalFull ↔ (length self.old.journal ≡ JOURNAL_LIMIT) }
+        ensures err { OnErr result (self.new ≡ self.old) }
+        ensures others { (self.new.program ≡ self.old.program) × (self.new.askers ≡ self.old.askers) }
+    {
+        if self.journal.len() >= JOURNAL_LIMIT {
+            return Err(AskRefused::JournalFull);
+        }
+        if self.journal.reserve(1).is_err() {
+            return Err(AskRefused::NoMemory);
+        }
+        match carry_out(
+            alloc,
+            &self.program,
+            &mut self.store,
+            &mut self.log,
+            &command,
+        ) {
+            Err(NoMemory) => Err(AskRefused::NoMemory),
+            Ok((memory, reply)) => {
+                self.journal.push_reserved(Entry {
+                    asker: desk.number,
+                    command,
+                    memory,
+                });
+                Ok(Receipt {
+                    number: self.journal.len() as u64,
+                    reply,
+                })
+            }
+        }
+    }
+
+    /// The entries so far, the oldest first.
+    pub fn journal(&self) -> &[Entry]
+        ensures entries { result.now ≡ self.now.journal }
+        ensures legal { IsLegal (program_of self.now.program) self.now.askers self.now.journal }
+    {
+        self.journal.as_slice()
+    }
+}

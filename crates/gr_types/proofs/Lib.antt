@@ -1,0 +1,4 @@
+pub mod Scopes
+pub mod Loops
+pub mod Bodies
+pub mod Judgement

@@ -1,0 +1,6 @@
+pub mod Programs
+pub mod Names
+pub mod Constants
+pub mod Checks
+pub mod Tables
+pub mod Checking

@@ -1,0 +1,9 @@
+//! The checked program of a Go file.
+#![tactic(auto)]
+
+pub mod check;
+mod constants;
+mod names;
+pub mod program;
+mod statements;
+mod values;
