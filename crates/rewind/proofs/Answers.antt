@@ -1,0 +1,166 @@
+-- Answers to lines, one after another.
+use Rattle.std.proofs.Common.{◌≡◌, ◌≢◌, ℕ, suc, codes, true, false, List, [], ◌∷◌, ◌++◌, length, refl, sym, ap, subst, ◌∙◌, append-nil, append_assoc, arith, Ok, Err, IfOk, OnErr}
+use Rattle.std.specs.declared.option.Option.{Option}
+use Rattle.std.specs.declared.result.Result.{Result}
+use Rattle.gr_types.specs.Programs.{Checked}
+use Rattle.gr_session.specs.declared.command.Command.{Command}
+use Rattle.gr_session.specs.declared.command.Entry.{Entry}
+use Rattle.gr_session.specs.declared.TheConstants.{JOURNAL_LIMIT}
+use Rattle.gr_session.specs.Journal.{Said, Enters}
+use Rattle.std.specs.Io.KnownBytes.{Keeps}
+use Rattle.rewind.specs.declared.command.Line.{Line}
+use Rattle.rewind.specs.declared.command.Line.TheVariants as says
+use Rattle.rewind.specs.Lines.{meaning, is_quit}
+use Rattle.rewind.specs.Replies.{Answer, Replied, JournalFull, NoMemory, answer_text, said_text}
+use Rattle.rewind.specs.Stream.{output_at, output, commands_at, commands, Answered, Answers, AnsweredLine, NoQuit, QuitLast}
+use Rattle.rewind.specs.Served.{Served, Begun}
+use Rattle.rewind.proofs.Known.{Keeps-refl, Appends-nil, Appends-then, Appends-kept}
+
+pub NoQuit-append : (ls ms : List (List ℕ)) → NoQuit ls → NoQuit ms → NoQuit (ls ++ ms)
+NoQuit-append [] ms p q = q
+NoQuit-append (l ∷ ls) ms p q = (p.0, NoQuit-append ls ms p.1 q)
+
+pub QuitLast-none : (ls : List (List ℕ)) → NoQuit ls → QuitLast ls
+QuitLast-none [] n = tt
+QuitLast-none (l ∷ []) n = tt
+QuitLast-none (l ∷ m ∷ ls) n = (n.0, QuitLast-none (m ∷ ls) n.1)
+
+pub QuitLast-one : (ls : List (List ℕ)) (q : List ℕ) → NoQuit ls → QuitLast (ls ++ q ∷ [])
+QuitLast-one [] q n = tt
+QuitLast-one (l ∷ []) q n = (n.0, tt)
+QuitLast-one (l ∷ m ∷ ls) q n = (n.0, QuitLast-one (m ∷ ls) q n.1)
+
+commands_at-append : (m : Line) (cs ds : List Command) → is_quit m ≡ false → commands_at m (cs ++ ds) ≡ commands_at m cs ++ ds
+commands_at-append says.Blank cs ds n = refl
+commands_at-append says.Rejected cs ds n = refl
+commands_at-append says.Quit cs ds n = cc
+commands_at-append (says.Command c) cs ds n = refl
+
+pub commands-append : (ls ms : List (List ℕ)) → NoQuit ls → commands (ls ++ ms) ≡ commands ls ++ commands ms
+commands-append [] ms n = refl
+commands-append (l ∷ ls) ms n = ap (λ cs. commands_at (meaning l) cs) (commands-append ls ms n.1) ∙ commands_at-append (meaning l) (commands ls) (commands ms) n.0
+
+output_at-append : (m : Line) (f g : List Answer → List ℕ) (cs : List Command) (more : List Answer) (rest : List ℕ) → is_quit m ≡ false
+    → ((xs : List Answer) → length xs ≡ length cs → f (xs ++ more) ≡ g xs ++ rest)
+    → (xs : List Answer) → length xs ≡ length (commands_at m cs) → output_at m f (xs ++ more) ≡ output_at m g xs ++ rest
+output_at-append says.Blank f g cs more rest n h xs e = h xs e
+output_at-append says.Rejected f g cs more rest n h xs e = rw (h xs e) (sym (append_assoc (codes "? bad command\n") (g xs) rest))
+output_at-append says.Quit f g cs more rest n h xs e = cc
+output_at-append (says.Command c) f g cs more rest n h [] e = absurd (omega (arith, e))
+output_at-append (says.Command c) f g cs more rest n h (x ∷ xs) e = rw (h xs (omega (arith, e))) (sym (append_assoc (answer_text x) (g xs) rest))
+
+pub output-append : (ls ms : List (List ℕ)) (xs ys : List Answer) → NoQuit ls → length xs ≡ length (commands ls) → output (ls ++ ms) (xs ++ ys) ≡ output ls xs ++ output ms ys
+output-append [] ms [] ys n e = refl
+output-append [] ms (x ∷ xs) ys n e = absurd (omega (arith, e))
+output-append (l ∷ ls) ms xs ys n e =
+    output_at-append (meaning l) (output (ls ++ ms)) (output ls) (commands ls) ys (output ms ys) n.0 (λ zs h. output-append ls ms zs ys n.1 h) xs e
+
+pub Answered-length : (program : Checked) (asker : ℕ) (old : List Entry) (cs : List Command) (xs : List Answer) (new : List Entry) → Answered program asker old cs xs new → length xs ≡ length cs
+Answered-length program asker old [] [] new h = refl
+Answered-length program asker old [] (x ∷ xs) new h = absurd h
+Answered-length program asker old (c ∷ cs) [] new h = absurd h
+Answered-length program asker old (c ∷ cs) (Replied s ∷ xs) new h = ap suc (Answered-length program asker h.0 cs xs new h.2)
+Answered-length program asker old (c ∷ cs) (JournalFull ∷ xs) new h = ap suc (Answered-length program asker old cs xs new h.1)
+Answered-length program asker old (c ∷ cs) (NoMemory ∷ xs) new h = ap suc (Answered-length program asker old cs xs new h.1)
+
+pub Answered-append : (program : Checked) (asker : ℕ) (old : List Entry) (cs : List Command) (xs : List Answer) (mid : List Entry) (ds : List Command) (ys : List Answer) (new : List Entry)
+    → Answered program asker old cs xs mid → Answered program asker mid ds ys new → Answered program asker old (cs ++ ds) (xs ++ ys) new
+Answered-append program asker old [] [] mid ds ys new h k = subst (λ (j : List Entry). Answered program asker j ds ys new) h k
+Answered-append program asker old [] (x ∷ xs) mid ds ys new h k = absurd h
+Answered-append program asker old (c ∷ cs) [] mid ds ys new h k = absurd h
+Answered-append program asker old (c ∷ cs) (Replied s ∷ xs) mid ds ys new h k = (h.0, h.1, Answered-append program asker h.0 cs xs mid ds ys new h.2 k)
+Answered-append program asker old (c ∷ cs) (JournalFull ∷ xs) mid ds ys new h k = (h.0, Answered-append program asker old cs xs mid ds ys new h.1 k)
+Answered-append program asker old (c ∷ cs) (NoMemory ∷ xs) mid ds ys new h k = (h.0, Answered-append program asker old cs xs mid ds ys new h.1 k)
+
+pub Served-none : (program : Checked) (asker : ℕ) (old : List Entry) (held : Option (List ℕ)) → Served program asker [] old old held held
+Served-none program asker old held = record { answers = []; answered = refl; written = Appends-nil held held (Keeps-refl held) }
+
+pub Served-append : {program : Checked} {asker : ℕ} {ls ms : List (List ℕ)} {old mid new : List Entry} {a b c : Option (List ℕ)}
+    → NoQuit ls → Served program asker ls old mid a b → Served program asker ms mid new b c → Served program asker (ls ++ ms) old new a c
+Served-append {program = program} {asker = asker} {ls = ls} {ms = ms} {old = old} {mid = mid} {new = new} {a = a} {b = b} {c = c} n s t = record {
+  answers = s.answers ++ t.answers;
+  answered = rw (commands-append ls ms n) (Answered-append program asker old (commands ls) s.answers mid (commands ms) t.answers new s.answered t.answered);
+  written = rw (output-append ls ms s.answers t.answers n (Answered-length program asker old (commands ls) s.answers mid s.answered))
+      (Appends-then a b c (output ls s.answers) (output ms t.answers) s.written t.written);
+}
+
+-- what stays as it was is served as before
+pub Served-kept : {program : Checked} {asker : ℕ} {ls : List (List ℕ)} {old mid new : List Entry} {a b c : Option (List ℕ)}
+    → Served program asker ls old mid a b → new ≡ mid → Keeps b c → Served program asker ls old new a c
+Served-kept {program = program} {asker = asker} {ls = ls} {old = old} {a = a} {b = b} {c = c} s same kept = record {
+  answers = s.answers;
+  answered = rw same s.answered;
+  written = Appends-kept a b c (output ls s.answers) s.written kept;
+}
+
+pub quit_is : (m : Line) → is_quit m ≡ true → m ≡ says.Quit
+quit_is says.Blank h = cc
+quit_is says.Rejected h = cc
+quit_is says.Quit h = refl
+quit_is (says.Command c) h = cc
+
+-- after `quit` nothing is read
+pub Served-quit : {program : Checked} {asker : ℕ} {q : List ℕ} {old new : List Entry} {a b : Option (List ℕ)} (more : List (List ℕ))
+    → is_quit (meaning q) ≡ true → Served program asker (q ∷ []) old new a b → Served program asker (q ∷ more) old new a b
+Served-quit {q = q} more h s = let e : meaning q ≡ says.Quit = quit_is (meaning q) h in record {
+  answers = s.answers;
+  answered = rw e (rw e at s.answered);
+  written = rw e (rw e at s.written);
+}
+
+-- lines with one meaning are served alike
+pub Served-same : {program : Checked} {asker : ℕ} {k l : List ℕ} {old new : List Entry} {a b : Option (List ℕ)}
+    → meaning k ≡ meaning l → Served program asker (k ∷ []) old new a b → Served program asker (l ∷ []) old new a b
+Served-same e s = record { answers = s.answers; answered = rw (← e) s.answered; written = rw (← e) s.written }
+
+pub Begun-same : {program : Checked} {asker : ℕ} {k l : List ℕ} {old new : List Entry} {a b : Option (List ℕ)}
+    → meaning k ≡ meaning l → Begun program asker k old new a b → Begun program asker l old new a b
+Begun-same e s = record { answers = s.answers; answered = rw (← e) s.answered; count = s.count; written = rw (← e) s.written }
+
+-- what came of one command
+pub Answers-replied : {program : Checked} {asker : ℕ} {command : Command} {old new : List Entry} {number : ℕ} {said : Said} {text : List ℕ}
+    → Enters program asker command old new number said → text ≡ said_text said → Answers program asker (says.Command command) old new text
+Answers-replied {new = new} {said = said} h e = record {
+  answers = Replied said ∷ [];
+  answered = (new, record { memory = h.memory; entered = h.entered; number_is = refl; before = h.before; stood = h.stood; after = h.after; meant = h.meant }, refl);
+  text_is = e ∙ sym (append-nil (said_text said));
+}
+
+pub Answered-replied : {program : Checked} {asker : ℕ} {command : Command} {old new : List Entry} {number : ℕ} {said : Said}
+    → Enters program asker command old new number said → AnsweredLine program asker (says.Command command) old new
+Answered-replied {new = new} {said = said} h = record {
+  answers = Replied said ∷ [];
+  answered = (new, record { memory = h.memory; entered = h.entered; number_is = refl; before = h.before; stood = h.stood; after = h.after; meant = h.meant }, refl);
+}
+
+pub Answers-full : {program : Checked} {asker : ℕ} {command : Command} {old new : List Entry} {text : List ℕ}
+    → length old ≡ JOURNAL_LIMIT → new ≡ old → text ≡ codes "no Q1\n" → Answers program asker (says.Command command) old new text
+Answers-full f u e = record { answers = JournalFull ∷ []; answered = (f, u); text_is = e }
+
+pub Answered-full : {program : Checked} {asker : ℕ} {command : Command} {old new : List Entry} → length old ≡ JOURNAL_LIMIT → new ≡ old → AnsweredLine program asker (says.Command command) old new
+Answered-full f u = record { answers = JournalFull ∷ []; answered = (f, u) }
+
+pub Answers-no_memory : {program : Checked} {asker : ℕ} {command : Command} {old new : List Entry} {text : List ℕ}
+    → length old ≢ JOURNAL_LIMIT → new ≡ old → text ≡ codes "no Q2\n" → Answers program asker (says.Command command) old new text
+Answers-no_memory n u e = record { answers = NoMemory ∷ []; answered = (n, u); text_is = e }
+
+pub Answered-no_memory : {program : Checked} {asker : ℕ} {command : Command} {old new : List Entry} → length old ≢ JOURNAL_LIMIT → new ≡ old → AnsweredLine program asker (says.Command command) old new
+Answered-no_memory n u = record { answers = NoMemory ∷ []; answered = (n, u) }
+
+-- of the answer to a line nothing is written yet
+pub begun_none : (program : Checked) (asker : ℕ) (line : List ℕ) (old new : List Entry) (held : Option (List ℕ))
+    → AnsweredLine program asker (meaning line) old new → Begun program asker line old new held held
+begun_none program asker line old new held h = record {
+  answers = h.answers;
+  answered = h.answered;
+  count = 0;
+  written = Appends-nil held held (Keeps-refl held);
+}
+
+pub if_ok : {T E : Type 0} (r : Result T E) (P Q : T → Type 0) → ((v : T) → P v → Q v) → IfOk r P → IfOk r Q
+if_ok (Ok v) P Q f h = f v h
+if_ok (Err e) P Q f h = h
+
+pub on_err : {T E : Type 0} (r : Result T E) (P : Type 0) → P → OnErr r P
+on_err (Ok v) P h = tt
+on_err (Err e) P h = h

@@ -1,0 +1,9 @@
+pub mod Known
+pub mod Reading
+pub mod Words
+pub mod Cuts
+pub mod Answers
+pub mod SoFar
+pub mod Debugging
+pub mod Legal
+pub mod Growing

@@ -1,0 +1,57 @@
+use Rattle.std.proofs.Common.{rules, ◌≡◌, ◌<◌, sym, ◌∙◌, true, false, length, arith, inl}
+use Rattle.rewind.specs.Lines.{is_quit, meaning}
+use Rattle.rewind.specs.Bytes.{LineRead}
+use Rattle.rewind.specs.Devices.{HasFailed}
+use Rattle.rewind.specs.declared.counted.LineEnd.TheVariants.{Newline, End}
+use Rattle.rewind.proofs.SoFar.{SoFar-broken, SoFar-end, SoFar-last, SoFar-line, SoFar-quit, line_left, last_left, failed_later, not_empty}
+use Rattle.rewind.proofs.stream.serve.Goals as goal
+
+pub returns-in-Err-Read-clause-err : goal.returns-in-Err-Read-clause-err
+returns-in-Err-Read-clause-err g c =
+    let failed : HasFailed c.loop-line.reader.failures c.read_line.new.reader.failures = search rules in
+    (SoFar-broken c.loop-line.invariant.so_far c.in-Err-Read.ensures.err, failed_later _ _ _ c.loop-line.invariant.reads failed)
+
+pub returns-in-Err-Memory-clause-err : goal.returns-in-Err-Memory-clause-err
+returns-in-Err-Memory-clause-err g c = inl (SoFar-broken c.loop-line.invariant.so_far c.in-Err-Memory.ensures.err)
+
+pub returns-then-is_empty-clause-ok : goal.returns-then-is_empty-clause-ok
+returns-then-is_empty-clause-ok g c =
+    let read : LineRead (g.R.Read.remaining c.loop-line.reader.inner) (g.R.Read.remaining c.read_line.new.reader.inner) c.read_line.new.line.items End = rw c.in-Ok-End.field-0-is at c.in-Ok-End.ensures.ok in
+    let none : length c.read_line.new.line.items ≡ 0 = search rules in
+    SoFar-end c.loop-line.invariant.so_far read none
+
+pub returns-in-Err-clause-err : goal.returns-in-Err-clause-err
+returns-in-Err-clause-err g c =
+    let read : LineRead (g.R.Read.remaining c.loop-line.reader.inner) (g.R.Read.remaining c.read_line.new.reader.inner) c.read_line.new.line.items End = rw c.in-Ok-End.field-0-is at c.in-Ok-End.ensures.ok in
+    let some : 0 < length c.read_line.new.line.items = rw (← c.as_slice.ensures.value) (not_empty _ _ _ c.is_empty.ensures c.if-is_empty.false c.as_slice.ensures.len) in
+    last_left c.in-Err.fault _ _ _ _ _ _ c.loop-line.invariant.so_far read some c.loop-line.invariant.writes
+    (rw (c.as_slice.ensures.value, c.loop-line.invariant.others.0) at c.in-Err.ensures.err)
+
+pub returns-in-Ok-clause-ok : goal.returns-in-Ok-clause-ok
+returns-in-Ok-clause-ok g c =
+    let read : LineRead (g.R.Read.remaining c.loop-line.reader.inner) (g.R.Read.remaining c.read_line.new.reader.inner) c.read_line.new.line.items End = rw c.in-Ok-End.field-0-is at c.in-Ok-End.ensures.ok in
+    let some : 0 < length c.read_line.new.line.items = rw (← c.as_slice.ensures.value) (not_empty _ _ _ c.is_empty.ensures c.if-is_empty.false c.as_slice.ensures.len) in
+    SoFar-last c.loop-line.invariant.so_far read some (rw (c.as_slice.ensures.value, c.loop-line.invariant.others.0) at c.in-Ok.ensures.ok)
+
+pub returns-in-Err-serve_line-clause-err : goal.returns-in-Err-serve_line-clause-err
+returns-in-Err-serve_line-clause-err g c =
+    let read : LineRead (g.R.Read.remaining c.loop-line.reader.inner) (g.R.Read.remaining c.read_line.new.reader.inner) c.read_line.new.line.items Newline = rw c.in-Ok-Newline.field-0-is at c.in-Ok-Newline.ensures.ok in
+    line_left c.in-Err-serve_line.fault _ _ _ _ _ _ c.loop-line.invariant.so_far read c.loop-line.invariant.writes
+    (rw (c.as_slice-in-Ok-Newline.ensures.value, c.loop-line.invariant.others.0) at c.in-Err-serve_line.ensures.err)
+
+pub returns-in-Ok-true-clause-ok : goal.returns-in-Ok-true-clause-ok
+returns-in-Ok-true-clause-ok g c =
+    let read : LineRead (g.R.Read.remaining c.loop-line.reader.inner) (g.R.Read.remaining c.read_line.new.reader.inner) c.read_line.new.line.items Newline = rw c.in-Ok-Newline.field-0-is at c.in-Ok-Newline.ensures.ok in
+    let quit : is_quit (meaning c.read_line.new.line.items) ≡ true = rw (← c.as_slice-in-Ok-Newline.ensures.value) (sym c.in-Ok-true.ensures.quit ∙ c.in-Ok-true.field-0-test) in
+    SoFar-quit c.loop-line.invariant.so_far read (rw (c.as_slice-in-Ok-Newline.ensures.value, c.loop-line.invariant.others.0) at c.in-Ok-true.ensures.ok) quit
+
+pub loop-line-preserved : goal.loop-line-preserved
+loop-line-preserved g c =
+    let read : LineRead (g.R.Read.remaining c.loop-line.reader.inner) (g.R.Read.remaining c.read_line.new.reader.inner) c.read_line.new.line.items Newline = rw c.in-Ok-Newline.field-0-is at c.in-Ok-Newline.ensures.ok in
+    let quit : is_quit (meaning c.read_line.new.line.items) ≡ false = rw (← c.as_slice-in-Ok-Newline.ensures.value) (sym c.in-Ok-false.ensures.quit ∙ c.in-Ok-false.field-0-test) in
+    record {
+      so_far = SoFar-line c.loop-line.invariant.so_far read (rw (c.as_slice-in-Ok-Newline.ensures.value, c.loop-line.invariant.others.0) at c.in-Ok-false.ensures.ok) quit;
+      others = (c.in-Ok-false.ensures.others.0 ∙ c.loop-line.invariant.others.0, c.in-Ok-false.ensures.others.1 ∙ c.loop-line.invariant.others.1);
+      reads = omega (arith, c.loop-line.invariant.reads, c.in-Ok-Newline.ensures.grows);
+      writes = omega (arith, c.loop-line.invariant.writes, c.in-Ok-false.ensures.grows);
+    }

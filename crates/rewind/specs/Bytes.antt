@@ -1,0 +1,38 @@
+-- What was read of a line, and what of a reply was written.
+use Rattle.std.specs.Prelude.{◌≡◌, ℕ, ◌+◌, ◌≢◌, List, [], ◌∷◌, take, Option, None, Some}
+use Rattle.std.specs.Io.KnownBytes.{Consumes, Appends, Keeps, IsAtEnd}
+use Rattle.rewind.specs.declared.command.TheConstants.{LINE_LIMIT}
+use Rattle.rewind.specs.declared.counted.LineEnd.{LineEnd}
+use Rattle.rewind.specs.declared.counted.LineEnd.TheVariants.{Newline, End}
+
+-- no byte is a newline
+abbrev pub Plain : List ℕ → Type 0
+Plain [] = Unit {0}
+Plain (b ∷ bs) = (b ≢ 10) × Plain bs
+
+-- what one byte of reading did: a byte came, or there is none
+abbrev pub Next : Option (List ℕ) → Option (List ℕ) → Option ℕ → Type 0
+Next had has None = Keeps had has × IsAtEnd has
+Next had has (Some b) = Consumes had has (b ∷ [])
+
+-- bytes of a line were read, of which so many are kept that it shows whether there were too many
+pub record Part (had has : Option (List ℕ)) (kept : List ℕ) : Type 0 where
+  pub text : List ℕ
+  pub plain : Plain text
+  pub kept_is : kept ≡ take (LINE_LIMIT + 1) text
+  pub taken : Consumes had has text
+
+-- bytes of a line were read
+pub record Taken (had has : Option (List ℕ)) : Type 0 where
+  pub text : List ℕ
+  pub plain : Plain text
+  pub taken : Consumes had has text
+
+-- a line was read up to its newline, or to the end of the bytes
+abbrev pub LineRead : Option (List ℕ) → Option (List ℕ) → List ℕ → LineEnd → Type 0
+LineRead had has kept Newline = (mid : Option (List ℕ)) × Part had mid kept × Consumes mid has (10 ∷ [])
+LineRead had has kept End = Part had has kept × IsAtEnd has
+
+-- the first bytes of these were written
+abbrev pub Begins : Option (List ℕ) → Option (List ℕ) → List ℕ → Type 0
+Begins held holds bytes = (count : ℕ) × Appends held holds (take count bytes)

@@ -1,0 +1,11 @@
+pub mod Bytes
+pub mod Fault
+pub mod Lines
+pub mod Replies
+pub mod Served
+pub mod Stream
+pub mod Words
+pub mod Debug
+pub mod Devices
+pub mod Report
+pub mod CommandLine

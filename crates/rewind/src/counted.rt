@@ -1,0 +1,187 @@
+//! Readers and writers with a count of their failures, and lines of bytes.
+ghost use Rattle.std.specs.Prelude.{◌≡◌, ℕ, ◌+◌, ◌≤◌, ◌<◌, [], length, take, IfOk, IfSome, OnOk, OnErr, IsErrOf, IsOk, IsErr, List};
+ghost use Rattle.std.specs.Io.KnownBytes.{Appends, Consumes, Keeps};
+ghost use Rattle.rewind.specs.Bytes.{Next, Taken, LineRead, Begins};
+ghost use Rattle.rewind.specs.Devices.{HasFailed, device_of, failures_of, left_of};
+
+use crate::command::LINE_LIMIT;
+use std::io::{ErrorKind, Read, Write};
+
+/// A reader or a writer, with how often it failed. It fails for good once it was used so often
+/// that `left` is 0.
+#[derive(Drop)]
+pub struct Counted<T> {
+    inner: T,
+    failures: u64,
+    left: u64,
+}
+
+/// The device failed, and the failure is counted.
+#[derive(Clone, Copy)]
+pub(crate) struct Failed;
+
+impl<T> Counted<T> {
+    /// The device, which has not failed yet.
+    pub fn new(inner: T) -> Counted<T>
+        ensures inner { device_of result ≡ inner }
+        ensures failures { failures_of result ≡ 0 }
+    {
+        Counted {
+            inner,
+            failures: 0,
+            left: u64::MAX,
+        }
+    }
+
+    /// How often it failed, up to the greatest `u64`.
+    pub fn failures(&self) -> u64
+        ensures { result ≡ failures_of self.now }
+    {
+        self.failures
+    }
+
+    /// The device.
+    pub fn into_inner(self) -> T
+        ensures { result ≡ device_of self }
+    {
+        self.inner
+    }
+
+    fn fail(&mut self) -> Failed
+        ensures inner { device_of self.new ≡ device_of self.old }
+        ensures failures { HasFailed (failures_of self.old) (failures_of self.new) }
+        ensures grows { failures_of self.old ≤ failures_of self.new }
+        ensures left { left_of self.new ≡ left_of self.old }
+    {
+        self.failures = self.failures.saturating_add(1);
+        Failed
+    }
+}
+
+impl<R: Read> Counted<R> {
+    /// The next byte, if there is one.
+    pub(crate) fn next_byte(&mut self) -> Result<Option<u8>, Failed>
+        ensures ok { IfOk result (λ next. Next (R.remaining (device_of self.old)) (R.remaining (device_of self.new)) next) }
+        ensures err { OnErr result (Keeps (R.remaining (device_of self.old)) (R.remaining (device_of self.new))) }
+        ensures failures { OnErr result (HasFailed (failures_of self.old) (failures_of self.new)) }
+        ensures grows { failures_of self.old ≤ failures_of self.new }
+        ensures left { OnOk result (left_of self.new < left_of self.old) }
+    {
+        if self.left == 0 {
+            return Err(self.fail());
+        }
+        self.left -= 1;
+        match one_byte(&mut self.inner) {
+            Ok(next) => Ok(next),
+            Err(_) => Err(self.fail()),
+        }
+    }
+}
+
+// One byte, tried again where the read was interrupted.
+fn one_byte<R: Read>(reader: &mut R) -> Result<Option<u8>, Failed>
+    ensures ok { IfOk result (λ next. Next (R.remaining reader.old) (R.remaining reader.new) next) }
+    ensures err { OnErr result (Keeps (R.remaining reader.old) (R.remaining reader.new)) }
+{
+    for _ in 0..u64::MAX {
+        let mut one = [0u8; 1];
+        match reader.read(&mut one) {
+            Ok(0) => return Ok(None),
+            Ok(_) => return Ok(Some(one[0])),
+            Err(e) => {
+                if e.kind() != ErrorKind::Interrupted {
+                    return Err(Failed);
+                }
+            }
+        }
+    }
+    Err(Failed)
+}
+
+impl<W: Write> Counted<W> {
+    /// Writes the bytes, or a beginning of them.
+    pub(crate) fn put(&mut self, bytes: &[u8]) -> Result<(), Failed>
+        ensures ok { OnOk result (Appends (W.contents (device_of self.old)) (W.contents (device_of self.new)) bytes.now) }
+        ensures err { OnErr result (Begins (W.contents (device_of self.old)) (W.contents (device_of self.new)) bytes.now) }
+        ensures failures { OnErr result (HasFailed (failures_of self.old) (failures_of self.new)) }
+        ensures grows { failures_of self.old ≤ failures_of self.new }
+    {
+        match put_all(&mut self.inner, bytes) {
+            Ok(()) => Ok(()),
+            Err(_) => Err(self.fail()),
+        }
+    }
+}
+
+// Some of the bytes, tried again where the write was interrupted. That no byte was taken is a failure.
+fn put_some<W: Write>(writer: &mut W, bytes: &[u8]) -> Result<usize, Failed>
+    ensures ok { IfOk result (λ n. Appends (W.contents writer.old) (W.contents writer.new) (take n bytes.now)) }
+    ensures count { IfOk result (λ n. (0 < n) × (n ≤ length bytes.now)) }
+    ensures err { OnErr result (Keeps (W.contents writer.old) (W.contents writer.new)) }
+{
+    for _ in 0..u64::MAX {
+        match writer.write(bytes) {
+            Ok(0) => return Err(Failed),
+            Ok(n) => return Ok(n),
+            Err(e) => {
+                if e.kind() != ErrorKind::Interrupted {
+                    return Err(Failed);
+                }
+            }
+        }
+    }
+    Err(Failed)
+}
+
+// All the bytes, or a beginning of them.
+fn put_all<W: Write>(writer: &mut W, bytes: &[u8]) -> Result<(), Failed>
+    ensures ok { OnOk result (Appends (W.contents writer.old) (W.contents writer.new) bytes.now) }
+    ensures err { OnErr result (Begins (W.contents writer.old) (W.contents writer.new) bytes.now) }
+{
+    let mut done = 0;
+    while done < bytes.len() {
+        done += put_some(writer, &bytes[done..])?;
+    }
+    Ok(())
+}
+
+/// What ended a line.
+#[derive(Clone, Copy)]
+pub(crate) enum LineEnd {
+    Newline,
+    End,
+}
+
+/// Why no whole line was read.
+#[derive(Clone, Copy)]
+pub(crate) enum LineFault {
+    Read,
+    Memory,
+}
+
+/// Reads a line, without its newline. Of a line over the limit one byte more than that is kept.
+pub(crate) fn read_line<R: Read>(reader: &mut Counted<R>, line: &mut Vec<u8>) -> Result<LineEnd, LineFault>
+    requires { length line.old.items ≡ 0 }
+    ensures ok { IfOk result (λ end.
+        LineRead (R.remaining (device_of reader.old)) (R.remaining (device_of reader.new)) line.new.items end) }
+    ensures err { OnErr result (Taken (R.remaining (device_of reader.old)) (R.remaining (device_of reader.new))) }
+    ensures failures { IsErrOf result LineFault.Read → HasFailed (failures_of reader.old) (failures_of reader.new) }
+    ensures grows { failures_of reader.old ≤ failures_of reader.new }
+    ensures left { OnOk result (left_of reader.new < left_of reader.old) }
+{
+    loop {
+        match reader.next_byte() {
+            Err(_) => return Err(LineFault::Read),
+            Ok(None) => return Ok(LineEnd::End),
+            Ok(Some(b'\n')) => return Ok(LineEnd::Newline),
+            Ok(Some(byte)) => {
+                if line.len() > LINE_LIMIT {
+                    continue;
+                }
+                if line.push(byte).is_err() {
+                    return Err(LineFault::Memory);
+                }
+            }
+        }
+    }
+}

@@ -1,0 +1,99 @@
+//! A session from its source to its last reply.
+ghost use Rattle.std.specs.Prelude.{◌≡◌, ℕ, ◌+◌, ◌≤◌, ◌<◌, [], length, IfOk, OnOk, IfErr, IsErrOf};
+ghost use Rattle.gr_types.specs.Programs.{program_of};
+ghost use Rattle.rewind.specs.Devices.{HasFailed, device_of, failures_of};
+ghost use Rattle.rewind.specs.Debug.{SourceRead, Opened, SourceLeft, Debugged, DebugLeft};
+
+use crate::counted::{Counted, LineFault};
+use crate::stream::{ServeFault, serve};
+use gr_scan::scan::TEXT_LIMIT;
+use gr_session::{OpenError, Session};
+use std::alloc::Global;
+use std::io::{Read, Write};
+use thiserror::Error;
+
+/// Why a session was not served to `quit` or to the end of its commands.
+#[derive(Debug, Drop, Error)]
+pub enum DebugFault {
+    /// The source failed.
+    #[error("the source cannot be read")]
+    Source,
+    /// The source has no program, or there was no memory for one.
+    #[error("the source has no program")]
+    Open(OpenError),
+    /// The stream of commands was left, or there was no memory for the source.
+    #[error("{0}")]
+    Serve(ServeFault),
+}
+
+// The bytes of the source; of a source that is too long, one byte more than a text may have.
+fn read_source<S: Read>(source: &mut Counted<S>, text: &mut Vec<u8>) -> Result<(), LineFault>
+    requires { length text.old.items ≡ 0 }
+    ensures ok { OnOk result (SourceRead (S.remaining (device_of source.old)) (S.remaining (device_of source.new)) text.new.items) }
+    ensures failures { IsErrOf result LineFault.Read → HasFailed (failures_of source.old) (failures_of source.new) }
+{
+    while text.len() <= TEXT_LIMIT {
+        match source.next_byte() {
+            Err(_) => return Err(LineFault::Read),
+            Ok(None) => return Ok(()),
+            Ok(Some(byte)) => {
+                if text.push(byte).is_err() {
+                    return Err(LineFault::Memory);
+                }
+            }
+        }
+    }
+    Ok(())
+}
+
+// A session of the source's program.
+fn open_source<S: Read>(alloc: Global, source: &mut Counted<S>) -> Result<Session, DebugFault>
+    ensures program { IfOk result (λ session. Opened (S.remaining (device_of source.old)) (S.remaining (device_of source.new)) (program_of session.program)) }
+    ensures empty { IfOk result (λ session. (session.journal ≡ []) × (session.askers ≡ 0)) }
+    ensures err { IfErr result (λ fault. SourceLeft fault (S.remaining (device_of source.old)) (S.remaining (device_of source.new)) (HasFailed (failures_of source.old) (failures_of source.new))) }
+{
+    let mut text = Vec::new(alloc);
+    match read_source(source, &mut text) {
+        Ok(()) => {}
+        Err(LineFault::Read) => return Err(DebugFault::Source),
+        Err(LineFault::Memory) => return Err(DebugFault::Serve(ServeFault::Memory)),
+    }
+    match Session::open(alloc, text.as_slice()) {
+        Ok(session) => Ok(session),
+        Err(error) => Err(DebugFault::Open(error)),
+    }
+}
+
+/// Reads the source, opens a session of its program with one asker, and serves that asker's commands. The answer to each
+/// line is written before the next one is read: a command's reply, or `no Q1` or `no Q2` where the journal is full or there
+/// is no memory for its entry; `? bad command` for a rejected line; nothing for a blank one; and `ok` for `quit`, after which
+/// nothing is read.
+///
+/// After `Source` and `Open` no command was read and nothing was written; a source of more than 1,048,576 bytes is not
+/// opened. After `Serve` the session stands as `serve` says.
+pub fn debug<S: Read, R: Read, W: Write>(
+    alloc: Global,
+    source: &mut Counted<S>,
+    reader: &mut Counted<R>,
+    writer: &mut Counted<W>,
+) -> Result<(), DebugFault>
+    ensures ok { OnOk result (Debugged (S.remaining (device_of source.old)) (S.remaining (device_of source.new))
+        (R.remaining (device_of reader.old)) (R.remaining (device_of reader.new)) (W.contents (device_of writer.old)) (W.contents (device_of writer.new))) }
+    ensures err { IfErr result (λ fault. DebugLeft fault (S.remaining (device_of source.old)) (S.remaining (device_of source.new))
+        (R.remaining (device_of reader.old)) (R.remaining (device_of reader.new)) (W.contents (device_of writer.old)) (W.contents (device_of writer.new))
+        (HasFailed (failures_of source.old) (failures_of source.new))
+        (HasFailed (failures_of reader.old) (failures_of reader.new)) (HasFailed (failures_of writer.old) (failures_of writer.new))) }
+{
+    let mut session = match open_source(alloc, source) {
+        Ok(session) => session,
+        Err(fault) => return Err(fault),
+    };
+    let desk = match session.enrol() {
+        Ok(desk) => desk,
+        Err(_) => return Err(DebugFault::Serve(ServeFault::Memory)),
+    };
+    match serve(alloc, &mut session, desk, reader, writer) {
+        Ok(()) => Ok(()),
+        Err(fault) => Err(DebugFault::Serve(fault)),
+    }
+}
