@@ -2,17 +2,27 @@
 
 .PHONY: all demo test bench clean
 
-# Proves every crate and installs the program as bin/rewind.
-all:
-	rt all check
-	cd crates/rewind_cli && rt lib
+# Proves the program and what it stands on, and installs it as bin/rewind.
+all: bin/rewind
+
+bin/rewind: FORCE
+	cd crates/rewind_cli && rt run -- --help >/dev/null
 	mkdir -p bin
 	cp crates/rewind_cli/out/rewind_cli bin/rewind
 
-# The main job on a real example, within two minutes: built without proofs, and so no verdict.
+# The main job on a real example: built without proofs, and so no verdict.
 demo:
-	cd crates/rewind_cli && rt try -- swapped.go < stdin
+	cd crates/rewind_cli && rt try -- data/swapped_variables.go < stdin
 
 # The gate: every proof from nothing, the must-fail edits, the tests and the programs.
 test:
 	rt ci
+
+# The time of a step in a small and in a large program.
+bench: bin/rewind
+	bench/steps.py bin/rewind
+
+clean:
+	rm -rf bin crates/*/out
+
+FORCE:

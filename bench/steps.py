@@ -3,15 +3,18 @@
 
     bench/steps.py [PROGRAM]      (bin/rewind)
 
-Prints microseconds a command and their ratio, which is to be at most 1.5: neither the length of the log nor
-that of the program counts. The time of opening the program is measured apart and taken off.
+Steps through each program and takes it all back, again and again, until both have served as many commands; prints
+the processor time of a command, and the ratio, which is to be at most 1.5: neither the length of the log nor that
+of the program counts. The time of opening the program is measured apart and taken off.
 """
+import os
+import resource
 import subprocess
 import sys
 import tempfile
-import time
 
 SIZES = (2_000, 20_000)
+STEPS = 200_000
 ROUNDS = 5
 LIMIT = 1.5
 
@@ -22,27 +25,28 @@ def source(statements):
     return "\n".join(lines + ["}", ""])
 
 
-def seconds(program, file, script):
-    best = None
-    for _ in range(ROUNDS):
-        begun = time.perf_counter()
-        subprocess.run([program, file], input=script, stdout=subprocess.DEVNULL, check=True)
-        took = time.perf_counter() - begun
-        best = took if best is None else min(best, took)
-    return best
+def processor_time(command, script):
+    before = resource.getrusage(resource.RUSAGE_CHILDREN)
+    subprocess.run(command, input=script, stdout=subprocess.DEVNULL, check=True)
+    after = resource.getrusage(resource.RUSAGE_CHILDREN)
+    return after.ru_utime + after.ru_stime - before.ru_utime - before.ru_stime
+
+
+def least(command, script):
+    return min(processor_time(command, script) for _ in range(ROUNDS))
 
 
 def main():
     program = sys.argv[1] if len(sys.argv) > 1 else "bin/rewind"
     each = []
     for statements in SIZES:
-        with tempfile.NamedTemporaryFile("w", suffix=".go") as file:
-            file.write(source(statements))
-            file.flush()
-            script = b"step g0\n" * statements + b"undo\n" * statements
-            whole = seconds(program, file.name, script)
-            opening = seconds(program, file.name, b"")
-        each.append((whole - opening) / (2 * statements) * 1e6)
+        with tempfile.TemporaryDirectory() as folder:
+            file = os.path.join(folder, "program.go")
+            with open(file, "w") as f:
+                f.write(source(statements))
+            script = (b"step g0\n" * statements + b"undo\n" * statements) * (STEPS // statements)
+            opening = least([program, file], b"")
+            each.append((least([program, file], script) - opening) / (2 * STEPS) * 1e6)
         print("%6d statements: %.3f microseconds a command (opening: %.1f ms)" % (statements, each[-1], opening * 1e3))
     ratio = each[1] / each[0]
     print("ratio: %.2f (at most %.1f)" % (ratio, LIMIT))
