@@ -160,7 +160,10 @@ pub(crate) enum LineFault {
 }
 
 /// Reads a line, without its newline. Of a line over the limit one byte more than that is kept.
-pub(crate) fn read_line<R: Read>(reader: &mut Counted<R>, line: &mut Vec<u8>) -> Result<LineEnd, LineFault>
+pub(crate) fn read_line<R: Read>(
+    reader: &mut Counted<R>,
+    line: &mut Vec<u8>,
+) -> Result<LineEnd, LineFault>
     requires { length line.old.items ≡ 0 }
     ensures ok { IfOk result (λ end.
         LineRead (R.remaining (device_of reader.old)) (R.remaining (device_of reader.new)) line.new.items end) }

@@ -1,0 +1,57 @@
+//! Runs example sessions: for each NAME among its arguments the source NAME.go, the commands NAME.script, and the output
+//! NAME.expect, which is the line of the fault for a session that is not served. It prints `NAME: ok` or `NAME: differs`.
+//!
+//! Exit status: 0 where all are as expected, else 1.
+#![tactic(auto)]
+
+use gr_base::NoMemory;
+use rewind::counted::Counted;
+use rewind::debug::debug;
+use rewind::report::report;
+use std::alloc::Global;
+use std::process::ExitCode;
+use std::{env, fs, io};
+
+// What the debugger writes for these commands on this source, and after it the line of the fault, if there is one.
+fn output(alloc: Global, file: &str, source: &[u8], script: &[u8]) -> Result<Vec<u8>, NoMemory> {
+    let mut source = Counted::new(source);
+    let mut reader = Counted::new(script);
+    let mut writer = Counted::new(Vec::new(alloc));
+    let ended = debug(alloc, &mut source, &mut reader, &mut writer);
+    let mut text = writer.into_inner();
+    if let Err(fault) = ended {
+        let _status = report(&fault, file, &mut text)?;
+    }
+    Ok(text)
+}
+
+// Whether the session of this name is as expected.
+fn is_expected(rt: &HostRuntime, name: &str) -> io::Result<bool> {
+    let file = format!(in rt.alloc(); "{name}.go")?;
+    let source = fs::read(rt, file.as_str())?;
+    let script = fs::read(rt, format!(in rt.alloc(); "{name}.script")?.as_str())?;
+    let expected = fs::read(rt, format!(in rt.alloc(); "{name}.expect")?.as_str())?;
+    match output(
+        rt.alloc(),
+        file.as_str(),
+        source.as_slice(),
+        script.as_slice(),
+    ) {
+        Ok(text) => Ok(text.as_slice() == expected.as_slice()),
+        Err(NoMemory) => Ok(false),
+    }
+}
+
+fn main(rt: HostRuntime) -> io::Result<ExitCode> {
+    let names: Vec<String> = env::args(&rt)?.skip(1).collect(rt.alloc())?;
+    let mut status = 0;
+    for name in &names {
+        if is_expected(&rt, name.as_str())? {
+            println!(rt; "{name}: ok")?;
+        } else {
+            println!(rt; "{name}: differs")?;
+            status = 1;
+        }
+    }
+    Ok(ExitCode::from(status))
+}
