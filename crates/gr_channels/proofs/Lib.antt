@@ -1,0 +1,4 @@
+pub mod QueueLemmas
+pub mod Slots
+pub mod Undoing
+pub mod Written

@@ -1,0 +1,4 @@
+pub mod Queues
+pub mod Channels
+pub mod Changes
+pub mod Objects

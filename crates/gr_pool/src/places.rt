@@ -1,0 +1,53 @@
+//! Where a name stands, or belongs, in a list of names in order, which is kept as places in a list of known names.
+
+ghost use Rattle.std.specs.Prelude.{◌≡◌, ◌<◌, ◌≤◌, length, drop, All, slice_get, IfOk, IfErr};
+ghost use Rattle.gr_pool.specs.Goroutines.{IsInOrder, names_at, greater, next_name, StandsAt, BelongsAt};
+
+use gr_base::GoName;
+use std::cmp::Ordering;
+
+/// Where the name stands, or else where it belongs. The time is logarithmic in the number of places.
+pub fn place_of(known: &[GoName], ready: &[usize], name: &GoName) -> Result<usize, usize>
+    requires within { All (λ place. place < length known.now) ready.now }
+    requires ordered { IsInOrder (names_at known.now ready.now) }
+    ensures found { IfOk result (StandsAt name.now (names_at known.now ready.now)) }
+    ensures missing { IfErr result (BelongsAt name.now (names_at known.now ready.now)) }
+{
+    let mut low = 0usize;
+    let mut high = ready.len();
+    while low < high {
+        let middle = low + (high - low) / 2;
+        match known[ready[middle]].cmp(name) {
+            Ordering::Equal => return Ok(middle),
+            Ordering::Less => low = middle + 1,
+            Ordering::Greater => high = middle,
+        }
+    }
+    Err(low)
+}
+
+/// Where the names after this one begin.
+fn place_after(known: &[GoName], ready: &[usize], name: &GoName) -> usize
+    requires within { All (λ place. place < length known.now) ready.now }
+    requires ordered { IsInOrder (names_at known.now ready.now) }
+    ensures within { result ≤ length ready.now }
+    ensures after { drop result (names_at known.now ready.now) ≡ greater name.now (names_at known.now ready.now) }
+{
+    match place_of(known, ready, name) {
+        Ok(place) => place + 1,
+        Err(place) => place,
+    }
+}
+
+/// Where the first name after this one stands, else the first of all.
+pub fn next_place(known: &[GoName], ready: &[usize], name: &GoName) -> usize
+    requires within { All (λ place. place < length known.now) ready.now }
+    requires ordered { IsInOrder (names_at known.now ready.now) }
+    ensures { slice_get (names_at known.now ready.now) result ≡ next_name name.now (names_at known.now ready.now) }
+{
+    let place = place_after(known, ready, name);
+    if place < ready.len() {
+        return place;
+    }
+    0
+}

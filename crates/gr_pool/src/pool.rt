@@ -1,0 +1,120 @@
+//! The pool of ready goroutines.
+
+ghost use Rattle.std.specs.Prelude.{◌≡◌, ◌∷◌, ◌++◌, [], length, true, option_copied, if◌then◌else◌, ◌↔◌, IsTrue, OnOk, OnErr, IsOk};
+ghost use Rattle.gr_pool.specs.Goroutines.{is_among, IsInOrder, with_name, without_name, next_name};
+
+use crate::places::{next_place, place_of};
+use gr_base::{GoName, NoMemory};
+use indexmap::IndexSet;
+use std::alloc::Global;
+use std::marker::Model;
+
+/// Goroutines, each known from a time on, and at each time ready or not. The ready ones stand in the order of their names.
+#[derive(Drop)]
+pub struct Pool {
+    alloc: Global,
+    known: IndexSet<GoName>,
+    /// The places of the ready names among the known ones, in the order of the names.
+    ready: Vec<usize>,
+}
+
+impl Model for Pool {
+    ghost use Rattle.std.specs.Prelude.{◌<◌, ◌≤◌, All, length};
+    ghost use Rattle.std.specs.Vec.{vec_capacity};
+    ghost use Rattle.gr_pool.specs.Goroutines.{Goroutines, IsInOrder, names_at};
+
+    ghost Value = { Goroutines };
+
+    ghost view = { λ p. record { known = p.known.keys; ready = names_at p.known.keys p.ready.items } };
+
+    ghost invariant = { λ p. All (λ place. place < length p.known.keys) p.ready.items × IsInOrder (names_at p.known.keys p.ready.items) × (length p.known.keys ≤ vec_capacity p.ready) };
+}
+
+impl Pool {
+    /// A pool that knows nobody. It takes no memory.
+    pub fn new(alloc: Global) -> Pool
+        ensures { result ≡ record { known = []; ready = [] } }
+    {
+        Pool {
+            alloc,
+            known: IndexSet::new(alloc),
+            ready: Vec::new(alloc),
+        }
+    }
+
+    /// Makes a name known, and room for it among the ready ones. A name that is known takes no memory. Refused, nothing
+    /// has changed.
+    pub fn know(&mut self, name: &GoName) -> Result<(), NoMemory>
+        ensures known { OnOk result (self.new.known ≡ (if is_among name.now self.old.known then self.old.known else self.old.known ++ name.now ∷ [])) }
+        ensures ready { self.new.ready ≡ self.old.ready }
+        ensures err { OnErr result (self.new ≡ self.old) }
+        ensures succeeds { is_among name.now self.old.known ≡ true → IsOk result }
+    {
+        if self.known.contains(name) {
+            return Ok(());
+        }
+        let name = name.copy(self.alloc)?;
+        let unready = self.known.len().saturating_sub(self.ready.len());
+        self.ready.reserve(unready + 1)?;
+        self.known.insert(name)?;
+        Ok(())
+    }
+
+    /// Whether the goroutine is ready.
+    pub fn contains(&self, name: &GoName) -> bool
+        ensures { result ≡ is_among name.now self.now.ready }
+    {
+        match place_of(self.known.as_slice(), self.ready.as_slice(), name) {
+            Ok(_) => true,
+            Err(_) => false,
+        }
+    }
+
+    /// How many goroutines are ready.
+    pub fn len(&self) -> usize
+        ensures count { result ≡ length self.now.ready }
+        ensures ordered { IsInOrder self.now.ready }
+    {
+        self.ready.len()
+    }
+
+    /// Whether no goroutine is ready.
+    pub fn is_empty(&self) -> bool
+        ensures { IsTrue result ↔ (self.now.ready ≡ []) }
+    {
+        self.ready.is_empty()
+    }
+
+    /// Makes a known goroutine ready. It takes no memory.
+    pub fn insert(&mut self, name: &GoName)
+        requires { is_among name.now self.old.known ≡ true }
+        ensures ready { self.new.ready ≡ with_name name.now self.old.ready }
+        ensures known { self.new.known ≡ self.old.known }
+    {
+        let found = place_of(self.known.as_slice(), self.ready.as_slice(), name);
+        let Err(place) = found else { return };
+        let known = self.known.get_index_of(name).unwrap();
+        self.ready.insert(place, known).unwrap();
+    }
+
+    /// Makes a goroutine unready. It takes no memory.
+    pub fn remove(&mut self, name: &GoName)
+        ensures ready { self.new.ready ≡ without_name name.now self.old.ready }
+        ensures known { self.new.known ≡ self.old.known }
+    {
+        let found = place_of(self.known.as_slice(), self.ready.as_slice(), name);
+        let Ok(place) = found else { return };
+        let _ = self.ready.remove(place);
+    }
+
+    /// The first ready goroutine after this one in name order, else the first of all.
+    pub fn next_after(&self, name: &GoName) -> Option<&GoName>
+        ensures { option_copied result ≡ next_name name.now self.now.ready }
+    {
+        let place = next_place(self.known.as_slice(), self.ready.as_slice(), name);
+        if place < self.ready.len() {
+            return self.known.get_index(self.ready[place]);
+        }
+        None
+    }
+}
