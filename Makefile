@@ -18,9 +18,15 @@ demo:
 test:
 	rt ci
 
-# The time of a step in a small and in a large program.
-bench: bin/rewind
+bin/channel_bench: FORCE
+	cd crates/channel_bench && rt run >/dev/null
+	mkdir -p bin
+	cp crates/channel_bench/out/channel_bench bin/channel_bench
+
+# The time of a step in a small and in a large program, and of changes of a channel at a small and a large capacity.
+bench: bin/rewind bin/channel_bench
 	bench/steps.py bin/rewind
+	bench/channels.py bin/channel_bench
 
 clean:
 	rm -rf bin crates/*/out

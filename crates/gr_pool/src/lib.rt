@@ -3,5 +3,7 @@
 
 mod places;
 pub mod pool;
+#[cfg(test)]
+mod tests;
 
 pub use pool::Pool;

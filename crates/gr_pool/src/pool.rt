@@ -46,6 +46,7 @@ impl Pool {
     /// has changed.
     pub fn know(&mut self, name: &GoName) -> Result<(), NoMemory>
         ensures known { OnOk result (self.new.known ≡ (if is_among name.now self.old.known then self.old.known else self.old.known ++ name.now ∷ [])) }
+        ensures there { OnOk result (is_among name.now self.new.known ≡ true) }
         ensures ready { self.new.ready ≡ self.old.ready }
         ensures err { OnErr result (self.new ≡ self.old) }
         ensures succeeds { is_among name.now self.old.known ≡ true → IsOk result }

@@ -10,10 +10,11 @@ use Rattle.gr_scan.specs.declared.piece.Piece.TheVariants as pieces
 use Rattle.gr_scan.specs.declared.piece.Class.{Class}
 use Rattle.gr_scan.specs.declared.piece.Class.TheVariants.{Letter, Digit, Space, Newline, Quote, Slash, Point, Other}
 use Rattle.gr_scan.specs.Marks.{operators, mark_in}
-use Rattle.gr_scan.specs.Pieces.{is_digit, is_letter, is_space, is_quote, Spells}
+use Rattle.gr_scan.specs.Pieces.{is_digit, is_letter, is_space, Spells}
 use Rattle.gr_scan.specs.Scanning.{class_of}
 use Rattle.gr_scan.proofs.Bools.{and_true, or_cases}
 use Rattle.gr_scan.proofs.Tables.{found}
+use Rattle.gr_scan.proofs.Literals.{text_front}
 
 -- what a class says of its bytes
 abbrev pub Holds : Class → ℕ → Type 0
@@ -21,7 +22,7 @@ Holds Letter b = is_letter b ≡ true
 Holds Digit b = is_digit b ≡ true
 Holds Space b = is_space b ≡ true
 Holds Newline b = b ≡ 10
-Holds Quote b = is_quote b ≡ true
+Holds Quote b = b ≡ 34
 Holds Slash b = b ≡ 47
 Holds Point b = b ≡ 46
 Holds Other b = Unit {0}
@@ -30,21 +31,21 @@ chosen : (t : Bool) (c d : Class) (b : ℕ) → (t ≡ true → Holds c b) → H
 chosen true c d b f g = f refl
 chosen false c d b f g = g
 
-last_classes : (b : ℕ) → Holds (cond (is_quote b) Quote (cond (b == 47) Slash (cond (b == 46) Point Other))) b
+last_classes : (b : ℕ) → Holds (cond (b == 34) Quote (cond (b == 47) Slash (cond (b == 46) Point Other))) b
 last_classes b =
-    chosen (is_quote b) Quote (cond (b == 47) Slash (cond (b == 46) Point Other)) b (λ e. e)
+    chosen (b == 34) Quote (cond (b == 47) Slash (cond (b == 46) Point Other)) b (λ e. eqb-true b 34 e)
     (chosen (b == 47) Slash (cond (b == 46) Point Other) b (λ e. eqb-true b 47 e)
     (chosen (b == 46) Point Other b (λ e. eqb-true b 46 e) tt))
 
 abbrev late_class : ℕ → Class
-late_class b = cond (b == 10) Newline (cond (is_quote b) Quote (cond (b == 47) Slash (cond (b == 46) Point Other)))
+late_class b = cond (b == 10) Newline (cond (b == 34) Quote (cond (b == 47) Slash (cond (b == 46) Point Other)))
 
 holds : (b : ℕ) → Holds (class_of b) b
 holds b =
     chosen (is_letter b) Letter (cond (is_digit b) Digit (cond (is_space b) Space (late_class b))) b (λ e. e)
     (chosen (is_digit b) Digit (cond (is_space b) Space (late_class b)) b (λ e. e)
     (chosen (is_space b) Space (late_class b) b (λ e. e)
-    (chosen (b == 10) Newline (cond (is_quote b) Quote (cond (b == 47) Slash (cond (b == 46) Point Other))) b (λ e. eqb-true b 10 e)
+    (chosen (b == 10) Newline (cond (b == 34) Quote (cond (b == 47) Slash (cond (b == 46) Point Other))) b (λ e. eqb-true b 10 e)
     (last_classes b))))
 
 pub holds_at : (b : ℕ) (c : Class) → class_of b ≡ c → Holds c b
@@ -62,8 +63,9 @@ may (pieces.Operator mark) Point = true
 may (pieces.Operator mark) Other = true
 may pieces.Fraction Digit = true
 may pieces.Fraction Point = true
-may pieces.Quote Quote = true
+may pieces.Text Quote = true
 may pieces.GeneralComment Slash = true
+may pieces.OpenComment Slash = true
 may _ _ = false
 
 pub digit_class : (b : ℕ) → is_digit b ≡ true → class_of b ≡ Digit
@@ -81,9 +83,6 @@ of_three Z x y z b e f g h = ⊎_elim
 
 pub space_class : (b : ℕ) → is_space b ≡ true → class_of b ≡ Space
 space_class b e = of_three (λ n. class_of n ≡ Space) 32 9 13 b e refl refl refl
-
-pub quote_class : (b : ℕ) → is_quote b ≡ true → class_of b ≡ Quote
-quote_class b e = of_three (λ n. class_of n ≡ Quote) 34 39 96 b e refl refl refl
 
 -- what holds of the spelling of every operator
 abbrev starts_so : List ℕ → Bool
@@ -122,8 +121,9 @@ spells_length pieces.Word s sp = sp.0
 spells_length pieces.Number s sp = sp.0
 spells_length (pieces.Operator k) s sp = (operator_start k s sp).0
 spells_length pieces.Fraction s sp = ⊎_elim (λ w. omega (arith, w.0)) (λ w. omega (arith, w.0)) sp
-spells_length pieces.Quote s sp = omega (arith, sp.0)
-spells_length pieces.GeneralComment s sp = omega (arith, ap length sp)
+spells_length pieces.Text s sp = (text_front s sp.0 sp.1).0
+spells_length pieces.GeneralComment s sp = omega (arith, sp.0)
+spells_length pieces.OpenComment s sp = omega (arith, ap length sp)
 
 pub may_begin : (p : Piece) (s : List ℕ) → Spells p s → may p (class_of (get_or s 0 0)) ≡ true
 may_begin pieces.Space s sp = rw (space_class (get_or s 0 0) sp.1) refl
@@ -133,5 +133,6 @@ may_begin pieces.Word s sp = rw sp.1 refl
 may_begin pieces.Number s sp = rw (digit_class (get_or s 0 0) sp.1) refl
 may_begin (pieces.Operator k) s sp = (operator_start k s sp).1
 may_begin pieces.Fraction s sp = ⊎_elim (λ w. rw (digit_class (get_or s 0 0) w.1) refl) (λ w. rw w.1 refl) sp
-may_begin pieces.Quote s sp = rw (quote_class (get_or s 0 0) sp.1) refl
-may_begin pieces.GeneralComment s sp = rw sp refl
+may_begin pieces.Text s sp = rw (text_front s sp.0 sp.1).1 refl
+may_begin pieces.GeneralComment s sp = rw sp.1 refl
+may_begin pieces.OpenComment s sp = rw sp refl

@@ -1,5 +1,7 @@
 pub mod Bools
 pub mod Tables
+pub mod Bytes
+pub mod Literals
 pub mod Classes
 pub mod Longest
 pub mod Unique

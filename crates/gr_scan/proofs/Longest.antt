@@ -9,9 +9,10 @@ use Rattle.gr_scan.specs.declared.piece.Piece.TheVariants as pieces
 use Rattle.gr_scan.specs.declared.piece.Class.{Class}
 use Rattle.gr_scan.specs.declared.piece.Class.TheVariants.{Letter, Digit, Space, Newline, Quote, Slash, Point, Other}
 use Rattle.gr_scan.specs.Marks.{operators}
-use Rattle.gr_scan.specs.Pieces.{is_digit, is_letter, is_word, is_space, is_quote, IsRun, Spells, IsPiece, NoPiece}
-use Rattle.gr_scan.specs.Scanning.{first_prefix, class_of, OnlyMarks}
+use Rattle.gr_scan.specs.Pieces.{is_digit, is_letter, is_word, is_space, IsRun, Closes, Spells, IsPiece, NoPiece}
+use Rattle.gr_scan.specs.Scanning.{first_prefix, class_of, text_end, IsFirstEnd, OnlyMarks}
 use Rattle.gr_scan.proofs.Bools.{both, and_true, or_cases, or_left, or_right, true_or_false}
+use Rattle.gr_scan.proofs.Literals.{text_found, text_ends}
 use Rattle.gr_scan.proofs.Tables.{operators_descend, prefix_none, prefix_longest, prefix_some}
 use Rattle.gr_scan.proofs.Classes.{may, may_begin, holds_at, spells_length, follows_so, operator_follows}
 
@@ -51,7 +52,8 @@ word_longest text n c stop pieces.Comment m ok le sp = not_here ok
 word_longest text n c stop pieces.Number m ok le sp = not_here ok
 word_longest text n c stop (pieces.Operator k) m ok le sp = not_here ok
 word_longest text n c stop pieces.Fraction m ok le sp = not_here ok
-word_longest text n c stop pieces.Quote m ok le sp = not_here ok
+word_longest text n c stop pieces.Text m ok le sp = not_here ok
+word_longest text n c stop pieces.OpenComment m ok le sp = not_here ok
 word_longest text n c stop pieces.GeneralComment m ok le sp = not_here ok
 
 pub word_piece : (text : List ℕ) (n : ℕ) → 1 ≤ n → n ≤ length text → class_of (get_or text 0 0) ≡ Letter → ((k : ℕ) → 1 ≤ k → k < n → is_word (get_or text k 0) ≡ true) → (n < length text → is_word (get_or text n 0) ≡ false) → IsPiece pieces.Word n text
@@ -89,7 +91,8 @@ lone_space pieces.Word s ok sp = not_here ok
 lone_space pieces.Number s ok sp = not_here ok
 lone_space (pieces.Operator k) s ok sp = not_here ok
 lone_space pieces.Fraction s ok sp = not_here ok
-lone_space pieces.Quote s ok sp = not_here ok
+lone_space pieces.Text s ok sp = not_here ok
+lone_space pieces.OpenComment s ok sp = not_here ok
 lone_space pieces.GeneralComment s ok sp = not_here ok
 
 lone_newline : IsLone Newline
@@ -100,19 +103,9 @@ lone_newline pieces.Word s ok sp = not_here ok
 lone_newline pieces.Number s ok sp = not_here ok
 lone_newline (pieces.Operator k) s ok sp = not_here ok
 lone_newline pieces.Fraction s ok sp = not_here ok
-lone_newline pieces.Quote s ok sp = not_here ok
+lone_newline pieces.Text s ok sp = not_here ok
+lone_newline pieces.OpenComment s ok sp = not_here ok
 lone_newline pieces.GeneralComment s ok sp = not_here ok
-
-lone_quote : IsLone Quote
-lone_quote pieces.Space s ok sp = not_here ok
-lone_quote pieces.Newline s ok sp = not_here ok
-lone_quote pieces.Comment s ok sp = not_here ok
-lone_quote pieces.Word s ok sp = not_here ok
-lone_quote pieces.Number s ok sp = not_here ok
-lone_quote (pieces.Operator k) s ok sp = not_here ok
-lone_quote pieces.Fraction s ok sp = not_here ok
-lone_quote pieces.Quote s ok sp = sp.0
-lone_quote pieces.GeneralComment s ok sp = not_here ok
 
 front_one : (text : List ℕ) → 0 < length text → take 1 text ≡ get_or text 0 0 ∷ []
 front_one [] pos = absurd (omega arith)
@@ -130,10 +123,6 @@ space_piece text pos c = lone_piece text pieces.Space Space pos lone_space c
 pub newline_piece : (text : List ℕ) → 0 < length text → class_of (get_or text 0 0) ≡ Newline → IsPiece pieces.Newline 1 text
 newline_piece text pos c = lone_piece text pieces.Newline Newline pos lone_newline c
     (front_one text pos ∙ ap (λ b. b ∷ []) (holds_at (get_or text 0 0) Newline c))
-
-pub quote_piece : (text : List ℕ) → 0 < length text → class_of (get_or text 0 0) ≡ Quote → IsPiece pieces.Quote 1 text
-quote_piece text pos c = lone_piece text pieces.Quote Quote pos lone_quote c
-    (one_length text pos, ap is_quote (byte text 1 0 (omega arith)) ∙ holds_at (get_or text 0 0) Quote c)
 
 digit_not_point : {Z : Type 0} (text : List ℕ) (m : ℕ) → 0 < m → class_of (get_or text 0 0) ≡ Digit → get_or (take m text) 0 0 ≡ 46 → Z
 digit_not_point text m pos c e =
@@ -161,7 +150,8 @@ number_longest text n pos c stop other pieces.Newline m ok le sp = not_here ok
 number_longest text n pos c stop other pieces.Comment m ok le sp = not_here ok
 number_longest text n pos c stop other pieces.Word m ok le sp = not_here ok
 number_longest text n pos c stop other (pieces.Operator k) m ok le sp = not_here ok
-number_longest text n pos c stop other pieces.Quote m ok le sp = not_here ok
+number_longest text n pos c stop other pieces.Text m ok le sp = not_here ok
+number_longest text n pos c stop other pieces.OpenComment m ok le sp = not_here ok
 number_longest text n pos c stop other pieces.GeneralComment m ok le sp = not_here ok
 
 pub number_piece : (text : List ℕ) (n : ℕ) → 1 ≤ n → n ≤ length text → class_of (get_or text 0 0) ≡ Digit → ((k : ℕ) → 1 ≤ k → k < n → is_word (get_or text k 0) ≡ true) → (n < length text → is_word (get_or text n 0) ≡ false) → (n < length text → get_or text n 0 ≡ 46 → ⊥) → IsPiece pieces.Number n text
@@ -191,7 +181,8 @@ pointed_longest text n pos c stop pieces.Newline m ok le sp = not_here ok
 pointed_longest text n pos c stop pieces.Comment m ok le sp = not_here ok
 pointed_longest text n pos c stop pieces.Word m ok le sp = not_here ok
 pointed_longest text n pos c stop (pieces.Operator k) m ok le sp = not_here ok
-pointed_longest text n pos c stop pieces.Quote m ok le sp = not_here ok
+pointed_longest text n pos c stop pieces.Text m ok le sp = not_here ok
+pointed_longest text n pos c stop pieces.OpenComment m ok le sp = not_here ok
 pointed_longest text n pos c stop pieces.GeneralComment m ok le sp = not_here ok
 
 pub pointed_piece : (text : List ℕ) (n : ℕ) → 1 ≤ n → n < length text → class_of (get_or text 0 0) ≡ Digit → ((k : ℕ) → 1 ≤ k → k < n → is_word (get_or text k 0) ≡ true) → (n < length text → is_word (get_or text n 0) ≡ false) → get_or text n 0 ≡ 46 → IsPiece pieces.Fraction (n + 1) text
@@ -271,19 +262,21 @@ slash_mark text k m c le sp =
     let first : get_or (take m text) 0 0 ≡ 47 = byte text m 0 pos ∙ holds_at (get_or text 0 0) Slash c in
     omega (arith, (slash_facts (take m text) (operator_follows k (take m text) sp) first).0, size text m le)
 
-comment_longest : (text : List ℕ) (n : ℕ) → 2 ≤ n → class_of (get_or text 0 0) ≡ Slash → (n < length text → get_or text n 0 ≡ 10) → (q : Piece) (m : ℕ) → may q Slash ≡ true → m ≤ length text → Spells q (take m text) → m ≤ n
-comment_longest text n two c stop pieces.Comment m ok le sp = ⊎_elim
+comment_longest : (text : List ℕ) (n : ℕ) → 2 ≤ n → class_of (get_or text 0 0) ≡ Slash → get_or text 1 0 ≡ 47 → (n < length text → get_or text n 0 ≡ 10) → (q : Piece) (m : ℕ) → may q Slash ≡ true → m ≤ length text → Spells q (take m text) → m ≤ n
+comment_longest text n two c second stop pieces.Comment m ok le sp = ⊎_elim
     (λ lt. absurd (sp.3 n (omega (arith, size text m le)) (byte text m n lt ∙ stop (omega arith))))
     (λ le. le)
     (cases_lt n m)
-comment_longest text n two c stop (pieces.Operator k) m ok le sp = omega (arith, slash_mark text k m c le sp)
-comment_longest text n two c stop pieces.GeneralComment m ok le sp = omega (arith, ap length sp, size text m le)
-comment_longest text n two c stop pieces.Space m ok le sp = not_here ok
-comment_longest text n two c stop pieces.Newline m ok le sp = not_here ok
-comment_longest text n two c stop pieces.Word m ok le sp = not_here ok
-comment_longest text n two c stop pieces.Number m ok le sp = not_here ok
-comment_longest text n two c stop pieces.Fraction m ok le sp = not_here ok
-comment_longest text n two c stop pieces.Quote m ok le sp = not_here ok
+comment_longest text n two c second stop (pieces.Operator k) m ok le sp = omega (arith, slash_mark text k m c le sp)
+comment_longest text n two c second stop pieces.GeneralComment m ok le sp =
+    let e = byte text m 1 (omega (arith, sp.0, size text m le)) in absurd (omega (arith, e, sp.2, second))
+comment_longest text n two c second stop pieces.OpenComment m ok le sp = omega (arith, ap length sp, size text m le)
+comment_longest text n two c second stop pieces.Space m ok le sp = not_here ok
+comment_longest text n two c second stop pieces.Newline m ok le sp = not_here ok
+comment_longest text n two c second stop pieces.Word m ok le sp = not_here ok
+comment_longest text n two c second stop pieces.Number m ok le sp = not_here ok
+comment_longest text n two c second stop pieces.Fraction m ok le sp = not_here ok
+comment_longest text n two c second stop pieces.Text m ok le sp = not_here ok
 
 comment_inside : (text : List ℕ) (n : ℕ) → n ≤ length text → get_or text 0 0 ≡ 47 → get_or text 1 0 ≡ 47 → ((k : ℕ) → 2 ≤ k → k < n → get_or text k 0 ≡ 10 → ⊥) → (k : ℕ) → k < n → get_or (take n text) k 0 ≡ 10 → ⊥
 comment_inside text n le a b all zero lt e = omega (arith, a, byte text n 0 lt)
@@ -301,38 +294,78 @@ comment_piece text n two le c second all stop =
         byte text n 1 (omega arith) ∙ second,
         λ k lt. comment_inside text n le first second all k (omega (arith, size text n le)),
       );
-      longest = λ q m lem sp. comment_longest text n two c stop q m (at text q m Slash c lem sp) lem sp;
+      longest = λ q m lem sp. comment_longest text n two c second stop q m (at text q m Slash c lem sp) lem sp;
     }
 
-general_longest : (text : List ℕ) → class_of (get_or text 0 0) ≡ Slash → get_or text 1 0 ≡ 42 → (q : Piece) (m : ℕ) → may q Slash ≡ true → m ≤ length text → Spells q (take m text) → m ≤ 2
-general_longest text c second pieces.Comment m ok le sp =
-    let e = byte text m 1 (omega (arith, sp.0, size text m le)) in absurd (omega (arith, e, sp.2, second))
-general_longest text c second (pieces.Operator k) m ok le sp = slash_mark text k m c le sp
-general_longest text c second pieces.GeneralComment m ok le sp = omega (arith, ap length sp, size text m le)
-general_longest text c second pieces.Space m ok le sp = not_here ok
-general_longest text c second pieces.Newline m ok le sp = not_here ok
-general_longest text c second pieces.Word m ok le sp = not_here ok
-general_longest text c second pieces.Number m ok le sp = not_here ok
-general_longest text c second pieces.Fraction m ok le sp = not_here ok
-general_longest text c second pieces.Quote m ok le sp = not_here ok
+closes_front : (text : List ℕ) (m k : ℕ) → k + 1 < m → Closes text k → Closes (take m text) k
+closes_front text m k lt w = (byte text m k (omega arith) ∙ w.0, byte text m (k + 1) lt ∙ w.1)
 
-pub general_piece : (text : List ℕ) → 1 < length text → class_of (get_or text 0 0) ≡ Slash → get_or text 1 0 ≡ 42 → IsPiece pieces.GeneralComment 2 text
-general_piece text long c second = record {
+closes_whole : (text : List ℕ) (m k : ℕ) → k + 1 < m → Closes (take m text) k → Closes text k
+closes_whole text m k lt w = (sym (byte text m k (omega arith)) ∙ w.0, sym (byte text m (k + 1) lt) ∙ w.1)
+
+general_longest : (text : List ℕ) (n : ℕ) → class_of (get_or text 0 0) ≡ Slash → get_or text 1 0 ≡ 42 → IsFirstEnd n text → (q : Piece) (m : ℕ) → may q Slash ≡ true → m ≤ length text → Spells q (take m text) → m ≤ n
+general_longest text n c second f pieces.Comment m ok le sp =
+    let e = byte text m 1 (omega (arith, sp.0, size text m le)) in absurd (omega (arith, e, sp.2, second))
+general_longest text n c second f (pieces.Operator k) m ok le sp = omega (arith, slash_mark text k m c le sp, f.0)
+general_longest text n c second f pieces.GeneralComment m ok le sp = ⊎_elim
+    (λ lt. absurd (sp.4 (n - 2) (omega (arith, f.0)) (omega (arith, f.0, size text m le)) (closes_front text m (n - 2) (omega (arith, f.0)) f.2)))
+    (λ le. le)
+    (cases_lt n m)
+general_longest text n c second f pieces.OpenComment m ok le sp = omega (arith, ap length sp, size text m le, f.0)
+general_longest text n c second f pieces.Space m ok le sp = not_here ok
+general_longest text n c second f pieces.Newline m ok le sp = not_here ok
+general_longest text n c second f pieces.Word m ok le sp = not_here ok
+general_longest text n c second f pieces.Number m ok le sp = not_here ok
+general_longest text n c second f pieces.Fraction m ok le sp = not_here ok
+general_longest text n c second f pieces.Text m ok le sp = not_here ok
+
+pub general_piece : (text : List ℕ) (n : ℕ) → class_of (get_or text 0 0) ≡ Slash → get_or text 1 0 ≡ 42 → IsFirstEnd n text → IsPiece pieces.GeneralComment n text
+general_piece text n c second f =
+    let long : length (take n text) ≡ n = size text n f.1 in
+    record {
+      fits = f.1;
+      spelled = (
+        omega (arith, f.0),
+        byte text n 0 (omega (arith, f.0)) ∙ holds_at (get_or text 0 0) Slash c,
+        byte text n 1 (omega (arith, f.0)) ∙ second,
+        subst (λ k. Closes (take n text) (k - 2)) (sym long) (closes_front text n (n - 2) (omega (arith, f.0)) f.2),
+        λ k low high w. f.3 k low (omega arith) (closes_whole text n k (omega arith) w),
+      );
+      longest = λ q m lem sp. general_longest text n c second f q m (at text q m Slash c lem sp) lem sp;
+    }
+
+open_longest : (text : List ℕ) → class_of (get_or text 0 0) ≡ Slash → get_or text 1 0 ≡ 42 → ((k : ℕ) → 2 ≤ k → Closes text k → ⊥) → (q : Piece) (m : ℕ) → may q Slash ≡ true → m ≤ length text → Spells q (take m text) → m ≤ 2
+open_longest text c second none pieces.Comment m ok le sp =
+    let e = byte text m 1 (omega (arith, sp.0, size text m le)) in absurd (omega (arith, e, sp.2, second))
+open_longest text c second none (pieces.Operator k) m ok le sp = slash_mark text k m c le sp
+open_longest text c second none pieces.GeneralComment m ok le sp =
+    absurd (none (length (take m text) - 2) (omega (arith, sp.0)) (closes_whole text m (length (take m text) - 2) (omega (arith, sp.0, size text m le)) sp.3))
+open_longest text c second none pieces.OpenComment m ok le sp = omega (arith, ap length sp, size text m le)
+open_longest text c second none pieces.Space m ok le sp = not_here ok
+open_longest text c second none pieces.Newline m ok le sp = not_here ok
+open_longest text c second none pieces.Word m ok le sp = not_here ok
+open_longest text c second none pieces.Number m ok le sp = not_here ok
+open_longest text c second none pieces.Fraction m ok le sp = not_here ok
+open_longest text c second none pieces.Text m ok le sp = not_here ok
+
+pub open_piece : (text : List ℕ) → 1 < length text → class_of (get_or text 0 0) ≡ Slash → get_or text 1 0 ≡ 42 → ((k : ℕ) → 2 ≤ k → Closes text k → ⊥) → IsPiece pieces.OpenComment 2 text
+open_piece text long c second none = record {
   fits = omega arith;
   spelled = front_two text long ∙ rw (holds_at (get_or text 0 0) Slash c, second) refl;
-  longest = λ q m lem sp. general_longest text c second q m (at text q m Slash c lem sp) lem sp;
+  longest = λ q m lem sp. open_longest text c second none q m (at text q m Slash c lem sp) lem sp;
 }
 
 slash_only_at : (text : List ℕ) → (get_or text 1 0 ≡ 47 → ⊥) → (get_or text 1 0 ≡ 42 → ⊥) → (q : Piece) (m : ℕ) → may q Slash ≡ true → m ≤ length text → Spells q (take m text) → (mark : Mark) × (q ≡ pieces.Operator mark)
 slash_only_at text line general (pieces.Operator k) m ok le sp = (k, refl)
 slash_only_at text line general pieces.Comment m ok le sp = absurd (line (sym (byte text m 1 (omega (arith, sp.0, size text m le))) ∙ sp.2))
-slash_only_at text line general pieces.GeneralComment m ok le sp = absurd (general (sym (byte text m 1 (omega (arith, ap length sp, size text m le))) ∙ rw sp refl))
+slash_only_at text line general pieces.GeneralComment m ok le sp = absurd (general (sym (byte text m 1 (omega (arith, sp.0, size text m le))) ∙ sp.2))
+slash_only_at text line general pieces.OpenComment m ok le sp = absurd (general (sym (byte text m 1 (omega (arith, ap length sp, size text m le))) ∙ rw sp refl))
 slash_only_at text line general pieces.Space m ok le sp = not_here ok
 slash_only_at text line general pieces.Newline m ok le sp = not_here ok
 slash_only_at text line general pieces.Word m ok le sp = not_here ok
 slash_only_at text line general pieces.Number m ok le sp = not_here ok
 slash_only_at text line general pieces.Fraction m ok le sp = not_here ok
-slash_only_at text line general pieces.Quote m ok le sp = not_here ok
+slash_only_at text line general pieces.Text m ok le sp = not_here ok
 
 pub slash_only : (text : List ℕ) → class_of (get_or text 0 0) ≡ Slash → (get_or text 1 0 ≡ 47 → ⊥) → (get_or text 1 0 ≡ 42 → ⊥) → OnlyMarks text
 slash_only text c line general q m le sp = slash_only_at text line general q m (at text q m Slash c le sp) le sp
@@ -358,7 +391,8 @@ point_longest text c digit pieces.Newline m ok le sp = not_here ok
 point_longest text c digit pieces.Comment m ok le sp = not_here ok
 point_longest text c digit pieces.Word m ok le sp = not_here ok
 point_longest text c digit pieces.Number m ok le sp = not_here ok
-point_longest text c digit pieces.Quote m ok le sp = not_here ok
+point_longest text c digit pieces.Text m ok le sp = not_here ok
+point_longest text c digit pieces.OpenComment m ok le sp = not_here ok
 point_longest text c digit pieces.GeneralComment m ok le sp = not_here ok
 
 pub point_piece : (text : List ℕ) → 1 < length text → class_of (get_or text 0 0) ≡ Point → is_digit (get_or text 1 0) ≡ true → IsPiece pieces.Fraction 2 text
@@ -379,11 +413,48 @@ point_only_at text c other pieces.Newline m ok le sp = not_here ok
 point_only_at text c other pieces.Comment m ok le sp = not_here ok
 point_only_at text c other pieces.Word m ok le sp = not_here ok
 point_only_at text c other pieces.Number m ok le sp = not_here ok
-point_only_at text c other pieces.Quote m ok le sp = not_here ok
+point_only_at text c other pieces.Text m ok le sp = not_here ok
+point_only_at text c other pieces.OpenComment m ok le sp = not_here ok
 point_only_at text c other pieces.GeneralComment m ok le sp = not_here ok
 
 pub point_only : (text : List ℕ) → class_of (get_or text 0 0) ≡ Point → is_digit (get_or text 1 0) ≡ false → OnlyMarks text
 point_only text c other q m le sp = point_only_at text c other q m (at text q m Point c le sp) le sp
+
+-- a string
+some_same : (n m : ℕ) → Some n ≡ Some m → n ≡ m
+some_same n m e = cc
+
+some_none : {Z : Type 0} (m : ℕ) → None ≡ Some m → Z
+some_none m e = absurd (cc)
+
+is_text : (q : Piece) → may q Quote ≡ true → q ≡ pieces.Text
+is_text pieces.Text ok = refl
+is_text pieces.Space ok = not_here ok
+is_text pieces.Newline ok = not_here ok
+is_text pieces.Comment ok = not_here ok
+is_text pieces.GeneralComment ok = not_here ok
+is_text pieces.OpenComment ok = not_here ok
+is_text pieces.Word ok = not_here ok
+is_text pieces.Number ok = not_here ok
+is_text (pieces.Operator k) ok = not_here ok
+is_text pieces.Fraction ok = not_here ok
+
+text_there : (text : List ℕ) → class_of (get_or text 0 0) ≡ Quote → (q : Piece) (m : ℕ) → m ≤ length text → Spells q (take m text) → text_end text ≡ Some m
+text_there text c q m le sp =
+    let w : Spells pieces.Text (take m text) = subst (λ p. Spells p (take m text)) (is_text q (at text q m Quote c le sp)) sp in
+    text_ends text m w.0 le w.1
+
+pub text_piece : (text : List ℕ) (n : ℕ) → class_of (get_or text 0 0) ≡ Quote → text_end text ≡ Some n → IsPiece pieces.Text n text
+text_piece text n c e =
+    let w = text_found text n (holds_at (get_or text 0 0) Quote c) e in
+    record {
+      fits = w.0;
+      spelled = (w.1, w.2);
+      longest = λ q m lem sp. omega (arith, some_same n m (sym e ∙ text_there text c q m lem sp));
+    }
+
+pub no_text : (text : List ℕ) → class_of (get_or text 0 0) ≡ Quote → text_end text ≡ None → NoPiece text
+no_text text c e q m le sp = some_none m (sym e ∙ text_there text c q m le sp)
 
 -- any other byte
 other_only_at : (q : Piece) → may q Other ≡ true → (mark : Mark) × (q ≡ pieces.Operator mark)
@@ -394,7 +465,8 @@ other_only_at pieces.Comment ok = not_here ok
 other_only_at pieces.Word ok = not_here ok
 other_only_at pieces.Number ok = not_here ok
 other_only_at pieces.Fraction ok = not_here ok
-other_only_at pieces.Quote ok = not_here ok
+other_only_at pieces.Text ok = not_here ok
+other_only_at pieces.OpenComment ok = not_here ok
 other_only_at pieces.GeneralComment ok = not_here ok
 
 pub other_only : (text : List ℕ) → class_of (get_or text 0 0) ≡ Other → OnlyMarks text

@@ -10,7 +10,8 @@ use Rattle.gr_scan.specs.declared.piece.Class.TheVariants.{Letter, Digit, Space,
 use Rattle.gr_scan.specs.Marks.{operators, mark_in}
 use Rattle.gr_scan.specs.Pieces.{is_digit, is_letter, is_word, Spells, IsPiece}
 use Rattle.gr_scan.specs.Scanning.{class_of}
-use Rattle.gr_scan.proofs.Classes.{may, may_begin, holds_at, operator_follows, space_class, quote_class, digit_class}
+use Rattle.gr_scan.proofs.Classes.{may, may_begin, holds_at, operator_follows, space_class, digit_class}
+use Rattle.gr_scan.proofs.Literals.{text_front}
 use Rattle.gr_scan.proofs.Longest.{slash_second, point_second}
 
 abbrev operator_kind : Option Mark → Option Piece
@@ -23,8 +24,8 @@ kind_at Letter s = Some pieces.Word
 kind_at Digit s = cond (get_or s (length s - 1) 0 == 46) (Some pieces.Fraction) (Some pieces.Number)
 kind_at Space s = Some pieces.Space
 kind_at Newline s = Some pieces.Newline
-kind_at Quote s = Some pieces.Quote
-kind_at Slash s = cond (get_or s 1 0 == 47) (Some pieces.Comment) (cond (get_or s 1 0 == 42) (Some pieces.GeneralComment) (operator_kind (mark_in operators s)))
+kind_at Quote s = Some pieces.Text
+kind_at Slash s = cond (get_or s 1 0 == 47) (Some pieces.Comment) (cond (get_or s 1 0 == 42) (cond (length s == 2) (Some pieces.OpenComment) (Some pieces.GeneralComment)) (operator_kind (mark_in operators s)))
 kind_at Point s = cond (is_digit (get_or s 1 0)) (Some pieces.Fraction) (operator_kind (mark_in operators s))
 kind_at Other s = operator_kind (mark_in operators s)
 
@@ -48,6 +49,9 @@ operator_kind_is k s Space c ok sp = not_here ok
 operator_kind_is k s Newline c ok sp = not_here ok
 operator_kind_is k s Quote c ok sp = not_here ok
 
+not_two : (n : ℕ) → 4 ≤ n → (n == 2) ≡ false
+not_two n le = grind (arith, nat_tests)
+
 letter_class : (b : ℕ) → is_letter b ≡ true → class_of b ≡ Letter
 letter_class b e = rw e refl
 
@@ -65,8 +69,9 @@ kind_is pieces.Fraction s sp = ⊎_elim
     (λ w. at_class pieces.Fraction s Digit (digit_class (get_or s 0 0) w.1) (rw w.3 refl))
     (λ w. at_class pieces.Fraction s Point (ap class_of w.1) (rw w.2 refl))
     sp
-kind_is pieces.Quote s sp = at_class pieces.Quote s Quote (quote_class (get_or s 0 0) sp.1) refl
-kind_is pieces.GeneralComment s sp = at_class pieces.GeneralComment s Slash (ap (λ (x : List ℕ). class_of (get_or x 0 0)) sp) (rw sp refl)
+kind_is pieces.Text s sp = at_class pieces.Text s Quote (ap class_of (text_front s sp.0 sp.1).1) refl
+kind_is pieces.GeneralComment s sp = at_class pieces.GeneralComment s Slash (ap class_of sp.1) (rw (sp.2, not_two (length s) sp.0) refl)
+kind_is pieces.OpenComment s sp = at_class pieces.OpenComment s Slash (ap (λ (x : List ℕ). class_of (get_or x 0 0)) sp) (rw sp refl)
 
 some_inj : {A : Type 0} {x y : A} → Some x ≡ Some y → x ≡ y
 some_inj e = cc

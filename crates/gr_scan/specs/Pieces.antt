@@ -1,8 +1,9 @@
 -- The pieces that a text is cut into (Go: Lexical elements).
-use Rattle.std.specs.Prelude.{◌≡◌, ℕ, ◌-◌, ◌<◌, ◌≤◌, Bool, true, ◌||◌, ◌&&◌, List, [], ◌∷◌, length, take, drop, slice_index, nat_le, ◌==◌, codes, Some, ◌⊎◌}
+use Rattle.std.specs.Prelude.{◌≡◌, ℕ, ◌+◌, ◌-◌, ◌<◌, ◌≤◌, Bool, true, ◌||◌, ◌&&◌, List, [], ◌∷◌, length, take, drop, slice_index, nat_le, ◌==◌, codes, Some, ◌⊎◌}
 use Rattle.gr_scan.specs.declared.piece.Piece.{Piece}
-use Rattle.gr_scan.specs.declared.piece.Piece.TheVariants.{Space, Newline, Comment, Word, Number, Operator, Fraction, Quote, GeneralComment}
+use Rattle.gr_scan.specs.declared.piece.Piece.TheVariants.{Space, Newline, Comment, GeneralComment, OpenComment, Word, Number, Operator, Fraction, Text}
 use Rattle.gr_scan.specs.Marks.{operators, mark_in}
+use Rattle.gr_scan.specs.Strings.{text_of}
 
 -- a digit, a letter, a byte of a name, white space within a line (bytes are codes of ASCII)
 abbrev pub is_digit : ℕ → Bool
@@ -17,28 +18,32 @@ is_word b = is_letter b || is_digit b
 abbrev pub is_space : ℕ → Bool
 is_space b = b == 32 || b == 9 || b == 13
 
--- `"`, `'` and the backquote begin literals that the language leaves out
-abbrev pub is_quote : ℕ → Bool
-is_quote b = b == 34 || b == 39 || b == 96
-
 -- the first n bytes are bytes of names
 abbrev pub IsRun : ℕ → List ℕ → Type 0
 IsRun n s = (k : ℕ) → k < n → is_word (slice_index s k) ≡ true
 
--- `Spells piece s`: the bytes s are a piece of this kind. A number is a run of digits, letters and `_`, whatever it is
--- worth; a fraction is such a run and a point, or a point and a digit
+-- a `*/` stands here
+abbrev pub Closes : List ℕ → ℕ → Type 0
+Closes s k = (slice_index s k ≡ 42) × (slice_index s (k + 1) ≡ 47)
+
+-- `Spells piece s`: the bytes s are a piece of this kind. A general comment runs from `/*` to the first `*/` after it, and
+-- an open one is the `/*` alone, so that it is the longest piece only where none follows. A number is a run of digits,
+-- letters and `_`, whatever it is worth; a fraction is such a run and a point, or a point and a digit
 abbrev pub Spells : Piece → List ℕ → Type 0
 Spells Space s = (length s ≡ 1) × (is_space (slice_index s 0) ≡ true)
 Spells Newline s = s ≡ 10 ∷ []
 Spells Comment s = (2 ≤ length s) × (slice_index s 0 ≡ 47) × (slice_index s 1 ≡ 47) × ((k : ℕ) → k < length s → slice_index s k ≡ 10 → ⊥)
+Spells GeneralComment s =
+    (4 ≤ length s) × (slice_index s 0 ≡ 47) × (slice_index s 1 ≡ 42)
+    × Closes s (length s - 2) × ((k : ℕ) → 2 ≤ k → k < length s - 2 → Closes s k → ⊥)
+Spells OpenComment s = s ≡ codes "/*"
 Spells Word s = (0 < length s) × (is_letter (slice_index s 0) ≡ true) × IsRun (length s) s
 Spells Number s = (0 < length s) × (is_digit (slice_index s 0) ≡ true) × IsRun (length s) s
 Spells (Operator mark) s = mark_in operators s ≡ Some mark
 Spells Fraction s =
     ((1 < length s) × (is_digit (slice_index s 0) ≡ true) × IsRun (length s - 1) s × (slice_index s (length s - 1) ≡ 46))
     ⊎ ((length s ≡ 2) × (slice_index s 0 ≡ 46) × (is_digit (slice_index s 1) ≡ true))
-Spells Quote s = (length s ≡ 1) × (is_quote (slice_index s 0) ≡ true)
-Spells GeneralComment s = s ≡ codes "/*"
+Spells Text s = (bytes : List ℕ) × (text_of s ≡ Some bytes)
 
 -- the first n bytes are a piece, and no longer piece of any kind begins here
 pub record IsPiece (p : Piece) (n : ℕ) (text : List ℕ) : Type 0 where

@@ -4,13 +4,15 @@ use Rattle.gr_scan.specs.declared.token.Mark.{Mark}
 use Rattle.gr_scan.specs.declared.token.Mark.TheVariants as marks
 use Rattle.gr_scan.specs.declared.token.Place.{Place}
 use Rattle.gr_scan.specs.declared.piece.Piece.{Piece}
-use Rattle.gr_scan.specs.declared.piece.Piece.TheVariants.{Space, Newline, Comment, Word, Number, Operator, Fraction, Quote, GeneralComment}
+use Rattle.gr_scan.specs.declared.piece.Piece.TheVariants.{Space, Newline, Comment, GeneralComment, OpenComment, Word, Number, Operator, Fraction, Text}
 use Rattle.gr_scan.specs.declared.scan.ScanError.{ScanError}
 use Rattle.gr_scan.specs.declared.scan.ScanError.TheVariants as errors
 use Rattle.gr_scan.specs.Tokens as tokens
 use Rattle.gr_scan.specs.Tokens.{Tok, At}
 use Rattle.gr_scan.specs.Marks.{keywords, mark_in}
+use Rattle.std.specs.List.{count_by}
 use Rattle.gr_scan.specs.Numbers.{number_of}
+use Rattle.gr_scan.specs.Strings.{text_of}
 use Rattle.gr_scan.specs.Pieces.{Cut}
 
 -- what a piece is to the rule of semicolons: a token, or the end of a line at a place
@@ -30,22 +32,31 @@ abbrev pub number_items : Option ℕ → Place → Option (List Item)
 number_items (Some n) at = Some (It (At at (tokens.Number n)) ∷ [])
 number_items None at = None
 
+abbrev pub text_items : Option (List ℕ) → Place → Option (List Item)
+text_items (Some bytes) at = Some (It (At at (tokens.Text bytes)) ∷ [])
+text_items None at = None
+
+abbrev pub newlines : List ℕ → ℕ
+newlines s = count_by (λ b. b == 10) s
+
 -- what a piece with this spelling is, at this place; nothing where the language has no such token
 abbrev pub items_of : Piece → List ℕ → (start line : ℕ) → Option (List Item)
 items_of Space s start line = Some []
 items_of Newline s start line = Some (LineEnd start line ∷ [])
 items_of Comment s start line = Some []
+items_of GeneralComment s start line = Some (if newlines s == 0 then [] else LineEnd start line ∷ [])
+items_of OpenComment s start line = None
 items_of Word s start line = Some (It (At (place start (start + length s) line) (keyword_or_name (mark_in keywords s) s)) ∷ [])
 items_of Number s start line = number_items (number_of s) (place start (start + length s) line)
 items_of (Operator mark) s start line = Some (It (At (place start (start + length s) line) (tokens.Sign mark)) ∷ [])
 items_of Fraction s start line = None
-items_of Quote s start line = None
-items_of GeneralComment s start line = None
+items_of Text s start line = text_items (text_of s) (place start (start + length s) line)
 
--- the line after a piece
-abbrev pub line_after : Piece → ℕ → ℕ
-line_after Newline line = line + 1
-line_after _ line = line
+-- the line after a piece with this spelling
+abbrev pub line_after : Piece → List ℕ → ℕ → ℕ
+line_after Newline s line = line + 1
+line_after GeneralComment s line = line + newlines s
+line_after _ s line = line
 
 abbrev pub both_items : Option (List Item) → Option (List Item) → Option (List Item)
 both_items None b = None
@@ -55,7 +66,7 @@ both_items (Some a) (Some b) = Some (a ++ b)
 -- pieces from a place on; the end of the text is the end of its last line
 abbrev pub all_items : (start line : ℕ) → List (Piece × List ℕ) → Option (List Item)
 all_items start line [] = Some (LineEnd start line ∷ [])
-all_items start line (p ∷ ps) = both_items (items_of p.0 p.1 start line) (all_items (start + length p.1) (line_after p.0 line) ps)
+all_items start line (p ∷ ps) = both_items (items_of p.0 p.1 start line) (all_items (start + length p.1) (line_after p.0 p.1 line) ps)
 
 -- whether a line that ends in this token gets a semicolon
 abbrev pub ends_line : Mark → Bool
@@ -73,6 +84,7 @@ ends_line _ = false
 abbrev pub word_ends : tokens.Word → Bool
 word_ends (tokens.Name letters) = true
 word_ends (tokens.Number n) = true
+word_ends (tokens.Text bytes) = true
 word_ends (tokens.Sign mark) = ends_line mark
 
 abbrev pub ends : Tok → Bool

@@ -6,10 +6,11 @@ use Rattle.gr_scan.specs.declared.token.Kind.TheVariants as kinds
 use Rattle.gr_scan.specs.declared.token.Place.{Place}
 use Rattle.gr_scan.specs.declared.token.Token.{Token}
 
--- what a token is: an identifier, a whole number, or a mark
+-- what a token is: an identifier, a whole number, a string by the bytes that it stands for, or a mark
 pub data Word : Type 0 where
   Name : (letters : List ℕ) → Word
   Number : (n : ℕ) → Word
+  Text : (bytes : List ℕ) → Word
   Sign : (mark : Mark) → Word
 
 -- a token at its place
@@ -19,6 +20,7 @@ pub data Tok : Type 0 where
 abbrev pub word_of : Kind → Word
 word_of (kinds.Name letters) = Name letters.items
 word_of (kinds.Number n) = Number n
+word_of (kinds.Text bytes) = Text bytes.items
 word_of (kinds.Mark mark) = Sign mark
 
 abbrev pub token_of : Token → Tok

@@ -4,6 +4,7 @@
 mod marks;
 mod number;
 pub mod piece;
+mod quoted;
 pub mod scan;
 #[cfg(test)]
 mod tests;

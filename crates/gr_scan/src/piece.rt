@@ -1,9 +1,11 @@
 //! The pieces that a text is cut into.
-ghost use Rattle.std.specs.Prelude.{◌≡◌, ℕ, ◌+◌, ◌<◌, ◌≤◌, length, slice_index, IfSome, IfNone, true, false};
-ghost use Rattle.gr_scan.specs.Pieces.{is_letter, is_word, is_digit, is_space, is_quote, IsPiece, NoPiece};
-ghost use Rattle.gr_scan.specs.Scanning.{class_of, OnlyMarks, Letter, Digit, Slash, Point};
+ghost use Rattle.std.specs.Prelude.{◌≡◌, ℕ, ◌+◌, ◌<◌, ◌≤◌, length, slice_index, IfSome, IfNone, IfOk, IfErr, true, false};
+ghost use Rattle.gr_scan.specs.Pieces.{is_letter, is_word, is_digit, is_space, Closes, IsPiece, NoPiece};
+ghost use Rattle.gr_scan.specs.Scanning.{class_of, OnlyMarks, IsFirstEnd, Tells, Letter, Digit, Quote, Slash, Point};
 
 use crate::marks::operator;
+use crate::quoted::literal_length;
+use crate::scan::ScanError;
 use crate::token::Mark;
 
 /// What a piece of a text is.
@@ -14,6 +16,10 @@ pub enum Piece {
     Newline,
     /// A line comment, without the newline after it.
     Comment,
+    /// A general comment, from `/*` to the first `*/`.
+    GeneralComment,
+    /// The two bytes that begin a general comment that nothing closes.
+    OpenComment,
     /// A name or a keyword.
     Word,
     /// A run of digits, letters and `_` that begins with a digit.
@@ -21,10 +27,8 @@ pub enum Piece {
     Operator(Mark),
     /// A number and the point after it, or a point and the digit after it.
     Fraction,
-    /// The quote that begins a string or a character.
-    Quote,
-    /// The two bytes that begin a general comment.
-    GeneralComment,
+    /// A string literal, with its quotes.
+    Text,
 }
 
 /// What a byte may begin.
@@ -65,12 +69,6 @@ fn space(b: u8) -> bool
     b == b' ' || b == b'\t' || b == b'\r'
 }
 
-fn quote(b: u8) -> bool
-    ensures { result ≡ is_quote b }
-{
-    b == b'"' || b == b'\'' || b == b'`'
-}
-
 fn classify(b: u8) -> Class
     ensures { result ≡ class_of b }
 {
@@ -82,7 +80,7 @@ fn classify(b: u8) -> Class
         Class::Space
     } else if b == b'\n' {
         Class::Newline
-    } else if quote(b) {
+    } else if b == b'"' {
         Class::Quote
     } else if b == b'/' {
         Class::Slash
@@ -132,6 +130,19 @@ fn line_end(text: &[u8], from: usize) -> usize
     text.len()
 }
 
+// How far a general comment goes on, its `*/` included; `None` where nothing closes it.
+fn comment_end(text: &[u8]) -> Option<usize>
+    ensures some { IfSome result (λ n. IsFirstEnd n text.now) }
+    ensures none { IfNone result ((k : ℕ) → 2 ≤ k → Closes text.now k → ⊥) }
+{
+    for i in 2..text.len() {
+        if text[i] == b'*' && byte(text, i + 1) == b'/' {
+            return Some(i + 2);
+        }
+    }
+    None
+}
+
 fn number(text: &[u8]) -> (Piece, usize)
     requires filled { 0 < length text.now }
     requires digit { class_of (slice_index text.now 0) ≡ Digit }
@@ -145,59 +156,73 @@ fn number(text: &[u8]) -> (Piece, usize)
     }
 }
 
-fn mark(text: &[u8]) -> Option<(Piece, usize)>
+fn string(text: &[u8], at: usize) -> Result<(Piece, usize), ScanError>
+    requires filled { 0 < length text.now }
+    requires class { class_of (slice_index text.now 0) ≡ Quote }
+    ensures ok { IfOk result (λ p. IsPiece p.0 p.1 text.now) }
+    ensures err { IfErr result (λ e. Tells e (NoPiece text.now)) }
+{
+    let size = literal_length(text, at)?;
+    Ok((Piece::Text, size))
+}
+
+fn mark(text: &[u8], at: usize) -> Result<(Piece, usize), ScanError>
     requires { OnlyMarks text.now }
-    ensures some { IfSome result (λ p. IsPiece p.0 p.1 text.now) }
-    ensures none { IfNone result (NoPiece text.now) }
+    ensures ok { IfOk result (λ p. IsPiece p.0 p.1 text.now) }
+    ensures err { IfErr result (λ e. Tells e (NoPiece text.now)) }
 {
     match operator(text) {
-        Some((mark, size)) => Some((Piece::Operator(mark), size)),
-        None => None,
+        Some((mark, size)) => Ok((Piece::Operator(mark), size)),
+        None if matches!(byte(text, 0), b'\'' | b'`') => Err(ScanError::LeftOut(at)),
+        None => Err(ScanError::Strange(at)),
     }
 }
 
-fn slash(text: &[u8]) -> Option<(Piece, usize)>
+fn slash(text: &[u8], at: usize) -> Result<(Piece, usize), ScanError>
     requires filled { 0 < length text.now }
     requires class { class_of (slice_index text.now 0) ≡ Slash }
-    ensures some { IfSome result (λ p. IsPiece p.0 p.1 text.now) }
-    ensures none { IfNone result (NoPiece text.now) }
+    ensures ok { IfOk result (λ p. IsPiece p.0 p.1 text.now) }
+    ensures err { IfErr result (λ e. Tells e (NoPiece text.now)) }
 {
     let second = byte(text, 1);
     if second == b'/' {
-        return Some((Piece::Comment, line_end(text, 2)));
+        return Ok((Piece::Comment, line_end(text, 2)));
     }
     if second == b'*' {
-        return Some((Piece::GeneralComment, 2));
+        return match comment_end(text) {
+            Some(end) => Ok((Piece::GeneralComment, end)),
+            None => Ok((Piece::OpenComment, 2)),
+        };
     }
-    mark(text)
+    mark(text, at)
 }
 
-fn point(text: &[u8]) -> Option<(Piece, usize)>
+fn point(text: &[u8], at: usize) -> Result<(Piece, usize), ScanError>
     requires filled { 0 < length text.now }
     requires class { class_of (slice_index text.now 0) ≡ Point }
-    ensures some { IfSome result (λ p. IsPiece p.0 p.1 text.now) }
-    ensures none { IfNone result (NoPiece text.now) }
+    ensures ok { IfOk result (λ p. IsPiece p.0 p.1 text.now) }
+    ensures err { IfErr result (λ e. Tells e (NoPiece text.now)) }
 {
     if digit(byte(text, 1)) {
-        return Some((Piece::Fraction, 2));
+        return Ok((Piece::Fraction, 2));
     }
-    mark(text)
+    mark(text, at)
 }
 
-/// The longest piece at the front, and its length in bytes; `None` where no piece begins.
-pub fn longest_piece(text: &[u8]) -> Option<(Piece, usize)>
+/// The longest piece at the front, and its length in bytes. Where no piece begins, the fault gives `at` as its place.
+pub fn longest_piece(text: &[u8], at: usize) -> Result<(Piece, usize), ScanError>
     requires { 0 < length text.now }
-    ensures some { IfSome result (λ p. IsPiece p.0 p.1 text.now) }
-    ensures none { IfNone result (NoPiece text.now) }
+    ensures ok { IfOk result (λ p. IsPiece p.0 p.1 text.now) }
+    ensures err { IfErr result (λ e. Tells e (NoPiece text.now)) }
 {
     match classify(text[0]) {
-        Class::Letter => Some((Piece::Word, run_end(text, 1))),
-        Class::Digit => Some(number(text)),
-        Class::Space => Some((Piece::Space, 1)),
-        Class::Newline => Some((Piece::Newline, 1)),
-        Class::Quote => Some((Piece::Quote, 1)),
-        Class::Slash => slash(text),
-        Class::Point => point(text),
-        Class::Other => mark(text),
+        Class::Letter => Ok((Piece::Word, run_end(text, 1))),
+        Class::Digit => Ok(number(text)),
+        Class::Space => Ok((Piece::Space, 1)),
+        Class::Newline => Ok((Piece::Newline, 1)),
+        Class::Quote => string(text, at),
+        Class::Slash => slash(text, at),
+        Class::Point => point(text, at),
+        Class::Other => mark(text, at),
     }
 }

@@ -1,15 +1,17 @@
 //! From a text to its tokens.
 ghost use Rattle.std.specs.Prelude.{◌≡◌, ◌+◌, ◌-◌, ◌<◌, ◌≤◌, ◌^◌, ◌↔◌, ℕ, List, [], ◌∷◌, ◌++◌, length, OnOk, IfOk, IfErr};
-ghost use Rattle.gr_scan.specs.Tokens.{Tok, token_of, tokens_of};
-ghost use Rattle.gr_scan.specs.Scan.{IsScan, HasNoTokens, items_of, line_after, mark_size, semicolon};
+ghost use Rattle.gr_scan.specs.Marks.{keywords, mark_in};
+ghost use Rattle.gr_scan.specs.Tokens.{Tok, At, token_of, tokens_of};
+ghost use Rattle.gr_scan.specs.Scan.{IsScan, HasNoTokens, items_of, keyword_or_name, line_after, mark_size, semicolon, word_ends};
 ghost use Rattle.gr_scan.specs.Scan as spec;
+ghost use Rattle.gr_scan.specs.Pieces.{Spells};
 ghost use Rattle.gr_scan.specs.Scanning.{Puts};
 ghost use Rattle.gr_scan.specs.declared.scan.ScanError.TheVariants.{Memory, TooLong};
 
 use crate::marks::keyword;
-use crate::number;
 use crate::piece::{Piece, longest_piece};
 use crate::token::{Kind, Mark, Place, Token};
+use crate::{number, quoted};
 use std::alloc::{AllocError, AllocFailed, Global};
 
 /// The most bytes that a text may have.
@@ -20,8 +22,14 @@ pub const TEXT_LIMIT: usize = 1_048_576;
 pub enum ScanError {
     /// S1: a byte that begins no token.
     Strange(usize),
+    /// S2: a run of digits and letters that is a number of no base.
+    Malformed(usize),
     /// S3: a number over 2^63.
     TooGreat(usize),
+    /// S4: a string that is not closed on its line, or has an escape of no kind.
+    MalformedText(usize),
+    /// S5: a general comment that is not closed.
+    Unclosed(usize),
     /// S6: a literal or a comment of a kind that is left out.
     LeftOut(usize),
     /// S7: the text is longer than 1,048,576 bytes.
@@ -86,6 +94,32 @@ fn end_line(tokens: &mut Vec<Token>, wanted: bool, at: usize, line: usize) -> Re
     Ok(())
 }
 
+fn newlines(bytes: &[u8]) -> usize
+    ensures count { result ≡ spec.newlines bytes.now }
+    ensures few { result ≤ length bytes.now }
+{
+    bytes.iter().filter(|b| **b == b'\n').count()
+}
+
+// Adds a keyword or a name; answers whether a line that ends in it wants a semicolon.
+#[tactic(auto, using(crate::proofs::Goes::tokens_of_push))]
+fn put_word(
+    alloc: Global,
+    tokens: &mut Vec<Token>,
+    bytes: &[u8],
+    place: Place,
+) -> Result<bool, AllocError>
+    ensures added { OnOk result (tokens_of tokens.new.items ≡ tokens_of tokens.old.items ++ (At place (keyword_or_name (mark_in keywords bytes.now) bytes.now) ∷ [])) }
+    ensures ends { IfOk result (λ wanted. wanted ≡ word_ends (keyword_or_name (mark_in keywords bytes.now) bytes.now)) }
+{
+    if let Some(mark) = keyword(bytes) {
+        push(tokens, Kind::Mark(mark), place)?;
+        return Ok(ends_line(mark));
+    }
+    push(tokens, Kind::Name(bytes.to_vec(alloc)?), place)?;
+    Ok(true)
+}
+
 // Adds what a piece is; answers whether the line so far wants a semicolon at its end.
 fn put(
     alloc: Global,
@@ -95,52 +129,49 @@ fn put(
     bytes: &[u8],
     place: Place,
 ) -> Result<bool, ScanError>
-    requires { place.end ≡ place.start + length bytes.now }
+    requires spelled { Spells piece bytes.now }
+    requires place { place.end ≡ place.start + length bytes.now }
     ensures { Puts result wanted (items_of piece bytes.now place.start place.line) (tokens_of tokens.old.items) (tokens_of tokens.new.items) }
 {
     match piece {
         Piece::Space | Piece::Comment => Ok(wanted),
-        Piece::Newline => {
+        Piece::GeneralComment if newlines(bytes) == 0 => Ok(wanted),
+        Piece::GeneralComment | Piece::Newline => {
             end_line(tokens, wanted, place.start, place.line)?;
             Ok(false)
         }
-        Piece::Word => {
-            if let Some(mark) = keyword(bytes) {
-                push(tokens, Kind::Mark(mark), place)?;
-                return Ok(ends_line(mark));
-            }
-            push(tokens, Kind::Name(bytes.to_vec(alloc)?), place)?;
-            Ok(true)
-        }
+        Piece::OpenComment => Err(ScanError::Unclosed(place.start)),
+        Piece::Word => Ok(put_word(alloc, tokens, bytes, place)?),
         Piece::Number => {
-            if !number::is_plain(bytes) {
-                return Err(ScanError::LeftOut(place.start));
-            }
-            let Some(n) = number::value(bytes) else {
-                return Err(ScanError::TooGreat(place.start));
-            };
-            push(tokens, Kind::Number(n), place)?;
+            push(
+                tokens,
+                Kind::Number(number::read(bytes, place.start)?),
+                place,
+            )?;
             Ok(true)
         }
         Piece::Operator(mark) => {
             push(tokens, Kind::Mark(mark), place)?;
             Ok(ends_line(mark))
         }
-        Piece::Fraction | Piece::Quote | Piece::GeneralComment => {
-            Err(ScanError::LeftOut(place.start))
+        Piece::Fraction => Err(ScanError::LeftOut(place.start)),
+        Piece::Text => {
+            push(tokens, Kind::Text(quoted::value(alloc, bytes)?), place)?;
+            Ok(true)
         }
     }
 }
 
-fn next_line(piece: Piece, line: usize) -> usize
-    requires { line < 2 ^ 64 - 1 }
-    ensures after { result ≡ line_after piece line }
-    ensures near { result ≤ line + 1 }
+fn next_line(piece: Piece, bytes: &[u8], line: usize) -> usize
+    requires filled { 0 < length bytes.now }
+    requires low { line + length bytes.now < 2 ^ 64 }
+    ensures after { result ≡ line_after piece bytes.now line }
+    ensures near { result ≤ line + length bytes.now }
 {
-    if piece == Piece::Newline {
-        line + 1
-    } else {
-        line
+    match piece {
+        Piece::Newline => line + 1,
+        Piece::GeneralComment => line + newlines(bytes),
+        _ => line,
     }
 }
 
@@ -172,14 +203,12 @@ pub fn scan(alloc: Global, text: &[u8]) -> Result<Vec<Token>, ScanError>
     let mut line = 1;
     let mut wanted = false;
     while !rest.is_empty() {
-        let Some((piece, size)) = longest_piece(rest) else {
-            return Err(ScanError::Strange(start));
-        };
+        let (piece, size) = longest_piece(rest, start)?;
         let (bytes, after) = rest.split_at(size);
         let end = start + size;
         let place = Place { start, end, line };
         wanted = put(alloc, &mut tokens, wanted, piece, bytes, place)?;
-        line = next_line(piece, line);
+        line = next_line(piece, bytes, line);
         start = end;
         rest = after;
     }

@@ -29,16 +29,43 @@ fn cuts_a_text(rt: HostRuntime) -> Result<(), Fail> {
 }
 
 #[test]
+fn reads_literals(rt: HostRuntime) -> Result<(), Fail> {
+    let tokens = scan(
+        rt.alloc(),
+        b"0x_fF 0B1_1 0o17 0_17 1_0 /*/\n\n*/ \"a\\t\\\"\\\\\xff\"",
+    )?;
+    assert_eq!(rt; tokens.len(), 8);
+    for (token, number) in tokens.iter().zip([255, 3, 15, 15, 10]) {
+        assert!(rt; matches!(token.kind, Kind::Number(n) if n == number));
+    }
+    assert!(rt; matches!(tokens[5].kind, Kind::Mark(Mark::Semicolon)));
+    assert_eq!(rt; (tokens[5].place.start, tokens[5].place.line), (26, 1));
+    assert_eq!(rt; tokens[6].place.line, 3);
+    assert!(rt;
+        matches!(&tokens[6].kind, Kind::Text(bytes) if bytes.as_slice() == b"a\t\"\\\xff".as_slice())
+    );
+    Ok(())
+}
+
+#[test]
 fn names_the_first_fault(rt: HostRuntime) {
-    let faults: [(&[u8], ScanError); 9] = [
+    let faults: [(&[u8], ScanError); 17] = [
         (b"x\n @ #", ScanError::Strange(3)),
         (b"x 9223372036854775809", ScanError::TooGreat(2)),
-        (b"9223372036854775809x", ScanError::LeftOut(0)),
-        (b"x 08", ScanError::LeftOut(2)),
-        (b"12.", ScanError::LeftOut(0)),
+        (b"9223372036854775809x", ScanError::Malformed(0)),
+        (b"x 08", ScanError::Malformed(2)),
+        (b"1__0", ScanError::Malformed(0)),
+        (b"0x1p1", ScanError::LeftOut(0)),
+        (b"1E3", ScanError::LeftOut(0)),
+        (b"12i", ScanError::LeftOut(0)),
+        (b"08.", ScanError::LeftOut(0)),
         (b"x.5", ScanError::LeftOut(1)),
-        (b"x /* */", ScanError::LeftOut(2)),
-        (b"x \"y\"", ScanError::LeftOut(2)),
+        (b"x /*/", ScanError::Unclosed(2)),
+        (b"x \"y\n\"", ScanError::MalformedText(2)),
+        (b"\"\\\"", ScanError::MalformedText(0)),
+        (b"\"\\q\\n\"", ScanError::MalformedText(0)),
+        (b"\"\\n\\q\"", ScanError::LeftOut(0)),
+        (b"\"\x7f\n", ScanError::LeftOut(0)),
         (b"// '\n'", ScanError::LeftOut(5)),
     ];
     for (text, fault) in faults {

@@ -1,4 +1,4 @@
-//! Tokens: names, numbers, keywords, operators and punctuation.
+//! Tokens: names, numbers, strings, keywords, operators and punctuation.
 
 /// A keyword, an operator or a punctuation mark (Go: Keywords, Operators and punctuation).
 #[derive(Clone, Copy, Debug, PartialEq, Eq)]
@@ -84,6 +84,8 @@ pub enum Kind {
     Name(Vec<u8>),
     /// A whole number, at most 2^63.
     Number(u64),
+    /// A string literal, by the bytes that it stands for.
+    Text(Vec<u8>),
     Mark(Mark),
 }
 

@@ -2,7 +2,7 @@
 use Rattle.std.proofs.Common.{◌≡◌, ℕ, zero, suc, ◌-◌, List, [], ◌∷◌, ◌++◌, length, take, drop, append_assoc, get_or, ◌<◌, ◌≤◌, refl, sym, ap, arith, ◌+◌, Some, None, Vec, Global}
 use Rattle.std.specs.Prelude.{slice_get}
 use Rattle.std.proofs.lemmas.List.{length_push, take_at, drop_more}
-use Rattle.gr_tree.specs.Tree.{names_of}
+use Rattle.gr_tree.specs.Exprs.{names_of}
 use Rattle.gr_types.specs.declared.program.Statement.{Statement}
 use Rattle.gr_types.specs.Programs.{step_of, steps_of}
 

@@ -4,4 +4,5 @@ pub mod Records
 pub mod Journal
 pub mod Keeps
 pub mod Source
+pub mod FirstPath
 pub mod Refused

@@ -2,7 +2,7 @@
 -- Lanese, Nishida, Palacios and Vidal, A theory of reversibility for Erlang (2018): the histories of processes.
 use Rattle.std.specs.Prelude.{◌≡◌, ℕ, ℤ, ◌-◌, List, [], ◌∷◌, length, take, Option, Some, None, Ok, slice_set, slice_get}
 use Rattle.gr_base.specs.declared.events.Event.{Event}
-use Rattle.gr_tree.specs.Tree.{names_of}
+use Rattle.gr_tree.specs.Exprs.{names_of}
 use Rattle.gr_types.specs.Programs.{Act, Assign, Print, Step, On, Checked}
 use Rattle.gr_session.specs.declared.store.Run.TheVariants.{Live}
 use Rattle.gr_session.specs.declared.store.Store.{Store}

@@ -2,8 +2,8 @@
 use Rattle.std.specs.Prelude.{ℕ, List}
 use Rattle.gr_scan.specs.Tokens.{Tok}
 use Rattle.gr_scan.specs.Scan.{IsScan}
-use Rattle.gr_tree.specs.Tree.{FileTree}
-use Rattle.gr_syntax.specs.Grammar.{IsTreeOf}
+use Rattle.gr_tree.specs.Files.{FileTree}
+use Rattle.gr_syntax.specs.FileGrammar.{IsTreeOf}
 use Rattle.gr_types.specs.Programs.{Checked}
 use Rattle.gr_types.specs.Checks.{ProgramOf}
 

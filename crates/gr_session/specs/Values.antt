@@ -3,10 +3,10 @@
 use Rattle.std.specs.Prelude.{ℕ, ℤ, pos, List, [], ◌∷◌, ◌++◌, Option, Some, None, slice_set, slice_index_or, codes}
 use Rattle.std.specs.Int.{w64, int_wrapping_add, int_wrapping_sub, int_wrapping_mul, int_wrapping_neg}
 use Rattle.std.specs.Fmt.{signed_decimal}
-use Rattle.gr_tree.specs.declared.UnaryOp.{UnaryOp}
-use Rattle.gr_tree.specs.declared.UnaryOp.TheVariants.{Plus, Negate}
-use Rattle.gr_tree.specs.declared.BinaryOp.{BinaryOp}
-use Rattle.gr_tree.specs.declared.BinaryOp.TheVariants.{Add, Subtract, Multiply}
+use Rattle.gr_types.specs.declared.program.UnaryOp.{UnaryOp}
+use Rattle.gr_types.specs.declared.program.UnaryOp.TheVariants.{Plus, Negate}
+use Rattle.gr_types.specs.declared.program.BinaryOp.{BinaryOp}
+use Rattle.gr_types.specs.declared.program.BinaryOp.TheVariants.{Add, Subtract, Multiply}
 use Rattle.gr_types.specs.Programs.{Plain, Constant, Variable, Unary, Binary, Plains, none, more}
 
 -- a variable's value; it is 0 before its declaration

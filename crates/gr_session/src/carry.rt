@@ -1,6 +1,6 @@
 //! Commands carried out on the store and the log of a session.
 ghost use Rattle.std.specs.Prelude.{◌≡◌, ◌<◌, ◌++◌, ◌∷◌, [], length, Ok, IfOk, OnErr};
-ghost use Rattle.gr_tree.specs.Tree.{names_of};
+ghost use Rattle.gr_tree.specs.Exprs.{names_of};
 ghost use Rattle.gr_types.specs.Programs.{program_of};
 ghost use Rattle.gr_session.specs.Run.{step as step_by, plain_step};
 ghost use Rattle.gr_session.specs.Records.{state_of, events_of};

@@ -4,8 +4,7 @@ ghost use Rattle.gr_types.specs.Programs.{plain_of, plains_of};
 ghost use Rattle.gr_session.specs.Values.{value as value_of, worth, variable as variable_of, printed};
 
 use gr_base::{NoMemory, Value, print_value};
-use gr_tree::{BinaryOp, UnaryOp};
-use gr_types::program::Term;
+use gr_types::program::{BinaryOp, Term, UnaryOp};
 use std::alloc::Global;
 
 fn variable(values: &[i64], number: usize) -> i64

@@ -4,6 +4,7 @@
 mod carry;
 pub mod command;
 mod evaluate;
+mod first_path;
 mod open;
 mod session;
 mod store;

@@ -2,8 +2,9 @@
 ghost use Rattle.std.specs.Prelude.{◌≡◌, [], Option, IfOk, IfErr};
 ghost use Rattle.gr_types.specs.Programs.{program_of};
 ghost use Rattle.gr_session.specs.Source.{IsProgramOf};
-ghost use Rattle.gr_session.specs.Refused.{SaysNoProgram};
+ghost use Rattle.gr_session.specs.Refused.{SaysWhy};
 
+use crate::first_path::is_first_path;
 use crate::session::Session;
 use gr_base::NoMemory;
 use gr_scan::scan::{ScanError, one_list, scan};
@@ -27,6 +28,8 @@ pub enum OpenError {
     Scan(ScanError, Option<Position>),
     /// No file has its tokens, or there is no memory for one.
     Parse(ParseError, Option<Position>),
+    /// U1: the file has a form that no session can run yet.
+    NotYet,
     /// The file breaks a rule of the language, or there is no memory for its program.
     Check(CheckError, Option<Position>),
     /// There is no memory for a session.
@@ -60,9 +63,12 @@ fn scan_error(text: &[u8], error: ScanError) -> OpenError
 {
     let at = match error {
         ScanError::TooLong | ScanError::Memory => None,
-        ScanError::Strange(at) | ScanError::TooGreat(at) | ScanError::LeftOut(at) => {
-            position_at(text, at)
-        }
+        ScanError::Strange(at)
+        | ScanError::Malformed(at)
+        | ScanError::TooGreat(at)
+        | ScanError::MalformedText(at)
+        | ScanError::Unclosed(at)
+        | ScanError::LeftOut(at) => position_at(text, at),
     };
     OpenError::Scan(error, at)
 }
@@ -72,9 +78,9 @@ fn parse_error(text: &[u8], tokens: &[Token], error: ParseError) -> OpenError
 {
     let at = match error {
         ParseError::Memory => None,
-        ParseError::NoFile { token } | ParseError::TooHigh { token } => {
-            position_of_token(text, tokens, token)
-        }
+        ParseError::NoFile { token }
+        | ParseError::LeftOut { token }
+        | ParseError::TooHigh { token } => position_of_token(text, tokens, token),
     };
     OpenError::Parse(error, at)
 }
@@ -92,7 +98,7 @@ fn check_error(text: &[u8], error: CheckError) -> OpenError
 // The program of a source.
 fn read_program(alloc: Global, text: &[u8]) -> Result<Program, OpenError>
     ensures program { IfOk result (λ p. IsProgramOf text.now (program_of p)) }
-    ensures none { IfErr result (λ e. SaysNoProgram e text.now) }
+    ensures none { IfErr result (λ e. SaysWhy e text.now) }
 {
     one_list();
     one_tree();
@@ -104,6 +110,9 @@ fn read_program(alloc: Global, text: &[u8]) -> Result<Program, OpenError>
         Ok(file) => file,
         Err(error) => return Err(parse_error(text, tokens.as_slice(), error)),
     };
+    if !is_first_path(&file) {
+        return Err(OpenError::NotYet);
+    }
     match check(alloc, file) {
         Ok(program) => Ok(program),
         Err(error) => Err(check_error(text, error)),
@@ -116,7 +125,7 @@ impl Session {
         ensures program { IfOk result (λ s. IsProgramOf text.now (program_of s.program)) }
         ensures journal { IfOk result (λ s. s.journal ≡ []) }
         ensures askers { IfOk result (λ s. s.askers ≡ 0) }
-        ensures none { IfErr result (λ e. SaysNoProgram e text.now) }
+        ensures none { IfErr result (λ e. SaysWhy e text.now) }
     {
         let program = read_program(alloc, text)?;
         match Session::new(alloc, program) {

@@ -1,6 +1,6 @@
 //! The state of a run of one goroutine, changed in place, and how its steps are taken back.
 ghost use Rattle.std.specs.Prelude.{◌≡◌, ◌+◌, ◌<◌, ◌^◌, ◌++◌, ◌↔◌, Ok, Err, IfOk, IfSome, IfNone, OnErr, OnOk, [], ℕ, length, ◌-◌, pos, None, Some, take, MatchOption, OnSome, slice_get, slice_set, slice_index_or, vec_len};
-ghost use Rattle.gr_tree.specs.Tree.{names_of};
+ghost use Rattle.gr_tree.specs.Exprs.{names_of};
 ghost use Rattle.gr_types.specs.Programs.{step_of as pure_step, program_of, plains_of, act_of, Assign, Print};
 ghost use Rattle.gr_session.specs.Values.{assigned, variable};
 ghost use Rattle.gr_session.specs.Run.{start, done, ended, step_at, body, RefusedFor};

@@ -1,6 +1,6 @@
 -- A reading that fails where a height is above a limit.
-use Rattle.std.proofs.Common.{◌≡◌, ℕ, suc, ◌+◌, ◌<◌, ◌≤◌, max, Bool, true, false, cond, refl, sym, ◌∙◌, arith, le-ltb, lt-ltb, ⊎_elim}
-use Rattle.std.specs.Prelude.{Result, Err, nat_lt}
+use Rattle.std.proofs.Common.{◌≡◌, ℕ, suc, ◌+◌, ◌<◌, ◌≤◌, max, Bool, true, false, cond, refl, ap, sym, ◌∙◌, arith, le-ltb, lt-ltb, ⊎_elim}
+use Rattle.std.specs.Prelude.{Result, Ok, Err, nat_lt}
 use Rattle.std.proofs.lemmas.Bool.{cases_lt}
 use Rattle.gr_syntax.specs.Reading.{Fault, High, ◌>>=◌}
 
@@ -43,3 +43,7 @@ bound_looser h k x = ⊎_elim
     (λ lt. above (suc h) k _ lt ∙ sym (above h k x (omega arith)))
     (λ le. within (suc h) k _ le)
     (cases_lt (suc h) k)
+
+-- one level further down
+pub under : {A B : Type 0} (h k : ℕ) (r : Result A Fault) (x : A) (f : A → Result B Fault) → r ≡ bound h k (Ok x) → (r >>= f) ≡ bound (suc h) (k + 1) (f x)
+under h k r x f e = ap (λ r. r >>= f) e ∙ bound_bind h k (Ok x) f ∙ bound_suc h k (f x)

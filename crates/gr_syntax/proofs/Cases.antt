@@ -1,17 +1,17 @@
 -- Goes by cases on what a reading, a look-up or a test gave.
-use Rattle.std.proofs.Common.{◌≡◌, ℕ, Bool, true, false, cond, List, [], ◌∷◌, refl, ap, subst}
+use Rattle.std.proofs.Common.{◌≡◌, ℕ, Bool, true, false, cond, List, [], ◌∷◌, refl, ap, sym, ◌∙◌, subst}
 use Rattle.std.specs.Prelude.{Option, Some, None, Result, Ok, Err}
-use denote.Enum.Bare.{same_true}
 use Rattle.gr_scan.specs.contracts.token.Mark.{the_type}
 use Rattle.gr_scan.specs.declared.token.Place.{Place}
 use Rattle.gr_scan.specs.declared.token.Mark.{Mark}
 use Rattle.gr_scan.specs.declared.token.Mark.TheVariants as marks
 use Rattle.gr_scan.specs.Tokens.{Tok, At, Word, Sign}
 use Rattle.gr_scan.specs.Tokens as words
-use Rattle.gr_tree.specs.declared.UnaryOp.{UnaryOp}
-use Rattle.gr_tree.specs.declared.BinaryOp.{BinaryOp}
-use Rattle.gr_syntax.specs.Grammar.{binary_mark, unary_mark}
-use Rattle.gr_syntax.specs.Reading.{Fault, Wrong, ◌>>=◌, match_after, same_mark, after_mark, binary_of, unary_of, operator_at, name_at, need}
+use denote.Enum.Bare.{sameb, same_true}
+use Rattle.gr_tree.specs.declared.expr.UnaryOp.{UnaryOp}
+use Rattle.gr_tree.specs.declared.expr.BinaryOp.{BinaryOp}
+use Rattle.gr_syntax.specs.Grammar.{after_mark, binary_mark, unary_mark}
+use Rattle.gr_syntax.specs.Reading.{Fault, Wrong, High, Found, Reads, ◌>>=◌, Turn, Stop, Go, match_after, binary_of, unary_of, operator_at, name_at, need}
 
 pub ok_inj : {A : Type 0} {x y : A} → ◌≡◌ {A = Result A Fault} (Ok x) (Ok y) → x ≡ y
 ok_inj e = cc
@@ -26,6 +26,26 @@ wrong≢ok x e = absurd (cc)
 pub on_ok : {A B P : Type 0} (r : Result A Fault) (f : A → Result B Fault) (y : B) → (r >>= f) ≡ Ok y → ((x : A) → r ≡ Ok x → f x ≡ Ok y → P) → P
 on_ok (Ok x) f y e k = k x refl e
 on_ok (Err d) f y e k = absurd (cc)
+
+-- where a reading went wrong
+pub on_high : {A B P : Type 0} (r : Result A Fault) (f : A → Result B Fault) → (r >>= f) ≡ Err High → (r ≡ Err High → P) → ((x : A) → r ≡ Ok x → f x ≡ Err High → P) → P
+on_high (Ok x) f e k n = n x refl e
+on_high (Err Wrong) f e k n = absurd (cc)
+on_high (Err High) f e k n = k refl
+
+pub ok≢high : {A Z : Type 0} {x : A} → ◌≡◌ {A = Result A Fault} (Ok x) (Err High) → Z
+ok≢high q = absurd (cc)
+
+-- the last turn of a loop gives no fault
+pub stop_low : {A Z : Type 0} (next : Turn (Found A) → Reads A) (s : Found A) (t : Turn (Found A)) → Stop s ≡ t → ((s : Found A) → next (Stop s) ≡ Ok s) → next t ≡ Err High → Z
+stop_low next s t e n q = ok≢high (sym (n s) ∙ ap next e ∙ q)
+
+-- what a turn left
+pub go_inj : {A : Type 0} (s t : Found A) → ◌≡◌ {A = Result (Turn (Found A)) Fault} (Ok (Go s)) (Ok (Go t)) → s.2 ≡ t.2
+go_inj s t e = let same : s ≡ t = cc in ap (λ u. u.2) same
+
+pub stop≢go : {A : Type 0} {Z : Type 0} (s t : A) → ◌≡◌ {A = Result (Turn A) Fault} (Ok (Stop s)) (Ok (Go t)) → Z
+stop≢go s t e = absurd (cc)
 
 -- whether a look-up found something
 pub on_look : {A B P : Type 0} (o : Option A) (f : A → B) (y z : B) → match_after o f y ≡ z → ((x : A) → o ≡ Some x → f x ≡ z → P) → (o ≡ None → y ≡ z → P) → P
@@ -45,7 +65,7 @@ pub record Opens (m : Mark) (ts rest : List Tok) : Type 0 where
 pub after_is : (m : Mark) (ts rest : List Tok) → after_mark m ts ≡ Some rest → Opens m ts rest
 unfolding after_mark
 after_is m (At p (Sign k) ∷ ts) rest q =
-    on_test (same_mark k m) (Some ts) None (Some rest) q
+    on_test (sameb the_type k m) (Some ts) None (Some rest) q
     (λ t e. let same : k ≡ m = same_true the_type tt k m t in let tail : ts ≡ rest = some_inj e in record { place = p; is = cc })
     (λ t e. absurd (cc))
 after_is m _ rest q = absurd (cc)
@@ -68,15 +88,34 @@ need_is m (At p w ∷ ts) r q =
 
 pub binary_is : (m : Mark) (op : BinaryOp) → binary_of m ≡ Some op → m ≡ binary_mark op
 unfolding binary_of
+binary_is marks.Star op e = ap binary_mark (some_inj e)
+binary_is marks.Slash op e = ap binary_mark (some_inj e)
+binary_is marks.Percent op e = ap binary_mark (some_inj e)
+binary_is marks.ShiftLeft op e = ap binary_mark (some_inj e)
+binary_is marks.ShiftRight op e = ap binary_mark (some_inj e)
+binary_is marks.And op e = ap binary_mark (some_inj e)
+binary_is marks.AndNot op e = ap binary_mark (some_inj e)
 binary_is marks.Plus op e = ap binary_mark (some_inj e)
 binary_is marks.Minus op e = ap binary_mark (some_inj e)
-binary_is marks.Star op e = ap binary_mark (some_inj e)
+binary_is marks.Or op e = ap binary_mark (some_inj e)
+binary_is marks.Caret op e = ap binary_mark (some_inj e)
+binary_is marks.Equal op e = ap binary_mark (some_inj e)
+binary_is marks.NotEqual op e = ap binary_mark (some_inj e)
+binary_is marks.Less op e = ap binary_mark (some_inj e)
+binary_is marks.LessEqual op e = ap binary_mark (some_inj e)
+binary_is marks.Greater op e = ap binary_mark (some_inj e)
+binary_is marks.GreaterEqual op e = ap binary_mark (some_inj e)
+binary_is marks.AndAnd op e = ap binary_mark (some_inj e)
+binary_is marks.OrOr op e = ap binary_mark (some_inj e)
 binary_is _ op e = absurd (cc)
 
 pub unary_is : (m : Mark) (op : UnaryOp) → unary_of m ≡ Some op → m ≡ unary_mark op
 unfolding unary_of
 unary_is marks.Plus op e = ap unary_mark (some_inj e)
 unary_is marks.Minus op e = ap unary_mark (some_inj e)
+unary_is marks.Not op e = ap unary_mark (some_inj e)
+unary_is marks.Caret op e = ap unary_mark (some_inj e)
+unary_is marks.Arrow op e = ap unary_mark (some_inj e)
 unary_is _ op e = absurd (cc)
 
 -- the operator comes first, and then the rest
@@ -86,3 +125,14 @@ operator_is {O} of mark all (At p (Sign m) ∷ ts) o q =
     (λ op e is. subst (λ (o : O × List Tok). Opens (mark o.0) (At p (Sign m) ∷ ts) o.1) (some_inj is) (record { place = p; is = ap (λ k. At p (Sign k) ∷ ts) (all m op e) }))
     (λ e is. absurd (cc))
 operator_is {O} of mark all _ o q = absurd (cc)
+
+-- no mark is missed by want of height
+pub need_low : {Z : Type 0} (m : Mark) (ts : List Tok) → need m ts ≡ Err High → Z
+unfolding need
+need_low m [] q = absurd (cc)
+need_low m (At p w ∷ ts) q = on_look (after_mark m (At p w ∷ ts)) _ _ (Err High) q (λ rest e q. absurd (cc)) (λ e q. absurd (cc))
+
+pub name_low : {Z : Type 0} (ts : List Tok) → name_at ts ≡ Err High → Z
+unfolding name_at
+name_low (At p (words.Name x) ∷ ts) q = absurd (cc)
+name_low _ q = absurd (cc)

@@ -1,15 +1,14 @@
 -- Lists of names: what is read is in the grammar, and what is in it is read.
 use Rattle.std.proofs.Common.{◌≡◌, ℕ, zero, suc, ◌<◌, List, [], ◌∷◌, ◌++◌, length, refl, ap, sym, ◌∙◌, subst, arith, append_assoc}
-use Rattle.std.specs.Prelude.{None, Ok}
+use Rattle.std.specs.Prelude.{None, Ok, Err}
 use Rattle.gr_scan.specs.declared.token.Place.{Place}
 use Rattle.gr_scan.specs.declared.token.Mark.TheVariants as marks
 use Rattle.gr_scan.specs.Tokens.{Tok, At, Sign}
 use Rattle.gr_scan.specs.Tokens as words
-use Rattle.gr_syntax.specs.Grammar.{SpellsNames, last_name, comma_name}
-use Rattle.gr_syntax.specs.Reading.{Found, Reads, ◌>>=◌, Turn, Go, turned, turns, loop, after_mark, name_at, names_after, names_turn, names_at}
+use Rattle.gr_syntax.specs.Grammar.{after_mark, SpellsNames, last_name, comma_name}
+use Rattle.gr_syntax.specs.Reading.{High, Found, Reads, ◌>>=◌, Turn, Go, turned, turns, loop, name_at, names_after, names_turn, names_at}
 use Rattle.gr_syntax.proofs.Loops.{Shrinks, loop_is}
-use Rattle.gr_syntax.proofs.Cases.{ok_inj, on_ok, on_look, after_is, name_is}
-use Rattle.gr_syntax.proofs.CompleteExprs.{go_inj, stop≢go}
+use Rattle.gr_syntax.proofs.Cases.{ok_inj, on_ok, on_look, after_is, name_is, go_inj, stop≢go, on_high, stop_low, name_low}
 
 abbrev Names : Type 0
 Names = List (List ℕ)
@@ -38,9 +37,9 @@ names_run_sound (suc n) acc k ts u q =
     let done : ◌≡◌ {A = Reads Names} (Ok (acc ++ (x.0 ∷ []), 0, x.1)) (Ok u) = subst (λ d. next d ≡ Ok u) (sym (ok_inj ev)) q in
     subst (λ v. IsNames acc ts v) (ok_inj done) (record { xs = x.0 ∷ []; all = refl; spelled = subst (λ ts. SpellsNames (x.0 ∷ []) ts x.1) (sym here.1) last_name }))))
 
-pub names_sound : (ts : List Tok) (u : Found Names) → names_at ts ≡ Ok u → IsNames [] ts u
+pub names_sound : (ts : List Tok) (u : Found Names) → names_at ts ≡ Ok u → SpellsNames u.0 ts u.2
 unfolding names_at loop
-names_sound ts u q = names_run_sound (suc (length ts)) [] 0 ts u q
+names_sound ts u q = let s = names_run_sound (suc (length ts)) [] 0 ts u q in subst (λ xs. SpellsNames xs ts u.2) (sym s.all) s.spelled
 
 pub names_shrinks : Shrinks names_turn
 unfolding names_turn
@@ -67,10 +66,28 @@ names_run (last_name {p = p} {x = x} {rest = rest}) m acc = last_turn acc p x re
 names_run (comma_name {p = p} {q = q} {x = x} {xs = xs} {ts = ts} {rest = rest} d) m acc =
     comma_turn acc p q x ts ∙ names_run d m (acc ++ (x ∷ [])) ∙ ap (λ ys. Ok (ys, 0, rest)) (append_assoc acc (x ∷ []) xs)
 
-pub names_complete : {xs : Names} {ts rest : List Tok} → SpellsNames xs ts rest → after_mark marks.Comma rest ≡ None → names_at ts ≡ Ok (xs, 0, rest)
+pub names_whole : {xs : Names} {ts rest : List Tok} → SpellsNames xs ts rest → after_mark marks.Comma rest ≡ None → names_at ts ≡ Ok (xs, 0, rest)
 unfolding names_at
-names_complete d m = names_run d m []
+names_whole d m = names_run d m []
 
 pub names_shrunk : {xs : Names} {ts rest : List Tok} → SpellsNames xs ts rest → length rest < length ts
 names_shrunk last_name = omega arith
 names_shrunk (comma_name d) = omega (arith, names_shrunk d)
+
+-- names are never too high
+names_run_low : {Z : Type 0} (n : ℕ) (s : Found Names) → turns names_turn n s ≡ Err High → Z
+unfolding names_turn
+names_run_low zero s q = absurd (cc)
+names_run_low (suc n) s q =
+    let next : Turn (Found Names) → Reads Names = turned (turns names_turn n) in
+    on_high (name_at s.2 >>= λ x. names_after (s.0 ++ (x.0 ∷ [])) x.1) next q
+    (λ q. on_high (name_at s.2) (λ x. names_after (s.0 ++ (x.0 ∷ [])) x.1) q (λ q. name_low s.2 q)
+    (λ x ex q. on_look (after_mark marks.Comma x.1) _ _ (Err High) q (λ rest m q. absurd (cc)) (λ m q. absurd (cc))))
+    (λ v ev q. on_ok (name_at s.2) (λ x. names_after (s.0 ++ (x.0 ∷ [])) x.1) v ev (λ x ex ev.
+    on_look (after_mark marks.Comma x.1) _ _ (Ok v) ev
+    (λ rest m ev. names_run_low n (s.0 ++ (x.0 ∷ []), 0, rest) (subst (λ d. next d ≡ Err High) (sym (ok_inj ev)) q))
+    (λ m ev. stop_low next (s.0 ++ (x.0 ∷ []), 0, x.1) v (ok_inj ev) (λ s. refl) q)))
+
+pub names_low : {Z : Type 0} (ts : List Tok) → names_at ts ≡ Err High → Z
+unfolding names_at loop
+names_low ts q = names_run_low (suc (length ts)) ([], 0, ts) q

@@ -1,27 +1,24 @@
--- What the turns of the loops over expressions give.
-use Rattle.std.proofs.Common.{◌≡◌, ℕ, suc, ◌+◌, ◌<◌, ◌≤◌, max, Bool, true, false, List, [], ◌∷◌, ◌++◌, length, refl, ap, ◌∙◌, arith, lt-ltb, le-ltb}
-use Rattle.std.specs.Prelude.{Option, Some, None, Result, Ok, Err, not}
+-- What the turns of the loops give, and what the code needs of the functions on lists.
+use Rattle.std.proofs.Common.{◌≡◌, ℕ, suc, ◌+◌, ◌<◌, ◌≤◌, max, Bool, true, false, List, [], ◌∷◌, ◌++◌, length, refl, ap, ◌∙◌, arith, lt-ltb, le-ltb, Global}
+use Rattle.std.specs.Prelude.{Option, Some, None, Result, Ok, Err, Vec, not}
 use Rattle.std.specs.Option.{is_some}
 use Rattle.std.specs.Borrow.{Bor}
 use Rattle.gr_scan.specs.declared.token.Token.{Token}
 use Rattle.gr_scan.specs.declared.token.Mark.TheVariants as marks
 use Rattle.gr_scan.specs.Tokens.{Tok, tokens_of}
-use Rattle.gr_tree.specs.declared.BinaryOp.{BinaryOp}
-use Rattle.gr_tree.specs.declared.Expr.{Expr}
-use Rattle.std.specs.Prelude.{Vec}
-use Rattle.std.proofs.Common.{Global}
-use Rattle.gr_tree.specs.declared.Stmt.{Stmt}
-use Rattle.gr_tree.specs.Tree.{Tree, tree_of, Trees, trees_of, more, names_of, Statement, statement_of, statements_of}
+use Rattle.gr_tree.specs.declared.expr.BinaryOp.{BinaryOp}
+use Rattle.gr_tree.specs.declared.expr.Expr.{Expr, Row_of-Expr, end_of-Expr, more_of-Expr, items-the_row-Expr, items_hidden-the_row-Expr-0}
+use Rattle.gr_tree.specs.declared.expr.Expr.TheBlock.{hidden-the_row-Expr-0}
+use Rattle.gr_tree.specs.declared.expr.Expr.TheVariants as exprs
+use Rattle.gr_tree.specs.Exprs.{WrittenType, Tree, Call, tree_of, row_trees, Trees, trees_of, more, names_of}
 use Rattle.gr_syntax.specs.declared.look.Fault as code_fault
 use Rattle.gr_syntax.specs.declared.look.Fault.TheVariants as faults
-use Rattle.gr_syntax.specs.Grammar.{level}
-use Rattle.gr_syntax.specs.Reading.{Fault, Wrong, High, Found, ◌>>=◌, turned, loop, after_mark, binary_of, operator_at, joined, chain_at, chain_turn, expr_at, snoc, ends_at, exprs_after, exprs_turn, name_at, names_turn, statement_at, past_semicolon, list_turn}
+use Rattle.gr_syntax.specs.Grammar.{level, after_mark, is_make}
+use Rattle.gr_syntax.specs.Reading.{Fault, Wrong, High, Found, Reads, ◌>>=◌, turned, loop, binary_of, operator_at, joined, chain_at, chain_turn, expr_at, snoc, ends_at, exprs_after, exprs_turn, arguments_at, call_at, named_at, name_at, names_turn}
 use Rattle.gr_syntax.specs.Views.{Fails, Sees}
 use Rattle.gr_syntax.proofs.Loops.{loop_is}
-use Rattle.gr_syntax.proofs.CompleteExprs.{chain_shrinks, expr_reads}
-use Rattle.gr_syntax.proofs.Lists.{exprs_shrinks}
+use Rattle.gr_syntax.proofs.Sizes.{chain_shrinks, expr_reads, exprs_shrinks}
 use Rattle.gr_syntax.proofs.Names.{names_step}
-use Rattle.gr_syntax.proofs.Blocks.{turn_statement}
 
 pub tokens_length : (ts : List Token) → length (tokens_of ts) ≡ length ts
 tokens_length [] = refl
@@ -94,20 +91,17 @@ pub names_push : (xs : List (Vec ℕ Global)) (x : Vec ℕ Global) → names_of 
 names_push [] x = refl
 names_push (y ∷ xs) x = ap (λ r. y.items ∷ r) (names_push xs x)
 
-pub statements_push : (xs : List Stmt) (x : Stmt) → statements_of (xs ++ (x ∷ [])) ≡ statements_of xs ++ (statement_of x ∷ [])
-statements_push [] x = refl
-statements_push (y ∷ xs) x = ap (λ r. statement_of y ∷ r) (statements_push xs x)
+-- the parts of a call
+row_list : {n : _} (k : Row_of-Expr n) → row_trees k ≡ trees_of (items-the_row-Expr n k)
+row_list end_of-Expr = refl
+row_list (more_of-Expr e k) = ap (more (tree_of e)) (row_list k)
 
--- the turns that read a statement
-module _ (h : ℕ) (ss : Found (List Statement)) (m : after_mark marks.RightBrace ss.2 ≡ None) (k : after_mark marks.Semicolon ss.2 ≡ None) where
-  pub list_err : (f : Fault) → statement_at h ss.2 ≡ Err f → loop (list_turn h) ss ≡ Err f
-  list_err f q = turn_statement h ss m k ∙ rw q refl
+pub call_is : (x : Vec ℕ Global) (v : Vec Expr Global) → tree_of (exprs.Call x v) ≡ Call x.items (trees_of v.items)
+call_is x v = ap (Call x.items) (row_list (hidden-the_row-Expr-0 v) ∙ ap trees_of (items_hidden-the_row-Expr-0 v))
 
-  pub list_bad : (s : Found Statement) (f : Fault) → statement_at h ss.2 ≡ Ok s → past_semicolon s.2 ≡ Err f → loop (list_turn h) ss ≡ Err f
-  list_bad s f q e = turn_statement h ss m k ∙ rw (q, e) refl
-
-  pub list_go : (s : Found Statement) (rest : List Tok) → statement_at h ss.2 ≡ Ok s → past_semicolon s.2 ≡ Ok rest → loop (list_turn h) ss ≡ loop (list_turn h) (ss.0 ++ (s.0 ∷ []), max ss.1 s.1, rest)
-  list_go s rest q e = turn_statement h ss m k ∙ rw (q, e) refl
+pub named_call : (types : List Tok → Reads WrittenType) (rec : ℕ → List Tok → Reads Tree) (x : List ℕ) (ts rest : List Tok) (es : Found Trees) → after_mark marks.LeftParen ts ≡ Some rest → is_make x ≡ false → arguments_at rec rest ≡ Ok es → named_at types rec x ts ≡ Ok (Call x es.0, es.1 + 1, es.2)
+unfolding named_at call_at
+named_call types rec x ts rest es m b q = rw (m, b, q) refl
 
 -- what a look-up that is only tested says
 pub unseen : (o : Option (Bor (List Token))) (x : Option (List Tok)) (t : Bool) → Sees o x → is_some o ≡ not t → t ≡ true → x ≡ None

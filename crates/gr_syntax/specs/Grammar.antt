@@ -1,43 +1,145 @@
--- Which tokens a tree spells (Go: Source file organization, Blocks, Statements, Expressions), with one case for each production.
+-- Which tokens an expression or a type spells (Go: Types, Expressions, Operators), with one case for each production.
 -- 'SpellsX x ts rest' says that the tokens ts are those of x and then rest.
-use Rattle.std.specs.Prelude.{ℕ, ◌+◌, ◌≤◌, List, [], ◌∷◌}
+use Rattle.std.specs.Prelude.{◌≡◌, ℕ, ◌+◌, ◌≤◌, Bool, true, false, List, [], ◌∷◌, Option, Some, None, if◌then◌else◌, nat_eq, codes}
+use Rattle.std.specs.Cmp.Lexicographic.{pointwise}
+use denote.Enum.Bare.{sameb}
+use Rattle.gr_scan.specs.contracts.token.Mark.{the_type}
 use Rattle.gr_scan.specs.declared.token.Place.{Place}
 use Rattle.gr_scan.specs.declared.token.Mark.{Mark}
 use Rattle.gr_scan.specs.declared.token.Mark.TheVariants as marks
-use Rattle.gr_scan.specs.Tokens.{Tok, At, Word, Sign}
+use Rattle.gr_scan.specs.Tokens.{Tok, At, Sign}
 use Rattle.gr_scan.specs.Tokens as words
-use Rattle.gr_tree.specs.declared.UnaryOp.{UnaryOp}
-use Rattle.gr_tree.specs.declared.UnaryOp.TheVariants.{Plus, Negate}
-use Rattle.gr_tree.specs.declared.BinaryOp.{BinaryOp}
-use Rattle.gr_tree.specs.declared.BinaryOp.TheVariants.{Add, Subtract, Multiply}
-use Rattle.gr_tree.specs.Tree.{Tree, Number, Name, Paren, Unary, Binary, Trees, none, more, Act, Define, Assign, Call, Statement, Stands, FileTree, FileOf, file_height}
+use Rattle.gr_tree.specs.declared.expr.UnaryOp.{UnaryOp}
+use Rattle.gr_tree.specs.declared.expr.UnaryOp.TheVariants as unaries
+use Rattle.gr_tree.specs.declared.expr.BinaryOp.{BinaryOp}
+use Rattle.gr_tree.specs.declared.expr.BinaryOp.TheVariants as binaries
+use Rattle.gr_tree.specs.declared.expr.Direction.TheVariants as directions
+use Rattle.gr_tree.specs.Exprs.{WrittenType, TypeName, UnitType, Chan, ParenType, Tree, Number, Text, Name, UnitValue, Paren, Call, Make, MakeSized, Unary, Binary, Trees, none, more}
 
 -- how strongly an operator binds (Go: Operator precedence)
 abbrev pub level : BinaryOp → ℕ
-level Add = 4
-level Subtract = 4
-level Multiply = 5
+level binaries.Multiply = 5
+level binaries.Divide = 5
+level binaries.Remainder = 5
+level binaries.ShiftLeft = 5
+level binaries.ShiftRight = 5
+level binaries.BitAnd = 5
+level binaries.AndNot = 5
+level binaries.Add = 4
+level binaries.Subtract = 4
+level binaries.BitOr = 4
+level binaries.BitXor = 4
+level binaries.Equal = 3
+level binaries.NotEqual = 3
+level binaries.Less = 3
+level binaries.LessEqual = 3
+level binaries.Greater = 3
+level binaries.GreaterEqual = 3
+level binaries.LogicalAnd = 2
+level binaries.LogicalOr = 1
 
 -- how a binary operator is written
 abbrev pub binary_mark : BinaryOp → Mark
-binary_mark Add = marks.Plus
-binary_mark Subtract = marks.Minus
-binary_mark Multiply = marks.Star
+binary_mark binaries.Multiply = marks.Star
+binary_mark binaries.Divide = marks.Slash
+binary_mark binaries.Remainder = marks.Percent
+binary_mark binaries.ShiftLeft = marks.ShiftLeft
+binary_mark binaries.ShiftRight = marks.ShiftRight
+binary_mark binaries.BitAnd = marks.And
+binary_mark binaries.AndNot = marks.AndNot
+binary_mark binaries.Add = marks.Plus
+binary_mark binaries.Subtract = marks.Minus
+binary_mark binaries.BitOr = marks.Or
+binary_mark binaries.BitXor = marks.Caret
+binary_mark binaries.Equal = marks.Equal
+binary_mark binaries.NotEqual = marks.NotEqual
+binary_mark binaries.Less = marks.Less
+binary_mark binaries.LessEqual = marks.LessEqual
+binary_mark binaries.Greater = marks.Greater
+binary_mark binaries.GreaterEqual = marks.GreaterEqual
+binary_mark binaries.LogicalAnd = marks.AndAnd
+binary_mark binaries.LogicalOr = marks.OrOr
 
 -- how a unary operator is written
 abbrev pub unary_mark : UnaryOp → Mark
-unary_mark Plus = marks.Plus
-unary_mark Negate = marks.Minus
+unary_mark unaries.Plus = marks.Plus
+unary_mark unaries.Negate = marks.Minus
+unary_mark unaries.Not = marks.Not
+unary_mark unaries.Complement = marks.Caret
+unary_mark unaries.Receive = marks.Arrow
+
+-- the tokens after this mark, where it comes first
+unfoldable pub after_mark : Mark → List Tok → Option (List Tok)
+after_mark m [] = None
+after_mark m (At p (words.Name x) ∷ ts) = None
+after_mark m (At p (words.Number n) ∷ ts) = None
+after_mark m (At p (words.Text s) ∷ ts) = None
+after_mark m (At p (Sign k) ∷ ts) = if sameb the_type k m then Some ts else None
+
+-- the name `make`, which takes a type
+abbrev pub is_make : List ℕ → Bool
+is_make x = pointwise nat_eq x (codes "make")
+
+-- Type = name | "struct" "{" "}" | "chan" [ "<-" ] Type | "<-" "chan" Type | "(" Type ")" . A "<-" after "chan" belongs to that "chan".
+pub data SpellsType : WrittenType → List Tok → List Tok → Type 0 where
+  type_name : {p : Place} {x : List ℕ} {rest : List Tok} → SpellsType (TypeName x) (At p (words.Name x) ∷ rest) rest
+  type_unit : {p q r : Place} {rest : List Tok}
+      → SpellsType UnitType (At p (Sign marks.Struct) ∷ At q (Sign marks.LeftBrace) ∷ At r (Sign marks.RightBrace) ∷ rest) rest
+  type_chan : {p : Place} {t : WrittenType} {ts rest : List Tok}
+      → after_mark marks.Arrow ts ≡ None
+      → SpellsType t ts rest
+      → SpellsType (Chan directions.Both t) (At p (Sign marks.Chan) ∷ ts) rest
+  type_send : {p q : Place} {t : WrittenType} {ts rest : List Tok}
+      → SpellsType t ts rest
+      → SpellsType (Chan directions.Send t) (At p (Sign marks.Chan) ∷ At q (Sign marks.Arrow) ∷ ts) rest
+  type_receive : {p q : Place} {t : WrittenType} {ts rest : List Tok}
+      → SpellsType t ts rest
+      → SpellsType (Chan directions.Receive t) (At p (Sign marks.Arrow) ∷ At q (Sign marks.Chan) ∷ ts) rest
+  type_paren : {p q : Place} {t : WrittenType} {ts rest : List Tok}
+      → SpellsType t ts (At q (Sign marks.RightParen) ∷ rest)
+      → SpellsType (ParenType t) (At p (Sign marks.LeftParen) ∷ ts) rest
 
 mutual
-  -- Unary = number | name | "(" Expr ")" | ( "+" | "-" ) Unary .
+  -- Unary = number | string | name | Call | "(" Expr ")" | "struct" "{" "}" "{" "}" | "make" "(" Type [ "," Expr ] [ "," ] ")" | UnaryOp Unary .
+  -- Call = name "(" [ Exprs [ "," ] ] ")", the name not "make".
   pub data SpellsUnary : Tree → List Tok → List Tok → Type 0 where
-    number : {p : Place} {n : ℕ} {rest : List Tok}
-        → SpellsUnary (Number n) (At p (words.Number n) ∷ rest) rest
+    number : {p : Place} {n : ℕ} {rest : List Tok} → SpellsUnary (Number n) (At p (words.Number n) ∷ rest) rest
+    text : {p : Place} {s : List ℕ} {rest : List Tok} → SpellsUnary (Text s) (At p (words.Text s) ∷ rest) rest
     name : {p : Place} {x : List ℕ} {rest : List Tok} → SpellsUnary (Name x) (At p (words.Name x) ∷ rest) rest
+    unit : {p q r s t : Place} {rest : List Tok}
+        → SpellsUnary UnitValue (At p (Sign marks.Struct) ∷ At q (Sign marks.LeftBrace) ∷ At r (Sign marks.RightBrace) ∷ At s (Sign marks.LeftBrace) ∷ At t (Sign marks.RightBrace) ∷ rest) rest
     paren : {p q : Place} {e : Tree} {ts rest : List Tok}
         → SpellsExpr 1 e ts (At q (Sign marks.RightParen) ∷ rest)
         → SpellsUnary (Paren e) (At p (Sign marks.LeftParen) ∷ ts) rest
+    call_none : {p q r : Place} {x : List ℕ} {rest : List Tok}
+        → is_make x ≡ false
+        → SpellsUnary (Call x none) (At p (words.Name x) ∷ At q (Sign marks.LeftParen) ∷ At r (Sign marks.RightParen) ∷ rest) rest
+    call : {p q r : Place} {x : List ℕ} {es : Trees} {ts rest : List Tok}
+        → is_make x ≡ false
+        → SpellsExprs es ts (At r (Sign marks.RightParen) ∷ rest)
+        → SpellsUnary (Call x es) (At p (words.Name x) ∷ At q (Sign marks.LeftParen) ∷ ts) rest
+    call_comma : {p q r s : Place} {x : List ℕ} {es : Trees} {ts rest : List Tok}
+        → is_make x ≡ false
+        → SpellsExprs es ts (At r (Sign marks.Comma) ∷ At s (Sign marks.RightParen) ∷ rest)
+        → SpellsUnary (Call x es) (At p (words.Name x) ∷ At q (Sign marks.LeftParen) ∷ ts) rest
+    make : {p q r : Place} {x : List ℕ} {t : WrittenType} {ts rest : List Tok}
+        → is_make x ≡ true
+        → SpellsType t ts (At r (Sign marks.RightParen) ∷ rest)
+        → SpellsUnary (Make t) (At p (words.Name x) ∷ At q (Sign marks.LeftParen) ∷ ts) rest
+    make_comma : {p q r s : Place} {x : List ℕ} {t : WrittenType} {ts rest : List Tok}
+        → is_make x ≡ true
+        → SpellsType t ts (At r (Sign marks.Comma) ∷ At s (Sign marks.RightParen) ∷ rest)
+        → SpellsUnary (Make t) (At p (words.Name x) ∷ At q (Sign marks.LeftParen) ∷ ts) rest
+    make_sized : {p q r s : Place} {x : List ℕ} {t : WrittenType} {e : Tree} {ts mid rest : List Tok}
+        → is_make x ≡ true
+        → SpellsType t ts (At r (Sign marks.Comma) ∷ mid)
+        → SpellsExpr 1 e mid (At s (Sign marks.RightParen) ∷ rest)
+        → SpellsUnary (MakeSized t e) (At p (words.Name x) ∷ At q (Sign marks.LeftParen) ∷ ts) rest
+    make_sized_comma : {p q r s u : Place} {x : List ℕ} {t : WrittenType} {e : Tree} {ts mid rest : List Tok}
+        → is_make x ≡ true
+        → SpellsType t ts (At r (Sign marks.Comma) ∷ mid)
+        → SpellsExpr 1 e mid (At s (Sign marks.Comma) ∷ At u (Sign marks.RightParen) ∷ rest)
+        → SpellsUnary (MakeSized t e) (At p (words.Name x) ∷ At q (Sign marks.LeftParen) ∷ ts) rest
     unary : {p : Place} {op : UnaryOp} {e : Tree} {ts rest : List Tok}
         → SpellsUnary e ts rest
         → SpellsUnary (Unary op e) (At p (Sign (unary_mark op)) ∷ ts) rest
@@ -51,76 +153,17 @@ mutual
         → SpellsExpr (level op + 1) b mid rest
         → SpellsExpr l (Binary op a b) ts rest
 
--- Exprs = Expr { "," Expr } .
-pub data SpellsExprs : Trees → List Tok → List Tok → Type 0 where
-  last_expr : {e : Tree} {ts rest : List Tok} → SpellsExpr 1 e ts rest → SpellsExprs (more e none) ts rest
-  comma_expr : {p : Place} {e : Tree} {es : Trees} {ts mid rest : List Tok}
-      → SpellsExpr 1 e ts (At p (Sign marks.Comma) ∷ mid)
-      → SpellsExprs es mid rest
-      → SpellsExprs (more e es) ts rest
+  -- Exprs = Expr { "," Expr } .
+  pub data SpellsExprs : Trees → List Tok → List Tok → Type 0 where
+    last_expr : {e : Tree} {ts rest : List Tok} → SpellsExpr 1 e ts rest → SpellsExprs (more e none) ts rest
+    comma_expr : {p : Place} {e : Tree} {es : Trees} {ts mid rest : List Tok}
+        → SpellsExpr 1 e ts (At p (Sign marks.Comma) ∷ mid)
+        → SpellsExprs es mid rest
+        → SpellsExprs (more e es) ts rest
 
 -- Names = name { "," name } .
 pub data SpellsNames : List (List ℕ) → List Tok → List Tok → Type 0 where
-  last_name : {p : Place} {x : List ℕ} {rest : List Tok}
-      → SpellsNames (x ∷ []) (At p (words.Name x) ∷ rest) rest
+  last_name : {p : Place} {x : List ℕ} {rest : List Tok} → SpellsNames (x ∷ []) (At p (words.Name x) ∷ rest) rest
   comma_name : {p q : Place} {x : List ℕ} {xs : List (List ℕ)} {ts rest : List Tok}
       → SpellsNames xs ts rest
       → SpellsNames (x ∷ xs) (At p (words.Name x) ∷ At q (Sign marks.Comma) ∷ ts) rest
-
--- Stmt = Names ":=" Exprs | Names "=" Exprs | name "(" [ Exprs [ "," ] ] ")" .
-pub data SpellsAct : Act → List Tok → List Tok → Type 0 where
-  define : {p : Place} {xs : List (List ℕ)} {es : Trees} {ts mid rest : List Tok}
-      → SpellsNames xs ts (At p (Sign marks.Define) ∷ mid)
-      → SpellsExprs es mid rest
-      → SpellsAct (Define xs es) ts rest
-  assign : {p : Place} {xs : List (List ℕ)} {es : Trees} {ts mid rest : List Tok}
-      → SpellsNames xs ts (At p (Sign marks.Assign) ∷ mid)
-      → SpellsExprs es mid rest
-      → SpellsAct (Assign xs es) ts rest
-  call_none : {p q r : Place} {x : List ℕ} {rest : List Tok}
-      → SpellsAct (Call x none) (At p (words.Name x) ∷ At q (Sign marks.LeftParen) ∷ At r (Sign marks.RightParen) ∷ rest) rest
-  call : {p q r : Place} {x : List ℕ} {es : Trees} {ts rest : List Tok}
-      → SpellsExprs es ts (At r (Sign marks.RightParen) ∷ rest)
-      → SpellsAct (Call x es) (At p (words.Name x) ∷ At q (Sign marks.LeftParen) ∷ ts) rest
-  call_comma : {p q r s : Place} {x : List ℕ} {es : Trees} {ts rest : List Tok}
-      → SpellsExprs es ts (At r (Sign marks.Comma) ∷ At s (Sign marks.RightParen) ∷ rest)
-      → SpellsAct (Call x es) (At p (words.Name x) ∷ At q (Sign marks.LeftParen) ∷ ts) rest
-
--- a statement stands where its first token does
-pub data SpellsStatement : Statement → List Tok → List Tok → Type 0 where
-  stands : {p : Place} {w : Word} {a : Act} {ts rest : List Tok}
-      → SpellsAct a (At p w ∷ ts) rest
-      → SpellsStatement (Stands p a) (At p w ∷ ts) rest
-
--- List = { [ Stmt ] ";" } [ Stmt ] . The last Stmt lacks its semicolon only directly before "}".
-pub data SpellsList : List Statement → List Tok → List Tok → Type 0 where
-  end : {ts : List Tok} → SpellsList [] ts ts
-  empty : {p : Place} {ss : List Statement} {ts rest : List Tok}
-      → SpellsList ss ts rest
-      → SpellsList ss (At p (Sign marks.Semicolon) ∷ ts) rest
-  one : {p : Place} {s : Statement} {ss : List Statement} {ts mid rest : List Tok}
-      → SpellsStatement s ts (At p (Sign marks.Semicolon) ∷ mid)
-      → SpellsList ss mid rest
-      → SpellsList (s ∷ ss) ts rest
-  final : {p : Place} {s : Statement} {ts rest : List Tok}
-      → SpellsStatement s ts (At p (Sign marks.RightBrace) ∷ rest)
-      → SpellsList (s ∷ []) ts (At p (Sign marks.RightBrace) ∷ rest)
-
--- Block = "{" List "}" ., with the place of its closing brace
-pub data SpellsBlock : List Statement → Place → List Tok → List Tok → Type 0 where
-  block : {p q : Place} {ss : List Statement} {ts rest : List Tok}
-      → SpellsList ss ts (At q (Sign marks.RightBrace) ∷ rest)
-      → SpellsBlock ss q (At p (Sign marks.LeftBrace) ∷ ts) rest
-
--- File = "package" name ";" "func" name "(" ")" Block ";" .
-pub data SpellsFile : FileTree → List Tok → Type 0 where
-  file : {p q r s t u v w closing : Place} {x f : List ℕ} {ss : List Statement} {ts : List Tok}
-      → SpellsBlock ss closing ts (At w (Sign marks.Semicolon) ∷ [])
-      → SpellsFile (FileOf p x s f ss closing)
-      (At p (Sign marks.Package) ∷ At q (words.Name x) ∷ At r (Sign marks.Semicolon)
-      ∷ At s (Sign marks.Func) ∷ At t (words.Name f) ∷ At u (Sign marks.LeftParen) ∷ At v (Sign marks.RightParen) ∷ ts)
-
--- the tree that the tokens spell, of at most 200 levels
-pub record IsTreeOf (f : FileTree) (ts : List Tok) : Type 0 where
-  pub spelled : SpellsFile f ts
-  pub low : file_height f ≤ 200

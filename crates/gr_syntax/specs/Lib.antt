@@ -1,4 +1,10 @@
 pub mod Grammar
+pub mod StatementGrammar
+pub mod FileGrammar
 pub mod Reading
+pub mod StatementReading
+pub mod StatementViews
+pub mod CodeViews
+pub mod FileReading
 pub mod Refused
 pub mod Views

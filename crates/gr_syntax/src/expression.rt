@@ -2,12 +2,13 @@
 
 ghost use Rattle.std.specs.Prelude.{◌≡◌, ◌+◌, ◌<◌, ◌≤◌, IfOk, ◌^◌, length};
 ghost use Rattle.gr_scan.specs.Tokens.{tokens_of};
-ghost use Rattle.gr_tree.specs.Tree.{tree_of, trees_of};
+ghost use Rattle.gr_tree.specs.Exprs.{tree_of, trees_of};
 ghost use Rattle.gr_syntax.specs.Grammar.{level};
-ghost use Rattle.gr_syntax.specs.Reading.{leaf_at, unary_at, expr_at, ends_at, exprs_at};
+ghost use Rattle.gr_syntax.specs.Reading.{ends_at, exprs_at, arguments_at, call_at, close_at, make_at, named_at, unit_at, paren_at, word_at, unary_at, type_at, expr_at};
 ghost use Rattle.gr_syntax.specs.Views.{Gives, found_of};
 
-use crate::look::{Fault, Found, after, binary, copy, next, unary};
+use crate::look::{Fault, Found, after, binary, copy, is_the_make, needed, next, unary};
+use crate::types::type_tree;
 use gr_scan::token::{Kind, Mark, Token};
 use gr_tree::{BinaryOp, Expr};
 use std::alloc::Global;
@@ -18,27 +19,143 @@ fn precedence(op: BinaryOp) -> u32
     ensures low { result ≤ 5 }
 {
     match op {
-        BinaryOp::Add | BinaryOp::Subtract => 4,
-        BinaryOp::Multiply => 5,
+        BinaryOp::Multiply
+        | BinaryOp::Divide
+        | BinaryOp::Remainder
+        | BinaryOp::ShiftLeft
+        | BinaryOp::ShiftRight
+        | BinaryOp::BitAnd
+        | BinaryOp::AndNot => 5,
+        BinaryOp::Add | BinaryOp::Subtract | BinaryOp::BitOr | BinaryOp::BitXor => 4,
+        BinaryOp::Equal
+        | BinaryOp::NotEqual
+        | BinaryOp::Less
+        | BinaryOp::LessEqual
+        | BinaryOp::Greater
+        | BinaryOp::GreaterEqual => 3,
+        BinaryOp::LogicalAnd => 2,
+        BinaryOp::LogicalOr => 1,
     }
 }
 
 /// A precedence above that of every binary operator: that of a unary operator's operand.
 const TIGHT: u32 = 6;
 
-/// A number or a name.
-#[tactic(auto, unfolding(crate::specs::Reading::leaf_at))]
-fn leaf(tokens: &[Token]) -> Result<Found<'_, Expr>, Fault>
-    ensures gives { Gives (found_of tree_of) result (leaf_at (tokens_of tokens.now)) }
+/// `{}{}`, after `struct`.
+#[tactic(auto, unfolding(crate::specs::Reading::unit_at))]
+fn unit(tokens: &[Token]) -> Result<Found<'_, Expr>, Fault>
+    ensures gives { Gives (found_of tree_of) result (unit_at (tokens_of tokens.now)) }
     ensures fits { IfOk result (λ f. f.height ≡ 1) }
+    ensures shorter { IfOk result (λ f. length f.rest.now < length tokens.now) }
+{
+    let (_, rest) = needed(Mark::LeftBrace, tokens)?;
+    let (_, rest) = needed(Mark::RightBrace, rest)?;
+    let (_, rest) = needed(Mark::LeftBrace, rest)?;
+    let (_, rest) = needed(Mark::RightBrace, rest)?;
+    Ok(Found {
+        value: Expr::Unit,
+        height: 1,
+        rest,
+    })
+}
+
+/// The tokens after a `)`, before which a comma may stand.
+#[tactic(auto, unfolding(crate::specs::Reading::close_at))]
+fn close(tokens: &[Token]) -> Result<&[Token], Fault>
+    ensures gives { Gives (λ rest. tokens_of rest.now) result (close_at (tokens_of tokens.now)) }
+    ensures shorter { IfOk result (λ rest. length rest.now < length tokens.now) }
+{
+    if let Some(rest) = after(Mark::Comma, tokens) {
+        let (_, rest) = needed(Mark::RightParen, rest)?;
+        return Ok(rest);
+    }
+    let (_, rest) = needed(Mark::RightParen, tokens)?;
+    Ok(rest)
+}
+
+/// A make, after its `(`; its type and its size are of at most this height.
+#[cycle(parser)]
+#[tactic(auto, unfolding(crate::specs::Reading::make_at, crate::specs::Reading::make_after, crate::specs::Reading::size_at))]
+fn make(alloc: Global, below: u32, tokens: &[Token]) -> Result<Found<'_, Expr>, Fault>
+    requires { below < 2 ^ 31 }
+    ensures gives { Gives (found_of tree_of) result (make_at (type_at below) (expr_at below) (tokens_of tokens.now)) }
+    ensures fits { IfOk result (λ f. f.height ≤ below + 1) }
+    ensures shorter { IfOk result (λ f. length f.rest.now < length tokens.now) }
+{
+    let made = type_tree(alloc, below, tokens)?;
+    let Some(rest) = after(Mark::Comma, made.rest) else {
+        let (_, rest) = needed(Mark::RightParen, made.rest)?;
+        return Ok(Found {
+            value: Expr::Make(made.value),
+            height: made.height + 1,
+            rest,
+        });
+    };
+    if let Some(rest) = after(Mark::RightParen, rest) {
+        return Ok(Found {
+            value: Expr::Make(made.value),
+            height: made.height + 1,
+            rest,
+        });
+    }
+    let size = expr(alloc, 1, below, rest)?;
+    let rest = close(size.rest)?;
+    Ok(Found {
+        value: Expr::MakeSized(made.value, Box::new(alloc, size.value)?),
+        height: made.height.max(size.height) + 1,
+        rest,
+    })
+}
+
+/// What begins with this name: a call, a make, or the name alone; its parts are of at most this height.
+#[cycle(parser)]
+#[tactic(auto, unfolding(crate::specs::Reading::named_at, crate::specs::Reading::call_at))]
+fn named<'a>(
+    alloc: Global,
+    below: u32,
+    name: &Vec<u8>,
+    tokens: &'a [Token],
+) -> Result<Found<'a, Expr>, Fault>
+    requires { below < 2 ^ 31 }
+    ensures gives { Gives (found_of tree_of) result (named_at (type_at below) (expr_at below) name.now.items (tokens_of tokens.now)) }
+    ensures fits { IfOk result (λ f. f.height ≤ below + 1) }
+    ensures shorter { IfOk result (λ f. length f.rest.now ≤ length tokens.now) }
+{
+    let Some(rest) = after(Mark::LeftParen, tokens) else {
+        return Ok(Found {
+            value: Expr::Name(copy(name)?),
+            height: 1,
+            rest: tokens,
+        });
+    };
+    if is_the_make(name) {
+        return make(alloc, below, rest);
+    }
+    let passed = arguments(alloc, below, rest)?;
+    Ok(Found {
+        value: Expr::Call(copy(name)?, passed.value),
+        height: passed.height + 1,
+        rest: passed.rest,
+    })
+}
+
+/// A number, a string, or what begins with a name; its parts are of at most this height.
+#[cycle(parser)]
+#[tactic(auto, unfolding(crate::specs::Reading::word_at))]
+fn word(alloc: Global, below: u32, tokens: &[Token]) -> Result<Found<'_, Expr>, Fault>
+    requires { below < 2 ^ 31 }
+    ensures gives { Gives (found_of tree_of) result (word_at (type_at below) (expr_at below) (tokens_of tokens.now)) }
+    ensures fits { IfOk result (λ f. f.height ≤ below + 1) }
+    ensures shorter { IfOk result (λ f. length f.rest.now < length tokens.now) }
 {
     let left = tokens.len();
     let Some((token, rest)) = next(tokens) else {
         return Err(Fault::Wrong { left });
     };
     let value = match &token.kind {
+        Kind::Name(name) => return named(alloc, below, name, rest),
         Kind::Number(number) => Expr::Number(*number),
-        Kind::Name(name) => Expr::Name(copy(name)?),
+        Kind::Text(bytes) => Expr::Text(copy(bytes)?),
         Kind::Mark(_) => return Err(Fault::Wrong { left }),
     };
     Ok(Found {
@@ -48,37 +165,48 @@ fn leaf(tokens: &[Token]) -> Result<Found<'_, Expr>, Fault>
     })
 }
 
-/// What no binary operator joins: an expression in parentheses, a unary operator with its operand, or a leaf; the inner
-/// expression is of at most this height.
+/// An expression in parentheses, after the first of them; the inner expression is of at most this height.
+#[cycle(parser)]
+#[tactic(auto, unfolding(crate::specs::Reading::paren_at))]
+fn paren(alloc: Global, below: u32, tokens: &[Token]) -> Result<Found<'_, Expr>, Fault>
+    requires { below < 2 ^ 31 }
+    ensures gives { Gives (found_of tree_of) result (paren_at (expr_at below) (tokens_of tokens.now)) }
+    ensures fits { IfOk result (λ f. f.height ≤ below + 1) }
+    ensures shorter { IfOk result (λ f. length f.rest.now < length tokens.now) }
+{
+    let inner = expr(alloc, 1, below, tokens)?;
+    let (_, rest) = needed(Mark::RightParen, inner.rest)?;
+    Ok(Found {
+        value: Expr::Paren(Box::new(alloc, inner.value)?),
+        height: inner.height + 1,
+        rest,
+    })
+}
+
+/// What no binary operator joins (Go: Operands, Unary operators); its parts are of at most this height.
 #[cycle(parser)]
 #[tactic(auto, unfolding(crate::specs::Reading::unary_at))]
-fn operand(alloc: Global, below: u32, tokens: &[Token]) -> Result<Found<'_, Expr>, Fault>
+pub(crate) fn operand(alloc: Global, below: u32, tokens: &[Token]) -> Result<Found<'_, Expr>, Fault>
     requires { below < 2 ^ 31 }
-    ensures gives { Gives (found_of tree_of) result (unary_at (expr_at below) (tokens_of tokens.now)) }
+    ensures gives { Gives (found_of tree_of) result (unary_at (type_at below) (expr_at below) (tokens_of tokens.now)) }
     ensures fits { IfOk result (λ f. f.height ≤ below + 1) }
+    ensures shorter { IfOk result (λ f. length f.rest.now < length tokens.now) }
 {
     if let Some(rest) = after(Mark::LeftParen, tokens) {
-        let inner = expr(alloc, 1, below, rest)?;
-        let Some(rest) = after(Mark::RightParen, inner.rest) else {
-            return Err(Fault::Wrong {
-                left: inner.rest.len(),
-            });
-        };
+        return paren(alloc, below, rest);
+    }
+    if let Some((op, rest)) = unary(tokens) {
+        let inner = expr(alloc, TIGHT, below, rest)?;
         return Ok(Found {
-            value: Expr::Paren(Box::new(alloc, inner.value)?),
+            value: Expr::Unary(op, Box::new(alloc, inner.value)?),
             height: inner.height + 1,
-            rest,
+            rest: inner.rest,
         });
     }
-    let Some((op, rest)) = unary(tokens) else {
-        return leaf(tokens);
-    };
-    let inner = expr(alloc, TIGHT, below, rest)?;
-    Ok(Found {
-        value: Expr::Unary(op, Box::new(alloc, inner.value)?),
-        height: inner.height + 1,
-        rest: inner.rest,
-    })
+    match after(Mark::Struct, tokens) {
+        Some(rest) => unit(rest),
+        None => word(alloc, below, tokens),
+    }
 }
 
 /// An expression of at most this height, whose operators bind at least as strongly as `level`, by precedence climbing.
@@ -137,6 +265,7 @@ fn ends(trailing: bool, tokens: &[Token]) -> bool
 }
 
 /// Expressions of at most this height with commas between them; where `trailing`, one more comma may stand before a `)`.
+#[cycle(parser)]
 #[tactic(auto, unfolding(crate::specs::Reading::exprs_at))]
 pub(crate) fn exprs(
     alloc: Global,
@@ -173,4 +302,33 @@ pub(crate) fn exprs(
             });
         }
     }
+}
+
+/// The arguments of a call, after its `(` and with its `)`, each of at most this height.
+#[cycle(parser)]
+#[tactic(auto, unfolding(crate::specs::Reading::arguments_at))]
+pub(crate) fn arguments(
+    alloc: Global,
+    limit: u32,
+    tokens: &[Token],
+) -> Result<Found<'_, Vec<Expr>>, Fault>
+    requires { limit < 2 ^ 31 }
+    ensures gives { Gives (found_of (λ v. trees_of v.items)) result (arguments_at (expr_at limit) (tokens_of tokens.now)) }
+    ensures fits { IfOk result (λ f. f.height ≤ limit) }
+    ensures shorter { IfOk result (λ f. length f.rest.now < length tokens.now) }
+{
+    if let Some(rest) = after(Mark::RightParen, tokens) {
+        return Ok(Found {
+            value: Vec::new(alloc),
+            height: 0,
+            rest,
+        });
+    }
+    let listed = exprs(alloc, limit, true, tokens)?;
+    let (_, rest) = needed(Mark::RightParen, listed.rest)?;
+    Ok(Found {
+        value: listed.value,
+        height: listed.height,
+        rest,
+    })
 }

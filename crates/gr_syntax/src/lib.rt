@@ -1,9 +1,16 @@
 //! From the tokens of a Go file to its tree.
 #![tactic(auto)]
 
+mod action;
+mod communication;
 mod expression;
+mod function;
+mod heading;
 mod look;
+mod opening;
 pub mod parse;
+mod simple;
 mod statement;
 #[cfg(test)]
 mod tests;
+mod types;

@@ -2,13 +2,15 @@
 
 ghost use Rattle.std.specs.Prelude.{◌≡◌, ◌<◌, IfSome, IfOk, length};
 ghost use Rattle.gr_scan.specs.Tokens.{tokens_of};
-ghost use Rattle.gr_syntax.specs.Reading.{after_mark, binary_of, unary_of, operator_at, need, name_at};
-ghost use Rattle.gr_syntax.specs.Views.{Gives, Splits, Sees, SeesOperator};
+ghost use Rattle.gr_tree.specs.Exprs.{names_of};
+ghost use Rattle.gr_syntax.specs.Grammar.{after_mark, is_make};
+ghost use Rattle.gr_syntax.specs.Reading.{binary_of, unary_of, operator_at, need, name_at, names_at};
+ghost use Rattle.gr_syntax.specs.Views.{Gives, found_of, Splits, Sees, SeesOperator};
 ghost use Rattle.gr_syntax.specs.declared.look.Fault.TheVariants as faults;
 
 use gr_scan::token::{Kind, Mark, Place, Token};
 use gr_tree::{BinaryOp, UnaryOp};
-use std::alloc::{AllocError, AllocFailed};
+use std::alloc::{AllocError, AllocFailed, Global};
 
 /// Why reading stopped, and how many tokens were left there.
 #[derive(Debug, Drop)]
@@ -53,7 +55,7 @@ pub(crate) fn next(tokens: &[Token]) -> Option<(&Token, &[Token])>
 }
 
 /// The tokens after this mark, if it comes first.
-#[tactic(auto, unfolding(crate::specs::Reading::after_mark))]
+#[tactic(auto, unfolding(crate::specs::Grammar::after_mark))]
 pub(crate) fn after(mark: Mark, tokens: &[Token]) -> Option<&[Token]>
     ensures value { Sees result (after_mark mark (tokens_of tokens.now)) }
     ensures shorter { IfSome result (λ rest. length rest.now < length tokens.now) }
@@ -63,6 +65,7 @@ pub(crate) fn after(mark: Mark, tokens: &[Token]) -> Option<&[Token]>
         Kind::Mark(first) => { if *first == mark { Some(rest) } else { None } }
         Kind::Name(_) => None,
         Kind::Number(_) => None,
+        Kind::Text(_) => None,
     }
 }
 
@@ -71,9 +74,25 @@ fn binary_op(mark: Mark) -> Option<BinaryOp>
     ensures { result ≡ binary_of mark }
 {
     match mark {
+        Mark::Star => Some(BinaryOp::Multiply),
+        Mark::Slash => Some(BinaryOp::Divide),
+        Mark::Percent => Some(BinaryOp::Remainder),
+        Mark::ShiftLeft => Some(BinaryOp::ShiftLeft),
+        Mark::ShiftRight => Some(BinaryOp::ShiftRight),
+        Mark::And => Some(BinaryOp::BitAnd),
+        Mark::AndNot => Some(BinaryOp::AndNot),
         Mark::Plus => Some(BinaryOp::Add),
         Mark::Minus => Some(BinaryOp::Subtract),
-        Mark::Star => Some(BinaryOp::Multiply),
+        Mark::Or => Some(BinaryOp::BitOr),
+        Mark::Caret => Some(BinaryOp::BitXor),
+        Mark::Equal => Some(BinaryOp::Equal),
+        Mark::NotEqual => Some(BinaryOp::NotEqual),
+        Mark::Less => Some(BinaryOp::Less),
+        Mark::LessEqual => Some(BinaryOp::LessEqual),
+        Mark::Greater => Some(BinaryOp::Greater),
+        Mark::GreaterEqual => Some(BinaryOp::GreaterEqual),
+        Mark::AndAnd => Some(BinaryOp::LogicalAnd),
+        Mark::OrOr => Some(BinaryOp::LogicalOr),
         _ => None,
     }
 }
@@ -85,6 +104,9 @@ fn unary_op(mark: Mark) -> Option<UnaryOp>
     match mark {
         Mark::Plus => Some(UnaryOp::Plus),
         Mark::Minus => Some(UnaryOp::Negate),
+        Mark::Not => Some(UnaryOp::Not),
+        Mark::Caret => Some(UnaryOp::Complement),
+        Mark::Arrow => Some(UnaryOp::Receive),
         _ => None,
     }
 }
@@ -102,6 +124,7 @@ pub(crate) fn binary(tokens: &[Token]) -> Option<(BinaryOp, &[Token])>
         }
         Kind::Name(_) => None,
         Kind::Number(_) => None,
+        Kind::Text(_) => None,
     }
 }
 
@@ -118,6 +141,7 @@ pub(crate) fn unary(tokens: &[Token]) -> Option<(UnaryOp, &[Token])>
         }
         Kind::Name(_) => None,
         Kind::Number(_) => None,
+        Kind::Text(_) => None,
     }
 }
 
@@ -149,13 +173,44 @@ pub(crate) fn name(tokens: &[Token]) -> Result<(&Vec<u8>, &[Token]), Fault>
     match &token.kind {
         Kind::Name(name) => Ok((name, rest)),
         Kind::Number(_) => Err(Fault::Wrong { left }),
+        Kind::Text(_) => Err(Fault::Wrong { left }),
         Kind::Mark(_) => Err(Fault::Wrong { left }),
     }
 }
 
-/// A name of its own with these letters.
-pub(crate) fn copy(name: &Vec<u8>) -> Result<Vec<u8>, AllocError>
-    ensures { IfOk result (λ v. v.items ≡ name.now.items) }
+/// A list of its own with these bytes.
+pub(crate) fn copy(bytes: &Vec<u8>) -> Result<Vec<u8>, AllocError>
+    ensures { IfOk result (λ v. v.items ≡ bytes.now.items) }
 {
-    name.clone()
+    bytes.clone()
+}
+
+/// Whether this is the name `make`, which takes a type.
+pub(crate) fn is_the_make(name: &Vec<u8>) -> bool
+    ensures { result ≡ is_make name.now.items }
+{
+    name.as_slice() == b"make".as_slice()
+}
+
+/// Names with commas between them; they count nothing for the height.
+#[tactic(auto, unfolding(crate::specs::Reading::names_at))]
+pub(crate) fn names(alloc: Global, tokens: &[Token]) -> Result<Found<'_, Vec<Vec<u8>>>, Fault>
+    ensures gives { Gives (found_of (λ v. names_of v.items)) result (names_at (tokens_of tokens.now)) }
+    ensures shorter { IfOk result (λ f. length f.rest.now < length tokens.now) }
+{
+    let mut value = Vec::new(alloc);
+    let mut rest = tokens;
+    loop {
+        let (first, more) = name(rest)?;
+        value.push(copy(first)?)?;
+        rest = more;
+        let Some(more) = after(Mark::Comma, rest) else {
+            return Ok(Found {
+                value,
+                height: 0,
+                rest,
+            });
+        };
+        rest = more;
+    }
 }

@@ -1,14 +1,15 @@
 //! The file that a list of tokens spells.
 
 ghost use Rattle.std.specs.Prelude.{◌≡◌, List, IfOk, IfErr};
+ghost use Rattle.std.specs.List.{slice_get};
 ghost use Rattle.gr_scan.specs.Tokens.{Tok, tokens_of};
-ghost use Rattle.gr_tree.specs.Tree.{FileTree, file_of};
-ghost use Rattle.gr_syntax.specs.Grammar.{SpellsFile, IsTreeOf};
-ghost use Rattle.gr_syntax.specs.Refused.{HasNoTree};
+ghost use Rattle.gr_tree.specs.Files.{FileTree, file_of};
+ghost use Rattle.gr_syntax.specs.FileGrammar.{SpellsFile, IsTreeOf};
+ghost use Rattle.gr_syntax.specs.Refused.{is_left_out, left_out, HasNoTree};
 
+use crate::function::file;
 use crate::look::Fault;
-use crate::statement::file;
-use gr_scan::token::Token;
+use gr_scan::token::{Kind, Mark, Token};
 use gr_tree::File;
 use std::alloc::Global;
 
@@ -17,11 +18,53 @@ use std::alloc::Global;
 pub enum ParseError {
     /// No file has these tokens (P1). The token is the first one up to which no file can begin: tests show it, no clause does.
     NoFile { token: usize },
-    /// Every tree is higher than `gr_tree::HEIGHT_LIMIT` (P3): an expression that begins at this token, or one around it, is
-    /// too high.
+    /// No file has these tokens, and the token begins something of Go that the language leaves out (P2). It is the first one up
+    /// to which no file can begin: tests show it, no clause does.
+    LeftOut { token: usize },
+    /// Every tree is higher than `gr_tree::HEIGHT_LIMIT` (P3): a part that begins at this token, or one around it, is too high.
     TooHigh { token: usize },
     /// Memory ran out (P4).
     Memory,
+}
+
+/// Whether this mark begins something of Go that the language leaves out.
+fn mark_is_left_out(mark: Mark) -> bool
+    ensures { result ≡ is_left_out mark }
+{
+    matches!(
+        mark,
+        Mark::Const
+            | Mark::Defer
+            | Mark::Fallthrough
+            | Mark::Func
+            | Mark::Goto
+            | Mark::Import
+            | Mark::Interface
+            | Mark::Map
+            | Mark::Switch
+            | Mark::Type
+            | Mark::Var
+            | Mark::Star
+            | Mark::And
+            | Mark::LeftBracket
+            | Mark::Dot
+            | Mark::Ellipsis
+    )
+}
+
+/// Whether the token with this index is such a mark.
+fn token_is_left_out(token: usize, tokens: &[Token]) -> bool
+    ensures { result ≡ left_out (slice_get (tokens_of tokens.now) token) }
+{
+    let Some(refused) = tokens.get(token) else {
+        return false;
+    };
+    match &refused.kind {
+        Kind::Mark(mark) => mark_is_left_out(*mark),
+        Kind::Name(_) => false,
+        Kind::Number(_) => false,
+        Kind::Text(_) => false,
+    }
 }
 
 /// The tree of the file that the tokens spell (Go: Source file organization).
@@ -38,9 +81,14 @@ pub fn parse(alloc: Global, tokens: &[Token]) -> Result<File, ParseError>
     let count = tokens.len();
     match file(alloc, tokens) {
         Ok(file) => Ok(file),
-        Err(Fault::Wrong { left }) => Err(ParseError::NoFile {
-            token: count.saturating_sub(left),
-        }),
+        Err(Fault::Wrong { left }) => {
+            let token = count.saturating_sub(left);
+            if token_is_left_out(token, tokens) {
+                Err(ParseError::LeftOut { token })
+            } else {
+                Err(ParseError::NoFile { token })
+            }
+        }
         Err(Fault::TooHigh { left }) => Err(ParseError::TooHigh {
             token: count.saturating_sub(left),
         }),

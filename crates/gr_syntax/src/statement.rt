@@ -1,142 +1,30 @@
-//! Reading statements, blocks and files.
+//! Reading statements, their lists and blocks, and the clauses of a select.
 
-ghost use Rattle.std.specs.Prelude.{◌≡◌, [], ◌+◌, ◌<◌, ◌≤◌, IfOk, ◌^◌, length};
+ghost use Rattle.std.specs.Prelude.{◌≡◌, ◌+◌, ◌<◌, ◌≤◌, IfOk, ◌^◌, length};
 ghost use Rattle.gr_scan.specs.Tokens.{tokens_of};
-ghost use Rattle.gr_tree.specs.Tree.{names_of, act_of, statement_of, statements_of, file_of};
-ghost use Rattle.gr_syntax.specs.Reading.{names_at, assignment_at, call_at, act_at, statement_at, past_semicolon, list_at, block_at, file_at};
+ghost use Rattle.gr_tree.specs.Exprs.{Name, tree_of};
+ghost use Rattle.gr_tree.specs.Statements.{Block, If, IfElse, IfElseIf, For, Select, act_of, if_of, for_of, statement_of, statements_of};
+ghost use Rattle.gr_syntax.specs.StatementReading.{plain_after, name_open, labelled_at, past_semicolon, placed, list_at, block_at, else_at, if_at, for_at, clauses_at, select_at, braced_at, open_at, keyed_at, statement_at};
+ghost use Rattle.gr_syntax.specs.CodeViews.{clauses_of};
+ghost use Rattle.gr_syntax.specs.StatementViews.{closed_of};
 ghost use Rattle.gr_syntax.specs.Views.{Gives, found_of};
 
-use crate::expression::exprs;
-use crate::look::{Fault, Found, after, copy, name, needed, next};
+use crate::action::{break_from, continue_from, go, returned, var};
+use crate::communication::communication;
+use crate::expression::expr;
+use crate::heading::{for_head, if_head, place};
+use crate::look::{Fault, Found, after, needed};
+use crate::opening::{Keyword, ends, first_keyword, stops};
+use crate::simple::simple;
 use gr_scan::token::{Mark, Place, Token};
-use gr_tree::{Action, File, Func, HEIGHT_LIMIT, Stmt};
+use gr_tree::{Action, Clause, Expr, ForHead, IfHead, Stmt};
 use std::alloc::Global;
 
-/// The most levels that an argument of a call may have: the call is one more, and its statement another.
-const ARGUMENT_LIMIT: u32 = HEIGHT_LIMIT as u32 - 2;
-
-/// Names with commas between them; they count nothing for the height.
-#[tactic(auto, unfolding(crate::specs::Reading::names_at))]
-fn names(alloc: Global, tokens: &[Token]) -> Result<Found<'_, Vec<Vec<u8>>>, Fault>
-    ensures gives { Gives (found_of (λ v. names_of v.items)) result (names_at (tokens_of tokens.now)) }
-    ensures shorter { IfOk result (λ f. length f.rest.now < length tokens.now) }
-{
-    let mut value = Vec::new(alloc);
-    let mut rest = tokens;
-    loop {
-        let (first, more) = name(rest)?;
-        value.push(copy(first)?)?;
-        rest = more;
-        let Some(more) = after(Mark::Comma, rest) else {
-            return Ok(Found {
-                value,
-                height: 0,
-                rest,
-            });
-        };
-        rest = more;
-    }
-}
-
-/// A definition or an assignment, of expressions of at most this height.
-#[tactic(auto, unfolding(crate::specs::Reading::assignment_at))]
-fn assignment(alloc: Global, below: u32, tokens: &[Token]) -> Result<Found<'_, Action>, Fault>
-    requires { below < 2 ^ 31 }
-    ensures gives { Gives (found_of act_of) result (assignment_at below (tokens_of tokens.now)) }
-    ensures fits { IfOk result (λ f. f.height ≤ below + 1) }
-    ensures shorter { IfOk result (λ f. length f.rest.now < length tokens.now) }
-{
-    let targets = names(alloc, tokens)?;
-    if let Some(rest) = after(Mark::Define, targets.rest) {
-        let values = exprs(alloc, below, false, rest)?;
-        return Ok(Found {
-            value: Action::Define(targets.value, values.value),
-            height: values.height + 1,
-            rest: values.rest,
-        });
-    }
-    let (_, rest) = needed(Mark::Assign, targets.rest)?;
-    let values = exprs(alloc, below, false, rest)?;
-    Ok(Found {
-        value: Action::Assign(targets.value, values.value),
-        height: values.height + 1,
-        rest: values.rest,
-    })
-}
-
-/// A call of this function, after its opening parenthesis, with arguments of at most this height.
-#[tactic(auto, unfolding(crate::specs::Reading::call_at))]
-fn call<'a>(
-    alloc: Global,
-    below: u32,
-    function: &Vec<u8>,
-    tokens: &'a [Token],
-) -> Result<Found<'a, Action>, Fault>
-    requires { below < 2 ^ 31 }
-    ensures gives { Gives (found_of act_of) result (call_at below function.now.items (tokens_of tokens.now)) }
-    ensures fits { IfOk result (λ f. f.height ≤ below + 2) }
-    ensures shorter { IfOk result (λ f. length f.rest.now < length tokens.now) }
-{
-    let function = copy(function)?;
-    if let Some(rest) = after(Mark::RightParen, tokens) {
-        return Ok(Found {
-            value: Action::Call(function, Vec::new(alloc)),
-            height: 2,
-            rest,
-        });
-    }
-    let arguments = exprs(alloc, below, true, tokens)?;
-    let (_, rest) = needed(Mark::RightParen, arguments.rest)?;
-    Ok(Found {
-        value: Action::Call(function, arguments.value),
-        height: arguments.height + 2,
-        rest,
-    })
-}
-
-/// What a statement does; its arguments are of at most this height, and its values of at most one more.
-#[tactic(auto, unfolding(crate::specs::Reading::act_at))]
-fn action(alloc: Global, below: u32, tokens: &[Token]) -> Result<Found<'_, Action>, Fault>
-    requires { below < 2 ^ 30 }
-    ensures gives { Gives (found_of act_of) result (act_at below (tokens_of tokens.now)) }
-    ensures fits { IfOk result (λ f. f.height ≤ below + 2) }
-    ensures shorter { IfOk result (λ f. length f.rest.now < length tokens.now) }
-{
-    let (first, rest) = name(tokens)?;
-    match after(Mark::LeftParen, rest) {
-        Some(rest) => call(alloc, below, first, rest),
-        None => assignment(alloc, below + 1, tokens),
-    }
-}
-
-/// A statement, with arguments of at most this height.
-#[tactic(auto, unfolding(crate::specs::Reading::statement_at, crate::specs::Reading::place_at))]
-fn statement(alloc: Global, below: u32, tokens: &[Token]) -> Result<Found<'_, Stmt>, Fault>
-    requires { below < 2 ^ 30 }
-    ensures gives { Gives (found_of statement_of) result (statement_at below (tokens_of tokens.now)) }
-    ensures fits { IfOk result (λ f. f.height ≤ below + 2) }
-    ensures shorter { IfOk result (λ f. length f.rest.now < length tokens.now) }
-{
-    let Some((token, _)) = next(tokens) else {
-        return Err(Fault::Wrong { left: 0 });
-    };
-    let place = token.place;
-    let action = action(alloc, below, tokens)?;
-    Ok(Found {
-        value: Stmt {
-            place,
-            action: action.value,
-        },
-        height: action.height,
-        rest: action.rest,
-    })
-}
-
 /// The tokens after the semicolon that ends a statement; none is needed before a `}`.
-#[tactic(auto, unfolding(crate::specs::Reading::past_semicolon))]
+#[tactic(auto, unfolding(crate::specs::StatementReading::past_semicolon))]
 fn past_semicolon(tokens: &[Token]) -> Result<&[Token], Fault>
     ensures gives { Gives (λ rest. tokens_of rest.now) result (past_semicolon (tokens_of tokens.now)) }
-    ensures shorter { IfOk result (λ rest. length rest.now ≤ length tokens.now) }
+    ensures rest { IfOk result (λ rest. length rest.now ≤ length tokens.now) }
 {
     if after(Mark::RightBrace, tokens).is_some() {
         return Ok(tokens);
@@ -145,21 +33,190 @@ fn past_semicolon(tokens: &[Token]) -> Result<&[Token], Fault>
     Ok(rest)
 }
 
-/// The statements up to a `}`, with arguments of at most this height.
-#[tactic(auto, unfolding(crate::specs::Reading::list_at))]
-fn list(alloc: Global, below: u32, tokens: &[Token]) -> Result<Found<'_, Vec<Stmt>>, Fault>
-    requires { below < 2 ^ 30 }
-    ensures { Gives (found_of (λ v. statements_of v.items)) result (list_at below (tokens_of tokens.now)) }
+/// This action as a statement that stands here.
+fn acts(place: Place, action: Found<'_, Action>) -> Found<'_, Stmt>
+    ensures gives { found_of statement_of result ≡ placed place (found_of act_of action.entry) }
+{
+    Found {
+        value: Stmt::Act(place, action.value),
+        height: action.height,
+        rest: action.rest,
+    }
+}
+
+/// The block of a statement of its own.
+fn block_stmt(place: Place, body: Vec<Stmt>) -> Stmt
+    ensures { statement_of result ≡ Block place (statements_of body.items) }
+{
+    Stmt::Block(place, body)
+}
+
+/// An if without else.
+fn if_stmt(place: Place, head: IfHead, body: Vec<Stmt>) -> Stmt
+    ensures { statement_of result ≡ If place (if_of head) (statements_of body.items) }
+{
+    Stmt::If(place, head, body)
+}
+
+/// An if with the block of its else.
+fn if_else(place: Place, head: IfHead, body: Vec<Stmt>, otherwise: Vec<Stmt>) -> Stmt
+    ensures { statement_of result ≡ IfElse place (if_of head) (statements_of body.items) (statements_of otherwise.items) }
+{
+    Stmt::IfElse(place, head, body, otherwise)
+}
+
+/// An if with the if after its else.
+fn if_else_if(place: Place, head: IfHead, body: Vec<Stmt>, otherwise: Box<Stmt>) -> Stmt
+    ensures { statement_of result ≡ IfElseIf place (if_of head) (statements_of body.items) (statement_of otherwise.value) }
+{
+    Stmt::IfElseIf(place, head, body, otherwise)
+}
+
+/// A for.
+fn for_stmt(place: Place, head: ForHead, body: Vec<Stmt>) -> Stmt
+    ensures { statement_of result ≡ For place (for_of head) (statements_of body.items) }
+{
+    Stmt::For(place, head, body)
+}
+
+/// A select.
+fn select_stmt(place: Place, clauses: Vec<Clause>) -> Stmt
+    ensures { statement_of result ≡ Select place (clauses_of clauses.items) }
+{
+    Stmt::Select(place, clauses)
+}
+
+/// A simple statement that begins with this expression, as a statement that stands here.
+#[tactic(auto, unfolding(crate::specs::StatementReading::plain_after))]
+fn plain<'a>(
+    alloc: Global,
+    limit: u32,
+    place: Place,
+    first: Found<'a, Expr>,
+) -> Result<Found<'a, Stmt>, Fault>
+    requires limit { limit < 2 ^ 30 }
+    requires fits { first.height ≤ limit }
+    ensures gives { Gives (found_of statement_of) result (plain_after limit place (found_of tree_of first.entry)) }
+    ensures fits { IfOk result (λ f. f.height ≤ limit) }
+{
+    let found = simple(alloc, limit, true, first)?;
+    Ok(Found {
+        value: Stmt::Act(place, Action::Simple(found.value)),
+        height: found.height,
+        rest: found.rest,
+    })
+}
+
+/// The statement after a label and its colon; it is of at most this height.
+#[cycle(statement)]
+#[tactic(auto, unfolding(crate::specs::StatementReading::labelled_at))]
+fn labelled<'a>(
+    alloc: Global,
+    below: u32,
+    place: Place,
+    name: Vec<u8>,
+    tokens: &'a [Token],
+) -> Result<Found<'a, Stmt>, Fault>
+    requires { below < 2 ^ 29 }
+    ensures gives { Gives (found_of statement_of) result (labelled_at (statement_at below) place name.items (tokens_of tokens.now)) }
+    ensures fits { IfOk result (λ f. f.height ≤ below + 1) }
+{
+    if ends(tokens) {
+        return Ok(Found {
+            value: Stmt::EmptyLabel(place, name),
+            height: 1,
+            rest: tokens,
+        });
+    }
+    let inner = statement(alloc, below, tokens)?;
+    Ok(Found {
+        value: Stmt::Label(place, name, Box::new(alloc, inner.value)?),
+        height: inner.height + 1,
+        rest: inner.rest,
+    })
+}
+
+/// A statement that begins with this name: one with a label, or a simple one.
+#[cycle(statement)]
+#[tactic(auto, unfolding(crate::specs::StatementReading::name_open))]
+fn named<'a>(
+    alloc: Global,
+    below: u32,
+    place: Place,
+    name: Vec<u8>,
+    height: u32,
+    tokens: &'a [Token],
+) -> Result<Found<'a, Stmt>, Fault>
+    requires limit { below < 2 ^ 29 }
+    requires fits { height ≤ below + 1 }
+    ensures gives { Gives (found_of statement_of) result (name_open (below + 1) (statement_at below) place (Name name.items, height, tokens_of tokens.now) name.items) }
+    ensures fits { IfOk result (λ f. f.height ≤ below + 1) }
+{
+    match after(Mark::Colon, tokens) {
+        Some(rest) => labelled(alloc, below, place, name, rest),
+        None => plain(
+            alloc,
+            below + 1,
+            place,
+            Found {
+                value: Expr::Name(name),
+                height,
+                rest: tokens,
+            },
+        ),
+    }
+}
+
+/// A statement that begins with no keyword; its parts are of at most this height.
+#[cycle(statement)]
+#[tactic(auto, unfolding(crate::specs::StatementReading::open_at, crate::specs::StatementReading::open_after, crate::specs::StatementReading::bare))]
+fn opened(
+    alloc: Global,
+    below: u32,
+    place: Place,
+    tokens: &[Token],
+) -> Result<Found<'_, Stmt>, Fault>
+    requires { below < 2 ^ 29 }
+    ensures gives { Gives (found_of statement_of) result (open_at (below + 1) (statement_at below) place (tokens_of tokens.now)) }
+    ensures fits { IfOk result (λ f. f.height ≤ below + 1) }
+{
+    let Found {
+        value,
+        height,
+        rest,
+    } = expr(alloc, 1, below + 1, tokens)?;
+    match value {
+        Expr::Name(name) => named(alloc, below, place, name, height, rest),
+        value => plain(
+            alloc,
+            below + 1,
+            place,
+            Found {
+                value,
+                height,
+                rest,
+            },
+        ),
+    }
+}
+
+/// The statements up to a `}` or to the next clause of a select, each of at most this height.
+#[cycle(statement)]
+#[tactic(auto, unfolding(crate::specs::StatementReading::list_at))]
+fn list(alloc: Global, limit: u32, tokens: &[Token]) -> Result<Found<'_, Vec<Stmt>>, Fault>
+    requires { limit < 2 ^ 29 }
+    ensures gives { Gives (found_of (λ v. statements_of v.items)) result (list_at (statement_at limit) (tokens_of tokens.now)) }
+    ensures fits { IfOk result (λ f. f.height ≤ limit) }
 {
     let mut value = Vec::new(alloc);
     let mut height = 0u32;
     let mut rest = tokens;
-    while after(Mark::RightBrace, rest).is_none() {
+    while !stops(rest) {
         if let Some(more) = after(Mark::Semicolon, rest) {
             rest = more;
             continue;
         }
-        let next = statement(alloc, below, rest)?;
+        let next = statement(alloc, limit, rest)?;
         value.push(next.value)?;
         height = height.max(next.height);
         rest = past_semicolon(next.rest)?;
@@ -171,44 +228,240 @@ fn list(alloc: Global, below: u32, tokens: &[Token]) -> Result<Found<'_, Vec<Stm
     })
 }
 
-/// A block: its statements, the place of its closing brace, and the tokens after it.
-#[tactic(auto, unfolding(crate::specs::Reading::block_at))]
-fn block(alloc: Global, below: u32, tokens: &[Token]) -> Result<(Vec<Stmt>, Place, &[Token]), Fault>
-    requires { below < 2 ^ 30 }
-    ensures { Gives (λ b. (statements_of b.0.items, b.1, tokens_of b.2.now)) result (block_at below (tokens_of tokens.now)) }
+/// A block, and where it closes; its statements are of at most this height.
+#[cycle(statement)]
+#[tactic(auto, unfolding(crate::specs::StatementReading::block_at))]
+pub(crate) fn block(
+    alloc: Global,
+    limit: u32,
+    tokens: &[Token],
+) -> Result<Found<'_, (Vec<Stmt>, Place)>, Fault>
+    requires { limit < 2 ^ 29 }
+    ensures gives { Gives (found_of closed_of) result (block_at (statement_at limit) (tokens_of tokens.now)) }
+    ensures fits { IfOk result (λ f. f.height ≤ limit) }
 {
     let (_, rest) = needed(Mark::LeftBrace, tokens)?;
-    let body = list(alloc, below, rest)?;
+    let body = list(alloc, limit, rest)?;
     let (end, rest) = needed(Mark::RightBrace, body.rest)?;
-    Ok((body.value, end, rest))
+    Ok(Found {
+        value: (body.value, end),
+        height: body.height,
+        rest,
+    })
 }
 
-/// A whole file.
-#[tactic(auto, unfolding(crate::specs::Reading::file_at))]
-pub(crate) fn file(alloc: Global, tokens: &[Token]) -> Result<File, Fault>
-    ensures { Gives file_of result (file_at 198 (tokens_of tokens.now)) }
+/// A block where a statement stands; its statements are of at most this height.
+#[cycle(statement)]
+#[tactic(auto, unfolding(crate::specs::StatementReading::braced_at))]
+fn braced(
+    alloc: Global,
+    below: u32,
+    place: Place,
+    tokens: &[Token],
+) -> Result<Found<'_, Stmt>, Fault>
+    requires { below < 2 ^ 29 }
+    ensures gives { Gives (found_of statement_of) result (braced_at (statement_at below) place (tokens_of tokens.now)) }
+    ensures fits { IfOk result (λ f. f.height ≤ below + 1) }
 {
-    let (place, rest) = needed(Mark::Package, tokens)?;
-    let (package, rest) = name(rest)?;
-    let (_, rest) = needed(Mark::Semicolon, rest)?;
-    let (func_place, rest) = needed(Mark::Func, rest)?;
-    let (func_name, rest) = name(rest)?;
-    let (_, rest) = needed(Mark::LeftParen, rest)?;
-    let (_, rest) = needed(Mark::RightParen, rest)?;
-    let (body, end, rest) = block(alloc, ARGUMENT_LIMIT, rest)?;
-    let (_, rest) = needed(Mark::Semicolon, rest)?;
-    if next(rest).is_some() {
-        return Err(Fault::Wrong { left: rest.len() });
-    }
-    let func = Func {
-        place: func_place,
-        name: copy(func_name)?,
-        body,
-        end,
-    };
-    Ok(File {
-        place,
-        package: copy(package)?,
-        func,
+    let found = block(alloc, below, tokens)?;
+    Ok(Found {
+        value: block_stmt(place, found.value.0),
+        height: found.height + 1,
+        rest: found.rest,
     })
+}
+
+/// What follows the else of an if with this head and this block.
+#[cycle(statement)]
+#[tactic(auto, unfolding(crate::specs::StatementReading::else_at))]
+fn otherwise<'a>(
+    alloc: Global,
+    below: u32,
+    place: Place,
+    head: Found<'a, IfHead>,
+    body: Found<'a, (Vec<Stmt>, Place)>,
+    tokens: &'a [Token],
+) -> Result<Found<'a, Stmt>, Fault>
+    requires limit { below < 2 ^ 29 }
+    requires head { head.height ≤ below }
+    requires body { body.height ≤ below }
+    ensures gives { Gives (found_of statement_of) result (else_at (statement_at below) place (found_of if_of head.entry) (found_of closed_of body.entry) (tokens_of tokens.now)) }
+    ensures fits { IfOk result (λ f. f.height ≤ below + 1) }
+{
+    if after(Mark::If, tokens).is_some() {
+        let inner = statement(alloc, below, tokens)?;
+        return Ok(Found {
+            value: if_else_if(
+                place,
+                head.value,
+                body.value.0,
+                Box::new(alloc, inner.value)?,
+            ),
+            height: head.height.max(body.height.max(inner.height)) + 1,
+            rest: inner.rest,
+        });
+    }
+    let inner = block(alloc, below, tokens)?;
+    Ok(Found {
+        value: if_else(place, head.value, body.value.0, inner.value.0),
+        height: head.height.max(body.height.max(inner.height)) + 1,
+        rest: inner.rest,
+    })
+}
+
+/// An if, after its keyword; its parts are of at most this height.
+#[cycle(statement)]
+#[tactic(auto, unfolding(crate::specs::StatementReading::if_at))]
+fn branch(
+    alloc: Global,
+    below: u32,
+    place: Place,
+    tokens: &[Token],
+) -> Result<Found<'_, Stmt>, Fault>
+    requires { below < 2 ^ 29 }
+    ensures gives { Gives (found_of statement_of) result (if_at below (statement_at below) place (tokens_of tokens.now)) }
+    ensures fits { IfOk result (λ f. f.height ≤ below + 1) }
+{
+    let head = if_head(alloc, below, tokens)?;
+    let body = block(alloc, below, head.rest)?;
+    let Some(rest) = after(Mark::Else, body.rest) else {
+        return Ok(Found {
+            value: if_stmt(place, head.value, body.value.0),
+            height: head.height.max(body.height) + 1,
+            rest: body.rest,
+        });
+    };
+    otherwise(alloc, below, place, head, body, rest)
+}
+
+/// A for, after its keyword; its parts are of at most this height.
+#[cycle(statement)]
+#[tactic(auto, unfolding(crate::specs::StatementReading::for_at))]
+fn looped(
+    alloc: Global,
+    below: u32,
+    place: Place,
+    tokens: &[Token],
+) -> Result<Found<'_, Stmt>, Fault>
+    requires { below < 2 ^ 29 }
+    ensures gives { Gives (found_of statement_of) result (for_at below (statement_at below) place (tokens_of tokens.now)) }
+    ensures fits { IfOk result (λ f. f.height ≤ below + 1) }
+{
+    let head = for_head(alloc, below, tokens)?;
+    let body = block(alloc, below, head.rest)?;
+    Ok(Found {
+        value: for_stmt(place, head.value, body.value.0),
+        height: head.height.max(body.height) + 1,
+        rest: body.rest,
+    })
+}
+
+/// The clauses of a select; what they wait for and their statements are of at most this height.
+#[cycle(statement)]
+#[tactic(auto, unfolding(crate::specs::StatementReading::clauses_at))]
+fn clauses(alloc: Global, limit: u32, tokens: &[Token]) -> Result<Found<'_, Vec<Clause>>, Fault>
+    requires { limit < 2 ^ 29 }
+    ensures gives { Gives (found_of (λ v. clauses_of v.items)) result (clauses_at limit (statement_at limit) (tokens_of tokens.now)) }
+    ensures fits { IfOk result (λ f. f.height ≤ limit) }
+{
+    let mut value = Vec::new(alloc);
+    let mut height = 0u32;
+    let mut rest = tokens;
+    loop {
+        if let Some(more) = after(Mark::Case, rest) {
+            let awaited = communication(alloc, limit, more)?;
+            let (_, more) = needed(Mark::Colon, awaited.rest)?;
+            let body = list(alloc, limit, more)?;
+            value.push(Clause::Case(awaited.value, body.value))?;
+            height = height.max(awaited.height.max(body.height));
+            rest = body.rest;
+            continue;
+        }
+        let Some(more) = after(Mark::Default, rest) else {
+            return Ok(Found {
+                value,
+                height,
+                rest,
+            });
+        };
+        let (_, more) = needed(Mark::Colon, more)?;
+        let body = list(alloc, limit, more)?;
+        value.push(Clause::Default(body.value))?;
+        height = height.max(body.height);
+        rest = body.rest;
+    }
+}
+
+/// A select, after its keyword; its parts are of at most this height.
+#[cycle(statement)]
+#[tactic(auto, unfolding(crate::specs::StatementReading::select_at))]
+fn select(
+    alloc: Global,
+    below: u32,
+    place: Place,
+    tokens: &[Token],
+) -> Result<Found<'_, Stmt>, Fault>
+    requires { below < 2 ^ 29 }
+    ensures gives { Gives (found_of statement_of) result (select_at below (statement_at below) place (tokens_of tokens.now)) }
+    ensures fits { IfOk result (λ f. f.height ≤ below + 1) }
+{
+    let (_, rest) = needed(Mark::LeftBrace, tokens)?;
+    let found = clauses(alloc, below, rest)?;
+    let (_, rest) = needed(Mark::RightBrace, found.rest)?;
+    Ok(Found {
+        value: select_stmt(place, found.value),
+        height: found.height + 1,
+        rest,
+    })
+}
+
+/// A statement that begins with this keyword, before these tokens; from the keyword on they are `from`.
+#[cycle(statement)]
+#[tactic(auto, unfolding(crate::specs::StatementReading::keyed_at))]
+fn keyed<'a>(
+    alloc: Global,
+    below: u32,
+    place: Place,
+    keyword: Keyword,
+    from: &'a [Token],
+    tokens: &'a [Token],
+) -> Result<Found<'a, Stmt>, Fault>
+    requires { below < 2 ^ 29 }
+    ensures gives { Gives (found_of statement_of) result (keyed_at below (statement_at below) place keyword (tokens_of from.now) (tokens_of tokens.now)) }
+    ensures fits { IfOk result (λ f. f.height ≤ below + 1) }
+{
+    match keyword {
+        Keyword::Var => Ok(acts(place, var(alloc, below + 1, tokens)?)),
+        Keyword::Go => Ok(acts(place, go(alloc, below + 1, tokens)?)),
+        Keyword::Return => Ok(acts(place, returned(alloc, below + 1, tokens)?)),
+        Keyword::Break => Ok(acts(place, break_from(tokens)?)),
+        Keyword::Continue => Ok(acts(place, continue_from(tokens)?)),
+        Keyword::Block => braced(alloc, below, place, from),
+        Keyword::If => branch(alloc, below, place, tokens),
+        Keyword::For => looped(alloc, below, place, tokens),
+        Keyword::Select => select(alloc, below, place, tokens),
+    }
+}
+
+/// A statement of at most this height.
+#[cycle(statement)]
+#[tactic(auto, unfolding(crate::specs::StatementReading::statement_at, crate::specs::StatementReading::tier_at))]
+pub(crate) fn statement(
+    alloc: Global,
+    limit: u32,
+    tokens: &[Token],
+) -> Result<Found<'_, Stmt>, Fault>
+    requires { limit < 2 ^ 29 }
+    ensures gives { Gives (found_of statement_of) result (statement_at limit (tokens_of tokens.now)) }
+    ensures fits { IfOk result (λ f. f.height ≤ limit) }
+{
+    if limit == 0 {
+        return Err(Fault::TooHigh { left: tokens.len() });
+    }
+    let below = limit - 1;
+    let place = place(tokens)?;
+    match first_keyword(tokens) {
+        Some((keyword, rest)) => keyed(alloc, below, place, keyword, tokens, rest),
+        None => opened(alloc, below, place, tokens),
+    }
 }

@@ -1,97 +1,93 @@
-//! The parser on small files. A letter stands for a token: `P` for `package`, `F` for `func`, `:` for `:=`, `_` for `import`, a
-//! small letter for a name, a digit for a number, and the others for themselves.
+//! The parser on small files.
 
 use crate::parse::{ParseError, parse};
-use gr_scan::token::{Kind, Mark, Place, Token};
-use std::alloc::{AllocError, Global};
+use gr_scan::scan::scan;
+use gr_tree::File;
+use std::alloc::Global;
 use std::test::Fail;
 
-fn kind(alloc: Global, letter: u8) -> Result<Kind, AllocError> {
-    let mark = match letter {
-        b'P' => Mark::Package,
-        b'F' => Mark::Func,
-        b':' => Mark::Define,
-        b'=' => Mark::Assign,
-        b'_' => Mark::Import,
-        b'(' => Mark::LeftParen,
-        b')' => Mark::RightParen,
-        b'{' => Mark::LeftBrace,
-        b'}' => Mark::RightBrace,
-        b',' => Mark::Comma,
-        b';' => Mark::Semicolon,
-        b'+' => Mark::Plus,
-        b'-' => Mark::Minus,
-        b'*' => Mark::Star,
-        b'0'..=b'9' => return Ok(Kind::Number((letter - b'0') as u64)),
-        _ => return Ok(Kind::Name([letter].to_vec(alloc)?)),
-    };
-    Ok(Kind::Mark(mark))
+fn read(alloc: Global, text: &[u8]) -> Result<Result<File, ParseError>, Fail> {
+    let tokens = scan(alloc, text)?;
+    Ok(parse(alloc, tokens.as_slice()))
 }
 
-// The tokens that these letters stand for, one on each line.
-fn tokens(alloc: Global, letters: &[u8]) -> Result<Vec<Token>, AllocError> {
-    let mut tokens = Vec::new(alloc);
-    for (index, letter) in letters.iter().enumerate() {
-        let kind = kind(alloc, *letter)?;
-        let place = Place {
-            start: index,
-            end: index,
-            line: index,
-        };
-        tokens.push(Token { kind, place })?;
-    }
-    Ok(tokens)
+// What is said of a file of one function with this body.
+fn body_error(alloc: Global, body: &[u8]) -> Result<ParseError, Fail> {
+    let mut text = b"package m; func f() {".to_vec(alloc)?;
+    text.extend_from_slice(body)?;
+    text.push(b'}')?;
+    Ok(read(alloc, text.as_slice())?.err().ok_or("a tree")?)
 }
+
+const FILE: &[u8] = b"package main
+
+func worker(a, b int, c chan<- chan int, d (<-chan struct{}),) chan int {
+    var x, y int = 1, -2*(a+b)
+    var unit = struct{}{}
+    x, y = y, x; x <<= 2; y++
+    return make(chan int, x,)
+}
+
+func main() {
+outer:
+    for i := 0; i < 3 && !done(i); i += 1 {
+        if c <- i; x == 1 { break outer } else if y { continue } else { {}; go f(c, 1,) }
+    }
+    for range c {}
+    for x = range <-c {}
+    for x {}
+    select { case c <- 1: case v, ok := (<-c): v--; default: idle: }
+}
+";
 
 #[test]
 fn reads_a_file(rt: HostRuntime) -> Result<(), Fail> {
-    let tokens = tokens(rt.alloc(), b"Pm;Ff(){x:1-2-3*y;;p((x),-x,)};")?;
-    let file = parse(rt.alloc(), tokens.as_slice()).ok().ok_or("no tree")?;
-    assert_eq!(rt; file.func.end.line, 29);
-    assert_eq!(rt; file.func.body.len(), 2);
-    assert_eq!(rt; file.func.body[1].place.line, 19);
-    let text = format!(in rt.alloc(); "{:?}", file.func.body[0].action)?;
+    let alloc = rt.alloc();
+    let file = read(alloc, FILE)?.ok().ok_or("no tree")?;
+    assert_eq!(rt; file.funcs.len(), 2);
+    let worker = &file.funcs[0];
+    assert_eq!(rt; (worker.place.line, worker.end.line), (3, 8));
+    assert_eq!(rt; worker.parameters.len(), 3);
+    let text = format!(in alloc; "{:?}", worker.parameters[1].type_tree)?;
     assert_eq!(rt;
         text.as_str(),
-        "Define([[120]], [Binary(Subtract, Binary(Subtract, Number(1), Number(2)), Binary(Multiply, Number(3), Name([121])))])"
+        "Chan(Send, Chan(Both, Name([105, 110, 116])))"
     );
-    let text = format!(in rt.alloc(); "{:?}", file.func.body[1].action)?;
-    assert_eq!(rt;
-        text.as_str(),
-        "Call([112], [Paren(Name([120])), Unary(Negate, Name([120]))])"
+    assert_eq!(rt; worker.body.len(), 6);
+    let text = format!(in alloc; "{:?}", worker.body[3])?;
+    assert!(rt;
+        text.as_str()
+            .ends_with("Simple(Update([120], ShiftLeft, Number(2))))")
     );
+    assert_eq!(rt; file.funcs[1].body.len(), 5);
     Ok(())
 }
 
 // A file of one statement, `x := ((..1..))`, with so many pairs of parentheses.
-fn parenthesized(alloc: Global, pairs: usize) -> Result<Vec<Token>, AllocError> {
-    let mut letters = b"Pm;Ff(){x:".to_vec(alloc)?;
+fn parenthesized(alloc: Global, pairs: usize) -> Result<Option<ParseError>, Fail> {
+    let mut text = b"package m; func f() { x := ".to_vec(alloc)?;
     for _ in 0..pairs {
-        letters.push(b'(')?;
+        text.push(b'(')?;
     }
-    letters.push(b'1')?;
+    text.push(b'1')?;
     for _ in 0..pairs {
-        letters.push(b')')?;
+        text.push(b')')?;
     }
-    letters.push(b'}')?;
-    letters.push(b';')?;
-    tokens(alloc, letters.as_slice())
+    text.push(b'}')?;
+    Ok(read(alloc, text.as_slice())?.err())
 }
 
 #[test]
 fn refuses_a_tree_of_more_than_200_levels(rt: HostRuntime) -> Result<(), Fail> {
     let alloc = rt.alloc();
-    let low = parenthesized(alloc, 198)?;
-    assert!(rt; parse(alloc, low.as_slice()).is_ok());
-    let high = parenthesized(alloc, 199)?;
+    assert_eq!(rt; parenthesized(alloc, 198)?, None);
     assert_eq!(rt;
-        parse(alloc, high.as_slice()).err(),
-        Some(ParseError::TooHigh { token: 209 })
+        parenthesized(alloc, 199)?,
+        Some(ParseError::TooHigh { token: 10 })
     );
-    let very_high = parenthesized(alloc, 100_000)?;
     assert_eq!(rt;
-        parse(alloc, very_high.as_slice()).err(),
-        Some(ParseError::TooHigh { token: 209 })
+        parenthesized(alloc, 100_000)?,
+        Some(ParseError::TooHigh { token: 210 })
     );
     Ok(())
 }
@@ -99,24 +95,86 @@ fn refuses_a_tree_of_more_than_200_levels(rt: HostRuntime) -> Result<(), Fail> {
 #[test]
 fn refuses_at_the_first_wrong_token(rt: HostRuntime) -> Result<(), Fail> {
     let alloc = rt.alloc();
-    let cases: [(&[u8], usize); 12] = [
-        (b"", 0),
-        (b"Pm;Ff(){", 8),
-        (b"Pm;_", 3),
-        (b"Pm;Ff(){};;", 10),
-        (b"Pm;Ff(){}", 9),
-        (b"Pm;Ff(){x y};", 9),
-        (b"Pm;Ff(){x};", 9),
-        (b"Pm;Ff(){x=1 y=2};", 11),
-        (b"Pm;Ff(){x=1,};", 12),
-        (b"Pm;Ff(){p(1,,)};", 12),
-        (b"Pm;Ff(){p(1 2)};", 11),
-        (b"Pm;Ff(){x=(1};", 12),
+    let files: [(&[u8], ParseError); 10] = [
+        (b"", ParseError::NoFile { token: 0 }),
+        (b"package m; import x", ParseError::LeftOut { token: 3 }),
+        (b"package m; func f(){};;", ParseError::NoFile { token: 10 }),
+        (b"package m; func f(a,){}", ParseError::NoFile { token: 8 }),
+        (
+            b"package m; func f(a int,,){}",
+            ParseError::NoFile { token: 9 },
+        ),
+        (
+            b"package m; func f() *a {}",
+            ParseError::LeftOut { token: 7 },
+        ),
+        (
+            b"package m; func f() int, int {}",
+            ParseError::NoFile { token: 8 },
+        ),
+        (
+            b"package m; func f(c chan <- <- int) {}",
+            ParseError::NoFile { token: 10 },
+        ),
+        (b"package m; func f() {", ParseError::NoFile { token: 8 }),
+        (
+            b"package m; func f() {} func g() {}",
+            ParseError::LeftOut { token: 9 },
+        ),
     ];
-    for (letters, token) in cases {
-        let tokens = tokens(alloc, letters)?;
-        let error = parse(alloc, tokens.as_slice()).err().ok_or("a tree")?;
-        assert_eq!(rt; error, ParseError::NoFile { token }, "at {token}");
+    for (text, error) in files {
+        let said = read(alloc, text)?.err().ok_or("a tree")?;
+        assert_eq!(rt; said, error);
+    }
+    let wrong: [(&[u8], usize); 34] = [
+        (b"x y", 9),
+        (b"x, y", 11),
+        (b"x, 1 := 2", 10),
+        (b"x += 1, 2", 11),
+        (b"p(1,,)", 12),
+        (b"make(chan int, 1, 2)", 15),
+        (b"x = (1", 12),
+        (b"x = struct{}", 13),
+        (b"c <- 1 <- 2", 11),
+        (b"go make(c)", 9),
+        (b"go f() + 1", 12),
+        (b"return 1, 2", 10),
+        (b"break x y", 10),
+        (b"var x", 10),
+        (b"var x int y", 11),
+        (b"x: }}", 11),
+        (b"if {}", 9),
+        (b"if x := 1 {}", 12),
+        (b"if x {} else y", 13),
+        (b"if x {} ; else {}", 13),
+        (b"for x := range c {", 16),
+        (b"for x, y := range c {}", 13),
+        (b"for x; y {}", 12),
+        (b"for ;; x := 1 {}", 12),
+        (b"select { case x: }", 12),
+        (b"select { case x, y, z := <-c: }", 14),
+        (b"select { case x = 1: }", 13),
+        (b"select { case <-c + 1: }", 15),
+        (b"select { case (c): }", 14),
+        (b"select { x }", 10),
+        (b"select { default: x case c <- 1: }", 13),
+        (b"case x:", 8),
+        (b"else {}", 8),
+        (b"x = 1 2", 11),
+    ];
+    for (body, token) in wrong {
+        assert_eq!(rt; body_error(alloc, body)?, ParseError::NoFile { token });
+    }
+    let left_out: [(&[u8], usize); 6] = [
+        (b"x.y = 1", 9),
+        (b"x[1] = 2", 9),
+        (b"&x", 8),
+        (b"*x = 1", 8),
+        (b"defer f()", 8),
+        (b"x := func() {}", 10),
+    ];
+    for (body, token) in left_out {
+        assert_eq!(rt; body_error(alloc, body)?, ParseError::LeftOut { token });
     }
     Ok(())
 }

@@ -1,1 +1,3 @@
-pub mod Tree
+pub mod Exprs
+pub mod Statements
+pub mod Files

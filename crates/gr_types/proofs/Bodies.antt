@@ -2,16 +2,14 @@
 use Rattle.std.proofs.Common.{◌≡◌, ℕ, ◌<◌, ◌≤◌, ◌+◌, List, [], ◌∷◌, ◌++◌, length, drop, get_or, refl, ap, sym, ◌∙◌}
 use Rattle.std.specs.Prelude.{Option, Some, None}
 use Rattle.std.proofs.lemmas.List.{drop_all}
-use Rattle.gr_tree.specs.declared.Stmt.{Stmt}
-use Rattle.gr_tree.specs.Tree.{act_of, statements_of}
+use Rattle.gr_tree.specs.declared.stmt.Stmt.{Stmt}
+use Rattle.gr_tree.specs.Statements.{statement_of, statements_of}
 use Rattle.gr_types.specs.declared.program.Statement.{Statement}
-use Rattle.gr_types.specs.declared.program.Action.{Action}
 use Rattle.gr_types.specs.declared.values.Fault.{Fault}
 use Rattle.gr_types.specs.declared.values.Fault.TheVariants as faults
 use Rattle.gr_types.specs.Programs.{Step, step_of, steps_of}
-use Rattle.gr_types.specs.Programs as plain
 use Rattle.gr_types.specs.Names.{Scope}
-use Rattle.gr_types.specs.Checking.{Rejects, Denies, refused_at, act_in, before, body_after, body_in}
+use Rattle.gr_types.specs.Checking.{Rejects, Denies, refused_at, step_in, before, body_after, body_in}
 use Rattle.gr_types.proofs.Loops.{first_of}
 
 abbrev pub Run : Type 0
@@ -35,20 +33,20 @@ before_none [] = refl
 before_none (t ∷ ts) = ap (before (step_of t)) (before_none ts)
 
 module _ (body : List Stmt) (i : ℕ) (x : Stmt) (ts : List Statement) (s : Scope) (whole : Run) (lt : i < length body) (is : x ≡ get_or body i x) (so_far : before_all ts (body_in s (statements_of (drop i body))) ≡ whole) where
-  pub step_on : (a : Action) (t : Statement) (new : List Statement) (u : Scope) → act_in s (act_of x.action) ≡ Some (plain.act_of a, u) → step_of t ≡ plain.On x.place.line (plain.act_of a) → new ≡ ts ++ (t ∷ []) → before_all new (body_in u (statements_of (drop (i + 1) body))) ≡ whole
-  step_on a t new u did line n =
+  pub step_on : (t : Statement) (new : List Statement) (u : Scope) → step_in s (statement_of x) ≡ Some (step_of t, u) → new ≡ ts ++ (t ∷ []) → before_all new (body_in u (statements_of (drop (i + 1) body))) ≡ whole
+  step_on t new u did n =
       let rest = body_in u (statements_of (drop (i + 1) body)) in
-      let step : body_in s (statements_of (drop i body)) ≡ before (plain.On x.place.line (plain.act_of a)) rest =
-      ap (λ l. body_in s (statements_of l)) (first_of body i x lt is) ∙ ap (λ o. body_after x.place o (λ v. body_in v (statements_of (drop (i + 1) body)))) did in
-      ap (λ l. before_all l rest) n ∙ before_push ts t rest ∙ ap (λ p. before_all ts (before p rest)) line ∙ sym (ap (before_all ts) step) ∙ so_far
+      let step : body_in s (statements_of (drop i body)) ≡ before (step_of t) rest =
+      ap (λ l. body_in s (statements_of l)) (first_of body i x lt is) ∙ ap (λ o. body_after o (λ v. body_in v (statements_of (drop (i + 1) body)))) did in
+      ap (λ l. before_all l rest) n ∙ before_push ts t rest ∙ sym (ap (before_all ts) step) ∙ so_far
 
-  nothing : act_in s (act_of x.action) ≡ None → whole ≡ None
+  nothing : step_in s (statement_of x) ≡ None → whole ≡ None
   nothing none =
       let step : body_in s (statements_of (drop i body)) ≡ None =
-      ap (λ l. body_in s (statements_of l)) (first_of body i x lt is) ∙ ap (λ o. body_after x.place o (λ v. body_in v (statements_of (drop (i + 1) body)))) none in
+      ap (λ l. body_in s (statements_of l)) (first_of body i x lt is) ∙ ap (λ o. body_after o (λ v. body_in v (statements_of (drop (i + 1) body)))) none in
       sym so_far ∙ ap (before_all ts) step ∙ before_none ts
 
-  pub stopped : (f : Fault) (at : ℕ) → Rejects f (act_in s (act_of x.action)) → Denies (refused_at at f) whole
+  pub stopped : (f : Fault) (at : ℕ) → Rejects f (step_in s (statement_of x)) → Denies (refused_at at f) whole
   stopped faults.Memory at a = tt
   stopped (faults.Broken code) at a = nothing a
 

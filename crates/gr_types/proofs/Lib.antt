@@ -1,4 +1,5 @@
 pub mod Scopes
+pub mod Calls
 pub mod Loops
 pub mod Bodies
 pub mod Judgement

@@ -3,8 +3,8 @@ use Rattle.std.proofs.Common.{◌≡◌, ℕ, ◌<◌, ◌≤◌, ◌+◌, Bool,
 use Rattle.std.specs.Prelude.{Option, Some, None, is_some, Vec}
 use Rattle.std.proofs.Math.Seq.{drop-cons}
 use Rattle.std.proofs.lemmas.List.{drop_all}
-use Rattle.gr_tree.specs.declared.Expr.{Expr}
-use Rattle.gr_tree.specs.Tree.{names_of, tree_of, trees_of}
+use Rattle.gr_tree.specs.declared.expr.Expr.{Expr}
+use Rattle.gr_tree.specs.Exprs.{names_of, tree_of, trees_of}
 use Rattle.gr_types.specs.Checks.{count}
 use Rattle.gr_types.specs.declared.program.Term.{Term}
 use Rattle.gr_types.specs.Programs.{Plains, none, plain_of, plains_of}

@@ -4,7 +4,7 @@ use Rattle.std.specs.Prelude.{Some, None, is_some, Vec}
 use Rattle.std.specs.Cmp.Lexicographic.{pointwise}
 use Rattle.std.specs.Map.{lookup}
 use Rattle.indexmap.specs.IndexMap.{insert_entry}
-use Rattle.gr_tree.specs.Tree.{names_of}
+use Rattle.gr_tree.specs.Exprs.{names_of}
 use Rattle.gr_types.specs.Names.{Scope, among, number_in, variables_of}
 use Rattle.gr_types.specs.Tables.{entries_of}
 

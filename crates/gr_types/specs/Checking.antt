@@ -3,10 +3,12 @@ use Rattle.std.specs.Prelude.{◌≡◌, ℕ, ℤ, pos, Bool, true, false, ◌&&
 use Rattle.std.specs.Cmp.Lexicographic.{pointwise}
 use Rattle.std.specs.List.{list_all}
 use Rattle.gr_scan.specs.declared.token.Place.{Place}
-use Rattle.gr_tree.specs.declared.UnaryOp.{UnaryOp}
-use Rattle.gr_tree.specs.declared.BinaryOp.{BinaryOp}
-use Rattle.gr_tree.specs.Tree as tree
-use Rattle.gr_tree.specs.Tree.{Tree, Trees, Statement, Stands, FileTree, FileOf}
+use Rattle.gr_types.specs.declared.program.UnaryOp.{UnaryOp}
+use Rattle.gr_types.specs.declared.program.BinaryOp.{BinaryOp}
+use Rattle.gr_tree.specs.Exprs as tree
+use Rattle.gr_tree.specs.Exprs.{Tree, Trees}
+use Rattle.gr_tree.specs.Statements as written
+use Rattle.gr_tree.specs.Files.{Function, FunctionOf, FileTree, FileOf}
 use Rattle.gr_types.specs.declared.values.Value.{Value as CodeValue}
 use Rattle.gr_types.specs.declared.values.Value.TheVariants as code
 use Rattle.gr_types.specs.declared.values.Fault.{Fault}
@@ -16,6 +18,7 @@ use Rattle.gr_types.specs.declared.check.CheckError.TheVariants as errors
 use Rattle.gr_types.specs.Programs.{Plain, Plains, Act, Step, On, Checked, ProgramIs, plain_of}
 use Rattle.gr_types.specs.Programs as plain
 use Rattle.gr_types.specs.Names.{Scope, number_in, is_known, target, may_declare, declare_all, variables_of}
+use Rattle.gr_types.specs.Operators.{unary_of, binary_of}
 use Rattle.gr_types.specs.Constants.{is_part, is_int64, unary, binary}
 use Rattle.gr_types.specs.Checks.{Value, Known, Made, count}
 
@@ -58,9 +61,10 @@ abbrev pub unary_on : UnaryOp → Value → Option Value
 unary_on op (Known n) = known (unary op n)
 unary_on op (Made p) = Some (Made (plain.Unary op p))
 
-abbrev pub unary_value : UnaryOp → Option Value → Option Value
-unary_value op (Some v) = unary_on op v
-unary_value op None = None
+abbrev pub unary_value : Option UnaryOp → Option Value → Option Value
+unary_value (Some op) (Some v) = unary_on op v
+unary_value (Some op) None = None
+unary_value None v = None
 
 abbrev pub both_plains : BinaryOp → Option Plain → Option Plain → Option Value
 both_plains op (Some p) (Some q) = Some (Made (plain.Binary op p q))
@@ -72,18 +76,20 @@ binary_on op (Known m) (Known n) = known (binary op m n)
 binary_on op (Known m) (Made q) = both_plains op (whole (Known m)) (Some q)
 binary_on op (Made p) v = both_plains op (Some p) (whole v)
 
-abbrev pub binary_value : BinaryOp → Option Value → Option Value → Option Value
-binary_value op (Some u) (Some v) = binary_on op u v
-binary_value op (Some u) None = None
-binary_value op None v = None
+abbrev pub binary_value : Option BinaryOp → Option Value → Option Value → Option Value
+binary_value (Some op) (Some u) (Some v) = binary_on op u v
+binary_value (Some op) (Some u) None = None
+binary_value (Some op) None v = None
+binary_value None u v = None
 
 -- what an expression is in a scope
 abbrev pub value_in : Scope → Tree → Option Value
 value_in s (tree.Number n) = known (pos n)
 value_in s (tree.Name x) = variable (number_in s x)
 value_in s (tree.Paren e) = value_in s e
-value_in s (tree.Unary op e) = unary_value op (value_in s e)
-value_in s (tree.Binary op a b) = binary_value op (value_in s a) (value_in s b)
+value_in s (tree.Unary sign e) = unary_value (unary_of sign) (value_in s e)
+value_in s (tree.Binary sign a b) = binary_value (binary_of sign) (value_in s a) (value_in s b)
+value_in s _ = None
 
 abbrev pub join : Option Plain → Option Plains → Option Plains
 join (Some p) (Some ps) = Some (plain.more p ps)
@@ -103,13 +109,19 @@ abbrev pub printed : Scope → Option Plains → Option (Act × Scope)
 printed s (Some ps) = Some (plain.Print ps, s)
 printed s None = None
 
--- what a statement does in a scope, and the scope after it
-abbrev pub act_in : Scope → tree.Act → Option (Act × Scope)
-act_in s (tree.Define names es) =
+-- what an expression does as a statement
+abbrev pub print_in : Scope → Tree → Option (Act × Scope)
+print_in s (tree.Call x es) = if pointwise nat_eq x (codes "println") then printed s (values_in s es) else None
+print_in s _ = None
+
+-- what a simple statement does in a scope, and the scope after it
+abbrev pub act_in : Scope → written.Simple → Option (Act × Scope)
+act_in s (written.Define names es) =
     if may_declare s names && length names == count es then assigned (map (target (declare_all s names)) names) (declare_all s names) (values_in s es) else None
-act_in s (tree.Assign names es) =
+act_in s (written.Assign names es) =
     if list_all (is_known s) names && length names == count es then assigned (map (target s) names) s (values_in s es) else None
-act_in s (tree.Call x es) = if pointwise nat_eq x (codes "println") then printed s (values_in s es) else None
+act_in s (written.Eval e) = print_in s e
+act_in s _ = None
 
 -- a refusal of a fault in the statement at this place
 abbrev pub refused_at : ℕ → Fault → CheckError
@@ -130,27 +142,52 @@ Passes (Ok u) b = b ≡ true
 Passes (Err (errors.Refused code at)) b = b ≡ false
 Passes (Err errors.Memory) b = Unit {0}
 
+abbrev pub placed : Place → Option (Act × Scope) → Option (Step × Scope)
+placed place (Some done) = Some (On place.line done.0, done.1)
+placed place None = None
+
+abbrev pub step_of_act : Scope → Place → written.Act → Option (Step × Scope)
+step_of_act s place (written.Plain simple) = placed place (act_in s simple)
+step_of_act s place _ = None
+
+-- what a statement is in a scope, and the scope after it
+abbrev pub step_in : Scope → written.Statement → Option (Step × Scope)
+step_in s (written.Does place act) = step_of_act s place act
+step_in s _ = None
+
 abbrev pub before : Step → Option (List Step × Scope) → Option (List Step × Scope)
 before step (Some done) = Some (step ∷ done.0, done.1)
 before step None = None
 
-abbrev pub body_after : Place → Option (Act × Scope) → (Scope → Option (List Step × Scope)) → Option (List Step × Scope)
-body_after place (Some done) rest = before (On place.line done.0) (rest done.1)
-body_after place None rest = None
+abbrev pub body_after : Option (Step × Scope) → (Scope → Option (List Step × Scope)) → Option (List Step × Scope)
+body_after (Some done) rest = before done.0 (rest done.1)
+body_after None rest = None
 
 -- the statements of a body, and the scope at its end
-abbrev pub body_in : Scope → List Statement → Option (List Step × Scope)
-body_in s [] = Some ([], s)
-body_in s (Stands place act ∷ rest) = body_after place (act_in s act) (λ t. body_in t rest)
+abbrev pub body_in : Scope → written.Statements → Option (List Step × Scope)
+body_in s written.end = Some ([], s)
+body_in s (written.then first rest) = body_after (step_in s first) (λ t. body_in t rest)
 
 abbrev pub checked_body : Place → Option (List Step × Scope) → Option Checked
 checked_body closing (Some done) = Some (ProgramIs (variables_of done.1) done.0 closing.line)
 checked_body closing None = None
 
-abbrev pub are_main : (name function : List ℕ) → Bool
-are_main name function = pointwise nat_eq name (codes "main") && pointwise nat_eq function (codes "main")
+abbrev pub is_main : List ℕ → Bool
+is_main name = pointwise nat_eq name (codes "main")
+
+-- whether a function is main, without parameters and result
+abbrev pub is_main_function : Function → Bool
+is_main_function (FunctionOf place name [] None body closing) = is_main name
+is_main_function _ = false
+
+abbrev pub checked_main : Function → Option Checked
+checked_main (FunctionOf place name parameters result body closing) = checked_body closing (body_in [] body)
+
+abbrev pub checked_functions : List Function → Option Checked
+checked_functions [] = None
+checked_functions (f ∷ []) = if is_main_function f then checked_main f else None
+checked_functions (f ∷ g ∷ fs) = None
 
 -- the program of a file
 abbrev pub checked_file : FileTree → Option Checked
-checked_file (FileOf at name heading function body closing) =
-    if are_main name function then checked_body closing (body_in [] body) else None
+checked_file (FileOf at name functions) = if is_main name then checked_functions functions else None

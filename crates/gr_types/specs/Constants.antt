@@ -1,9 +1,9 @@
 -- Constants are exact (Go: Constants, Constant expressions).
 use Rattle.std.specs.Prelude.{ℤ, pos, negsuc, ◌+ℤ◌, ◌-ℤ◌, ◌*ℤ◌, neg_ℤ, ◌^◌, nat_le, nat_lt, Bool}
-use Rattle.gr_tree.specs.declared.UnaryOp.{UnaryOp}
-use Rattle.gr_tree.specs.declared.UnaryOp.TheVariants.{Plus, Negate}
-use Rattle.gr_tree.specs.declared.BinaryOp.{BinaryOp}
-use Rattle.gr_tree.specs.declared.BinaryOp.TheVariants.{Add, Subtract, Multiply}
+use Rattle.gr_types.specs.declared.program.UnaryOp.{UnaryOp}
+use Rattle.gr_types.specs.declared.program.UnaryOp.TheVariants.{Plus, Negate}
+use Rattle.gr_types.specs.declared.program.BinaryOp.{BinaryOp}
+use Rattle.gr_types.specs.declared.program.BinaryOp.TheVariants.{Add, Subtract, Multiply}
 
 -- whether a part of a constant expression is within -2^63 to 2^63; `negsuc n` is -n-1
 abbrev pub is_part : ℤ → Bool

@@ -1,8 +1,8 @@
 -- Checked programs, without where they lie in memory.
 use Rattle.std.specs.Prelude.{ℕ, ℤ, List, [], ◌∷◌, Option}
-use Rattle.gr_tree.specs.declared.UnaryOp.{UnaryOp}
-use Rattle.gr_tree.specs.declared.BinaryOp.{BinaryOp}
-use Rattle.gr_tree.specs.Tree.{names_of}
+use Rattle.gr_types.specs.declared.program.UnaryOp.{UnaryOp}
+use Rattle.gr_types.specs.declared.program.BinaryOp.{BinaryOp}
+use Rattle.gr_tree.specs.Exprs.{names_of}
 use Rattle.gr_types.specs.declared.program.Term.{Term}
 use Rattle.gr_types.specs.declared.program.Term.TheVariants as terms
 use Rattle.gr_types.specs.declared.program.Action.{Action}

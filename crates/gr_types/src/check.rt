@@ -1,6 +1,7 @@
 //! From the tree of a file to its checked program.
-ghost use Rattle.std.specs.Prelude.{IfOk, IfErr, ◌≡◌};
-ghost use Rattle.gr_tree.specs.Tree.{FileTree, file_of, statements_of};
+ghost use Rattle.std.specs.Prelude.{IfOk, IfErr, MatchOption, None, [], ◌∷◌, ◌≡◌};
+ghost use Rattle.gr_tree.specs.Statements.{statements_of};
+ghost use Rattle.gr_tree.specs.Files.{FileTree, file_of, function_of, functions_of};
 ghost use Rattle.gr_types.specs.Programs.{Checked, program_of, steps_of};
 ghost use Rattle.gr_types.specs.Checks.{ProgramOf, HasNoProgram};
 ghost use Rattle.gr_types.specs.Tables.{scope_of};
@@ -9,9 +10,9 @@ ghost use Rattle.gr_types.specs.declared.check.CheckError.TheVariants as errors;
 
 use crate::names::{NameTable, is_predeclared};
 use crate::program::{Program, Statement};
-use crate::statements::action;
+use crate::statements::{place_of, statement};
 use crate::values::Fault;
-use gr_tree::{File, Stmt};
+use gr_tree::{File, Func, Stmt};
 use std::alloc::{AllocError, AllocFailed, Global};
 
 /// Which rule of the language a file breaks.
@@ -21,7 +22,7 @@ pub enum Code {
     UnknownName,
     /// C2: a name twice on the left of `:=`, or a name that may not be declared.
     DeclaredTwice,
-    /// C3: a predeclared name or the function's as a value, or on the left of `=`.
+    /// C3: a predeclared name or the function's as a value, or on the left of `=`; a form that the checker does not know.
     WrongForm,
     /// C4: not as many values as names.
     WrongCount,
@@ -73,46 +74,69 @@ fn body(alloc: Global, table: &mut NameTable, stmts: &[Stmt]) -> Result<Vec<Stat
 {
     let mut body = Vec::new(alloc);
     for stmt in stmts {
-        let action = match action(alloc, table, &stmt.action) {
-            Ok(action) => action,
-            Err(fault) => return Err(refused(fault, stmt.place.start)),
+        let statement = match statement(alloc, table, stmt) {
+            Ok(statement) => statement,
+            Err(fault) => return Err(refused(fault, place_of(stmt).start)),
         };
-        let line = stmt.place.line;
-        body.push(Statement { line, action })?;
+        body.push(statement)?;
     }
     Ok(body)
 }
 
-// Whether the package and its function have the names that a program needs.
-fn check_names(file: &File) -> Result<(), CheckError>
-    ensures { checking.Passes result (checking.are_main file.now.package.items file.now.func.name.items) }
+// The function of a file that has just one.
+fn only_function(funcs: &[Func]) -> Option<&Func>
+    ensures { MatchOption result (checking.checked_functions (functions_of funcs.now) ≡ None) (λ func. functions_of funcs.now ≡ function_of func.now ∷ []) }
 {
-    let name = file.func.name.as_slice();
-    if file.package.as_slice() != b"main".as_slice() {
-        return Err(refused(Fault::Broken(Code::NoMain), file.place.start));
+    let (func, others) = funcs.split_first()?;
+    match others.split_first() {
+        None => Some(func),
+        Some(_) => None,
     }
-    if name == b"main".as_slice() {
-        return Ok(());
-    }
-    if is_predeclared(name) || name == b"init".as_slice() {
-        return Err(refused(Fault::Broken(Code::DeclaredTwice), file.func.place.start));
-    }
-    Err(refused(Fault::Broken(Code::NoMain), file.place.start))
 }
 
-fn program(alloc: Global, file: &File) -> Result<Program, CheckError>
-    ensures { checking.Answers program_of result (checking.checked_file (file_of file.now)) }
+// Whether a function is `main`, and has neither parameters nor a result.
+fn check_heading(file: &File, func: &Func) -> Result<(), CheckError>
+    ensures { checking.Passes result (checking.is_main_function (function_of func.now)) }
 {
-    check_names(file)?;
+    let name = func.name.as_slice();
+    if name != b"main".as_slice() {
+        if is_predeclared(name) || name == b"init".as_slice() {
+            return Err(refused(Fault::Broken(Code::DeclaredTwice), func.place.start));
+        }
+        return Err(refused(Fault::Broken(Code::NoMain), file.place.start));
+    }
+    match (func.parameters.as_slice().split_first(), &func.result) {
+        (None, None) => Ok(()),
+        _ => Err(refused(Fault::Broken(Code::WrongForm), func.place.start)),
+    }
+}
+
+// The program whose function `main` this is.
+fn main_program(alloc: Global, func: &Func) -> Result<Program, CheckError>
+    ensures { checking.Answers program_of result (checking.checked_main (function_of func.now)) }
+{
     let mut table = NameTable::new(alloc);
-    let body = body(alloc, &mut table, file.func.body.as_slice())?;
+    let body = body(alloc, &mut table, func.body.as_slice())?;
     let variables = table.into_names(alloc)?;
-    let end = file.func.end.line;
+    let end = func.end.line;
     Ok(Program {
         variables,
         body,
         end,
     })
+}
+
+fn program(alloc: Global, file: &File) -> Result<Program, CheckError>
+    ensures { checking.Answers program_of result (checking.checked_file (file_of file.now)) }
+{
+    if file.package.as_slice() != b"main".as_slice() {
+        return Err(refused(Fault::Broken(Code::NoMain), file.place.start));
+    }
+    let Some(func) = only_function(file.funcs.as_slice()) else {
+        return Err(refused(Fault::Broken(Code::NoMain), file.place.start));
+    };
+    check_heading(file, func)?;
+    main_program(alloc, func)
 }
 
 /// The program of a file.

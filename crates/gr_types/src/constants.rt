@@ -2,7 +2,7 @@
 ghost use Rattle.std.specs.Prelude.{◌≡◌, false, IfSome, IfNone};
 ghost use Rattle.gr_types.specs.Constants as spec;
 
-use gr_tree::{BinaryOp, UnaryOp};
+use crate::program::{BinaryOp, UnaryOp};
 
 /// The greatest part of a constant expression, 2^63.
 const GREATEST: i128 = 0x8000_0000_0000_0000;

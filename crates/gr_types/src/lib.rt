@@ -4,6 +4,7 @@
 pub mod check;
 mod constants;
 mod names;
+mod operators;
 pub mod program;
 mod statements;
 mod values;

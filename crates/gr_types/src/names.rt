@@ -1,6 +1,6 @@
 //! The names in scope.
 ghost use Rattle.std.specs.Prelude.{◌≡◌, ◌++◌, ◌∷◌, [], length, map, IfOk, OnOk, None};
-ghost use Rattle.gr_tree.specs.Tree.{names_of};
+ghost use Rattle.gr_tree.specs.Exprs.{names_of};
 ghost use Rattle.gr_types.specs.Names as spec;
 ghost use Rattle.gr_types.specs.Tables.{scope_of};
 

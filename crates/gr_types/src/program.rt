@@ -1,6 +1,19 @@
 //! Checked programs: names resolved to numbers, constants to their values.
 
-use gr_tree::{BinaryOp, UnaryOp};
+/// A unary operator of a checked program.
+#[derive(Clone, Copy, Debug, PartialEq, Eq)]
+pub enum UnaryOp {
+    Plus,
+    Negate,
+}
+
+/// A binary operator of a checked program.
+#[derive(Clone, Copy, Debug, PartialEq, Eq)]
+pub enum BinaryOp {
+    Add,
+    Subtract,
+    Multiply,
+}
 
 /// A value of a checked program. Parentheses are gone, and each largest constant expression is its value.
 #[derive(Debug, Drop)]

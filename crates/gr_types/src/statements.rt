@@ -1,8 +1,9 @@
 //! Statements.
 ghost use Rattle.std.specs.Prelude.{◌≡◌, ◌==◌, [], not, map, length, IfOk, OnOk};
 ghost use Rattle.std.specs.List.{list_all};
-ghost use Rattle.gr_tree.specs.Tree as tree;
-ghost use Rattle.gr_tree.specs.Tree.{names_of, trees_of};
+ghost use Rattle.gr_tree.specs.Exprs as tree;
+ghost use Rattle.gr_tree.specs.Exprs.{names_of, tree_of, trees_of};
+ghost use Rattle.gr_tree.specs.Statements as written;
 ghost use Rattle.gr_types.specs.Programs.{plains_of};
 ghost use Rattle.gr_types.specs.Programs as plain;
 ghost use Rattle.gr_types.specs.Names as spec;
@@ -13,9 +14,10 @@ ghost use Rattle.gr_types.specs.Checking.{Agrees};
 
 use crate::check::Code;
 use crate::names::{NameTable, copy, is_blank, is_predeclared};
-use crate::program::{Action, Term};
+use crate::program::{Action, Statement, Term};
 use crate::values::{Fault, evaluate, undeclared, whole};
-use gr_tree::Expr;
+use gr_scan::token::Place;
+use gr_tree::{Expr, Simple, Stmt};
 use std::alloc::{AllocError, Global};
 
 fn is_known(table: &NameTable, name: &[u8]) -> bool
@@ -148,7 +150,7 @@ fn define(
     names: &[Vec<u8>],
     exprs: &[Expr],
 ) -> Result<Action, Fault>
-    ensures { Agrees (λ act. (plain.act_of act, scope_of table.new)) result (checking.act_in (scope_of table.old) (tree.Define (names_of names.now) (trees_of exprs.now))) }
+    ensures { Agrees (λ act. (plain.act_of act, scope_of table.new)) result (checking.act_in (scope_of table.old) (written.Define (names_of names.now) (trees_of exprs.now))) }
 {
     check_left(alloc, table, names)?;
     check_count(names, exprs)?;
@@ -163,7 +165,7 @@ fn assign(
     names: &[Vec<u8>],
     exprs: &[Expr],
 ) -> Result<Action, Fault>
-    ensures { Agrees (λ act. (plain.act_of act, scope_of table.now)) result (checking.act_in (scope_of table.now) (tree.Assign (names_of names.now) (trees_of exprs.now))) }
+    ensures { Agrees (λ act. (plain.act_of act, scope_of table.now)) result (checking.act_in (scope_of table.now) (written.Assign (names_of names.now) (trees_of exprs.now))) }
 {
     check_targets(table, names)?;
     check_count(names, exprs)?;
@@ -177,7 +179,7 @@ fn print(
     function: &[u8],
     arguments: &[Expr],
 ) -> Result<Action, Fault>
-    ensures { Agrees (λ act. (plain.act_of act, scope_of table.now)) result (checking.act_in (scope_of table.now) (tree.Call function.now (trees_of arguments.now))) }
+    ensures { Agrees (λ act. (plain.act_of act, scope_of table.now)) result (checking.act_in (scope_of table.now) (written.Eval (tree.Call function.now (trees_of arguments.now)))) }
 {
     if function != b"println".as_slice() {
         return Err(Fault::Broken(Code::UnknownName));
@@ -185,13 +187,55 @@ fn print(
     Ok(Action::Print(terms(alloc, table, arguments)?))
 }
 
-/// What a statement does; it declares its new names in the table.
-pub fn action(alloc: Global, table: &mut NameTable, act: &gr_tree::Action) -> Result<Action, Fault>
-    ensures { Agrees (λ act. (plain.act_of act, scope_of table.new)) result (checking.act_in (scope_of table.old) (tree.act_of act.now)) }
+// What an expression does as a statement.
+fn evaluated(alloc: Global, table: &NameTable, value: &Expr) -> Result<Action, Fault>
+    ensures { Agrees (λ act. (plain.act_of act, scope_of table.now)) result (checking.act_in (scope_of table.now) (written.Eval (tree_of value.now))) }
 {
-    match act {
-        gr_tree::Action::Define(names, values) => define(alloc, table, names, values),
-        gr_tree::Action::Assign(names, values) => assign(alloc, table, names, values),
-        gr_tree::Action::Call(function, arguments) => print(alloc, table, function, arguments),
+    match value {
+        Expr::Call(function, arguments) => print(alloc, table, function, arguments),
+        _ => Err(Fault::Broken(Code::WrongForm)),
+    }
+}
+
+// What a simple statement does; it declares its new names in the table.
+fn action(alloc: Global, table: &mut NameTable, simple: &Simple) -> Result<Action, Fault>
+    ensures { Agrees (λ act. (plain.act_of act, scope_of table.new)) result (checking.act_in (scope_of table.old) (written.simple_of simple.now)) }
+{
+    match simple {
+        Simple::Define(names, values) => define(alloc, table, names, values),
+        Simple::Assign(names, values) => assign(alloc, table, names, values),
+        Simple::Eval(value) => evaluated(alloc, table, value),
+        _ => Err(Fault::Broken(Code::WrongForm)),
+    }
+}
+
+/// The checked statement; it declares its new names in the table.
+pub fn statement(alloc: Global, table: &mut NameTable, stmt: &Stmt) -> Result<Statement, Fault>
+    ensures { Agrees (λ done. (plain.step_of done, scope_of table.new)) result (checking.step_in (scope_of table.old) (written.statement_of stmt.now)) }
+{
+    match stmt {
+        Stmt::Act(place, gr_tree::Action::Simple(simple)) => {
+            let action = action(alloc, table, simple)?;
+            Ok(Statement {
+                line: place.line,
+                action,
+            })
+        }
+        _ => Err(Fault::Broken(Code::WrongForm)),
+    }
+}
+
+/// Where a statement stands.
+pub fn place_of(stmt: &Stmt) -> Place {
+    match stmt {
+        Stmt::Act(place, _)
+        | Stmt::Block(place, _)
+        | Stmt::If(place, _, _)
+        | Stmt::IfElse(place, _, _, _)
+        | Stmt::IfElseIf(place, _, _, _)
+        | Stmt::For(place, _, _)
+        | Stmt::Select(place, _)
+        | Stmt::Label(place, _, _)
+        | Stmt::EmptyLabel(place, _) => *place,
     }
 }

@@ -1,6 +1,6 @@
 //! Values of expressions.
 ghost use Rattle.std.specs.Prelude.{◌≡◌};
-ghost use Rattle.gr_tree.specs.Tree.{tree_of};
+ghost use Rattle.gr_tree.specs.Exprs.{tree_of};
 ghost use Rattle.gr_types.specs.Programs.{plain_of};
 ghost use Rattle.gr_types.specs.Names.{number_in};
 ghost use Rattle.gr_types.specs.Tables.{scope_of};
@@ -9,10 +9,10 @@ ghost use Rattle.gr_types.specs.Checking.{Agrees, meaning_of};
 ghost use Rattle.gr_types.specs.declared.values.Fault.TheVariants as faults;
 
 use crate::check::Code;
-use crate::constants;
 use crate::names::{NameTable, is_predeclared};
-use crate::program::Term;
-use gr_tree::{BinaryOp, Expr, UnaryOp};
+use crate::program::{BinaryOp, Term, UnaryOp};
+use crate::{constants, operators};
+use gr_tree::Expr;
 use std::alloc::{AllocError, AllocFailed, Global};
 
 /// What an expression is.
@@ -125,13 +125,20 @@ pub fn evaluate(alloc: Global, table: &NameTable, expr: &Expr) -> Result<Value, 
         Expr::Name(name) => variable(table, name.as_slice()),
         Expr::Paren(inner) => evaluate(alloc, table, inner),
         Expr::Unary(op, operand) => {
+            let Some(op) = operators::unary(*op) else {
+                return Err(Fault::Broken(Code::WrongForm));
+            };
             let operand = evaluate(alloc, table, operand)?;
-            unary(alloc, *op, operand)
+            unary(alloc, op, operand)
         }
         Expr::Binary(op, left, right) => {
+            let Some(op) = operators::binary(*op) else {
+                return Err(Fault::Broken(Code::WrongForm));
+            };
             let left = evaluate(alloc, table, left)?;
             let right = evaluate(alloc, table, right)?;
-            binary(alloc, *op, left, right)
+            binary(alloc, op, left, right)
         }
+        _ => Err(Fault::Broken(Code::WrongForm)),
     }
 }

@@ -2,6 +2,8 @@
 use Rattle.std.proofs.Common.{◌≡◌, ℕ, ◌<◌, ◌≤◌, List, [], ◌++◌, length, refl, ap, ◌∙◌, IfSome, inl, inr, None, Some, append-nil, length-append, ◌+◌, arith}
 use Rattle.std.specs.declared.option.Option.{Option}
 use Rattle.std.specs.Io.KnownBytes.{Consumes, IsAtEnd}
+use Rattle.gr_scan.specs.Tokens.{Tok}
+use Rattle.gr_scan.specs.Scan.{IsScan}
 use Rattle.gr_scan.specs.declared.scan.ScanError.TheVariants as scanning
 use Rattle.gr_syntax.specs.declared.parse.ParseError.TheVariants as parsing
 use Rattle.gr_types.specs.declared.check.CheckError.TheVariants as checking
@@ -12,7 +14,7 @@ use Rattle.gr_session.specs.declared.open.OpenError.{OpenError}
 use Rattle.gr_session.specs.declared.open.OpenError.TheVariants as opening
 use Rattle.gr_session.specs.Journal.{IsLegal}
 use Rattle.gr_session.specs.Source.{IsProgramOf}
-use Rattle.gr_session.specs.Refused.{NoProgram, SaysNoProgram}
+use Rattle.gr_session.specs.Refused.{NoProgram, SaysWhy}
 use Rattle.rewind.specs.declared.stream.ServeFault.{ServeFault}
 use Rattle.rewind.specs.declared.stream.ServeFault.TheVariants.{Read, Write, Memory}
 use Rattle.rewind.specs.declared.debug.DebugFault.{DebugFault}
@@ -23,38 +25,46 @@ use Rattle.rewind.specs.Debug.{SourceRead, Opened, Unopened, Stopped, SourceLeft
 use Rattle.rewind.proofs.Known.{Keeps-refl}
 use Rattle.rewind.proofs.Legal.{legal_empty, legal_answered}
 
--- a text that is too long has no program
-pub too_long : (n m : ℕ) (text : List ℕ) → n ≡ m → n < length text → ((p : Checked) → IsProgramOf text p → length text ≤ m) → NoProgram text
-too_long n m text e long short p h = let bound = short p h in absurd (omega (arith, e))
+-- a text that is too long has no tokens, and so no program
+past : (n m : ℕ) (text : List ℕ) → n ≡ m → n < length text → length text ≤ m → ⊥
+past n m text e long short = absurd (omega (arith, e))
+
+no_scan : (text : List ℕ) (ts : List Tok) → TEXT_LIMIT < length text → IsScan text ts → ⊥
+no_scan text ts long s = past TEXT_LIMIT 1048576 text refl long s.short
 
 pub long_source : (text : List ℕ) → TEXT_LIMIT < length text → NoProgram text
-long_source text long = too_long TEXT_LIMIT 1048576 text refl long (λ p h. h.scanned.short)
+long_source text long = λ p h. no_scan text h.tokens long h.scanned
 
--- where there is no program, each refusal is true
-pub true_refusal : (error : OpenError) (text : List ℕ) → NoProgram text → SaysNoProgram error text
-true_refusal (opening.Scan scanning.Memory at) text none = tt
-true_refusal (opening.Scan (scanning.Strange n) at) text none = none
-true_refusal (opening.Scan (scanning.TooGreat n) at) text none = none
-true_refusal (opening.Scan (scanning.LeftOut n) at) text none = none
-true_refusal (opening.Scan scanning.TooLong at) text none = none
-true_refusal (opening.Parse parsing.Memory at) text none = tt
-true_refusal (opening.Parse (parsing.NoFile n) at) text none = none
-true_refusal (opening.Parse (parsing.TooHigh n) at) text none = none
-true_refusal (opening.Check checking.Memory at) text none = tt
-true_refusal (opening.Check (checking.Refused code n) at) text none = none
-true_refusal opening.Memory text none = tt
+-- what is said of a text that is too long is true of each other
+pub true_refusal : (error : OpenError) (text all : List ℕ) → TEXT_LIMIT < length text → SaysWhy error text → NoProgram all → SaysWhy error all
+true_refusal (opening.Scan scanning.Memory at) text all long says none = tt
+true_refusal (opening.Scan (scanning.Strange n) at) text all long says none = none
+true_refusal (opening.Scan (scanning.Malformed n) at) text all long says none = none
+true_refusal (opening.Scan (scanning.TooGreat n) at) text all long says none = none
+true_refusal (opening.Scan (scanning.MalformedText n) at) text all long says none = none
+true_refusal (opening.Scan (scanning.Unclosed n) at) text all long says none = none
+true_refusal (opening.Scan (scanning.LeftOut n) at) text all long says none = none
+true_refusal (opening.Scan scanning.TooLong at) text all long says none = none
+true_refusal (opening.Parse parsing.Memory at) text all long says none = tt
+true_refusal (opening.Parse (parsing.NoFile n) at) text all long says none = none
+true_refusal (opening.Parse (parsing.LeftOut n) at) text all long says none = none
+true_refusal (opening.Parse (parsing.TooHigh n) at) text all long says none = none
+true_refusal opening.NotYet text all long says none = absurd (no_scan text says.tokens long says.scanned)
+true_refusal (opening.Check checking.Memory at) text all long says none = tt
+true_refusal (opening.Check (checking.Refused code n) at) text all long says none = absurd (no_scan text says.tokens long says.scanned)
+true_refusal opening.Memory text all long says none = tt
 
 longer : (n m k : ℕ) → n < m → n < m + k
 longer n m k h = omega arith
 
 -- all that there was, where it is known, is the text, or is too long as the text is
 all_of : (had has : Option (List ℕ)) (text : List ℕ) (P : List ℕ → Type 0) → SourceRead had has text
-    → (IsAtEnd has → P text) → ((all : List ℕ) → TEXT_LIMIT < length all → P all) → IfSome had P
+    → (IsAtEnd has → P text) → (TEXT_LIMIT < length text → (all : List ℕ) → TEXT_LIMIT < length all → P all) → IfSome had P
 all_of None has text P h ends long = tt
 all_of (Some all) None text P h ends long = absurd h.0
 all_of (Some all) (Some rest) text P h ends long = elim h.1 [
   | inl e ↦ rw (h.0 ∙ ap (λ t. text ++ t) e ∙ append-nil text) (ends e)
-  | inr more ↦ long all (rw (h.0, length-append text rest) (longer TEXT_LIMIT (length text) (length rest) more))
+  | inr more ↦ long more all (rw (h.0, length-append text rest) (longer TEXT_LIMIT (length text) (length rest) more))
 ]
 
 known : (had has : Option (List ℕ)) (text : List ℕ) → Consumes had has text → IsAtEnd has → IfSome had (λ all. all ≡ text)
@@ -73,12 +83,12 @@ opened had has text program h is = record {
   is_program = is;
 }
 
-pub unopened : (error : OpenError) (had has : Option (List ℕ)) (text : List ℕ) → SourceRead had has text → SaysNoProgram error text → Unopened error had has
+pub unopened : (error : OpenError) (had has : Option (List ℕ)) (text : List ℕ) → SourceRead had has text → SaysWhy error text → Unopened error had has
 unopened error had has text h says = record {
   text = text;
   taken = h.0;
   refused = says;
-  whole = all_of had has text (λ all. SaysNoProgram error all) h (λ e. says) (λ all long. true_refusal error all (long_source all long));
+  whole = all_of had has text (λ all. SaysWhy error all) h (λ e. says) (λ more all long. true_refusal error text all more says (long_source all long));
 }
 
 -- without a session nothing was done

@@ -7,7 +7,7 @@ use Rattle.gr_session.specs.declared.command.Entry.{Entry}
 use Rattle.gr_session.specs.declared.open.OpenError.{OpenError}
 use Rattle.gr_session.specs.Journal.{IsLegal}
 use Rattle.gr_session.specs.Source.{IsProgramOf}
-use Rattle.gr_session.specs.Refused.{SaysNoProgram}
+use Rattle.gr_session.specs.Refused.{SaysWhy}
 use Rattle.rewind.specs.declared.stream.ServeFault.{ServeFault}
 use Rattle.rewind.specs.declared.stream.ServeFault.TheVariants.{Read, Write, Memory}
 use Rattle.rewind.specs.declared.debug.DebugFault.{DebugFault}
@@ -26,12 +26,12 @@ pub record Opened (had has : Option (List ℕ)) (program : Checked) : Type 0 whe
   pub whole : IfSome had (λ all. all ≡ text)
   pub is_program : IsProgramOf text program
 
--- the source has no program, or memory was wanted
+-- the source was not opened, and the error says why
 pub record Unopened (error : OpenError) (had has : Option (List ℕ)) : Type 0 where
   pub text : List ℕ
   pub taken : Consumes had has text
-  pub refused : SaysNoProgram error text
-  pub whole : IfSome had (λ all. SaysNoProgram error all)
+  pub refused : SaysWhy error text
+  pub whole : IfSome had (λ all. SaysWhy error all)
 
 -- the lines were served by a session of the source's program, from an empty journal to a legal one, its one asker's number being 1
 pub record Debugged (source_had source_has had has held holds : Option (List ℕ)) : Type 0 where
@@ -53,7 +53,7 @@ pub record Stopped (fault : ServeFault) (source_had source_has had has held hold
 abbrev pub NothingDone : Option (List ℕ) → Option (List ℕ) → Option (List ℕ) → Option (List ℕ) → Type 0
 NothingDone had has held holds = Keeps had has × Keeps held holds
 
--- why there is no session: the source failed, it has no program, or memory was wanted
+-- why there is no session: the source failed, it was not opened, or memory was wanted
 abbrev pub SourceLeft : DebugFault → Option (List ℕ) → Option (List ℕ) → Type 0 → Type 0
 SourceLeft Source had has source_failed = source_failed
 SourceLeft (Open error) had has source_failed = Unopened error had has

@@ -19,7 +19,10 @@ use Rattle.rewind.specs.declared.debug.DebugFault.TheVariants.{Source, Open, Ser
 -- codes of texts that have no tokens
 abbrev pub scan_code : ScanError → List ℕ
 scan_code (scanning.Strange at) = codes "S1"
+scan_code (scanning.Malformed at) = codes "S2"
 scan_code (scanning.TooGreat at) = codes "S3"
+scan_code (scanning.MalformedText at) = codes "S4"
+scan_code (scanning.Unclosed at) = codes "S5"
 scan_code (scanning.LeftOut at) = codes "S6"
 scan_code scanning.TooLong = codes "S7"
 scan_code scanning.Memory = codes "S8"
@@ -27,6 +30,7 @@ scan_code scanning.Memory = codes "S8"
 -- codes of tokens that are no file
 abbrev pub parse_code : ParseError → List ℕ
 parse_code (parsing.NoFile token) = codes "P1"
+parse_code (parsing.LeftOut token) = codes "P2"
 parse_code (parsing.TooHigh token) = codes "P3"
 parse_code parsing.Memory = codes "P4"
 
@@ -49,10 +53,11 @@ abbrev pub place_text : Option Position → List ℕ
 place_text None = []
 place_text (Some at) = codes " at " ++ (decimal at.line ++ (codes ":" ++ decimal at.column))
 
--- why a source is not opened
+-- why a source is not opened; U1 is that of a form that no session can run yet
 abbrev pub open_text : OpenError → List ℕ
 open_text (opening.Scan error at) = scan_code error ++ place_text at
 open_text (opening.Parse error at) = parse_code error ++ place_text at
+open_text opening.NotYet = codes "U1"
 open_text (opening.Check error at) = check_code error ++ place_text at
 open_text opening.Memory = codes "memory"
 
@@ -75,6 +80,7 @@ abbrev pub status_of : DebugFault → ℕ
 status_of Source = 1
 status_of (Open (opening.Scan error at)) = 1
 status_of (Open (opening.Parse error at)) = 1
+status_of (Open opening.NotYet) = 1
 status_of (Open (opening.Check error at)) = 1
 status_of (Open opening.Memory) = 3
 status_of (Serve fault) = 3

@@ -18,8 +18,8 @@ pub enum DebugFault {
     /// The source failed.
     #[error("the source cannot be read")]
     Source,
-    /// The source has no program, or there was no memory for one.
-    #[error("the source has no program")]
+    /// The source has no program, or a form that no session can run yet, or there was no memory for one.
+    #[error("the source was not opened")]
     Open(OpenError),
     /// The stream of commands was left, or there was no memory for the source.
     #[error("{0}")]

@@ -2,7 +2,7 @@
 ghost use Rattle.std.specs.Prelude.{◌≡◌, ◌++◌, OnOk, IfOk, codes};
 ghost use Rattle.gr_base.specs.Names.{step_text};
 ghost use Rattle.gr_base.specs.Kinds.{kind_text};
-ghost use Rattle.gr_tree.specs.Tree.{names_of};
+ghost use Rattle.gr_tree.specs.Exprs.{names_of};
 ghost use Rattle.gr_session.specs.Journal.{said_of};
 ghost use Rattle.rewind.specs.Replies.{rows, refusal_text, said_text};
 

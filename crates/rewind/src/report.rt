@@ -16,7 +16,10 @@ fn scan_code(error: ScanError) -> &'static [u8]
 {
     match error {
         ScanError::Strange(_) => b"S1",
+        ScanError::Malformed(_) => b"S2",
         ScanError::TooGreat(_) => b"S3",
+        ScanError::MalformedText(_) => b"S4",
+        ScanError::Unclosed(_) => b"S5",
         ScanError::LeftOut(_) => b"S6",
         ScanError::TooLong => b"S7",
         ScanError::Memory => b"S8",
@@ -28,6 +31,7 @@ fn parse_code(error: ParseError) -> &'static [u8]
 {
     match error {
         ParseError::NoFile { token: _ } => b"P1",
+        ParseError::LeftOut { token: _ } => b"P2",
         ParseError::TooHigh { token: _ } => b"P3",
         ParseError::Memory => b"P4",
     }
@@ -96,6 +100,7 @@ fn put_open(text: &mut Vec<u8>, error: OpenError) -> Result<(), NoMemory>
     let (code, at) = match error {
         OpenError::Scan(error, at) => (scan_code(error), at),
         OpenError::Parse(error, at) => (parse_code(error), at),
+        OpenError::NotYet => return put(text, b"U1"),
         OpenError::Check(error, at) => (check_code(error), at),
         OpenError::Memory => return put(text, b"memory"),
     };
@@ -150,7 +155,7 @@ pub fn exit_status(fault: &DebugFault) -> u8
 }
 
 /// Appends the line that tells a fault to the user, with its newline, and answers the exit status. The line is
-/// `rewind: CODE at LINE:COL` for a source that is refused (without a place for S7, S8, P4 and C11), `rewind: cannot read
+/// `rewind: CODE at LINE:COL` for a source that is refused (without a place for S7, S8, P4, U1 and C11), `rewind: cannot read
 /// FILE`, `rewind: memory`, `rewind: read` or `rewind: write`. Want of memory leaves the text as it was; `exit_status` takes
 /// none.
 #[tactic(auto, using(crate::proofs::Growing::cut_back))]

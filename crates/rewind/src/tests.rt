@@ -165,6 +165,21 @@ fn reports_faults(rt: HostRuntime) -> Result<(), Fail> {
     let faults = [
         (DebugFault::Source, "rewind: cannot read main.go\n", 1),
         (
+            DebugFault::Open(OpenError::Scan(ScanError::Malformed(9), at)),
+            "rewind: S2 at 3:20\n",
+            1,
+        ),
+        (
+            DebugFault::Open(OpenError::Scan(ScanError::MalformedText(9), at)),
+            "rewind: S4 at 3:20\n",
+            1,
+        ),
+        (
+            DebugFault::Open(OpenError::Scan(ScanError::Unclosed(9), at)),
+            "rewind: S5 at 3:20\n",
+            1,
+        ),
+        (
             DebugFault::Open(OpenError::Scan(ScanError::LeftOut(9), at)),
             "rewind: S6 at 3:20\n",
             1,
@@ -172,6 +187,11 @@ fn reports_faults(rt: HostRuntime) -> Result<(), Fail> {
         (
             DebugFault::Open(OpenError::Scan(ScanError::TooLong, None)),
             "rewind: S7\n",
+            1,
+        ),
+        (
+            DebugFault::Open(OpenError::Parse(ParseError::LeftOut { token: 7 }, at)),
+            "rewind: P2 at 3:20\n",
             1,
         ),
         (
@@ -195,6 +215,7 @@ fn reports_faults(rt: HostRuntime) -> Result<(), Fail> {
             "rewind: C11\n",
             1,
         ),
+        (DebugFault::Open(OpenError::NotYet), "rewind: U1\n", 1),
         (DebugFault::Open(OpenError::Memory), "rewind: memory\n", 3),
         (DebugFault::Serve(ServeFault::Read), "rewind: read\n", 3),
         (DebugFault::Serve(ServeFault::Write), "rewind: write\n", 3),

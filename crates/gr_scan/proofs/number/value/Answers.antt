@@ -1,6 +1,8 @@
-use Rattle.gr_scan.proofs.Values.{beyond}
+use Rattle.std.proofs.Common.{◌^◌}
+use Rattle.gr_scan.proofs.Values.{beyond, none_says}
 use Rattle.gr_scan.proofs.number.value.Goals as goal
 
-pub returns-then-value-units-clause-none : goal.returns-then-value-units-clause-none
-returns-then-value-units-clause-none c =
-    beyond 9223372036854775808 c.loop-digit.value c.from-units.result c.loop-digit.digit-index c.args.digits.now c.if-value-units.true c.from-units.ensures c.loop-digit-test.true c.loop-digit.invariant.so_far
+pub returns-in_err-value-clause-none : goal.returns-in_err-value-clause-none
+returns-in_err-value-clause-none c =
+    none_says c.from_residual.result
+    (beyond (2 ^ 63) c.args.base c.loop-b.value c.loop-b.b-index c.args.digits.now c.requires c.in_err-value.ensures.none c.loop-b-test.true c.loop-b.invariant.so_far)

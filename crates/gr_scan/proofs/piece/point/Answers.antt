@@ -3,8 +3,8 @@ use Rattle.gr_scan.specs.Pieces.{is_digit}
 use Rattle.gr_scan.proofs.Longest.{point_piece, point_only, digit_there}
 use Rattle.gr_scan.proofs.piece.point.Goals as goal
 
-pub returns-then-digit-clause-some : goal.returns-then-digit-clause-some
-returns-then-digit-clause-some c =
+pub returns-then-digit-clause-ok : goal.returns-then-digit-clause-ok
+returns-then-digit-clause-ok c =
     let second : is_digit (get_or c.args.text.now 1 0) ≡ true = ap is_digit (sym c.byte.ensures) ∙ sym c.digit.ensures ∙ c.if-digit.true in
     point_piece c.args.text.now (digit_there c.args.text.now 1 second) c.requires.class second
 

@@ -1,31 +1,30 @@
 use Rattle.std.proofs.Common.{◌≡◌, sym, length, eqb-true, arith}
 use Rattle.std.proofs.lemmas.Result.{err_from_is_err_and}
 use Rattle.gr_scan.specs.Tokens.{tokens_of}
-use Rattle.gr_scan.proofs.Goes.{filled, goes_none, goes_end, piece_fills, turn, fault, not_long}
+use Rattle.gr_scan.proofs.Goes.{filled, stray, goes_end, piece_fills, turn, fault}
 use Rattle.gr_scan.proofs.scan.scan.Goals as goal
 
-pub returns-in_default-clause-none : goal.returns-in_default-clause-none
-returns-in_default-clause-none c =
-    goes_none c.args.text.now (tokens_of c.loop-rest.tokens.items) c.loop-rest.wanted c.loop-rest.start c.loop-rest.line c.loop-rest.rest.now c.loop-rest.invariant.goes (filled c.loop-rest.rest.now c.loop-rest-test.ensures) c.in_default.ensures.none
+pub returns-in_err-piece-clause-none : goal.returns-in_err-piece-clause-none
+returns-in_err-piece-clause-none c =
+    let p = err_from_is_err_and c.from_residual.result c.from_residual.ensures.1 in
+    rw (p.1, p.2) (stray c.args.text.now (tokens_of c.loop-rest.tokens.items) c.loop-rest.wanted c.loop-rest.start c.loop-rest.line c.loop-rest.rest.now c.in_err-piece.field-0.0 c.loop-rest.invariant.goes (filled c.loop-rest.rest.now c.loop-rest-test.ensures) c.in_err-piece.ensures.err)
 
 pub returns-in_err-wanted-clause-none : goal.returns-in_err-wanted-clause-none
 returns-in_err-wanted-clause-none c =
-    let p = err_from_is_err_and c.from_residual.result c.from_residual.ensures.1 in
-    rw (p.1, p.2) (fault c.args.text.now (tokens_of c.loop-rest.tokens.items) (tokens_of c.put.new.tokens.items) c.loop-rest.wanted c.loop-rest.start c.loop-rest.line c.loop-rest.rest.now c.split_at-in-loop-rest.result.0.now c.in-Some.piece c.in-Some.size c.in_err-wanted.field-0.0 c.loop-rest.invariant.goes c.in-Some.ensures.some c.split_at-in-loop-rest.ensures.front c.in_err-wanted.ensures)
+    let p = err_from_is_err_and c.from_residual-in_err-wanted.result c.from_residual-in_err-wanted.ensures.1 in
+    rw (p.1, p.2) (fault c.args.text.now (tokens_of c.loop-rest.tokens.items) (tokens_of c.put.new.tokens.items) c.loop-rest.wanted c.loop-rest.start c.loop-rest.line c.loop-rest.rest.now c.split_at-in-loop-rest.result.0.now c.in_ok-piece.piece c.in_ok-piece.size c.in_err-wanted.field-0.0 c.loop-rest.invariant.goes c.in_ok-piece.ensures.ok c.split_at-in-loop-rest.ensures.front c.in_err-wanted.ensures)
 
-pub returns-in_err-wanted-clause-too_long : goal.returns-in_err-wanted-clause-too_long
-returns-in_err-wanted-clause-too_long c =
-    let p = err_from_is_err_and c.from_residual.result c.from_residual.ensures.1 in
-    not_long c.from_residual.result c.args.text.now (tokens_of c.loop-rest.tokens.items) (tokens_of c.put.new.tokens.items) c.loop-rest.wanted _ c.in_err-wanted.field-0.0 c.loop-rest.invariant.short (rw (← p.2) p.1) c.in_err-wanted.ensures
+pub next_line-line-requires-clause-filled : goal.next_line-line-requires-clause-filled
+next_line-line-requires-clause-filled c = omega (arith, c.split_at-in-loop-rest.ensures.front_len, piece_fills c.in_ok-piece.ensures.ok)
 
 pub loop-rest-smaller : goal.loop-rest-smaller
-loop-rest-smaller c = omega (arith, piece_fills c.in-Some.ensures.some, c.split_at-in-loop-rest.ensures.back_len)
+loop-rest-smaller c = omega (arith, piece_fills c.in_ok-piece.ensures.ok, c.split_at-in-loop-rest.ensures.back_len)
 
 pub loop-rest-preserved : goal.loop-rest-preserved
 loop-rest-preserved c = record {
-  goes = turn c.args.text.now (tokens_of c.loop-rest.tokens.items) (tokens_of c.put.new.tokens.items) c.loop-rest.wanted c.in_ok-wanted.wanted c.loop-rest.start c.loop-rest.line c.next_line-line.result c.loop-rest.rest.now c.split_at-in-loop-rest.result.0.now c.split_at-in-loop-rest.result.1.now c.in-Some.piece c.in-Some.size c.loop-rest.invariant.goes c.in-Some.ensures.some c.split_at-in-loop-rest.ensures.front c.split_at-in-loop-rest.ensures.back c.next_line-line.ensures.after c.in_ok-wanted.ensures;
+  goes = turn c.args.text.now (tokens_of c.loop-rest.tokens.items) (tokens_of c.put.new.tokens.items) c.loop-rest.wanted c.in_ok-wanted.wanted c.loop-rest.start c.loop-rest.line c.next_line-line.result c.loop-rest.rest.now c.split_at-in-loop-rest.result.0.now c.split_at-in-loop-rest.result.1.now c.in_ok-piece.piece c.in_ok-piece.size c.loop-rest.invariant.goes c.in_ok-piece.ensures.ok c.split_at-in-loop-rest.ensures.front c.split_at-in-loop-rest.ensures.back c.next_line-line.ensures.after c.in_ok-wanted.ensures;
   place = omega (arith, c.split_at-in-loop-rest.ensures.back_len, c.loop-rest.invariant.place);
-  lines = omega (arith, piece_fills c.in-Some.ensures.some, c.next_line-line.ensures.near, c.loop-rest.invariant.lines);
+  lines = omega (arith, c.split_at-in-loop-rest.ensures.front_len, c.next_line-line.ensures.near, c.loop-rest.invariant.lines);
   short = c.loop-rest.invariant.short;
 }
 

@@ -1,5 +1,5 @@
 use Rattle.std.proofs.Common.{◌≡◌, ◌++◌, drop}
-use Rattle.gr_tree.specs.Tree.{names_of}
+use Rattle.gr_tree.specs.Exprs.{names_of}
 use Rattle.gr_session.proofs.carry.copy_lines.Given as goal
 
 -- the lines so far, and those that are left, are all of them

@@ -1,11 +1,15 @@
+use Rattle.std.proofs.Common.{◌≡◌, true, rules}
+use Rattle.gr_tree.specs.Files.{file_of}
+use Rattle.gr_session.specs.FirstPath.{is_first_path}
 use Rattle.gr_session.proofs.Sources.{scan_refused, parse_refused, check_refused}
 use Rattle.gr_session.proofs.open.read_program.Goals as goal
 
 pub returns-clause-none : goal.returns-clause-none
 returns-clause-none c =
+    let within : is_first_path (file_of c.in-Ok-parse.file) ≡ true = search rules in
     rw c.check_error.ensures.1
     (check_refused c.one_list.ensures c.one_tree.ensures c.in-Err-check.error _ _ _ _
-    c.in-Ok.ensures.tokens (rw c.as_slice.ensures.value at c.in-Ok-parse.ensures.tree) c.in-Err-check.ensures.none)
+    c.in-Ok.ensures.tokens (rw c.as_slice.ensures.value at c.in-Ok-parse.ensures.tree) within c.in-Err-check.ensures.none)
 
 pub returns-in-Err-clause-none : goal.returns-in-Err-clause-none
 returns-in-Err-clause-none c = rw c.scan_error.ensures.1 (scan_refused c.in-Err.error _ _ c.in-Err.ensures.none)

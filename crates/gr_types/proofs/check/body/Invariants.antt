@@ -1,5 +1,5 @@
 use Rattle.std.proofs.Common.{◌≡◌, drop}
-use Rattle.gr_tree.specs.Tree.{statements_of}
+use Rattle.gr_tree.specs.Statements.{statements_of}
 use Rattle.gr_types.specs.Checking.{body_in}
 use Rattle.gr_types.specs.Tables.{scope_of}
 use Rattle.gr_types.proofs.Bodies.{before_all}

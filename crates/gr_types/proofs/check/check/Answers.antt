@@ -1,4 +1,4 @@
-use Rattle.gr_tree.specs.Tree.{file_of}
+use Rattle.gr_tree.specs.Files.{file_of}
 use Rattle.gr_types.proofs.Judgement.{answer_program, answer_none}
 use Rattle.gr_types.proofs.check.check.Goals as goal
 

@@ -2,7 +2,7 @@ use Rattle.std.proofs.Common.{◌≡◌, ◌∙◌, sym, ap, true, false, length
 use Rattle.std.specs.Prelude.{is_some}
 use Rattle.gr_types.specs.Names.{is_blank, number_in, are_distinct}
 use Rattle.gr_types.specs.Tables.{scope_of}
-use Rattle.gr_tree.specs.Tree.{names_of}
+use Rattle.gr_tree.specs.Exprs.{names_of}
 use Rattle.gr_types.proofs.Loops.{twice, once}
 use Rattle.gr_types.proofs.statements.are_distinct.Goals as goal
 

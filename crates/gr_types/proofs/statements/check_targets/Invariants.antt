@@ -1,6 +1,6 @@
 use Rattle.std.proofs.Common.{◌≡◌, drop}
 use Rattle.std.specs.List.{list_all}
-use Rattle.gr_tree.specs.Tree.{names_of}
+use Rattle.gr_tree.specs.Exprs.{names_of}
 use Rattle.gr_types.specs.Names.{is_known}
 use Rattle.gr_types.specs.Tables.{scope_of}
 use Rattle.gr_types.proofs.statements.check_targets.Given as goal

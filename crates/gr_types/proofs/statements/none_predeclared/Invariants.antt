@@ -1,7 +1,7 @@
 use Rattle.std.proofs.Common.{◌≡◌, drop}
 use Rattle.std.specs.Prelude.{not}
 use Rattle.std.specs.List.{list_all}
-use Rattle.gr_tree.specs.Tree.{names_of}
+use Rattle.gr_tree.specs.Exprs.{names_of}
 use Rattle.gr_types.specs.Names.{among, predeclared}
 use Rattle.gr_types.proofs.statements.none_predeclared.Given as goal
 

@@ -1,5 +1,5 @@
 use Rattle.std.proofs.Common.{◌≡◌, ◌++◌, drop, map}
-use Rattle.gr_tree.specs.Tree.{names_of}
+use Rattle.gr_tree.specs.Exprs.{names_of}
 use Rattle.gr_types.specs.Names.{target}
 use Rattle.gr_types.specs.Tables.{scope_of}
 use Rattle.gr_types.proofs.statements.targets.Given as goal

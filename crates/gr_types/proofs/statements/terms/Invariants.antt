@@ -1,5 +1,5 @@
 use Rattle.std.proofs.Common.{◌≡◌, drop}
-use Rattle.gr_tree.specs.Tree.{trees_of}
+use Rattle.gr_tree.specs.Exprs.{trees_of}
 use Rattle.gr_types.specs.Checking.{values_in}
 use Rattle.gr_types.specs.Tables.{scope_of}
 use Rattle.gr_types.proofs.Loops.{prepend}

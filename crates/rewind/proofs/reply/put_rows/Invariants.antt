@@ -1,5 +1,5 @@
 use Rattle.std.proofs.Common.{◌≡◌, ◌++◌, drop}
-use Rattle.gr_tree.specs.Tree.{names_of}
+use Rattle.gr_tree.specs.Exprs.{names_of}
 use Rattle.rewind.specs.Replies.{rows}
 use Rattle.rewind.proofs.reply.put_rows.Given as goal
 

@@ -1,5 +1,5 @@
 use Rattle.std.proofs.Common.{◌≡◌, ◌++◌}
-use Rattle.gr_tree.specs.Tree.{names_of}
+use Rattle.gr_tree.specs.Exprs.{names_of}
 use Rattle.gr_types.specs.Names.{variables_of}
 use Rattle.gr_types.specs.Tables.{entries_of, scope_of}
 use Rattle.gr_types.proofs.names.NameTable.into_names.Given as goal

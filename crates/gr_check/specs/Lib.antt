@@ -1,0 +1,11 @@
+pub mod Types
+pub mod Terms
+pub mod Names
+pub mod Scopes
+pub mod Values
+pub mod StatementChecks
+pub mod Endings
+pub mod FileChecks
+pub mod Finding
+pub mod FindingStatements
+pub mod FindingFiles

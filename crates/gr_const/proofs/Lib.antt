@@ -1,0 +1,5 @@
+mod BitByBit
+mod Bools
+mod Division
+mod Shifts
+mod Words

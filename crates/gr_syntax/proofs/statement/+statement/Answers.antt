@@ -1,0 +1,116 @@
+use Rattle.std.proofs.Common.{◌≡◌, ◌∙◌, sym, arith, true, false}
+use Rattle.std.proofs.lemmas.Result.{err_from_is_err_and}
+use Rattle.gr_scan.specs.Tokens.{tokens_of}
+use Rattle.gr_tree.specs.Statements.{Statements, Clauses, statement_of, comm_of, statements_of}
+use Rattle.gr_syntax.specs.Reading.{Found}
+use Rattle.gr_syntax.specs.StatementReading.{stops_at}
+use Rattle.gr_syntax.specs.CodeViews.{clauses_of}
+use Rattle.gr_syntax.specs.Views.{found_of}
+use Rattle.gr_syntax.proofs.Turns.{fails_on}
+use Rattle.gr_syntax.proofs.CompleteStatements.{turn_close, turn_empty}
+use Rattle.gr_syntax.proofs.StatementTurns.{list_err, list_bad, statement_shorter}
+use Rattle.gr_syntax.proofs.ClauseTurns.{clauses_end, case_err, case_colon, case_bad, default_colon, default_bad, case_pushed, default_pushed, list_pushed, list_shorter, comm_shorter}
+use Rattle.gr_syntax.proofs.statement.+statement.Goals as goal
+
+pub list-loop-alloc-preserved-in-Some : goal.list-loop-alloc-preserved-in-Some
+list-loop-alloc-preserved-in-Some t c =
+    let ss : Found Statements = (statements_of c.loop-alloc.value.items, c.loop-alloc.height, tokens_of c.loop-alloc.rest.now) in
+    let m : stops_at (tokens_of c.loop-alloc.rest.now) ≡ false = cc (c.stops.ensures, c.loop-alloc-test.true) in
+    record { gives = sym (turn_empty c.args.limit ss (tokens_of c.in-Some.more.now) m c.in-Some.ensures.value) ∙ c.loop-alloc.invariant.gives; fits = c.loop-alloc.invariant.fits }
+
+pub list-returns-in_err-next-clause-gives : goal.list-returns-in_err-next-clause-gives
+list-returns-in_err-next-clause-gives t c =
+    let ss : Found Statements = (statements_of c.loop-alloc.value.items, c.loop-alloc.height, tokens_of c.loop-alloc.rest.now) in
+    let m : stops_at (tokens_of c.loop-alloc.rest.now) ≡ false = cc (c.stops.ensures, c.loop-alloc-test.true) in
+    let p = err_from_is_err_and c.from_residual.result c.from_residual.ensures.1 in
+    rw (p.1, p.2) (fails_on c.in_err-next.field-0.0 _ _ (λ d e. sym c.loop-alloc.invariant.gives ∙ list_err c.args.limit ss m c.in_default.ensures.value d e) c.in_err-next.ensures.gives)
+
+pub list-returns-in_err-rest-clause-gives : goal.list-returns-in_err-rest-clause-gives
+list-returns-in_err-rest-clause-gives t c =
+    let ss : Found Statements = (statements_of c.loop-alloc.value.items, c.loop-alloc.height, tokens_of c.loop-alloc.rest.now) in
+    let m : stops_at (tokens_of c.loop-alloc.rest.now) ≡ false = cc (c.stops.ensures, c.loop-alloc-test.true) in
+    let p = err_from_is_err_and c.from_residual-in_err-rest.result c.from_residual-in_err-rest.ensures.1 in
+    rw (p.1, p.2) (fails_on c.in_err-rest.field-0.0 _ _ (λ d e. sym c.loop-alloc.invariant.gives ∙ list_bad c.args.limit ss m c.in_default.ensures.value (found_of statement_of c.in_ok-next.next) d c.in_ok-next.ensures.gives e) c.in_err-rest.ensures.gives)
+
+pub list-loop-alloc-preserved : goal.list-loop-alloc-preserved
+list-loop-alloc-preserved t c =
+    let m : stops_at (tokens_of c.loop-alloc.rest.now) ≡ false = cc (c.stops.ensures, c.loop-alloc-test.true) in
+    record {
+      gives = sym (list_pushed c.args.limit c.loop-alloc.value.items c.push.new.self.items c.in_ok-next.next.value c.loop-alloc.height c.max-height.result c.in_ok-next.next.height (tokens_of c.loop-alloc.rest.now) (tokens_of c.in_ok-next.next.rest.now) (tokens_of c.in_ok-rest.rest.now) m c.in_default.ensures.value c.in_ok-next.ensures.gives c.in_ok-rest.ensures.gives c.in_ok-push.ensures.items c.max-height.ensures) ∙ c.loop-alloc.invariant.gives;
+      fits = omega (arith, c.max-height.ensures, c.loop-alloc.invariant.fits, c.in_ok-next.ensures.fits);
+    }
+
+pub list-returns-clause-gives : goal.list-returns-clause-gives
+list-returns-clause-gives t c =
+    let ss : Found Statements = (statements_of c.loop-alloc.value.items, c.loop-alloc.height, tokens_of c.loop-alloc.rest.now) in
+    let m : stops_at (tokens_of c.loop-alloc.rest.now) ≡ true = cc (c.stops.ensures, c.loop-alloc-test.false) in
+    sym c.loop-alloc.invariant.gives ∙ turn_close c.args.limit ss m
+
+pub list-loop-alloc-smaller : goal.list-loop-alloc-smaller
+list-loop-alloc-smaller t c = omega (arith, statement_shorter c.args.limit c.loop-alloc.rest.now c.in_ok-next.next.rest.now (statement_of c.in_ok-next.next.value) c.in_ok-next.next.height c.in_ok-next.ensures.gives, c.in_ok-rest.ensures.rest)
+
+pub clauses-returns-in_err-awaited-clause-gives : goal.clauses-returns-in_err-awaited-clause-gives
+clauses-returns-in_err-awaited-clause-gives t c =
+    let cs : Found Clauses = (clauses_of c.loop-more.value.items, c.loop-more.height, tokens_of c.loop-more.rest.now) in
+    let p = err_from_is_err_and c.from_residual.result c.from_residual.ensures.1 in
+    rw (p.1, p.2) (fails_on c.in_err-awaited.field-0.0 _ _ (λ d e. sym c.loop-more.invariant.gives ∙ case_err c.args.limit cs (tokens_of c.in-Some.more.now) d c.in-Some.ensures.value e) c.in_err-awaited.ensures.gives)
+
+pub clauses-returns-in_err-more-clause-gives : goal.clauses-returns-in_err-more-clause-gives
+clauses-returns-in_err-more-clause-gives t c =
+    let cs : Found Clauses = (clauses_of c.loop-more.value.items, c.loop-more.height, tokens_of c.loop-more.rest.now) in
+    let p = err_from_is_err_and c.from_residual-in_err-more.result c.from_residual-in_err-more.ensures.1 in
+    rw (p.1, p.2) (fails_on c.in_err-more.field-0.0 _ _ (λ d e. sym c.loop-more.invariant.gives ∙ case_colon c.args.limit cs (tokens_of c.in-Some.more.now) (found_of comm_of c.in_ok-awaited.awaited) d c.in-Some.ensures.value c.in_ok-awaited.ensures.gives e) c.in_err-more.ensures.gives)
+
+pub clauses-returns-in_err-body-clause-gives : goal.clauses-returns-in_err-body-clause-gives
+clauses-returns-in_err-body-clause-gives t c =
+    let cs : Found Clauses = (clauses_of c.loop-more.value.items, c.loop-more.height, tokens_of c.loop-more.rest.now) in
+    let p = err_from_is_err_and c.from_residual-in_err-body.result c.from_residual-in_err-body.ensures.1 in
+    rw (p.1, p.2) (fails_on c.in_err-body.field-0.0 _ _ (λ d e. sym c.loop-more.invariant.gives ∙ case_bad c.args.limit cs (tokens_of c.in-Some.more.now) (found_of comm_of c.in_ok-awaited.awaited) (c.in_ok-more.field-0-0, tokens_of c.in_ok-more.more.now) d c.in-Some.ensures.value c.in_ok-awaited.ensures.gives c.in_ok-more.ensures.gives e) c.in_err-body.ensures.gives)
+
+pub clauses-loop-more-smaller-in-Some : goal.clauses-loop-more-smaller-in-Some
+clauses-loop-more-smaller-in-Some t c =
+    omega (
+      arith,
+      c.in-Some.ensures.shorter,
+      comm_shorter c.args.limit c.in-Some.more.now c.in_ok-awaited.awaited.rest.now (comm_of c.in_ok-awaited.awaited.value) c.in_ok-awaited.awaited.height c.in_ok-awaited.ensures.gives,
+      c.in_ok-more.ensures.shorter,
+      list_shorter c.args.limit c.in_ok-more.more.now c.in_ok-body.body.rest.now (statements_of c.in_ok-body.body.value.items) c.in_ok-body.body.height c.in_ok-body.ensures.gives,
+    )
+
+pub clauses-loop-more-preserved-in-Some : goal.clauses-loop-more-preserved-in-Some
+clauses-loop-more-preserved-in-Some t c = record {
+  gives = sym (case_pushed c.args.limit c.loop-more.value.items c.push.new.self.items c.in_ok-awaited.awaited.value c.in_ok-body.body.value c.loop-more.height c.max-height.result c.max.result c.in_ok-awaited.awaited.height c.in_ok-body.body.height (tokens_of c.loop-more.rest.now) (tokens_of c.in-Some.more.now) (tokens_of c.in_ok-awaited.awaited.rest.now) (tokens_of c.in_ok-body.body.rest.now) (c.in_ok-more.field-0-0, tokens_of c.in_ok-more.more.now) c.in-Some.ensures.value c.in_ok-awaited.ensures.gives c.in_ok-more.ensures.gives c.in_ok-body.ensures.gives c.in_ok-push.ensures.items c.max-height.ensures c.max.ensures) ∙ c.loop-more.invariant.gives;
+  fits = omega (arith, c.max-height.ensures, c.max.ensures, c.loop-more.invariant.fits, c.in_ok-awaited.ensures.fits, c.in_ok-body.ensures.fits);
+}
+
+pub clauses-returns-in_default-after-clause-gives : goal.clauses-returns-in_default-after-clause-gives
+clauses-returns-in_default-after-clause-gives t c =
+    let cs : Found Clauses = (clauses_of c.loop-more.value.items, c.loop-more.height, tokens_of c.loop-more.rest.now) in
+    sym c.loop-more.invariant.gives ∙ clauses_end c.args.limit cs c.in_default.ensures.value c.in_default-after.ensures.value
+
+pub clauses-returns-in_err-more-2-clause-gives : goal.clauses-returns-in_err-more-2-clause-gives
+clauses-returns-in_err-more-2-clause-gives t c =
+    let cs : Found Clauses = (clauses_of c.loop-more.value.items, c.loop-more.height, tokens_of c.loop-more.rest.now) in
+    let p = err_from_is_err_and c.from_residual-in_err-more-2.result c.from_residual-in_err-more-2.ensures.1 in
+    rw (p.1, p.2) (fails_on c.in_err-more-2.field-0.0 _ _ (λ d e. sym c.loop-more.invariant.gives ∙ default_colon c.args.limit cs (tokens_of c.in-Some-after.more.now) d c.in_default.ensures.value c.in-Some-after.ensures.value e) c.in_err-more-2.ensures.gives)
+
+pub clauses-returns-in_err-body-2-clause-gives : goal.clauses-returns-in_err-body-2-clause-gives
+clauses-returns-in_err-body-2-clause-gives t c =
+    let cs : Found Clauses = (clauses_of c.loop-more.value.items, c.loop-more.height, tokens_of c.loop-more.rest.now) in
+    let p = err_from_is_err_and c.from_residual-in_err-body-2.result c.from_residual-in_err-body-2.ensures.1 in
+    rw (p.1, p.2) (fails_on c.in_err-body-2.field-0.0 _ _ (λ d e. sym c.loop-more.invariant.gives ∙ default_bad c.args.limit cs (tokens_of c.in-Some-after.more.now) (c.in_ok-more-2.field-0-0, tokens_of c.in_ok-more-2.more.now) d c.in_default.ensures.value c.in-Some-after.ensures.value c.in_ok-more-2.ensures.gives e) c.in_err-body-2.ensures.gives)
+
+pub clauses-loop-more-smaller : goal.clauses-loop-more-smaller
+clauses-loop-more-smaller t c =
+    omega (
+      arith,
+      c.in-Some-after.ensures.shorter,
+      c.in_ok-more-2.ensures.shorter,
+      list_shorter c.args.limit c.in_ok-more-2.more.now c.in_ok-body-2.body.rest.now (statements_of c.in_ok-body-2.body.value.items) c.in_ok-body-2.body.height c.in_ok-body-2.ensures.gives,
+    )
+
+pub clauses-loop-more-preserved : goal.clauses-loop-more-preserved
+clauses-loop-more-preserved t c = record {
+  gives = sym (default_pushed c.args.limit c.loop-more.value.items c.push-in-loop-more.new.self.items c.in_ok-body-2.body.value c.loop-more.height c.max-height-in-loop-more.result c.in_ok-body-2.body.height (tokens_of c.loop-more.rest.now) (tokens_of c.in-Some-after.more.now) (tokens_of c.in_ok-body-2.body.rest.now) (c.in_ok-more-2.field-0-0, tokens_of c.in_ok-more-2.more.now) c.in_default.ensures.value c.in-Some-after.ensures.value c.in_ok-more-2.ensures.gives c.in_ok-body-2.ensures.gives c.in_ok-push-2.ensures.items c.max-height-in-loop-more.ensures) ∙ c.loop-more.invariant.gives;
+  fits = omega (arith, c.max-height-in-loop-more.ensures, c.loop-more.invariant.fits, c.in_ok-body-2.ensures.fits);
+}

@@ -1,0 +1,191 @@
+//! Reading what has no statements in it: declarations, `go`, `return` and jumps.
+
+ghost use Rattle.std.specs.Prelude.{◌≡◌, ◌+◌, ◌<◌, ◌≤◌, IfOk, ◌^◌, length};
+ghost use Rattle.gr_scan.specs.Tokens.{tokens_of};
+ghost use Rattle.gr_tree.specs.Exprs.{names_of, type_of};
+ghost use Rattle.gr_tree.specs.Statements.{Break, Continue, act_of};
+ghost use Rattle.gr_syntax.specs.StatementReading.{var_typed, var_after, var_at, go_at, return_at, jump_at};
+ghost use Rattle.gr_syntax.specs.Views.{Gives, found_of};
+
+use crate::expression::{arguments, expr, exprs};
+use crate::look::{Fault, Found, after, copy, is_the_make, name, names, needed};
+use crate::opening::{ends, first_name};
+use crate::types::type_tree;
+use gr_scan::token::{Mark, Token};
+use gr_tree::{Action, TypeTree};
+use std::alloc::Global;
+
+/// What follows the names and the type of a declaration.
+#[tactic(auto, unfolding(crate::specs::StatementReading::var_typed))]
+fn typed<'a>(
+    alloc: Global,
+    limit: u32,
+    names: Vec<Vec<u8>>,
+    type_tree: TypeTree,
+    height: u32,
+    tokens: &'a [Token],
+) -> Result<Found<'a, Action>, Fault>
+    requires limit { limit < 2 ^ 30 }
+    requires fits { height ≤ limit }
+    ensures gives { Gives (found_of act_of) result (var_typed limit (names_of names.items) (type_of type_tree, height, tokens_of tokens.now)) }
+    ensures fits { IfOk result (λ f. f.height ≤ limit) }
+    ensures rest { IfOk result (λ f. length f.rest.now ≤ length tokens.now) }
+{
+    let Some(rest) = after(Mark::Assign, tokens) else {
+        if height + 1 > limit {
+            return Err(Fault::TooHigh { left: tokens.len() });
+        }
+        return Ok(Found {
+            value: Action::Var(names, type_tree),
+            height: height + 1,
+            rest: tokens,
+        });
+    };
+    let values = exprs(alloc, limit, false, rest)?;
+    let height = height.max(values.height) + 1;
+    if height > limit {
+        return Err(Fault::TooHigh { left: tokens.len() });
+    }
+    Ok(Found {
+        value: Action::VarValues(names, Some(type_tree), values.value),
+        height,
+        rest: values.rest,
+    })
+}
+
+/// What follows the names of a declaration.
+#[tactic(auto, unfolding(crate::specs::StatementReading::var_after))]
+fn declared<'a>(
+    alloc: Global,
+    limit: u32,
+    names: Vec<Vec<u8>>,
+    tokens: &'a [Token],
+) -> Result<Found<'a, Action>, Fault>
+    requires { limit < 2 ^ 30 }
+    ensures gives { Gives (found_of act_of) result (var_after limit (names_of names.items) (tokens_of tokens.now)) }
+    ensures fits { IfOk result (λ f. f.height ≤ limit) }
+    ensures rest { IfOk result (λ f. length f.rest.now ≤ length tokens.now) }
+{
+    let Some(rest) = after(Mark::Assign, tokens) else {
+        let found = type_tree(alloc, limit, tokens)?;
+        return typed(alloc, limit, names, found.value, found.height, found.rest);
+    };
+    let values = exprs(alloc, limit, false, rest)?;
+    if values.height + 1 > limit {
+        return Err(Fault::TooHigh { left: rest.len() });
+    }
+    Ok(Found {
+        value: Action::VarValues(names, None, values.value),
+        height: values.height + 1,
+        rest: values.rest,
+    })
+}
+
+/// A declaration, after `var`.
+#[tactic(auto, unfolding(crate::specs::StatementReading::var_at))]
+pub(crate) fn var(alloc: Global, limit: u32, tokens: &[Token]) -> Result<Found<'_, Action>, Fault>
+    requires { limit < 2 ^ 30 }
+    ensures gives { Gives (found_of act_of) result (var_at limit (tokens_of tokens.now)) }
+    ensures fits { IfOk result (λ f. f.height ≤ limit) }
+    ensures rest { IfOk result (λ f. length f.rest.now ≤ length tokens.now) }
+{
+    let names = names(alloc, tokens)?;
+    declared(alloc, limit, names.value, names.rest)
+}
+
+/// A call for a new goroutine, after `go`.
+#[tactic(auto, unfolding(crate::specs::StatementReading::go_at))]
+pub(crate) fn go(alloc: Global, limit: u32, tokens: &[Token]) -> Result<Found<'_, Action>, Fault>
+    requires { limit < 2 ^ 30 }
+    ensures gives { Gives (found_of act_of) result (go_at limit (tokens_of tokens.now)) }
+    ensures fits { IfOk result (λ f. f.height ≤ limit) }
+    ensures rest { IfOk result (λ f. length f.rest.now ≤ length tokens.now) }
+{
+    let (function, rest) = name(tokens)?;
+    if is_the_make(function) {
+        return Err(Fault::Wrong { left: tokens.len() });
+    }
+    let (_, rest) = needed(Mark::LeftParen, rest)?;
+    let arguments = arguments(alloc, limit, rest)?;
+    if arguments.height + 2 > limit {
+        return Err(Fault::TooHigh { left: rest.len() });
+    }
+    Ok(Found {
+        value: Action::Go(copy(function)?, arguments.value),
+        height: arguments.height + 2,
+        rest: arguments.rest,
+    })
+}
+
+/// What follows `return`.
+#[tactic(auto, unfolding(crate::specs::StatementReading::return_at))]
+pub(crate) fn returned(
+    alloc: Global,
+    limit: u32,
+    tokens: &[Token],
+) -> Result<Found<'_, Action>, Fault>
+    requires limit { limit < 2 ^ 30 }
+    requires positive { 0 < limit }
+    ensures gives { Gives (found_of act_of) result (return_at limit (tokens_of tokens.now)) }
+    ensures fits { IfOk result (λ f. f.height ≤ limit) }
+    ensures rest { IfOk result (λ f. length f.rest.now ≤ length tokens.now) }
+{
+    if ends(tokens) {
+        return Ok(Found {
+            value: Action::Return(None),
+            height: 1,
+            rest: tokens,
+        });
+    }
+    let value = expr(alloc, 1, limit, tokens)?;
+    if value.height + 1 > limit {
+        return Err(Fault::TooHigh { left: tokens.len() });
+    }
+    Ok(Found {
+        value: Action::Return(Some(value.value)),
+        height: value.height + 1,
+        rest: value.rest,
+    })
+}
+
+/// A break, after its keyword.
+#[tactic(auto, unfolding(crate::specs::StatementReading::jump_at))]
+pub(crate) fn break_from(tokens: &[Token]) -> Result<Found<'_, Action>, Fault>
+    ensures gives { Gives (found_of act_of) result (jump_at Break (tokens_of tokens.now)) }
+    ensures high { IfOk result (λ f. f.height ≡ 1) }
+    ensures rest { IfOk result (λ f. length f.rest.now ≤ length tokens.now) }
+{
+    let Some((label, rest)) = first_name(tokens) else {
+        return Ok(Found {
+            value: Action::Break(None),
+            height: 1,
+            rest: tokens,
+        });
+    };
+    Ok(Found {
+        value: Action::Break(Some(copy(label)?)),
+        height: 1,
+        rest,
+    })
+}
+
+/// A continue, after its keyword.
+#[tactic(auto, unfolding(crate::specs::StatementReading::jump_at))]
+pub(crate) fn continue_from(tokens: &[Token]) -> Result<Found<'_, Action>, Fault>
+    ensures gives { Gives (found_of act_of) result (jump_at Continue (tokens_of tokens.now)) }
+    ensures high { IfOk result (λ f. f.height ≡ 1) }
+    ensures rest { IfOk result (λ f. length f.rest.now ≤ length tokens.now) }
+{
+    let Some((label, rest)) = first_name(tokens) else {
+        return Ok(Found {
+            value: Action::Continue(None),
+            height: 1,
+            rest: tokens,
+        });
+    };
+    Ok(Found {
+        value: Action::Continue(Some(copy(label)?)),
+        height: 1,
+        rest,
+    })
+}

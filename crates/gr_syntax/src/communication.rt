@@ -1,0 +1,174 @@
+//! Reading what a clause of a select waits for.
+
+ghost use Rattle.std.specs.Prelude.{◌≡◌, [], ◌∷◌, ◌<◌, ◌≤◌, IfOk, ◌^◌};
+ghost use Rattle.gr_scan.specs.Tokens.{tokens_of};
+ghost use Rattle.gr_tree.specs.Exprs.{tree_of, names_of};
+ghost use Rattle.gr_tree.specs.Statements.{comm_of};
+ghost use Rattle.gr_syntax.specs.StatementReading.{is_receive, receive_at, received_at, comm_names, comm_alone, comm_sent, comm_at};
+ghost use Rattle.gr_syntax.specs.Views.{Gives, found_of};
+
+use crate::expression::{expr, operand};
+use crate::look::{Fault, Found, after, copy, name, needed};
+use gr_scan::token::{Mark, Token};
+use gr_tree::{Communication, Expr, UnaryOp};
+use std::alloc::Global;
+
+/// Whether an expression is a receive, in parentheses or not.
+fn is_receive(value: &Expr) -> bool
+    ensures { result ≡ is_receive (tree_of value.now) }
+{
+    match value {
+        Expr::Unary(UnaryOp::Receive, _) => true,
+        Expr::Paren(inner) => is_receive(inner),
+        _ => false,
+    }
+}
+
+/// A receive of at most this height, in parentheses or not.
+#[tactic(auto, unfolding(crate::specs::StatementReading::receive_at))]
+fn receive(alloc: Global, limit: u32, tokens: &[Token]) -> Result<Found<'_, Expr>, Fault>
+    requires { limit < 2 ^ 30 }
+    ensures gives { Gives (found_of tree_of) result (receive_at limit (tokens_of tokens.now)) }
+    ensures fits { IfOk result (λ f. f.height ≤ limit) }
+{
+    if limit == 0 {
+        return Err(Fault::TooHigh { left: tokens.len() });
+    }
+    if let Some(rest) = after(Mark::LeftParen, tokens) {
+        let inner = receive(alloc, limit - 1, rest)?;
+        let (_, rest) = needed(Mark::RightParen, inner.rest)?;
+        return Ok(Found {
+            value: Expr::Paren(Box::new(alloc, inner.value)?),
+            height: inner.height + 1,
+            rest,
+        });
+    }
+    let Some(_) = after(Mark::Arrow, tokens) else {
+        return Err(Fault::Wrong { left: tokens.len() });
+    };
+    operand(alloc, limit - 1, tokens)
+}
+
+/// What follows the names of a receive in a select.
+#[tactic(auto, unfolding(crate::specs::StatementReading::received_at))]
+fn received<'a>(
+    alloc: Global,
+    limit: u32,
+    names: Vec<Vec<u8>>,
+    tokens: &'a [Token],
+) -> Result<Found<'a, Communication>, Fault>
+    requires { limit < 2 ^ 30 }
+    ensures gives { Gives (found_of comm_of) result (received_at limit (names_of names.items) (tokens_of tokens.now)) }
+    ensures fits { IfOk result (λ f. f.height ≤ limit) }
+{
+    if let Some(rest) = after(Mark::Define, tokens) {
+        let value = receive(alloc, limit, rest)?;
+        return Ok(Found {
+            value: Communication::Define(names, value.value),
+            height: value.height,
+            rest: value.rest,
+        });
+    }
+    let (_, rest) = needed(Mark::Assign, tokens)?;
+    let value = receive(alloc, limit, rest)?;
+    Ok(Found {
+        value: Communication::Assign(names, value.value),
+        height: value.height,
+        rest: value.rest,
+    })
+}
+
+/// What follows the first name of a receive in a select.
+#[tactic(auto, unfolding(crate::specs::StatementReading::comm_names))]
+fn named<'a>(
+    alloc: Global,
+    limit: u32,
+    first: Vec<u8>,
+    tokens: &'a [Token],
+) -> Result<Found<'a, Communication>, Fault>
+    requires { limit < 2 ^ 30 }
+    ensures gives { Gives (found_of comm_of) result (comm_names limit first.items (tokens_of tokens.now)) }
+    ensures fits { IfOk result (λ f. f.height ≤ limit) }
+{
+    let Some(rest) = after(Mark::Comma, tokens) else {
+        return received(alloc, limit, vec![in alloc; first]?, tokens);
+    };
+    let (second, rest) = name(rest)?;
+    let second = copy(second)?;
+    received(alloc, limit, vec![in alloc; first, second]?, rest)
+}
+
+/// This expression, which has to be a receive.
+fn alone(value: Found<'_, Expr>) -> Result<Found<'_, Communication>, Fault>
+    ensures gives { Gives (found_of comm_of) result (comm_alone (found_of tree_of value.entry)) }
+    ensures fits { IfOk result (λ f. f.height ≡ value.entry.height) }
+{
+    if is_receive(&value.value) {
+        return Ok(Found {
+            value: Communication::Receive(value.value),
+            height: value.height,
+            rest: value.rest,
+        });
+    }
+    Err(Fault::Wrong {
+        left: value.rest.len(),
+    })
+}
+
+/// A send on this channel, after its `<-`.
+fn send<'a>(
+    alloc: Global,
+    limit: u32,
+    channel: Found<'a, Expr>,
+    tokens: &'a [Token],
+) -> Result<Found<'a, Communication>, Fault>
+    requires limit { limit < 2 ^ 30 }
+    requires fits { channel.height ≤ limit }
+    ensures gives { Gives (found_of comm_of) result (comm_sent limit (found_of tree_of channel.entry) (tokens_of tokens.now)) }
+    ensures fits { IfOk result (λ f. f.height ≤ limit) }
+{
+    let value = expr(alloc, 1, limit, tokens)?;
+    Ok(Found {
+        value: Communication::Send(channel.value, value.value),
+        height: channel.height.max(value.height),
+        rest: value.rest,
+    })
+}
+
+/// What a clause of a select waits for, after `case`.
+#[tactic(auto, unfolding(crate::specs::StatementReading::comm_at, crate::specs::StatementReading::comm_after, crate::specs::StatementReading::bare))]
+pub(crate) fn communication(
+    alloc: Global,
+    limit: u32,
+    tokens: &[Token],
+) -> Result<Found<'_, Communication>, Fault>
+    requires { limit < 2 ^ 30 }
+    ensures gives { Gives (found_of comm_of) result (comm_at limit (tokens_of tokens.now)) }
+    ensures fits { IfOk result (λ f. f.height ≤ limit) }
+{
+    let Found {
+        value,
+        height,
+        rest,
+    } = expr(alloc, 1, limit, tokens)?;
+    if let Some(tokens) = after(Mark::Arrow, rest) {
+        return send(
+            alloc,
+            limit,
+            Found {
+                value,
+                height,
+                rest,
+            },
+            tokens,
+        );
+    }
+    match value {
+        Expr::Name(name) => named(alloc, limit, name, rest),
+        value => alone(Found {
+            value,
+            height,
+            rest,
+        }),
+    }
+}

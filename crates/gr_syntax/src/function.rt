@@ -1,0 +1,166 @@
+//! Reading functions and files.
+
+ghost use Rattle.std.specs.Prelude.{◌≡◌, ◌<◌, ◌≤◌, IfOk, ◌^◌, length};
+ghost use Rattle.gr_scan.specs.Tokens.{tokens_of};
+ghost use Rattle.gr_tree.specs.Exprs.{type_of};
+ghost use Rattle.gr_tree.specs.Statements.{optional};
+ghost use Rattle.gr_tree.specs.Files.{groups_of, function_of, functions_of, file_of};
+ghost use Rattle.gr_syntax.specs.FileReading.{groups_at, parameters_at, result_at, function_at, functions_more, functions_at, file_at};
+ghost use Rattle.gr_syntax.specs.Views.{Gives, found_of};
+
+use crate::look::{Fault, Found, after, copy, name, names, needed};
+use crate::statement::block;
+use crate::types::type_tree;
+use gr_scan::token::{Mark, Token};
+use gr_tree::{File, Func, Group, HEIGHT_LIMIT, TypeTree};
+use std::alloc::Global;
+
+/// The most levels that a type or a statement of a file may have.
+const LIMIT: u32 = HEIGHT_LIMIT as u32;
+
+// Nothing above a function asks how high it is: what is found here counts as of no height.
+
+/// Groups of parameters with commas between them, with types of at most this height; one more comma may stand before a `)`.
+#[tactic(auto, unfolding(crate::specs::FileReading::groups_at))]
+fn groups(alloc: Global, limit: u32, tokens: &[Token]) -> Result<Found<'_, Vec<Group>>, Fault>
+    requires { limit < 2 ^ 29 }
+    ensures gives { Gives (found_of (λ v. groups_of v.items)) result (groups_at limit (tokens_of tokens.now)) }
+    ensures shorter { IfOk result (λ f. length f.rest.now < length tokens.now) }
+{
+    let mut value = Vec::new(alloc);
+    let mut rest = tokens;
+    loop {
+        let names = names(alloc, rest)?;
+        let type_tree = type_tree(alloc, limit, names.rest)?;
+        value.push(Group {
+            names: names.value,
+            type_tree: type_tree.value,
+        })?;
+        rest = type_tree.rest;
+        let Some(more) = after(Mark::Comma, rest) else {
+            return Ok(Found {
+                value,
+                height: 0,
+                rest,
+            });
+        };
+        rest = more;
+        if after(Mark::RightParen, rest).is_some() {
+            return Ok(Found {
+                value,
+                height: 0,
+                rest,
+            });
+        }
+    }
+}
+
+/// The parameters of a function, with their parentheses (Go: Function types).
+#[tactic(auto, unfolding(crate::specs::FileReading::parameters_at))]
+fn parameters(alloc: Global, limit: u32, tokens: &[Token]) -> Result<Found<'_, Vec<Group>>, Fault>
+    requires { limit < 2 ^ 29 }
+    ensures gives { Gives (found_of (λ v. groups_of v.items)) result (parameters_at limit (tokens_of tokens.now)) }
+    ensures shorter { IfOk result (λ f. length f.rest.now < length tokens.now) }
+{
+    let (_, rest) = needed(Mark::LeftParen, tokens)?;
+    if let Some(rest) = after(Mark::RightParen, rest) {
+        return Ok(Found {
+            value: Vec::new(alloc),
+            height: 0,
+            rest,
+        });
+    }
+    let groups = groups(alloc, limit, rest)?;
+    let (_, rest) = needed(Mark::RightParen, groups.rest)?;
+    Ok(Found {
+        value: groups.value,
+        height: 0,
+        rest,
+    })
+}
+
+/// The type of a function's result, if one stands before the `{`.
+#[tactic(auto, unfolding(crate::specs::FileReading::result_at))]
+fn result(alloc: Global, limit: u32, tokens: &[Token]) -> Result<Found<'_, Option<TypeTree>>, Fault>
+    requires { limit < 2 ^ 29 }
+    ensures gives { Gives (found_of (optional type_of)) result (result_at limit (tokens_of tokens.now)) }
+    ensures shorter { IfOk result (λ f. length f.rest.now ≤ length tokens.now) }
+{
+    if after(Mark::LeftBrace, tokens).is_some() {
+        return Ok(Found {
+            value: None,
+            height: 0,
+            rest: tokens,
+        });
+    }
+    let type_tree = type_tree(alloc, limit, tokens)?;
+    Ok(Found {
+        value: Some(type_tree.value),
+        height: 0,
+        rest: type_tree.rest,
+    })
+}
+
+/// A function, with types and statements of at most this height (Go: Function declarations).
+#[tactic(auto, unfolding(crate::specs::FileReading::function_at))]
+fn function(alloc: Global, limit: u32, tokens: &[Token]) -> Result<Found<'_, Func>, Fault>
+    requires { limit < 2 ^ 29 }
+    ensures { Gives (found_of function_of) result (function_at limit (tokens_of tokens.now)) }
+{
+    let (place, rest) = needed(Mark::Func, tokens)?;
+    let (func_name, rest) = name(rest)?;
+    let parameters = parameters(alloc, limit, rest)?;
+    let result = result(alloc, limit, parameters.rest)?;
+    let block = block(alloc, limit, result.rest)?;
+    let (body, end) = block.value;
+    let value = Func {
+        place,
+        name: copy(func_name)?,
+        parameters: parameters.value,
+        result: result.value,
+        body,
+        end,
+    };
+    Ok(Found {
+        value,
+        height: 0,
+        rest: block.rest,
+    })
+}
+
+/// The functions up to the end, each with its semicolon, with types and statements of at most this height.
+#[tactic(auto, unfolding(crate::specs::FileReading::functions_at))]
+fn functions(alloc: Global, limit: u32, tokens: &[Token]) -> Result<Found<'_, Vec<Func>>, Fault>
+    requires { limit < 2 ^ 29 }
+    ensures { Gives (found_of (λ v. functions_of v.items)) result (functions_at limit (tokens_of tokens.now)) }
+{
+    let mut value = Vec::new(alloc);
+    let mut rest = tokens;
+    while !rest.is_empty() {
+        let next = function(alloc, limit, rest)?;
+        let (_, more) = needed(Mark::Semicolon, next.rest)?;
+        value.push(next.value)?;
+        rest = more;
+    }
+    Ok(Found {
+        value,
+        height: 0,
+        rest,
+    })
+}
+
+/// A whole file (Go: Source file organization).
+#[tactic(auto, unfolding(crate::specs::FileReading::file_at))]
+pub(crate) fn file(alloc: Global, tokens: &[Token]) -> Result<File, Fault>
+    ensures { Gives file_of result (file_at 200 (tokens_of tokens.now)) }
+{
+    let (place, rest) = needed(Mark::Package, tokens)?;
+    let (package, rest) = name(rest)?;
+    let (_, rest) = needed(Mark::Semicolon, rest)?;
+    let functions = functions(alloc, LIMIT, rest)?;
+    Ok(File {
+        place,
+        package: copy(package)?,
+        funcs: functions.value,
+    })
+}

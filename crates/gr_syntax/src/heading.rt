@@ -1,0 +1,356 @@
+//! Reading what stands between `if` or `for` and its block.
+
+ghost use Rattle.std.specs.Prelude.{◌≡◌, ◌<◌, ◌≤◌, List, ℕ, IfOk, ◌^◌, length};
+ghost use Rattle.gr_scan.specs.Tokens.{tokens_of};
+ghost use Rattle.gr_tree.specs.Exprs.{Name, tree_of};
+ghost use Rattle.gr_tree.specs.Statements.{heading_of, if_of, for_of, target_of, optional};
+ghost use Rattle.gr_syntax.specs.StatementReading.{place_at, heading_after, tested, if_after, if_head_at, ranged, condition_at, post_at, parts_at, target_at, for_init, for_named, for_after, for_head_at};
+ghost use Rattle.gr_syntax.specs.Views.{Gives, found_of};
+ghost use Rattle.gr_syntax.specs.StatementViews.{SeesRange};
+
+use crate::expression::expr;
+use crate::look::{Fault, Found, after, needed, next};
+use crate::simple::simple;
+use gr_scan::token::{Mark, Place, Token};
+use gr_tree::{Expr, ForHead, Header, IfHead, RangeTarget};
+use std::alloc::Global;
+
+/// The place of the first token.
+#[tactic(auto, unfolding(crate::specs::StatementReading::place_at))]
+pub(crate) fn place(tokens: &[Token]) -> Result<Place, Fault>
+    ensures { Gives (λ p. p) result (place_at (tokens_of tokens.now)) }
+{
+    let Some((token, _)) = next(tokens) else {
+        return Err(Fault::Wrong { left: 0 });
+    };
+    Ok(token.place)
+}
+
+/// A simple statement in a heading, which begins with this expression at this place.
+#[tactic(auto, unfolding(crate::specs::StatementReading::heading_after))]
+fn heading<'a>(
+    alloc: Global,
+    limit: u32,
+    may_define: bool,
+    place: Place,
+    first: Found<'a, Expr>,
+) -> Result<Found<'a, Header>, Fault>
+    requires limit { limit < 2 ^ 30 }
+    requires fits { first.height ≤ limit }
+    ensures gives { Gives (found_of heading_of) result (heading_after limit may_define place (found_of tree_of first.entry)) }
+    ensures fits { IfOk result (λ f. f.height ≤ limit) }
+{
+    let found = simple(alloc, limit, may_define, first)?;
+    Ok(Found {
+        value: Header {
+            place,
+            simple: found.value,
+        },
+        height: found.height,
+        rest: found.rest,
+    })
+}
+
+/// The condition of an if, after what stands before it.
+#[tactic(auto, unfolding(crate::specs::StatementReading::tested))]
+fn condition_of_if<'a>(
+    alloc: Global,
+    limit: u32,
+    init: Option<Header>,
+    height: u32,
+    tokens: &'a [Token],
+) -> Result<Found<'a, IfHead>, Fault>
+    requires limit { limit < 2 ^ 30 }
+    requires fits { height ≤ limit }
+    ensures gives { Gives (found_of if_of) result (tested limit (optional heading_of init) height (tokens_of tokens.now)) }
+    ensures fits { IfOk result (λ f. f.height ≤ limit) }
+{
+    let condition = expr(alloc, 1, limit, tokens)?;
+    Ok(Found {
+        value: IfHead {
+            init,
+            condition: condition.value,
+        },
+        height: height.max(condition.height),
+        rest: condition.rest,
+    })
+}
+
+/// What stands between `if` and its block, and begins with this expression.
+#[tactic(auto, unfolding(crate::specs::StatementReading::if_after))]
+fn if_from<'a>(
+    alloc: Global,
+    limit: u32,
+    place: Place,
+    first: Found<'a, Expr>,
+) -> Result<Found<'a, IfHead>, Fault>
+    requires limit { limit < 2 ^ 30 }
+    requires fits { first.height ≤ limit }
+    ensures gives { Gives (found_of if_of) result (if_after limit place (found_of tree_of first.entry)) }
+    ensures fits { IfOk result (λ f. f.height ≤ limit) }
+{
+    if let Some(_) = after(Mark::LeftBrace, first.rest) {
+        return Ok(Found {
+            value: IfHead {
+                init: None,
+                condition: first.value,
+            },
+            height: first.height,
+            rest: first.rest,
+        });
+    }
+    let init = heading(alloc, limit, true, place, first)?;
+    let (_, rest) = needed(Mark::Semicolon, init.rest)?;
+    condition_of_if(alloc, limit, Some(init.value), init.height, rest)
+}
+
+/// What stands between `if` and its block.
+#[tactic(auto, unfolding(crate::specs::StatementReading::if_head_at))]
+pub(crate) fn if_head(
+    alloc: Global,
+    limit: u32,
+    tokens: &[Token],
+) -> Result<Found<'_, IfHead>, Fault>
+    requires { limit < 2 ^ 30 }
+    ensures gives { Gives (found_of if_of) result (if_head_at limit (tokens_of tokens.now)) }
+    ensures fits { IfOk result (λ f. f.height ≤ limit) }
+{
+    if let Some(rest) = after(Mark::Semicolon, tokens) {
+        return condition_of_if(alloc, limit, None, 0, rest);
+    }
+    let place = place(tokens)?;
+    let first = expr(alloc, 1, limit, tokens)?;
+    if_from(alloc, limit, place, first)
+}
+
+/// The channel of a range with this target, after `range`.
+#[tactic(auto, unfolding(crate::specs::StatementReading::ranged))]
+fn range<'a>(
+    alloc: Global,
+    limit: u32,
+    target: RangeTarget,
+    tokens: &'a [Token],
+) -> Result<Found<'a, ForHead>, Fault>
+    requires { limit < 2 ^ 30 }
+    ensures gives { Gives (found_of for_of) result (ranged limit (target_of target) (tokens_of tokens.now)) }
+    ensures fits { IfOk result (λ f. f.height ≤ limit) }
+{
+    let channel = expr(alloc, 1, limit, tokens)?;
+    Ok(Found {
+        value: ForHead::Range(target, channel.value),
+        height: channel.height,
+        rest: channel.rest,
+    })
+}
+
+/// The condition of a for of three parts, if it has one.
+#[tactic(auto, unfolding(crate::specs::StatementReading::condition_at))]
+fn condition_of_for(
+    alloc: Global,
+    limit: u32,
+    tokens: &[Token],
+) -> Result<Found<'_, Option<Expr>>, Fault>
+    requires { limit < 2 ^ 30 }
+    ensures gives { Gives (found_of (optional tree_of)) result (condition_at limit (tokens_of tokens.now)) }
+    ensures fits { IfOk result (λ f. f.height ≤ limit) }
+{
+    if let Some(_) = after(Mark::Semicolon, tokens) {
+        return Ok(Found {
+            value: None,
+            height: 0,
+            rest: tokens,
+        });
+    }
+    let condition = expr(alloc, 1, limit, tokens)?;
+    Ok(Found {
+        value: Some(condition.value),
+        height: condition.height,
+        rest: condition.rest,
+    })
+}
+
+/// The third part of a for, if it has one.
+#[tactic(auto, unfolding(crate::specs::StatementReading::post_at))]
+fn post(alloc: Global, limit: u32, tokens: &[Token]) -> Result<Found<'_, Option<Header>>, Fault>
+    requires { limit < 2 ^ 30 }
+    ensures gives { Gives (found_of (optional heading_of)) result (post_at limit (tokens_of tokens.now)) }
+    ensures fits { IfOk result (λ f. f.height ≤ limit) }
+{
+    if let Some(_) = after(Mark::LeftBrace, tokens) {
+        return Ok(Found {
+            value: None,
+            height: 0,
+            rest: tokens,
+        });
+    }
+    let place = place(tokens)?;
+    let first = expr(alloc, 1, limit, tokens)?;
+    let post = heading(alloc, limit, false, place, first)?;
+    Ok(Found {
+        value: Some(post.value),
+        height: post.height,
+        rest: post.rest,
+    })
+}
+
+/// The condition and the third part of a for, after its first semicolon.
+#[tactic(auto, unfolding(crate::specs::StatementReading::parts_at))]
+fn parts<'a>(
+    alloc: Global,
+    limit: u32,
+    init: Option<Header>,
+    height: u32,
+    tokens: &'a [Token],
+) -> Result<Found<'a, ForHead>, Fault>
+    requires limit { limit < 2 ^ 30 }
+    requires fits { height ≤ limit }
+    ensures gives { Gives (found_of for_of) result (parts_at limit (optional heading_of init) height (tokens_of tokens.now)) }
+    ensures fits { IfOk result (λ f. f.height ≤ limit) }
+{
+    let condition = condition_of_for(alloc, limit, tokens)?;
+    let (_, rest) = needed(Mark::Semicolon, condition.rest)?;
+    let post = post(alloc, limit, rest)?;
+    Ok(Found {
+        value: ForHead::Loop(init, condition.value, post.value),
+        height: height.max(condition.height.max(post.height)),
+        rest: post.rest,
+    })
+}
+
+/// The tokens after `=` or `:=` and `range`, and whether it is `:=`.
+#[tactic(auto, unfolding(crate::specs::StatementReading::target_at))]
+fn range_mark(tokens: &[Token]) -> Option<(bool, &[Token])>
+    ensures { (x : List ℕ) → SeesRange x result (target_at x (tokens_of tokens.now)) }
+{
+    if let Some(mid) = after(Mark::Assign, tokens) {
+        let Some(rest) = after(Mark::Range, mid) else {
+            return None;
+        };
+        return Some((false, rest));
+    }
+    let Some(mid) = after(Mark::Define, tokens) else {
+        return None;
+    };
+    let Some(rest) = after(Mark::Range, mid) else {
+        return None;
+    };
+    Some((true, rest))
+}
+
+/// A for of three parts that begins with this expression.
+#[tactic(auto, unfolding(crate::specs::StatementReading::for_init))]
+fn for_parts<'a>(
+    alloc: Global,
+    limit: u32,
+    place: Place,
+    first: Found<'a, Expr>,
+) -> Result<Found<'a, ForHead>, Fault>
+    requires limit { limit < 2 ^ 30 }
+    requires fits { first.height ≤ limit }
+    ensures gives { Gives (found_of for_of) result (for_init limit place (found_of tree_of first.entry)) }
+    ensures fits { IfOk result (λ f. f.height ≤ limit) }
+{
+    let init = heading(alloc, limit, true, place, first)?;
+    let (_, rest) = needed(Mark::Semicolon, init.rest)?;
+    parts(alloc, limit, Some(init.value), init.height, rest)
+}
+
+/// What stands between `for` and its block, and begins with this name.
+#[tactic(auto, unfolding(crate::specs::StatementReading::for_named))]
+fn for_name<'a>(
+    alloc: Global,
+    limit: u32,
+    place: Place,
+    name: Vec<u8>,
+    height: u32,
+    tokens: &'a [Token],
+) -> Result<Found<'a, ForHead>, Fault>
+    requires limit { limit < 2 ^ 30 }
+    requires fits { height ≤ limit }
+    ensures gives { Gives (found_of for_of) result (for_named limit place (Name name.items, height, tokens_of tokens.now) name.items) }
+    ensures fits { IfOk result (λ f. f.height ≤ limit) }
+{
+    match range_mark(tokens) {
+        Some((true, rest)) => range(alloc, limit, RangeTarget::Define(name), rest),
+        Some((false, rest)) => range(alloc, limit, RangeTarget::Assign(name), rest),
+        None => for_parts(
+            alloc,
+            limit,
+            place,
+            Found {
+                value: Expr::Name(name),
+                height,
+                rest: tokens,
+            },
+        ),
+    }
+}
+
+/// What stands between `for` and its block, and begins with this expression.
+#[tactic(auto, unfolding(crate::specs::StatementReading::for_after, crate::specs::StatementReading::bare))]
+fn for_from<'a>(
+    alloc: Global,
+    limit: u32,
+    place: Place,
+    first: Found<'a, Expr>,
+) -> Result<Found<'a, ForHead>, Fault>
+    requires limit { limit < 2 ^ 30 }
+    requires fits { first.height ≤ limit }
+    ensures gives { Gives (found_of for_of) result (for_after limit place (found_of tree_of first.entry)) }
+    ensures fits { IfOk result (λ f. f.height ≤ limit) }
+{
+    let Found {
+        value,
+        height,
+        rest,
+    } = first;
+    if let Some(_) = after(Mark::LeftBrace, rest) {
+        return Ok(Found {
+            value: ForHead::Loop(None, Some(value), None),
+            height,
+            rest,
+        });
+    }
+    match value {
+        Expr::Name(name) => for_name(alloc, limit, place, name, height, rest),
+        value => for_parts(
+            alloc,
+            limit,
+            place,
+            Found {
+                value,
+                height,
+                rest,
+            },
+        ),
+    }
+}
+
+/// What stands between `for` and its block.
+#[tactic(auto, unfolding(crate::specs::StatementReading::for_head_at))]
+pub(crate) fn for_head(
+    alloc: Global,
+    limit: u32,
+    tokens: &[Token],
+) -> Result<Found<'_, ForHead>, Fault>
+    requires { limit < 2 ^ 30 }
+    ensures gives { Gives (found_of for_of) result (for_head_at limit (tokens_of tokens.now)) }
+    ensures fits { IfOk result (λ f. f.height ≤ limit) }
+{
+    if let Some(_) = after(Mark::LeftBrace, tokens) {
+        return Ok(Found {
+            value: ForHead::Loop(None, None, None),
+            height: 0,
+            rest: tokens,
+        });
+    }
+    if let Some(rest) = after(Mark::Range, tokens) {
+        return range(alloc, limit, RangeTarget::Nothing, rest);
+    }
+    if let Some(rest) = after(Mark::Semicolon, tokens) {
+        return parts(alloc, limit, None, 0, rest);
+    }
+    let place = place(tokens)?;
+    let first = expr(alloc, 1, limit, tokens)?;
+    for_from(alloc, limit, place, first)
+}

@@ -1,0 +1,265 @@
+//! Reading simple statements.
+
+ghost use Rattle.std.specs.Prelude.{◌≡◌, [], ◌∷◌, ◌+◌, ◌<◌, ◌≤◌, IfOk, IfSome, ◌^◌, length};
+ghost use Rattle.gr_scan.specs.Tokens.{tokens_of};
+ghost use Rattle.gr_tree.specs.Exprs.{Name, tree_of, names_of};
+ghost use Rattle.gr_tree.specs.Statements.{simple_of};
+ghost use Rattle.gr_syntax.specs.StatementReading.{up_to, define_at, values_at, names_from, update_at, alone_at, sent_at, joined_at, simple_named, simple_after};
+ghost use Rattle.gr_syntax.specs.Views.{Gives, found_of, Sees};
+
+use crate::expression::{expr, exprs};
+use crate::look::{Fault, Found, after, names, needed};
+use crate::opening::{Joint, first_joint};
+use gr_scan::token::{Mark, Token};
+use gr_tree::{BinaryOp, Expr, Simple};
+use std::alloc::Global;
+
+/// The tokens after a `:=`, where one may stand and comes first.
+#[tactic(auto, unfolding(crate::specs::StatementReading::define_at))]
+fn define(may_define: bool, tokens: &[Token]) -> Option<&[Token]>
+    ensures value { Sees result (define_at may_define (tokens_of tokens.now)) }
+    ensures shorter { IfSome result (λ rest. length rest.now < length tokens.now) }
+{
+    if may_define {
+        after(Mark::Define, tokens)
+    } else {
+        None
+    }
+}
+
+/// What follows the names of an assignment or, where it may be one, of a definition.
+#[tactic(auto, unfolding(crate::specs::StatementReading::values_at))]
+fn values<'a>(
+    alloc: Global,
+    limit: u32,
+    may_define: bool,
+    names: Vec<Vec<u8>>,
+    tokens: &'a [Token],
+) -> Result<Found<'a, Simple>, Fault>
+    requires { limit < 2 ^ 30 }
+    ensures gives { Gives (found_of simple_of) result (values_at limit may_define (names_of names.items) (tokens_of tokens.now)) }
+    ensures fits { IfOk result (λ f. f.height ≤ limit) }
+    ensures shorter { IfOk result (λ f. length f.rest.now < length tokens.now) }
+{
+    if let Some(rest) = define(may_define, tokens) {
+        let values = exprs(alloc, limit, false, rest)?;
+        if values.height + 1 > limit {
+            return Err(Fault::TooHigh { left: rest.len() });
+        }
+        return Ok(Found {
+            value: Simple::Define(names, values.value),
+            height: values.height + 1,
+            rest: values.rest,
+        });
+    }
+    let (_, rest) = needed(Mark::Assign, tokens)?;
+    let values = exprs(alloc, limit, false, rest)?;
+    if values.height + 1 > limit {
+        return Err(Fault::TooHigh { left: rest.len() });
+    }
+    Ok(Found {
+        value: Simple::Assign(names, values.value),
+        height: values.height + 1,
+        rest: values.rest,
+    })
+}
+
+/// More names after this one, after the comma between them; they count nothing for the height.
+#[tactic(auto, unfolding(crate::specs::StatementReading::names_from))]
+fn names_from<'a>(
+    alloc: Global,
+    first: Vec<u8>,
+    tokens: &'a [Token],
+) -> Result<Found<'a, Vec<Vec<u8>>>, Fault>
+    ensures gives { Gives (found_of (λ v. names_of v.items)) result (names_from first.items (tokens_of tokens.now)) }
+    ensures shorter { IfOk result (λ f. length f.rest.now < length tokens.now) }
+{
+    let others = names(alloc, tokens)?;
+    let mut value = others.value;
+    value.insert(0, first)?;
+    Ok(Found {
+        value,
+        height: 0,
+        rest: others.rest,
+    })
+}
+
+/// A value after the operator of an update.
+#[tactic(auto, unfolding(crate::specs::StatementReading::update_at))]
+fn update<'a>(
+    alloc: Global,
+    limit: u32,
+    name: Vec<u8>,
+    op: BinaryOp,
+    tokens: &'a [Token],
+) -> Result<Found<'a, Simple>, Fault>
+    requires { limit < 2 ^ 30 }
+    ensures gives { Gives (found_of simple_of) result (update_at limit name.items op (tokens_of tokens.now)) }
+    ensures fits { IfOk result (λ f. f.height ≤ limit) }
+    ensures shorter { IfOk result (λ f. length f.rest.now < length tokens.now) }
+{
+    let value = expr(alloc, 1, limit, tokens)?;
+    if value.height + 1 > limit {
+        return Err(Fault::TooHigh { left: tokens.len() });
+    }
+    Ok(Found {
+        value: Simple::Update(name, op, value.value),
+        height: value.height + 1,
+        rest: value.rest,
+    })
+}
+
+/// This expression as a statement.
+fn alone(limit: u32, value: Found<'_, Expr>) -> Result<Found<'_, Simple>, Fault>
+    requires limit { limit < 2 ^ 30 }
+    requires fits { value.height ≤ limit }
+    ensures gives { Gives (found_of simple_of) result (alone_at limit (found_of tree_of value.entry)) }
+    ensures fits { IfOk result (λ f. f.height ≤ limit) }
+    ensures rest { IfOk result (λ f. length f.rest.now ≤ length value.entry.rest.now) }
+{
+    if value.height + 1 > limit {
+        return Err(Fault::TooHigh {
+            left: value.rest.len(),
+        });
+    }
+    Ok(Found {
+        value: Simple::Eval(value.value),
+        height: value.height + 1,
+        rest: value.rest,
+    })
+}
+
+/// A send to this channel, after its `<-`.
+fn send<'a>(
+    alloc: Global,
+    limit: u32,
+    channel: Expr,
+    height: u32,
+    tokens: &'a [Token],
+) -> Result<Found<'a, Simple>, Fault>
+    requires limit { limit < 2 ^ 30 }
+    requires fits { height ≤ limit }
+    ensures gives { Gives (found_of simple_of) result (sent_at limit (tree_of channel, height, []) (tokens_of tokens.now)) }
+    ensures fits { IfOk result (λ f. f.height ≤ limit) }
+    ensures rest { IfOk result (λ f. length f.rest.now ≤ length tokens.now) }
+{
+    let value = expr(alloc, 1, limit, tokens)?;
+    let height = height.max(value.height) + 1;
+    if height > limit {
+        return Err(Fault::TooHigh { left: tokens.len() });
+    }
+    Ok(Found {
+        value: Simple::Send(channel, value.value),
+        height,
+        rest: value.rest,
+    })
+}
+
+/// This statement, which has no parts.
+fn leaf(limit: u32, value: Simple, tokens: &[Token]) -> Result<Found<'_, Simple>, Fault>
+    ensures gives { Gives (found_of simple_of) result (up_to limit (simple_of value, 1, tokens_of tokens.now)) }
+    ensures fits { IfOk result (λ f. f.height ≤ limit) }
+    ensures rest { IfOk result (λ f. length f.rest.now ≤ length tokens.now) }
+{
+    if limit == 0 {
+        return Err(Fault::TooHigh { left: tokens.len() });
+    }
+    Ok(Found {
+        value,
+        height: 1,
+        rest: tokens,
+    })
+}
+
+/// What follows a name and this joint in a simple statement; the tokens from the joint on are `from`.
+#[tactic(auto, unfolding(crate::specs::StatementReading::joined_at))]
+fn joined<'a>(
+    alloc: Global,
+    limit: u32,
+    may_define: bool,
+    name: Vec<u8>,
+    joint: Joint,
+    from: &'a [Token],
+    tokens: &'a [Token],
+) -> Result<Found<'a, Simple>, Fault>
+    requires limit { limit < 2 ^ 30 }
+    requires rest { length tokens.now < length from.now }
+    ensures gives { Gives (found_of simple_of) result (joined_at limit may_define name.items joint (tokens_of from.now) (tokens_of tokens.now)) }
+    ensures fits { IfOk result (λ f. f.height ≤ limit) }
+    ensures rest { IfOk result (λ f. length f.rest.now ≤ length from.now) }
+{
+    match joint {
+        Joint::Comma => {
+            let names = names_from(alloc, name, tokens)?;
+            values(alloc, limit, may_define, names.value, names.rest)
+        }
+        Joint::Values => values(alloc, limit, may_define, vec![in alloc; name]?, from),
+        Joint::Update(op) => update(alloc, limit, name, op, tokens),
+        Joint::Increment => leaf(limit, Simple::Increment(name), tokens),
+        Joint::Decrement => leaf(limit, Simple::Decrement(name), tokens),
+    }
+}
+
+/// A simple statement that begins with this name, before the tokens after it.
+#[tactic(auto, unfolding(crate::specs::StatementReading::simple_named))]
+fn named<'a>(
+    alloc: Global,
+    limit: u32,
+    may_define: bool,
+    name: Vec<u8>,
+    height: u32,
+    tokens: &'a [Token],
+) -> Result<Found<'a, Simple>, Fault>
+    requires limit { limit < 2 ^ 30 }
+    requires fits { height ≤ limit }
+    ensures gives { Gives (found_of simple_of) result (simple_named limit may_define (Name name.items, height, tokens_of tokens.now) name.items) }
+    ensures fits { IfOk result (λ f. f.height ≤ limit) }
+    ensures rest { IfOk result (λ f. length f.rest.now ≤ length tokens.now) }
+{
+    match first_joint(tokens) {
+        Some((joint, rest)) => joined(alloc, limit, may_define, name, joint, tokens, rest),
+        None => alone(
+            limit,
+            Found {
+                value: Expr::Name(name),
+                height,
+                rest: tokens,
+            },
+        ),
+    }
+}
+
+/// A simple statement that begins with this expression.
+#[tactic(auto, unfolding(crate::specs::StatementReading::simple_after, crate::specs::StatementReading::bare))]
+pub(crate) fn simple<'a>(
+    alloc: Global,
+    limit: u32,
+    may_define: bool,
+    first: Found<'a, Expr>,
+) -> Result<Found<'a, Simple>, Fault>
+    requires limit { limit < 2 ^ 30 }
+    requires fits { first.height ≤ limit }
+    ensures gives { Gives (found_of simple_of) result (simple_after limit may_define (found_of tree_of first.entry)) }
+    ensures fits { IfOk result (λ f. f.height ≤ limit) }
+    ensures rest { IfOk result (λ f. length f.rest.now ≤ length first.entry.rest.now) }
+{
+    let Found {
+        value,
+        height,
+        rest,
+    } = first;
+    if let Some(after_arrow) = after(Mark::Arrow, rest) {
+        return send(alloc, limit, value, height, after_arrow);
+    }
+    match value {
+        Expr::Name(name) => named(alloc, limit, may_define, name, height, rest),
+        value => alone(
+            limit,
+            Found {
+                value,
+                height,
+                rest,
+            },
+        ),
+    }
+}

@@ -1,0 +1,109 @@
+//! Reading types.
+
+ghost use Rattle.std.specs.Prelude.{◌≡◌, ◌+◌, ◌<◌, ◌≤◌, IfOk, ◌^◌, length};
+ghost use Rattle.gr_scan.specs.Tokens.{tokens_of};
+ghost use Rattle.gr_tree.specs.Exprs.{type_of};
+ghost use Rattle.gr_syntax.specs.Reading.{channel_at, both_at, paren_type_at, plain_type_at, type_at};
+ghost use Rattle.gr_syntax.specs.Views.{Gives, found_of};
+
+use crate::look::{Fault, Found, after, copy, name, needed};
+use gr_scan::token::{Mark, Token};
+use gr_tree::{Direction, TypeTree};
+use std::alloc::Global;
+
+/// A name, or `struct{}`.
+#[tactic(auto, unfolding(crate::specs::Reading::plain_type_at))]
+fn plain_type(tokens: &[Token]) -> Result<Found<'_, TypeTree>, Fault>
+    ensures gives { Gives (found_of type_of) result (plain_type_at (tokens_of tokens.now)) }
+    ensures fits { IfOk result (λ f. f.height ≡ 1) }
+    ensures shorter { IfOk result (λ f. length f.rest.now < length tokens.now) }
+{
+    if let Some(rest) = after(Mark::Struct, tokens) {
+        let (_, rest) = needed(Mark::LeftBrace, rest)?;
+        let (_, rest) = needed(Mark::RightBrace, rest)?;
+        return Ok(Found {
+            value: TypeTree::Unit,
+            height: 1,
+            rest,
+        });
+    }
+    let (first, rest) = name(tokens)?;
+    Ok(Found {
+        value: TypeTree::Name(copy(first)?),
+        height: 1,
+        rest,
+    })
+}
+
+/// A channel type whose element, of at most this height, begins here.
+#[cycle(types)]
+#[tactic(auto, unfolding(crate::specs::Reading::channel_at))]
+fn channel(
+    alloc: Global,
+    below: u32,
+    direction: Direction,
+    tokens: &[Token],
+) -> Result<Found<'_, TypeTree>, Fault>
+    requires { below < 2 ^ 31 }
+    ensures gives { Gives (found_of type_of) result (channel_at (type_at below) direction (tokens_of tokens.now)) }
+    ensures fits { IfOk result (λ f. f.height ≤ below + 1) }
+    ensures shorter { IfOk result (λ f. length f.rest.now < length tokens.now) }
+{
+    let element = type_tree(alloc, below, tokens)?;
+    Ok(Found {
+        value: TypeTree::Chan(direction, Box::new(alloc, element.value)?),
+        height: element.height + 1,
+        rest: element.rest,
+    })
+}
+
+/// A type in parentheses, after the first of them; the inner type is of at most this height.
+#[cycle(types)]
+#[tactic(auto, unfolding(crate::specs::Reading::paren_type_at))]
+fn paren_type(alloc: Global, below: u32, tokens: &[Token]) -> Result<Found<'_, TypeTree>, Fault>
+    requires { below < 2 ^ 31 }
+    ensures gives { Gives (found_of type_of) result (paren_type_at (type_at below) (tokens_of tokens.now)) }
+    ensures fits { IfOk result (λ f. f.height ≤ below + 1) }
+    ensures shorter { IfOk result (λ f. length f.rest.now < length tokens.now) }
+{
+    let inner = type_tree(alloc, below, tokens)?;
+    let (_, rest) = needed(Mark::RightParen, inner.rest)?;
+    Ok(Found {
+        value: TypeTree::Paren(Box::new(alloc, inner.value)?),
+        height: inner.height + 1,
+        rest,
+    })
+}
+
+/// A type of at most this height. A `<-` after `chan` belongs to that `chan`.
+#[cycle(types)]
+#[tactic(auto, unfolding(crate::specs::Reading::type_at, crate::specs::Reading::type_from, crate::specs::Reading::both_at))]
+pub(crate) fn type_tree(
+    alloc: Global,
+    limit: u32,
+    tokens: &[Token],
+) -> Result<Found<'_, TypeTree>, Fault>
+    requires { limit < 2 ^ 31 }
+    ensures gives { Gives (found_of type_of) result (type_at limit (tokens_of tokens.now)) }
+    ensures fits { IfOk result (λ f. f.height ≤ limit) }
+    ensures shorter { IfOk result (λ f. length f.rest.now < length tokens.now) }
+{
+    if limit == 0 {
+        return Err(Fault::TooHigh { left: tokens.len() });
+    }
+    let below = limit - 1;
+    if let Some(rest) = after(Mark::Chan, tokens) {
+        return match after(Mark::Arrow, rest) {
+            Some(rest) => channel(alloc, below, Direction::Send, rest),
+            None => channel(alloc, below, Direction::Both, rest),
+        };
+    }
+    if let Some(rest) = after(Mark::Arrow, tokens) {
+        let (_, rest) = needed(Mark::Chan, rest)?;
+        return channel(alloc, below, Direction::Receive, rest);
+    }
+    match after(Mark::LeftParen, tokens) {
+        Some(rest) => paren_type(alloc, below, rest),
+        None => plain_type(tokens),
+    }
+}
