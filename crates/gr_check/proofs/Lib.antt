@@ -1,3 +1,4 @@
+pub mod Arguments
 pub mod Finds
 pub mod FindsAll
 pub mod FindsFiles
@@ -5,3 +6,9 @@ pub mod FindsSimple
 pub mod FindsSimpleAll
 pub mod FindsStatements
 pub mod FindsStatementsAll
+pub mod FunctionNumbers
+pub mod LabelNames
+pub mod Rows
+pub mod Scopes
+pub mod TreeRows
+pub mod Trees

@@ -9,3 +9,11 @@ pub mod FileChecks
 pub mod Finding
 pub mod FindingStatements
 pub mod FindingFiles
+pub mod TypeViews
+pub mod Programs
+pub mod Tables
+pub mod FunctionTables
+pub mod Calling
+pub mod Checking
+pub mod StatementViews
+pub mod LabelTables

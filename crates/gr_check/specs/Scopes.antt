@@ -1,5 +1,5 @@
 -- Names and their scopes (Go: Declarations and scope, Blocks, Blank identifier, Predeclared identifiers).
-use Rattle.std.specs.Prelude.{ℕ, zero, suc, ◌+◌, Bool, true, not, ◌&&◌, List, [], ◌∷◌, ◌++◌, length, Option, Some, None, if◌then◌else◌, is_some, nat_eq}
+use Rattle.std.specs.Prelude.{◌≡◌, ℕ, zero, suc, ◌+◌, Bool, true, false, not, ◌||◌, ◌&&◌, List, [], ◌∷◌, ◌++◌, length, Option, Some, None, if◌then◌else◌, is_some, nat_eq, codes}
 use Rattle.std.specs.Cmp.Lexicographic.{pointwise}
 use Rattle.std.specs.List.{list_all}
 use Rattle.gr_check.specs.Types.{Ty}
@@ -44,6 +44,10 @@ type_of None = None
 -- the type of the variable with a number
 abbrev pub type_of_variable : Scope → ℕ → Option Ty
 type_of_variable (In here around variables) k = type_of (numbered variables k)
+
+-- the variables by their numbers
+abbrev pub variables_in : Scope → List Declared
+variables_in (In here around variables) = variables
 
 -- whether the block itself declares a name
 abbrev pub is_here : Scope → List ℕ → Bool

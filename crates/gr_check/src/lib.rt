@@ -1,4 +1,16 @@
-//! The checked program of a file of the whole language: what it is, and that a file has at most one.
+//! The checker of the whole language: the judgement, its laws, and the parts of the code that stand.
 #![tactic(auto)]
 
+mod calls;
+pub mod endings;
+mod expressions;
+pub mod fault;
+mod functions;
+pub mod labels;
 pub mod laws;
+mod names;
+mod operators;
+pub mod program;
+mod scope;
+pub mod types;
+mod values;

@@ -1,0 +1,52 @@
+-- What the code's answers say of the judgement's functions.
+use Rattle.std.specs.Prelude.{◌≡◌, Bool, true, false, List, [], ◌∷◌, Option, Some, None, Result, Ok, Err}
+use Rattle.gr_tree.specs.declared.expr.Direction.{Direction}
+use Rattle.gr_check.specs.declared.types.Type as code_type
+use Rattle.gr_check.specs.declared.program.Term as code_term
+use Rattle.gr_check.specs.declared.values.Value as code_value
+use Rattle.gr_check.specs.declared.values.Value.TheVariants as code
+use Rattle.gr_check.specs.declared.values.Channel as code_channel
+use Rattle.gr_check.specs.declared.calls.Called as code_called
+use Rattle.gr_check.specs.declared.fault.Fault.{Fault}
+use Rattle.gr_check.specs.declared.fault.Fault.TheVariants as faults
+use Rattle.gr_check.specs.Types.{Ty}
+use Rattle.gr_check.specs.Terms.{Term, Call}
+use Rattle.gr_check.specs.Values.{Value, Known, NilValue, Made}
+use Rattle.gr_check.specs.Finding.{Typed}
+use Rattle.gr_check.specs.TypeViews.{ty_of}
+use Rattle.gr_tree.specs.Statements.{optional}
+use Rattle.gr_check.specs.Programs.{term_of, terms_of}
+
+abbrev pub meaning_of : code_value.Value → Value
+meaning_of (code.Constant c) = Known c
+meaning_of code.Nil = NilValue
+meaning_of (code.Made t p) = Made (ty_of t) (term_of p)
+
+abbrev pub meanings_of : List code_value.Value → List Value
+meanings_of [] = []
+meanings_of (v ∷ vs) = meaning_of v ∷ meanings_of vs
+
+abbrev pub typed_of : code_type.Type × code_term.Term → Typed
+typed_of p = (ty_of p.0, term_of p.1)
+
+abbrev pub channel_of : code_channel.Channel → Direction × (Ty × Term)
+channel_of c = (c.direction, (ty_of c.element, term_of c.term))
+
+abbrev pub called_of : code_called.Called → Option Ty × Term
+called_of c = (optional ty_of c.result, Call c.function (terms_of c.arguments.items))
+
+-- a fault says that there is nothing; want of memory says nothing
+abbrev pub Rejects : {B : Type 0} → Fault → Option B → Type 0
+Rejects (faults.Broken code) o = o ≡ None
+Rejects faults.Memory o = Unit {0}
+
+-- a result beside what it should be
+abbrev pub Agrees : {A B : Type 0} → (A → B) → Result A Fault → Option B → Type 0
+Agrees view (Ok a) o = o ≡ Some (view a)
+Agrees view (Err fault) o = Rejects fault o
+
+-- a test: a fault says that it fails
+abbrev pub Holds : {A : Type 0} → Result A Fault → Bool → Type 0
+Holds (Ok u) b = b ≡ true
+Holds (Err (faults.Broken code)) b = b ≡ false
+Holds (Err faults.Memory) b = Unit {0}
