@@ -23,10 +23,17 @@ bin/channel_bench: FORCE
 	mkdir -p bin
 	cp crates/channel_bench/out/channel_bench bin/channel_bench
 
-# The time of a step in a small and in a large program, and of changes of a channel at a small and a large capacity.
-bench: bin/rewind bin/channel_bench
+bin/front_bench: FORCE
+	cd crates/front_bench && rt run >/dev/null
+	mkdir -p bin
+	cp crates/front_bench/out/front_bench bin/front_bench
+
+# The time of a step in a small and in a large program, of changes of a channel at a small and a large capacity, and of
+# scanning, parsing and checking small and large sources.
+bench: bin/rewind bin/channel_bench bin/front_bench
 	bench/steps.py bin/rewind
 	bench/channels.py bin/channel_bench
+	bench/front.py bin/front_bench
 
 clean:
 	rm -rf bin crates/*/out

@@ -1,9 +1,8 @@
 -- How withdrawn waiters go back, one at a time.
-use Rattle.std.proofs.Common.{◌≡◌, ◌⊎◌, inl, inr, ℕ, ◌+◌, ◌-◌, ◌<◌, ◌≤◌, List, [], ◌∷◌, ◌++◌, length, take, drop, refl, ap, sym, ◌∙◌, subst, arith, get_or, drop-cons, add-one, add-zero, length-append, append_assoc, append-nil, if◌then◌else◌}
-use Rattle.std.specs.Prelude.{insert, remove, zero, not, true, false, filter, Bool, suc, count_by}
+use Rattle.std.proofs.Common.{◌≡◌, ◌⊎◌, inl, inr, ℕ, ◌+◌, ◌-◌, ◌<◌, ◌≤◌, List, [], ◌∷◌, ◌++◌, length, refl, ap, sym, ◌∙◌, subst, arith, add-zero, length-append, append_assoc, append-nil, if◌then◌else◌}
+use Rattle.std.specs.Prelude.{insert, not, true, false, filter, Bool, suc, count_by}
 use Rattle.std.proofs.lemmas.List.Filters.{length-filter_both}
 use Rattle.std.proofs.lemmas.List.Sums.{length-filter}
-use Rattle.std.proofs.lemmas.Grind.{common_steps}
 use Rattle.gr_channels.specs.declared.waiter.Waiter.{Waiter}
 use Rattle.gr_channels.specs.Queues.{is_of, others, restored, PlacesFit}
 

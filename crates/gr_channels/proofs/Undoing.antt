@@ -1,7 +1,7 @@
 -- A change is taken back wherever what it wrote stands.
-use Rattle.std.proofs.Common.{◌≡◌, ◌≢◌, ◌⊎◌, ℕ, zero, suc, ◌+◌, ◌-◌, ◌%◌, ◌<◌, ◌≤◌, ◌==◌, Bool, true, false, ◌&&◌, ◌||◌, List, [], ◌∷◌, ◌++◌, length, take, Option, Some, None, refl, ap, sym, ◌∙◌, subst, arith, inl, inr, eqb, eqb-true, eq-eqb, lt_of_le_of_lt}
+use Rattle.std.proofs.Common.{◌≡◌, ◌⊎◌, ℕ, suc, ◌+◌, ◌-◌, ◌%◌, ◌<◌, ◌≤◌, ◌==◌, Bool, true, false, ◌&&◌, ◌||◌, List, [], ◌∷◌, length, Option, Some, None, refl, ap, sym, ◌∙◌, subst, arith, inl, inr, eqb-true, eq-eqb, lt_of_le_of_lt}
 use Rattle.std.proofs.lemmas.Bool.{eqb-false}
-use Rattle.std.specs.Prelude.{slice_get, slice_index_or, ◌^◌}
+use Rattle.std.specs.Prelude.{slice_get, ◌^◌}
 use Rattle.std.specs.Global.{Vec}
 use Rattle.std.proofs.lemmas.Option.{slice_get_within}
 use Rattle.std.proofs.lemmas.Bool.Decides.{eqb_tells}
@@ -12,7 +12,7 @@ use Rattle.gr_channels.specs.declared.changes.ChanUndo.TheVariants.{Handed, Buff
 use Rattle.gr_channels.specs.Queues.{restored, PlacesFit}
 use Rattle.gr_channels.specs.Channels.{Content, IsChannel, tail_of}
 use Rattle.gr_channels.specs.Changes.{undone, Fits, front, last_or}
-use Rattle.gr_channels.specs.Objects.{GateContent, gate_of, head_of, slot_from, slot_of, Part, Gate, Tail, Head, Slot, SameAt, is_gate, is_tail, is_head, is_slot, has_any, head_slot, tail_slot, is_written, Changes, TakesBack}
+use Rattle.gr_channels.specs.Objects.{GateContent, gate_of, head_of, slot_from, slot_of, Part, Gate, Tail, Head, Slot, SameAt, is_gate, has_any, tail_slot, is_written, Changes, TakesBack}
 use Rattle.gr_channels.proofs.Slots.{slot_before, slot_first, slot_rest, slot_found, slot_front, slot_front_own, slot_last, slot_full, front_last, some_inside}
 
 -- a content with another gate

@@ -1,16 +1,14 @@
 -- Names in order, and where one of them stands.
-use Rattle.std.proofs.Common.{◌≡◌, ◌⊎◌, inl, inr, ℕ, zero, suc, ◌+◌, ◌-◌, ◌<◌, ◌≤◌, Bool, true, false, ◌||◌, List, [], ◌∷◌, ◌++◌, length, take, drop, filter, map, refl, ap, sym, ◌∙◌, subst, arith, eqb, add-one, lt_of_lt_of_le}
-use Rattle.std.specs.Prelude.{slice_index_or, slice_get, nat_eq, insert, remove, Option, Some, None}
-use Rattle.std.specs.List.{list_any, AllByRecursion}
-use Rattle.std.specs.Ordering.{is_lt, is_gt, ordering_reverse, nat_cmp}
+use Rattle.std.proofs.Common.{◌≡◌, ◌⊎◌, inl, inr, ℕ, zero, suc, ◌+◌, ◌<◌, ◌≤◌, List, [], ◌∷◌, length, take, drop, refl, ap, sym, ◌∙◌, arith, add-one}
+use Rattle.std.specs.Prelude.{slice_index_or}
+use Rattle.std.specs.Ordering.{ordering_reverse}
 use Rattle.std.specs.Cmp.{IsTotalOrder}
-use Rattle.std.specs.Cmp.Lexicographic.{pointwise, nat_list_cmp_total}
+use Rattle.std.specs.Cmp.Lexicographic.{nat_list_cmp_total}
 use Rattle.std.specs.declared.cmp.Ordering.{Ordering}
 use Rattle.std.specs.declared.cmp.Ordering.TheVariants.{Less, Equal, Greater}
 use Rattle.std.proofs.lemmas.Map.Lookups.{exact_bytes}
-use Rattle.std.proofs.lemmas.Grind.{common_steps}
 use Rattle.gr_base.specs.Names.{go_cmp}
-use Rattle.gr_pool.specs.Goroutines.{is_among, IsInOrder, lesser, greater, with_name, without_name, next_name, names_at, StandsAt, BelongsAt}
+use Rattle.gr_pool.specs.Goroutines.{IsInOrder, lesser, greater, names_at, StandsAt}
 
 total : IsTotalOrder go_cmp
 total = nat_list_cmp_total

@@ -1,6 +1,6 @@
 -- Ready names as a list in order, and the places that stand for them.
-use Rattle.std.proofs.Common.{◌≡◌, ◌⊎◌, inl, inr, ℕ, zero, suc, ◌+◌, ◌-◌, ◌<◌, ◌≤◌, Bool, true, false, ◌&&◌, ◌||◌, not, List, [], ◌∷◌, ◌++◌, length, take, drop, filter, map, refl, ap, sym, ◌∙◌, subst, arith, eqb, eqb-true, add-one, Option, Some, None, take-append-drop, length-drop, length-append}
-use Rattle.std.specs.Prelude.{slice_index_or, slice_get, nat_eq, insert, remove, All, ⊤}
+use Rattle.std.proofs.Common.{◌≡◌, ◌⊎◌, inl, inr, ℕ, zero, suc, ◌+◌, ◌<◌, ◌≤◌, Bool, true, false, List, [], ◌∷◌, ◌++◌, length, take, drop, filter, refl, ap, sym, ◌∙◌, subst, arith, eqb, eqb-true, add-one, Some, None, take-append-drop, length-drop, length-append}
+use Rattle.std.specs.Prelude.{slice_index_or, slice_get, nat_eq, insert, remove, All}
 use Rattle.std.specs.List.{list_any, position, AllByRecursion, IsDistinct}
 use Rattle.std.specs.Ordering.{is_lt, is_gt}
 use Rattle.std.specs.Cmp.Lexicographic.{pointwise}

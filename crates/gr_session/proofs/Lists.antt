@@ -3,8 +3,8 @@ use Rattle.std.proofs.Common.{◌≡◌, ℕ, zero, suc, ◌-◌, List, [], ◌�
 use Rattle.std.specs.Prelude.{slice_get}
 use Rattle.std.proofs.lemmas.List.{length_push, take_at, drop_more}
 use Rattle.gr_tree.specs.Exprs.{names_of}
-use Rattle.gr_types.specs.declared.program.Statement.{Statement}
-use Rattle.gr_types.specs.Programs.{step_of, steps_of}
+use Rattle.gr_session.specs.declared.plain.Statement.{Statement}
+use Rattle.gr_session.specs.PlainPrograms.{step_of, steps_of}
 
 pub length_names : (names : List (Vec ℕ Global)) → length (names_of names) ≡ length names
 length_names [] = refl

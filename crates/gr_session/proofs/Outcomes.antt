@@ -6,7 +6,7 @@ use Rattle.std.proofs.lemmas.List.{length_push, take_at}
 use Rattle.gr_base.specs.declared.kinds.Kind.{Kind}
 use Rattle.gr_base.specs.declared.names.StepId.{StepId}
 use Rattle.gr_base.specs.declared.events.Event.{Event}
-use Rattle.gr_types.specs.Programs.{Checked}
+use Rattle.gr_session.specs.PlainPrograms.{Program}
 use Rattle.gr_session.specs.declared.command.Command.TheVariants as commands
 use Rattle.gr_session.specs.declared.command.Memory.TheVariants.{Enough, EnoughFor}
 use Rattle.gr_session.specs.declared.command.Refusal.{Refusal}
@@ -23,11 +23,11 @@ use Rattle.gr_session.proofs.Paths.{events_push, events_length, path_last}
 use Rattle.gr_session.proofs.Runs.{run_replay, step_counted}
 
 -- what a step comes to, its rule known
-step_leads : (p : Checked) (rs : List Record) (s : State) (go : List ℕ) (memory : _) (o : _) → IsRun p rs s
+step_leads : (p : Program) (rs : List Record) (s : State) (go : List ℕ) (memory : _) (o : _) → IsRun p rs s
     → step_outcome (world rs) (plain_step go) memory (step p s (plain_step go)) ≡ o → outcome p (world rs) (commands.Step go) memory ≡ o
 step_leads p rs s go memory o run e = rw (run_replay p rs s run) e
 
-pub refused_leads : (p : Checked) (rs : List Record) (s : State) (go : List ℕ) (why : Refusal) → IsRun p rs s → step p s (plain_step go) ≡ Err why
+pub refused_leads : (p : Program) (rs : List Record) (s : State) (go : List ℕ) (why : Refusal) → IsRun p rs s → step p s (plain_step go) ≡ Err why
     → Leads p (commands.Step go) Enough rs rs (No why)
 refused_leads p rs s go why run e = step_leads p rs s go Enough _ run (rw e refl)
 
@@ -37,32 +37,32 @@ full_test rs limit h = rw (events_length rs) (le-ltb (length rs) limit h)
 room_test : (rs : List Record) (limit : ℕ) → length rs < limit → nat_lt (length (events_of rs)) limit ≡ true
 room_test rs limit h = rw (events_length rs) (lt-ltb (length rs) limit h)
 
-pub full_leads : (p : Checked) (rs : List Record) (s : State) (go : List ℕ) (after : Kind × State) → IsRun p rs s → step p s (plain_step go) ≡ Ok after → LOG_LIMIT ≤ length rs
+pub full_leads : (p : Program) (rs : List Record) (s : State) (go : List ℕ) (after : Kind × State) → IsRun p rs s → step p s (plain_step go) ≡ Ok after → LOG_LIMIT ≤ length rs
     → Leads p (commands.Step go) Enough rs rs (No LogFull)
 full_leads p rs s go after run e full = step_leads p rs s go Enough _ run (rw (e, full_test rs LOG_LIMIT full) refl)
 
-pub kept_leads : (p : Checked) (rs new : List Record) (s : State) (go : List ℕ) (kind : Kind) (t : State) (id : StepId) → IsRun p rs s → step p s (plain_step go) ≡ Ok (kind, t) → length rs < LOG_LIMIT
+pub kept_leads : (p : Program) (rs new : List Record) (s : State) (go : List ℕ) (kind : Kind) (t : State) (id : StepId) → IsRun p rs s → step p s (plain_step go) ≡ Ok (kind, t) → length rs < LOG_LIMIT
     → events_of new ≡ events_of rs ++ plain_step go ∷ [] → id ≡ step_name go t → Leads p (commands.Step go) Enough rs new (Stepped id kind)
 kept_leads p rs new s go kind t id run e room log name = step_leads p rs s go Enough _ run (rw (e, room_test rs LOG_LIMIT room, log, name) refl)
 
-pub unkept_leads : (p : Checked) (rs : List Record) (s : State) (go : List ℕ) (after : Kind × State) → IsRun p rs s → step p s (plain_step go) ≡ Ok after → length rs < LOG_LIMIT
+pub unkept_leads : (p : Program) (rs : List Record) (s : State) (go : List ℕ) (after : Kind × State) → IsRun p rs s → step p s (plain_step go) ≡ Ok after → length rs < LOG_LIMIT
     → Leads p (commands.Step go) (EnoughFor 0) rs rs (No NoMemory)
 unkept_leads p rs s go after run e room = step_leads p rs s go (EnoughFor 0) _ run (rw (e, room_test rs LOG_LIMIT room) refl)
 
-pub text_leads : (p : Checked) (rs : List Record) (s : State) (go : List ℕ) (said : Said) → IsRun p rs s → said ≡ text_said go s → Leads p (commands.Text go) Enough rs rs said
+pub text_leads : (p : Program) (rs : List Record) (s : State) (go : List ℕ) (said : Said) → IsRun p rs s → said ≡ text_said go s → Leads p (commands.Text go) Enough rs rs said
 text_leads p rs s go said run e = rw (run_replay p rs s run, e) refl
 
 ok_same : (x y : Kind × State) (r : Result (Kind × State) Refusal) → r ≡ Ok x → r ≡ Ok y → x ≡ y
 ok_same x y r e f = cc
 
 -- a step's count, its rule known
-counted_in : (run : Run) (go : List ℕ) (p : Checked) (s : State) (kind : Kind) (t : State) → step_in run go p s ≡ Ok (kind, t) → t.steps ≡ s.steps + 1
+counted_in : (run : Run) (go : List ℕ) (p : Program) (s : State) (kind : Kind) (t : State) → step_in run go p s ≡ Ok (kind, t) → t.steps ≡ s.steps + 1
 counted_in Live [] p s kind t e = step_counted (slice_get (body p) s.at) s t kind (ok_same (kind, t) (step_at (slice_get (body p) s.at) s) (step_in Live [] p s) e refl)
 counted_in Live (n ∷ ns) p s kind t e = cc
 counted_in Ended go p s kind t e = cc
 
 -- the run without its last record
-pub run_last : (p : Checked) (rs : List Record) (r : Record) (t : State) → IsRun p (rs ++ r ∷ []) t → IsRun p rs (taken_back p r.undo t)
+pub run_last : (p : Program) (rs : List Record) (r : Record) (t : State) → IsRun p (rs ++ r ∷ []) t → IsRun p rs (taken_back p r.undo t)
 run_last p rs r t run =
     let before = path_last p (start p) rs r t run.path in
     let m : State = before.0 in
@@ -77,7 +77,7 @@ run_last p rs r t run =
     less : (rs : List Record) (r : Record) (limit : ℕ) → length (rs ++ r ∷ []) ≤ limit → length rs ≤ limit
     less rs r limit h = let e = length_push rs r in omega arith
 
-pub nothing_leads : (p : Checked) → Leads p commands.Undo Enough [] [] (No NothingToUndo)
+pub nothing_leads : (p : Program) → Leads p commands.Undo Enough [] [] (No NothingToUndo)
 nothing_leads p = refl
 
 last_event : (es : List Event) (e : Event) → slice_get (es ++ e ∷ []) (length (es ++ e ∷ []) - 1) ≡ Some e
@@ -94,7 +94,7 @@ without_last es e =
     let at : length (es ++ e ∷ []) - 1 ≡ length es = rw (length_push es e) (omega arith) in
     rw at (take_at es (e ∷ []) (length es) refl)
 
-pub undone_leads : (p : Checked) (rs : List Record) (r : Record) (t : State) → IsRun p (rs ++ r ∷ []) t → Leads p commands.Undo Enough (rs ++ r ∷ []) rs (Undone r.id)
+pub undone_leads : (p : Program) (rs : List Record) (r : Record) (t : State) → IsRun p (rs ++ r ∷ []) t → Leads p commands.Undo Enough (rs ++ r ∷ []) rs (Undone r.id)
 undone_leads p rs r t run =
     let before = path_last p (start p) rs r t run.path in
     let again = rw (events_push rs r) at (run_replay p (rs ++ r ∷ []) t run) in

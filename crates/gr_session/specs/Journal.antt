@@ -5,7 +5,7 @@ use Rattle.gr_base.specs.declared.kinds.Kind.{Kind}
 use Rattle.gr_base.specs.declared.names.StepId.{StepId}
 use Rattle.gr_base.specs.declared.events.Event.{Event}
 use Rattle.gr_tree.specs.Exprs.{names_of}
-use Rattle.gr_types.specs.Programs.{Checked}
+use Rattle.gr_session.specs.PlainPrograms.{Program}
 use Rattle.gr_session.specs.declared.TheConstants.{LOG_LIMIT}
 use Rattle.gr_session.specs.declared.command.Command.{Command}
 use Rattle.gr_session.specs.declared.command.Command.TheVariants.{Step, Undo, Text}
@@ -66,7 +66,7 @@ step_outcome w e memory (Err why) = only_enough memory (stays w (No why))
 step_outcome w e memory (Ok after) = if nat_lt (length w.log) LOG_LIMIT then step_kept w e memory after else only_enough memory (stays w (No LogFull))
 
 -- the log without its last step, whose name is told
-abbrev pub undo_outcome : Checked → World → Option Event → Option Outcome
+abbrev pub undo_outcome : Program → World → Option Event → Option Outcome
 undo_outcome p w (Some e) = option_map (λ t. record { world = record { log = take (length w.log - 1) w.log }; said = Undone (step_name e.go t) }) (replay p w.log)
 undo_outcome p w None = Some (stays w (No NothingToUndo))
 
@@ -76,18 +76,18 @@ text_said [] s = Lines s.text
 text_said (n ∷ ns) s = No NoGoroutine
 
 -- what comes of a command in a world, as far as memory allowed; nothing where there is no such entry
-abbrev pub outcome : Checked → World → Command → Memory → Option Outcome
+abbrev pub outcome : Program → World → Command → Memory → Option Outcome
 outcome p w (Step go) memory = option_and_then (λ s. step_outcome w (plain_step go) memory (step p s (plain_step go))) (replay p w.log)
 outcome p w Undo memory = option_and_then (only_enough memory) (undo_outcome p w (slice_get w.log (length w.log - 1)))
 outcome p w (Text go) memory = option_and_then (λ s. only_enough memory (stays w (text_said go s))) (replay p w.log)
 
 -- the world after entries, if each is one that there can be
-abbrev pub world_from : Checked → World → List Entry → Option World
+abbrev pub world_from : Program → World → List Entry → Option World
 world_from p w [] = Some w
 world_from p w (e ∷ es) = option_and_then (λ o. world_from p o.world es) (outcome p w e.command e.memory)
 
 -- the world that a journal makes of nothing
-abbrev pub world_of : Checked → List Entry → Option World
+abbrev pub world_of : Program → List Entry → Option World
 world_of p journal = world_from p (record { log = [] }) journal
 
 -- the entry is of an asker from 1 to askers
@@ -95,13 +95,13 @@ abbrev pub IsAskedBy : ℕ → Entry → Type 0
 IsAskedBy askers e = (1 ≤ e.asker) × (e.asker ≤ askers)
 
 -- a legal journal: each entry has a meaning where it stands
-pub record IsLegal (p : Checked) (askers : ℕ) (journal : List Entry) : Type 0 where
+pub record IsLegal (p : Program) (askers : ℕ) (journal : List Entry) : Type 0 where
   pub asked : All (IsAskedBy askers) journal
   pub world : World
   pub means : world_of p journal ≡ Some world
 
 -- the journal got this asker's command as one entry, whose number and reply these are
-pub record Enters (p : Checked) (asker : ℕ) (command : Command) (old new : List Entry) (number : ℕ) (said : Said) : Type 0 where
+pub record Enters (p : Program) (asker : ℕ) (command : Command) (old new : List Entry) (number : ℕ) (said : Said) : Type 0 where
   pub memory : Memory
   pub entered : new ≡ old ++ record { asker = asker; command = command; memory = memory } ∷ []
   pub number_is : number ≡ length new

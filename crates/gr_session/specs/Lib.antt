@@ -1,8 +1,10 @@
+pub mod PlainPrograms
 pub mod Values
 pub mod Run
 pub mod Records
 pub mod Journal
 pub mod Keeps
+pub mod Narrowing
+pub mod Narrowed
 pub mod Source
-pub mod FirstPath
 pub mod Refused

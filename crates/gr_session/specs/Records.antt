@@ -3,7 +3,7 @@
 use Rattle.std.specs.Prelude.{◌≡◌, ℕ, ℤ, ◌-◌, List, [], ◌∷◌, length, take, Option, Some, None, Ok, slice_set, slice_get}
 use Rattle.gr_base.specs.declared.events.Event.{Event}
 use Rattle.gr_tree.specs.Exprs.{names_of}
-use Rattle.gr_types.specs.Programs.{Act, Assign, Print, Step, On, Checked}
+use Rattle.gr_session.specs.PlainPrograms.{Act, Assign, Print, Step, On, Program}
 use Rattle.gr_session.specs.declared.store.Run.TheVariants.{Live}
 use Rattle.gr_session.specs.declared.store.Store.{Store}
 use Rattle.gr_session.specs.declared.store.Undo.{Undo}
@@ -39,7 +39,7 @@ given_back targets undos.Printed s = record s { at = s.at - 1; steps = s.steps -
 given_back targets undos.Ended s = record s { run = Live; steps = s.steps - 1 }
 
 -- the state with its last step taken back
-abbrev pub taken_back : Checked → Undo → State → State
+abbrev pub taken_back : Program → Undo → State → State
 taken_back p undo s = given_back (targets_at (slice_get (body p) (s.at - 1))) undo s
 
 -- the event whose step a record keeps
@@ -52,12 +52,12 @@ events_of [] = []
 events_of (r ∷ rs) = event_of r ∷ events_of rs
 
 -- the record of a step from s to t
-pub record IsRecord (p : Checked) (s : State) (r : Record) (t : State) : Type 0 where
+pub record IsRecord (p : Program) (s : State) (r : Record) (t : State) : Type 0 where
   pub stepped : step p s (event_of r) ≡ Ok (r.kind, t)
   pub named : r.id ≡ record { go = r.id.go; n = t.steps }
   pub back : taken_back p r.undo t ≡ s
 
 -- the records of steps from s to t, one after the other
-abbrev pub Path : Checked → State → List Record → State → Type 0
+abbrev pub Path : Program → State → List Record → State → Type 0
 Path p s [] t = s ≡ t
 Path p s (r ∷ rs) t = (m : State) × IsRecord p s r m × Path p m rs t

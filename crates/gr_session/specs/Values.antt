@@ -3,11 +3,11 @@
 use Rattle.std.specs.Prelude.{ℕ, ℤ, pos, List, [], ◌∷◌, ◌++◌, Option, Some, None, slice_set, slice_index_or, codes}
 use Rattle.std.specs.Int.{w64, int_wrapping_add, int_wrapping_sub, int_wrapping_mul, int_wrapping_neg}
 use Rattle.std.specs.Fmt.{signed_decimal}
-use Rattle.gr_types.specs.declared.program.UnaryOp.{UnaryOp}
-use Rattle.gr_types.specs.declared.program.UnaryOp.TheVariants.{Plus, Negate}
-use Rattle.gr_types.specs.declared.program.BinaryOp.{BinaryOp}
-use Rattle.gr_types.specs.declared.program.BinaryOp.TheVariants.{Add, Subtract, Multiply}
-use Rattle.gr_types.specs.Programs.{Plain, Constant, Variable, Unary, Binary, Plains, none, more}
+use Rattle.gr_session.specs.declared.plain.UnaryOp.{UnaryOp}
+use Rattle.gr_session.specs.declared.plain.UnaryOp.TheVariants.{Plus, Negate}
+use Rattle.gr_session.specs.declared.plain.BinaryOp.{BinaryOp}
+use Rattle.gr_session.specs.declared.plain.BinaryOp.TheVariants.{Add, Subtract, Multiply}
+use Rattle.gr_session.specs.PlainPrograms.{Term, Constant, Variable, Unary, Binary, Terms, none, more}
 
 -- a variable's value; it is 0 before its declaration
 abbrev pub variable : List ℤ → ℕ → ℤ
@@ -25,14 +25,14 @@ applied Subtract a b = int_wrapping_sub w64 a b
 applied Multiply a b = int_wrapping_mul w64 a b
 
 -- what an expression is worth where the variables have these values
-abbrev pub value : List ℤ → Plain → ℤ
+abbrev pub value : List ℤ → Term → ℤ
 value values (Constant z) = z
 value values (Variable number) = variable values number
 value values (Unary op a) = applied_to op (value values a)
 value values (Binary op a b) = applied op (value values a) (value values b)
 
 -- what each of several expressions is worth
-abbrev pub worth : List ℤ → Plains → List ℤ
+abbrev pub worth : List ℤ → Terms → List ℤ
 worth values none = []
 worth values (more e es) = value values e ∷ worth values es
 

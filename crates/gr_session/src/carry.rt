@@ -1,7 +1,7 @@
 //! Commands carried out on the store and the log of a session.
 ghost use Rattle.std.specs.Prelude.{◌≡◌, ◌<◌, ◌++◌, ◌∷◌, [], length, Ok, IfOk, OnErr};
 ghost use Rattle.gr_tree.specs.Exprs.{names_of};
-ghost use Rattle.gr_types.specs.Programs.{program_of};
+ghost use Rattle.gr_session.specs.PlainPrograms.{program_of};
 ghost use Rattle.gr_session.specs.Run.{step as step_by, plain_step};
 ghost use Rattle.gr_session.specs.Records.{state_of, events_of};
 ghost use Rattle.gr_session.specs.Journal.{said_of, step_name, text_said};
@@ -9,15 +9,15 @@ ghost use Rattle.gr_session.specs.Keeps.{IsRun, Leads};
 
 use crate::LOG_LIMIT;
 use crate::command::{Command, Memory, Refusal, Reply};
+use crate::plain::PlainProgram;
 use crate::store::{Record, Run, Store};
 use gr_base::{Choice, GoName, Kind, NoMemory, StepId};
-use gr_types::program::Program;
 use std::alloc::Global;
 
 // Takes a step of `main`, and keeps its record. Want of memory leaves the log and the state as they were.
 fn keep_step(
     alloc: Global,
-    program: &Program,
+    program: &PlainProgram,
     store: &mut Store,
     log: &mut Vec<Record>,
     go: &GoName,
@@ -49,7 +49,7 @@ fn keep_step(
 // Takes a step, if the rules and the log's room allow it.
 fn step(
     alloc: Global,
-    program: &Program,
+    program: &PlainProgram,
     store: &mut Store,
     log: &mut Vec<Record>,
     go: &GoName,
@@ -71,7 +71,7 @@ fn step(
 }
 
 // Takes the last step back.
-fn undo(program: &Program, store: &mut Store, log: &mut Vec<Record>) -> Reply
+fn undo(program: &PlainProgram, store: &mut Store, log: &mut Vec<Record>) -> Reply
     requires { IsRun (program_of program.now) log.old.items (state_of store.old) }
     ensures run { IsRun (program_of program.now) log.new.items (state_of store.new) }
     ensures leads { Leads (program_of program.now) Command.Undo Memory.Enough log.old.items log.new.items (said_of result) }
@@ -108,7 +108,7 @@ fn text(alloc: Global, store: &Store, go: &GoName) -> Result<Reply, NoMemory>
 /// to a query; it leaves all as it was.
 pub fn carry_out(
     alloc: Global,
-    program: &Program,
+    program: &PlainProgram,
     store: &mut Store,
     log: &mut Vec<Record>,
     command: &Command,

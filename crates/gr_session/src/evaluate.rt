@@ -1,10 +1,10 @@
 //! Values of expressions, and the lines that they are printed as.
 ghost use Rattle.std.specs.Prelude.{◌≡◌, ◌++◌, IfOk, OnOk, OnErr, slice_index_or};
-ghost use Rattle.gr_types.specs.Programs.{plain_of, plains_of};
+ghost use Rattle.gr_session.specs.PlainPrograms.{term_of, terms_of};
 ghost use Rattle.gr_session.specs.Values.{value as value_of, worth, variable as variable_of, printed};
 
+use crate::plain::{BinaryOp, Term, UnaryOp};
 use gr_base::{NoMemory, Value, print_value};
-use gr_types::program::{BinaryOp, Term, UnaryOp};
 use std::alloc::Global;
 
 fn variable(values: &[i64], number: usize) -> i64
@@ -18,7 +18,7 @@ fn variable(values: &[i64], number: usize) -> i64
 
 /// What an expression is worth where the variables have these values; sums and products wrap.
 pub fn value(values: &[i64], term: &Term) -> i64
-    ensures { result ≡ value_of values.now (plain_of term.now) }
+    ensures { result ≡ value_of values.now (term_of term.now) }
 {
     match term {
         Term::Constant(constant) => *constant,
@@ -39,7 +39,7 @@ pub fn value(values: &[i64], term: &Term) -> i64
 
 /// What each expression is worth.
 pub fn worth_of(alloc: Global, values: &[i64], terms: &[Term]) -> Result<Vec<i64>, NoMemory>
-    ensures { IfOk result (λ v. v.items ≡ worth values.now (plains_of terms.now)) }
+    ensures { IfOk result (λ v. v.items ≡ worth values.now (terms_of terms.now)) }
 {
     let mut all = Vec::with_capacity(alloc, terms.len())?;
     for term in terms {

@@ -4,8 +4,9 @@
 mod carry;
 pub mod command;
 mod evaluate;
-mod first_path;
+mod narrow;
 mod open;
+pub mod plain;
 mod session;
 mod store;
 

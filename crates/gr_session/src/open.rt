@@ -1,16 +1,19 @@
 //! From a source to a session.
 ghost use Rattle.std.specs.Prelude.{◌≡◌, [], Option, IfOk, IfErr};
-ghost use Rattle.gr_types.specs.Programs.{program_of};
-ghost use Rattle.gr_session.specs.Source.{IsProgramOf};
+ghost use Rattle.gr_types.specs.Programs as checked;
+ghost use Rattle.gr_session.specs.PlainPrograms.{program_of};
+ghost use Rattle.gr_session.specs.Source.{IsCheckedOf, IsProgramOf};
 ghost use Rattle.gr_session.specs.Refused.{SaysWhy};
 
-use crate::first_path::is_first_path;
+use crate::narrow::{PlainError, plain};
+use crate::plain::PlainProgram;
 use crate::session::Session;
 use gr_base::NoMemory;
 use gr_scan::scan::{ScanError, one_list, scan};
 use gr_scan::token::Token;
 use gr_syntax::parse::{ParseError, one_tree, parse};
-use gr_types::check::{CheckError, check};
+use gr_types::check::check;
+use gr_types::fault::CheckError;
 use gr_types::program::Program;
 use std::alloc::Global;
 
@@ -28,10 +31,10 @@ pub enum OpenError {
     Scan(ScanError, Option<Position>),
     /// No file has its tokens, or there is no memory for one.
     Parse(ParseError, Option<Position>),
-    /// U1: the file has a form that no session can run yet.
-    NotYet,
     /// The file breaks a rule of the language, or there is no memory for its program.
     Check(CheckError, Option<Position>),
+    /// U1: the file's program has a form that no session can run yet.
+    NotYet,
     /// There is no memory for a session.
     Memory,
 }
@@ -95,9 +98,9 @@ fn check_error(text: &[u8], error: CheckError) -> OpenError
     OpenError::Check(error, at)
 }
 
-// The program of a source.
-fn read_program(alloc: Global, text: &[u8]) -> Result<Program, OpenError>
-    ensures program { IfOk result (λ p. IsProgramOf text.now (program_of p)) }
+// The checked program of a source.
+fn read_checked(alloc: Global, text: &[u8]) -> Result<Program, OpenError>
+    ensures program { IfOk result (λ p. IsCheckedOf text.now (checked.program_of p)) }
     ensures none { IfErr result (λ e. SaysWhy e text.now) }
 {
     one_list();
@@ -110,12 +113,22 @@ fn read_program(alloc: Global, text: &[u8]) -> Result<Program, OpenError>
         Ok(file) => file,
         Err(error) => return Err(parse_error(text, tokens.as_slice(), error)),
     };
-    if !is_first_path(&file) {
-        return Err(OpenError::NotYet);
-    }
     match check(alloc, file) {
         Ok(program) => Ok(program),
         Err(error) => Err(check_error(text, error)),
+    }
+}
+
+// The plain program of a source.
+fn read_program(alloc: Global, text: &[u8]) -> Result<PlainProgram, OpenError>
+    ensures program { IfOk result (λ p. IsProgramOf text.now (program_of p)) }
+    ensures none { IfErr result (λ e. SaysWhy e text.now) }
+{
+    let program = read_checked(alloc, text)?;
+    match plain(alloc, program) {
+        Ok(program) => Ok(program),
+        Err(PlainError::NotPlain) => Err(OpenError::NotYet),
+        Err(PlainError::Memory) => Err(OpenError::Memory),
     }
 }
 

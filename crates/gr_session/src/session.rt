@@ -1,14 +1,14 @@
 //! Sessions: what a program did so far, asked of under one journal.
 ghost use Rattle.std.specs.Prelude.{◌≡◌, ◌↔◌, ◌+◌, ◌≤◌, [], length, IfOk, OnOk, OnErr, IsErrOf};
-ghost use Rattle.gr_types.specs.Programs.{program_of};
+ghost use Rattle.gr_session.specs.PlainPrograms.{program_of};
 ghost use Rattle.gr_session.specs.Journal.{said_of, Enters, IsLegal};
 
 use crate::carry::carry_out;
 use crate::command::{AskRefused, Command, DeskId, EnrolRefused, Entry, Receipt};
+use crate::plain::PlainProgram;
 use crate::store::{Record, Store};
 use crate::{ASKER_LIMIT, JOURNAL_LIMIT};
 use gr_base::NoMemory;
-use gr_types::program::Program;
 use std::alloc::Global;
 use std::marker::Model;
 
@@ -16,7 +16,7 @@ use std::marker::Model;
 /// those that it means.
 #[derive(Drop)]
 pub struct Session {
-    program: Program,
+    program: PlainProgram,
     store: Store,
     log: Vec<Record>,
     journal: Vec<Entry>,
@@ -24,8 +24,8 @@ pub struct Session {
 }
 
 impl Model for Session {
-    ghost use Rattle.gr_types.specs.Programs.{program_of};
-    ghost use Rattle.gr_types.specs.contracts.program.Term as term;
+    ghost use Rattle.gr_session.specs.PlainPrograms.{program_of};
+    ghost use Rattle.gr_session.specs.contracts.plain.Term as term;
     ghost use Rattle.std.specs.Coded.{codes};
     ghost use Rattle.gr_session.specs.Records.{state_of};
     ghost use Rattle.gr_session.specs.Keeps.{Seen, Keeps};
@@ -41,7 +41,7 @@ impl Model for Session {
 
 impl Session {
     // A session with an empty journal and no asker.
-    pub(crate) fn new(alloc: Global, program: Program) -> Result<Session, NoMemory>
+    pub(crate) fn new(alloc: Global, program: PlainProgram) -> Result<Session, NoMemory>
         ensures program { IfOk result (λ s. s.program ≡ program) }
         ensures journal { IfOk result (λ s. s.journal ≡ []) }
         ensures askers { IfOk result (λ s. s.askers ≡ 0) }

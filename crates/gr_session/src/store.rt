@@ -1,15 +1,15 @@
 //! The state of a run of one goroutine, changed in place, and how its steps are taken back.
 ghost use Rattle.std.specs.Prelude.{◌≡◌, ◌+◌, ◌<◌, ◌^◌, ◌++◌, ◌↔◌, Ok, Err, IfOk, IfSome, IfNone, OnErr, OnOk, [], ℕ, length, ◌-◌, pos, None, Some, take, MatchOption, OnSome, slice_get, slice_set, slice_index_or, vec_len};
 ghost use Rattle.gr_tree.specs.Exprs.{names_of};
-ghost use Rattle.gr_types.specs.Programs.{step_of as pure_step, program_of, plains_of, act_of, Assign, Print};
+ghost use Rattle.gr_session.specs.PlainPrograms.{step_of as pure_step, program_of, terms_of, act_of, Assign, Print};
 ghost use Rattle.gr_session.specs.Values.{assigned, variable};
 ghost use Rattle.gr_session.specs.Run.{start, done, ended, step_at, body, RefusedFor};
 ghost use Rattle.gr_session.specs.Records.{restored, given_back, taken_back, targets_of, targets_at, state_of};
 
 use crate::command::Refusal;
 use crate::evaluate::{line_of, worth_of};
+use crate::plain::{Action, PlainProgram, Statement, Term};
 use gr_base::{Choice, GoName, Kind, NoMemory, StepId};
-use gr_types::program::{Action, Program, Statement, Term};
 use std::alloc::Global;
 
 /// Whether a program runs.
@@ -113,7 +113,7 @@ fn drop_last(lines: &mut Vec<Vec<u8>>)
 }
 
 // The statement of this number, from 0.
-fn statement_at(program: &Program, number: usize) -> Option<&Statement>
+fn statement_at(program: &PlainProgram, number: usize) -> Option<&Statement>
     ensures statement { MatchOption result (slice_get (body (program_of program.now)) number ≡ None) (λ s. slice_get (body (program_of program.now)) number ≡ Some (pure_step s.now)) }
     ensures below { OnSome result (number < 2 ^ 64 - 1) }
 {
@@ -127,7 +127,7 @@ fn statement_at(program: &Program, number: usize) -> Option<&Statement>
 impl Store {
     /// The state in which a program begins.
     #[tactic(auto, using(crate::proofs::Lists::length_names))]
-    pub fn start(alloc: Global, program: &Program) -> Result<Store, NoMemory>
+    pub fn start(alloc: Global, program: &PlainProgram) -> Result<Store, NoMemory>
         ensures { IfOk result (λ store. state_of store ≡ start (program_of program.now)) }
     {
         Ok(Store {
@@ -161,7 +161,7 @@ impl Store {
     ) -> Result<Undo, NoMemory>
         requires at { self.old.at < 2 ^ 64 - 1 }
         requires steps { self.old.steps < 2 ^ 64 - 1 }
-        ensures ok { OnOk result (state_of self.new ≡ done (Assign targets.now (plains_of terms.now)) (state_of self.old)) }
+        ensures ok { OnOk result (state_of self.new ≡ done (Assign targets.now (terms_of terms.now)) (state_of self.old)) }
         ensures back { IfOk result (λ undo. given_back targets.now undo (state_of self.new) ≡ state_of self.old) }
         ensures err { OnErr result (state_of self.new ≡ state_of self.old) }
     {
@@ -177,7 +177,7 @@ impl Store {
     fn print(&mut self, alloc: Global, terms: &[Term]) -> Result<Undo, NoMemory>
         requires at { self.old.at < 2 ^ 64 - 1 }
         requires steps { self.old.steps < 2 ^ 64 - 1 }
-        ensures ok { OnOk result (state_of self.new ≡ done (Print (plains_of terms.now)) (state_of self.old)) }
+        ensures ok { OnOk result (state_of self.new ≡ done (Print (terms_of terms.now)) (state_of self.old)) }
         ensures back { IfOk result (λ undo. given_back [] undo (state_of self.new) ≡ state_of self.old) }
         ensures err { OnErr result (state_of self.new ≡ state_of self.old) }
     {
@@ -216,7 +216,7 @@ impl Store {
     }
 
     /// Takes the next step of `main`. Want of memory leaves the state as it was.
-    pub fn step(&mut self, alloc: Global, program: &Program) -> Result<(Kind, Undo), NoMemory>
+    pub fn step(&mut self, alloc: Global, program: &PlainProgram) -> Result<(Kind, Undo), NoMemory>
         requires live { self.old.run ≡ Run.Live }
         requires room { self.old.steps < 2 ^ 64 - 1 }
         ensures ok { IfOk result (λ r. (r.0, state_of self.new) ≡ step_at (slice_get (body (program_of program.now)) self.old.at) (state_of self.old)) }
@@ -232,7 +232,7 @@ impl Store {
     }
 
     // The variables that the statement before the next assigns get their saved values back.
-    fn restore_before(&mut self, program: &Program, saved: &[i64])
+    fn restore_before(&mut self, program: &PlainProgram, saved: &[i64])
         ensures values { self.new.values.items ≡ restored (targets_at (slice_get (body (program_of program.now)) (self.old.at - 1))) saved.now self.old.values.items }
         ensures others { (self.new.run ≡ self.old.run) × (self.new.at ≡ self.old.at) × (self.new.steps ≡ self.old.steps) × (self.new.text.items ≡ self.old.text.items) }
     {
@@ -245,7 +245,7 @@ impl Store {
     }
 
     /// Takes the last step back. It takes no memory.
-    pub fn unstep(&mut self, program: &Program, undo: &Undo)
+    pub fn unstep(&mut self, program: &PlainProgram, undo: &Undo)
         ensures { state_of self.new ≡ taken_back (program_of program.now) undo.now (state_of self.old) }
     {
         self.steps = self.steps.saturating_sub(1);

@@ -1,13 +1,13 @@
-//! The names in scope.
-ghost use Rattle.std.specs.Prelude.{◌≡◌, ◌++◌, ◌∷◌, [], length, map, IfOk, OnOk, None};
-ghost use Rattle.gr_tree.specs.Exprs.{names_of};
+//! Names, and tables of them.
+ghost use Rattle.std.specs.Prelude.{◌≡◌, ◌++◌, ◌∷◌, [], map, IfOk, OnOk, None};
 ghost use Rattle.gr_types.specs.Names as spec;
-ghost use Rattle.gr_types.specs.Tables.{scope_of};
+ghost use Rattle.gr_types.specs.Scopes.{in_block};
+ghost use Rattle.gr_types.specs.Tables.{block_of};
 
 use indexmap::IndexMap;
 use std::alloc::{AllocError, Global};
 
-/// The names that are declared, with their variables' numbers.
+/// Names that are declared together, each with a number.
 #[derive(Drop)]
 pub struct NameTable {
     numbers: IndexMap<Vec<u8>, usize>,
@@ -53,38 +53,26 @@ pub fn copy(alloc: Global, name: &[u8]) -> Result<Vec<u8>, AllocError>
 
 impl NameTable {
     pub fn new(alloc: Global) -> Self
-        ensures { scope_of result ≡ [] }
+        ensures { block_of result ≡ [] }
     {
         NameTable {
             numbers: IndexMap::new(alloc),
         }
     }
 
-    /// The number of the variable with this name.
+    /// The number of a name.
     pub fn number(&self, name: &[u8]) -> Option<usize>
-        ensures { result ≡ spec.number_in (scope_of self.now) name.now }
+        ensures { result ≡ in_block (block_of self.now) name.now }
     {
         self.numbers.get(name).copied()
     }
 
-    /// Declares a name; its variable gets the next number.
-    pub fn declare(&mut self, name: Vec<u8>) -> Result<(), AllocError>
-        requires { spec.number_in (scope_of self.old) name.items ≡ None }
-        ensures { OnOk result (scope_of self.new ≡ scope_of self.old ++ ((name.items, length (scope_of self.old)) ∷ [])) }
+    /// Declares a name.
+    pub fn declare(&mut self, name: Vec<u8>, number: usize) -> Result<(), AllocError>
+        requires { in_block (block_of self.old) name.items ≡ None }
+        ensures { OnOk result (block_of self.new ≡ block_of self.old ++ ((name.items, number) ∷ [])) }
     {
-        let number = self.numbers.len();
         self.numbers.insert(name, number)?;
         Ok(())
-    }
-
-    /// The variables' names by their numbers.
-    pub fn into_names(self, alloc: Global) -> Result<Vec<Vec<u8>>, AllocError>
-        ensures { IfOk result (λ v. names_of v.items ≡ spec.variables_of (scope_of self)) }
-    {
-        let mut names = Vec::new(alloc);
-        for (name, _) in self.numbers {
-            names.push(name)?;
-        }
-        Ok(names)
     }
 }

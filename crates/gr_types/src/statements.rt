@@ -1,241 +1,360 @@
 //! Statements.
-ghost use Rattle.std.specs.Prelude.{◌≡◌, ◌==◌, [], not, map, length, IfOk, OnOk};
-ghost use Rattle.std.specs.List.{list_all};
-ghost use Rattle.gr_tree.specs.Exprs as tree;
-ghost use Rattle.gr_tree.specs.Exprs.{names_of, tree_of, trees_of};
-ghost use Rattle.gr_tree.specs.Statements as written;
-ghost use Rattle.gr_types.specs.Programs.{plains_of};
-ghost use Rattle.gr_types.specs.Programs as plain;
-ghost use Rattle.gr_types.specs.Names as spec;
+ghost use Rattle.gr_tree.specs.Statements.{act_of, comm_of, for_of, if_of, optional, statement_of, statements_of};
+ghost use Rattle.gr_types.specs.StatementViews.{clauses_of};
 ghost use Rattle.gr_types.specs.Tables.{scope_of};
-ghost use Rattle.gr_types.specs.Checks.{count};
-ghost use Rattle.gr_types.specs.Checking as checking;
-ghost use Rattle.gr_types.specs.Checking.{Agrees};
+ghost use Rattle.gr_types.specs.Contexts.{context_of};
+ghost use Rattle.gr_types.specs.Programs as programs;
+ghost use Rattle.gr_types.specs.Programs.{steps_of, case_on, cases_of};
+ghost use Rattle.gr_types.specs.FindingStatements as spec;
+ghost use Rattle.gr_types.specs.Stepping as stepping;
+ghost use Rattle.gr_types.specs.Checking.{Settles};
 
-use crate::check::Code;
-use crate::names::{NameTable, copy, is_blank, is_predeclared};
-use crate::program::{Action, Statement, Term};
-use crate::values::{Fault, evaluate, undeclared, whole};
+use crate::acts::act;
+use crate::context::{Around, Context, Nest};
+use crate::fault::{CheckError, Code, Fault, refused};
+use crate::headings::{IfParts, LoopParts, RangeParts, if_parts, loop_parts, range_parts};
+use crate::program::{Act, Case, Step};
+use crate::scope::Scope;
+use crate::selects::{first_error, has_at_most_one_default, placed_awaits};
+use crate::steps;
 use gr_scan::token::Place;
-use gr_tree::{Expr, Simple, Stmt};
-use std::alloc::{AllocError, Global};
+use gr_tree::{Action, Clause, Communication, ForHead, IfHead, Stmt};
+use std::alloc::Global;
 
-fn is_known(table: &NameTable, name: &[u8]) -> bool
-    ensures { result ≡ spec.is_known (scope_of table.now) name.now }
+fn placed_act(
+    alloc: Global,
+    context: &Context,
+    scope: &mut Scope,
+    place: Place,
+    action: &Action,
+) -> Result<Act, CheckError>
+    ensures { Settles (λ a. (programs.act_of a, scope_of scope.new)) result (spec.act_in (context_of context.now) (scope_of scope.old) (act_of action.now)) }
 {
-    is_blank(name) || table.number(name).is_some()
+    match act(alloc, context, scope, action) {
+        Ok(act) => Ok(act),
+        Err(fault) => Err(refused(fault, place)),
+    }
 }
 
-// Whether no name but the blank identifier stands twice among these.
-fn are_distinct(alloc: Global, names: &[Vec<u8>]) -> Result<bool, AllocError>
-    ensures { IfOk result (λ b. b ≡ spec.are_distinct [] (names_of names.now)) }
+fn act_step(
+    alloc: Global,
+    context: &Context,
+    scope: &mut Scope,
+    place: Place,
+    action: &Action,
+) -> Result<Step, CheckError>
+    ensures { Settles (λ s. (stepping.only_step s, scope_of scope.new)) result (stepping.does_in (context_of context.now) (scope_of scope.old) place (act_of action.now)) }
 {
-    let mut before = NameTable::new(alloc);
-    for name in names {
-        if is_blank(name) {
+    let act = placed_act(alloc, context, scope, place, action)?;
+    let line = place.line;
+    Ok(Step::Act { line, act })
+}
+
+/// What the statements of a body do, in order, in the block of the place.
+#[cycle(checking)]
+pub fn body(
+    alloc: Global,
+    context: &Context,
+    scope: &mut Scope,
+    stmts: &[Stmt],
+) -> Result<Vec<Step>, CheckError>
+    ensures { Settles (λ v. (steps_of v.items, scope_of scope.new)) result (spec.body_in (context_of context.now) (scope_of scope.old) (statements_of stmts.now)) }
+{
+    let mut steps = Vec::new(alloc);
+    for stmt in stmts {
+        let Some(step) = statement(alloc, context, scope, None, stmt)? else {
             continue;
-        }
-        if before.number(name).is_some() {
-            return Ok(false);
-        }
-        before.declare(copy(alloc, name)?)?;
-    }
-    Ok(true)
-}
-
-fn all_known(table: &NameTable, names: &[Vec<u8>]) -> bool
-    ensures { result ≡ list_all (spec.is_known (scope_of table.now)) (names_of names.now) }
-{
-    for name in names {
-        if !is_known(table, name) {
-            return false;
-        }
-    }
-    true
-}
-
-fn none_predeclared(names: &[Vec<u8>]) -> bool
-    ensures { result ≡ list_all (λ x. not (spec.among spec.predeclared x)) (names_of names.now) }
-{
-    for name in names {
-        if is_predeclared(name) {
-            return false;
-        }
-    }
-    true
-}
-
-// Whether these names may stand on the left of `:=`.
-fn check_left(alloc: Global, table: &NameTable, names: &[Vec<u8>]) -> Result<(), Fault>
-    ensures { checking.Holds result (spec.may_declare (scope_of table.now) (names_of names.now)) }
-{
-    if !are_distinct(alloc, names)? || !none_predeclared(names) {
-        return Err(Fault::Broken(Code::DeclaredTwice));
-    }
-    if all_known(table, names) {
-        return Err(Fault::Broken(Code::NoNewVariable));
-    }
-    Ok(())
-}
-
-// Whether these names may stand on the left of `=`.
-fn check_targets(table: &NameTable, names: &[Vec<u8>]) -> Result<(), Fault>
-    ensures { checking.Holds result (list_all (spec.is_known (scope_of table.now)) (names_of names.now)) }
-{
-    for name in names {
-        if !is_known(table, name) {
-            return Err(Fault::Broken(undeclared(name)));
-        }
-    }
-    Ok(())
-}
-
-#[tactic(auto, using(crate::proofs::Loops::names_length, crate::proofs::Loops::count_length))]
-fn check_count(names: &[Vec<u8>], values: &[Expr]) -> Result<(), Fault>
-    ensures { checking.Holds result (length (names_of names.now) == count (trees_of values.now)) }
-{
-    if names.len() == values.len() {
-        Ok(())
-    } else {
-        Err(Fault::Broken(Code::WrongCount))
-    }
-}
-
-// Declares the names that are new.
-fn declare_all(alloc: Global, table: &mut NameTable, names: &[Vec<u8>]) -> Result<(), AllocError>
-    ensures { OnOk result (scope_of table.new ≡ spec.declare_all (scope_of table.old) (names_of names.now)) }
-{
-    for name in names {
-        if !is_known(table, name) {
-            table.declare(copy(alloc, name)?)?;
-        }
-    }
-    Ok(())
-}
-
-// The variables that names on the left stand for.
-fn targets(
-    alloc: Global,
-    table: &NameTable,
-    names: &[Vec<u8>],
-) -> Result<Vec<Option<usize>>, AllocError>
-    ensures { IfOk result (λ v. v.items ≡ map (spec.target (scope_of table.now)) (names_of names.now)) }
-{
-    let mut targets = Vec::new(alloc);
-    for name in names {
-        let target = if is_blank(name) {
-            None
-        } else {
-            table.number(name)
         };
-        targets.push(target)?;
+        steps.push(step)?;
     }
-    Ok(targets)
+    Ok(steps)
 }
 
-fn terms(alloc: Global, table: &NameTable, exprs: &[Expr]) -> Result<Vec<Term>, Fault>
-    ensures { Agrees (λ v. plains_of v.items) result (checking.values_in (scope_of table.now) (trees_of exprs.now)) }
-{
-    let mut terms = Vec::new(alloc);
-    for expr in exprs {
-        let value = evaluate(alloc, table, expr)?;
-        terms.push(whole(value)?)?;
-    }
-    Ok(terms)
-}
-
-fn define(
+// What a statement does; `label` is the label directly before it. A label before an empty statement does nothing.
+#[cycle(checking)]
+#[tactic(auto, unfolding(crate::specs::FindingStatements::statement_in))]
+fn statement(
     alloc: Global,
-    table: &mut NameTable,
-    names: &[Vec<u8>],
-    exprs: &[Expr],
-) -> Result<Action, Fault>
-    ensures { Agrees (λ act. (plain.act_of act, scope_of table.new)) result (checking.act_in (scope_of table.old) (written.Define (names_of names.now) (trees_of exprs.now))) }
-{
-    check_left(alloc, table, names)?;
-    check_count(names, exprs)?;
-    let values = terms(alloc, table, exprs)?;
-    declare_all(alloc, table, names)?;
-    Ok(Action::Assign(targets(alloc, table, names)?, values))
-}
-
-fn assign(
-    alloc: Global,
-    table: &NameTable,
-    names: &[Vec<u8>],
-    exprs: &[Expr],
-) -> Result<Action, Fault>
-    ensures { Agrees (λ act. (plain.act_of act, scope_of table.now)) result (checking.act_in (scope_of table.now) (written.Assign (names_of names.now) (trees_of exprs.now))) }
-{
-    check_targets(table, names)?;
-    check_count(names, exprs)?;
-    let values = terms(alloc, table, exprs)?;
-    Ok(Action::Assign(targets(alloc, table, names)?, values))
-}
-
-fn print(
-    alloc: Global,
-    table: &NameTable,
-    function: &[u8],
-    arguments: &[Expr],
-) -> Result<Action, Fault>
-    ensures { Agrees (λ act. (plain.act_of act, scope_of table.now)) result (checking.act_in (scope_of table.now) (written.Eval (tree.Call function.now (trees_of arguments.now)))) }
-{
-    if function != b"println".as_slice() {
-        return Err(Fault::Broken(Code::UnknownName));
-    }
-    Ok(Action::Print(terms(alloc, table, arguments)?))
-}
-
-// What an expression does as a statement.
-fn evaluated(alloc: Global, table: &NameTable, value: &Expr) -> Result<Action, Fault>
-    ensures { Agrees (λ act. (plain.act_of act, scope_of table.now)) result (checking.act_in (scope_of table.now) (written.Eval (tree_of value.now))) }
-{
-    match value {
-        Expr::Call(function, arguments) => print(alloc, table, function, arguments),
-        _ => Err(Fault::Broken(Code::WrongForm)),
-    }
-}
-
-// What a simple statement does; it declares its new names in the table.
-fn action(alloc: Global, table: &mut NameTable, simple: &Simple) -> Result<Action, Fault>
-    ensures { Agrees (λ act. (plain.act_of act, scope_of table.new)) result (checking.act_in (scope_of table.old) (written.simple_of simple.now)) }
-{
-    match simple {
-        Simple::Define(names, values) => define(alloc, table, names, values),
-        Simple::Assign(names, values) => assign(alloc, table, names, values),
-        Simple::Eval(value) => evaluated(alloc, table, value),
-        _ => Err(Fault::Broken(Code::WrongForm)),
-    }
-}
-
-/// The checked statement; it declares its new names in the table.
-pub fn statement(alloc: Global, table: &mut NameTable, stmt: &Stmt) -> Result<Statement, Fault>
-    ensures { Agrees (λ done. (plain.step_of done, scope_of table.new)) result (checking.step_in (scope_of table.old) (written.statement_of stmt.now)) }
+    context: &Context,
+    scope: &mut Scope,
+    label: Option<&[u8]>,
+    stmt: &Stmt,
+) -> Result<Option<Step>, CheckError>
+    ensures { Settles (λ o. (stepping.made_of o, scope_of scope.new)) result (spec.statement_in (context_of context.now) (scope_of scope.old) (optional (λ x. x.now) label.entry) (statement_of stmt.now)) }
 {
     match stmt {
-        Stmt::Act(place, gr_tree::Action::Simple(simple)) => {
-            let action = action(alloc, table, simple)?;
-            Ok(Statement {
-                line: place.line,
-                action,
-            })
+        Stmt::Act(place, action) => Ok(Some(act_step(alloc, context, scope, *place, action)?)),
+        Stmt::Block(_, body) => Ok(Some(block(alloc, context, scope, body)?)),
+        Stmt::If(place, head, body) => {
+            Ok(Some(only_if(alloc, context, scope, *place, head, body)?))
         }
-        _ => Err(Fault::Broken(Code::WrongForm)),
+        Stmt::IfElse(place, head, body, otherwise) => {
+            let tested = tested(alloc, context, scope, *place, head, body)?;
+            Ok(Some(if_else(alloc, context, scope, place.line, tested, otherwise)?))
+        }
+        Stmt::IfElseIf(place, head, body, otherwise) => {
+            let tested = tested(alloc, context, scope, *place, head, body)?;
+            Ok(Some(if_else_if(alloc, context, scope, place.line, tested, otherwise)?))
+        }
+        Stmt::For(place, head, body) => Ok(Some(for_step(
+            alloc, context, scope, label, *place, head, body,
+        )?)),
+        Stmt::Select(place, clauses) => Ok(Some(select(
+            alloc, context, scope, label, *place, clauses,
+        )?)),
+        Stmt::Label(_, name, labeled) => statement(alloc, context, scope, Some(name), labeled),
+        Stmt::EmptyLabel(_, _) => Ok(None),
     }
 }
 
-/// Where a statement stands.
-pub fn place_of(stmt: &Stmt) -> Place {
-    match stmt {
-        Stmt::Act(place, _)
-        | Stmt::Block(place, _)
-        | Stmt::If(place, _, _)
-        | Stmt::IfElse(place, _, _, _)
-        | Stmt::IfElseIf(place, _, _, _)
-        | Stmt::For(place, _, _)
-        | Stmt::Select(place, _)
-        | Stmt::Label(place, _, _)
-        | Stmt::EmptyLabel(place, _) => *place,
+#[cycle(checking)]
+fn block(
+    alloc: Global,
+    context: &Context,
+    scope: &mut Scope,
+    stmts: &[Stmt],
+) -> Result<Step, CheckError>
+    ensures { Settles (λ s. (stepping.only_step s, scope_of scope.new)) result (stepping.block_in (context_of context.now) (scope_of scope.old) (statements_of stmts.now)) }
+{
+    scope.enter(alloc)?;
+    let steps = body(alloc, context, scope, stmts)?;
+    scope.leave(alloc);
+    Ok(steps::block(steps))
+}
+
+// An if as far as its block; it stays in the block of the if.
+#[cycle(checking)]
+fn tested(
+    alloc: Global,
+    context: &Context,
+    scope: &mut Scope,
+    place: Place,
+    head: &IfHead,
+    stmts: &[Stmt],
+) -> Result<(IfParts, Vec<Step>), CheckError>
+    ensures { Settles (λ t. (stepping.tested_of t, scope_of scope.new)) result (stepping.tested_in (context_of context.now) (scope_of scope.old) (if_of head.now) (statements_of stmts.now)) }
+{
+    scope.enter(alloc)?;
+    let parts = if_parts(alloc, context.functions, scope, place, head)?;
+    scope.enter(alloc)?;
+    let steps = body(alloc, context, scope, stmts)?;
+    scope.leave(alloc);
+    Ok((parts, steps))
+}
+
+#[cycle(checking)]
+fn only_if(
+    alloc: Global,
+    context: &Context,
+    scope: &mut Scope,
+    place: Place,
+    head: &IfHead,
+    stmts: &[Stmt],
+) -> Result<Step, CheckError>
+    ensures { Settles (λ s. (stepping.only_step s, scope_of scope.new)) result (stepping.if_in (context_of context.now) (scope_of scope.old) place (if_of head.now) (statements_of stmts.now)) }
+{
+    let (parts, steps) = tested(alloc, context, scope, place, head, stmts)?;
+    scope.leave(alloc);
+    Ok(steps::conditional(place.line, parts, steps, Vec::new(alloc)))
+}
+
+// An if whose block is known, with the block of its else.
+#[cycle(checking)]
+fn if_else(
+    alloc: Global,
+    context: &Context,
+    scope: &mut Scope,
+    line: usize,
+    tested: (IfParts, Vec<Step>),
+    otherwise: &[Stmt],
+) -> Result<Step, CheckError>
+    ensures { Settles (λ s. (stepping.only_step s, scope_of scope.new)) result (stepping.else_in (context_of context.now) line (statements_of otherwise.now) (stepping.tested_of tested) (scope_of scope.old)) }
+{
+    scope.enter(alloc)?;
+    let otherwise = body(alloc, context, scope, otherwise)?;
+    scope.leave(alloc);
+    scope.leave(alloc);
+    let (parts, steps) = tested;
+    Ok(steps::conditional(line, parts, steps, otherwise))
+}
+
+// An if whose block is known, with the if after its else.
+#[cycle(checking)]
+fn if_else_if(
+    alloc: Global,
+    context: &Context,
+    scope: &mut Scope,
+    line: usize,
+    tested: (IfParts, Vec<Step>),
+    otherwise: &Stmt,
+) -> Result<Step, CheckError>
+    ensures { Settles (λ s. (stepping.only_step s, scope_of scope.new)) result (stepping.else_if_in (context_of context.now) line (statement_of otherwise.now) (stepping.tested_of tested) (scope_of scope.old)) }
+{
+    let otherwise = statement(alloc, context, scope, None, otherwise)?;
+    scope.leave(alloc);
+    let otherwise = steps::listed(alloc, otherwise)?;
+    let (parts, steps) = tested;
+    Ok(steps::conditional(line, parts, steps, otherwise))
+}
+
+#[cycle(checking)]
+fn for_step(
+    alloc: Global,
+    context: &Context,
+    scope: &mut Scope,
+    label: Option<&[u8]>,
+    place: Place,
+    head: &ForHead,
+    stmts: &[Stmt],
+) -> Result<Step, CheckError>
+    ensures { Settles (λ s. (stepping.only_step s, scope_of scope.new)) result (stepping.for_in (context_of context.now) (scope_of scope.old) (optional (λ x. x.now) label.entry) place (for_of head.now) (statements_of stmts.now)) }
+{
+    let functions = context.functions;
+    let nest = Nest::Inside(Around::Loop(label), &*context.nest);
+    let inner = (&*context).within(&nest);
+    match head {
+        ForHead::Loop(init, condition, post) => {
+            scope.enter(alloc)?;
+            let parts = loop_parts(alloc, functions, scope, place, init, condition, post)?;
+            loop_step(alloc, &inner, scope, place.line, parts, stmts)
+        }
+        ForHead::Range(target, channel) => {
+            let parts = range_parts(alloc, functions, scope, place, target, channel)?;
+            range_step(alloc, &inner, scope, place.line, parts, stmts)
+        }
     }
+}
+
+// A loop whose heading is known; the context is that of its body.
+#[cycle(checking)]
+fn loop_step(
+    alloc: Global,
+    context: &Context,
+    scope: &mut Scope,
+    line: usize,
+    parts: LoopParts,
+    stmts: &[Stmt],
+) -> Result<Step, CheckError>
+    ensures { Settles (λ s. (stepping.only_step s, scope_of scope.new)) result (stepping.loop_in (context_of context.now) line (stepping.loop_parts_of parts) (statements_of stmts.now) (scope_of scope.old)) }
+{
+    scope.enter(alloc)?;
+    let steps = body(alloc, context, scope, stmts)?;
+    scope.leave(alloc);
+    scope.leave(alloc);
+    Ok(steps::repeated(line, parts, steps))
+}
+
+// A range whose heading is known; the context is that of its body.
+#[cycle(checking)]
+fn range_step(
+    alloc: Global,
+    context: &Context,
+    scope: &mut Scope,
+    line: usize,
+    parts: RangeParts,
+    stmts: &[Stmt],
+) -> Result<Step, CheckError>
+    ensures { Settles (λ s. (stepping.only_step s, scope_of scope.new)) result (stepping.range_in (context_of context.now) line (stepping.range_parts_of parts) (statements_of stmts.now) (scope_of scope.old)) }
+{
+    scope.enter(alloc)?;
+    let steps = body(alloc, context, scope, stmts)?;
+    scope.leave(alloc);
+    scope.leave(alloc);
+    Ok(steps::ranged(line, parts, steps))
+}
+
+#[cycle(checking)]
+fn select(
+    alloc: Global,
+    context: &Context,
+    scope: &mut Scope,
+    label: Option<&[u8]>,
+    place: Place,
+    clauses: &[Clause],
+) -> Result<Step, CheckError>
+    ensures { Settles (λ s. (stepping.only_step s, scope_of scope.new)) result (stepping.select_in (context_of context.now) (scope_of scope.old) (optional (λ x. x.now) label.entry) place (clauses_of clauses.now)) }
+{
+    if !has_at_most_one_default(clauses) {
+        return Err(refused(Fault::Broken(Code::DeclaredTwice), place));
+    }
+    let depth = scope.depth();
+    let nest = Nest::Inside(Around::Choice(label), &*context.nest);
+    let inner = (&*context).within(&nest);
+    match cases(alloc, &inner, scope, place, clauses) {
+        Ok(cases) => Ok(steps::choice(place.line, cases)),
+        Err(error) => {
+            scope.leave_to(alloc, depth);
+            Err(first_error(alloc, context.functions, scope, place, clauses, error))
+        }
+    }
+}
+
+// The clauses of the select at a place; the context is that of their bodies.
+#[cycle(checking)]
+fn cases(
+    alloc: Global,
+    context: &Context,
+    scope: &mut Scope,
+    place: Place,
+    clauses: &[Clause],
+) -> Result<Vec<Case>, CheckError>
+    ensures { Settles (λ v. (cases_of v.items, scope_of scope.new)) result (spec.clauses_in (context_of context.now) (scope_of scope.old) (clauses_of clauses.now)) }
+{
+    let mut cases = Vec::new(alloc);
+    for clause in clauses {
+        let case = case(alloc, context, scope, place, clause)?;
+        cases.push(case)?;
+    }
+    Ok(cases)
+}
+
+#[cycle(checking)]
+fn case(
+    alloc: Global,
+    context: &Context,
+    scope: &mut Scope,
+    place: Place,
+    clause: &Clause,
+) -> Result<Case, CheckError>
+    ensures { Settles (λ k. (case_on k, scope_of scope.new)) result (stepping.clause_in (context_of context.now) (scope_of scope.old) clause.now) }
+{
+    match clause {
+        Clause::Default(body) => default_case(alloc, context, scope, body),
+        Clause::Case(communication, body) => {
+            awaited_case(alloc, context, scope, place, communication, body)
+        }
+    }
+}
+
+#[cycle(checking)]
+fn default_case(
+    alloc: Global,
+    context: &Context,
+    scope: &mut Scope,
+    stmts: &[Stmt],
+) -> Result<Case, CheckError>
+    ensures { Settles (λ k. (case_on k, scope_of scope.new)) result (stepping.default_in (context_of context.now) (scope_of scope.old) (statements_of stmts.now)) }
+{
+    scope.enter(alloc)?;
+    let steps = body(alloc, context, scope, stmts)?;
+    scope.leave(alloc);
+    Ok(steps::default_case(steps))
+}
+
+#[cycle(checking)]
+fn awaited_case(
+    alloc: Global,
+    context: &Context,
+    scope: &mut Scope,
+    place: Place,
+    communication: &Communication,
+    stmts: &[Stmt],
+) -> Result<Case, CheckError>
+    ensures { Settles (λ k. (case_on k, scope_of scope.new)) result (stepping.case_in (context_of context.now) (scope_of scope.old) (comm_of communication.now) (statements_of stmts.now)) }
+{
+    scope.enter(alloc)?;
+    let awaited = placed_awaits(alloc, context.functions, scope, place, communication)?;
+    let steps = body(alloc, context, scope, stmts)?;
+    scope.leave(alloc);
+    Ok(steps::awaited_case(awaited, steps))
 }

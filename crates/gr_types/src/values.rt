@@ -1,144 +1,143 @@
-//! Values of expressions.
+//! Values of expressions, and places that they are given to.
 ghost use Rattle.std.specs.Prelude.{◌≡◌};
-ghost use Rattle.gr_tree.specs.Exprs.{tree_of};
-ghost use Rattle.gr_types.specs.Programs.{plain_of};
-ghost use Rattle.gr_types.specs.Names.{number_in};
-ghost use Rattle.gr_types.specs.Tables.{scope_of};
-ghost use Rattle.gr_types.specs.Checking as spec;
-ghost use Rattle.gr_types.specs.Checking.{Agrees, meaning_of};
-ghost use Rattle.gr_types.specs.declared.values.Fault.TheVariants as faults;
+ghost use Rattle.gr_types.specs.TypeViews.{ty_of};
+ghost use Rattle.gr_types.specs.Programs.{term_of};
+ghost use Rattle.gr_types.specs.Finding as spec;
+ghost use Rattle.gr_types.specs.Values.{may_be_size, Made};
+ghost use Rattle.gr_types.specs.Checking.{Agrees, meaning_of, typed_of, channel_of};
 
-use crate::check::Code;
-use crate::names::{NameTable, is_predeclared};
-use crate::program::{BinaryOp, Term, UnaryOp};
-use crate::{constants, operators};
-use gr_tree::Expr;
-use std::alloc::{AllocError, AllocFailed, Global};
+use crate::fault::{Code, Fault};
+use crate::program::{Literal, Term};
+use crate::types::{Type, is_assignable};
+use gr_const::{Constant, whole};
+use gr_tree::Direction;
 
 /// What an expression is.
 #[derive(Drop)]
 pub enum Value {
-    /// A constant within -2^63 to 2^63.
-    Known(i128),
-    /// A value that is known only when the program runs.
-    Made(Term),
+    /// A constant; its type is that of the place it is given to.
+    Constant(Constant),
+    Nil,
+    /// A value of a type that is known when the program runs.
+    Made(Type, Term),
 }
 
-/// What stops the check of a statement.
-#[derive(Clone, Copy, Debug, PartialEq, Eq)]
-pub enum Fault {
-    Broken(Code),
-    Memory,
+/// A channel that an expression gives.
+#[derive(Drop)]
+pub struct Channel {
+    pub direction: Direction,
+    /// The elements' type.
+    pub element: Type,
+    pub term: Term,
 }
 
-impl From<AllocError> for Fault {
-    ghost from_gives = { λ _ e. e ≡ faults.Memory };
-
-    fn from(_: AllocError) -> Self {
-        Fault::Memory
-    }
-}
-
-impl<T: Drop> From<AllocFailed<T>> for Fault {
-    ghost from_gives = { λ _ e. e ≡ faults.Memory };
-
-    fn from(_: AllocFailed<T>) -> Self {
-        Fault::Memory
-    }
-}
-
-fn known(n: i128) -> Result<Value, Fault>
-    ensures { Agrees meaning_of result (spec.known n) }
+fn typed_constant(constant: Constant) -> Result<(Type, Term), Fault>
+    ensures { Agrees typed_of result (spec.typed_constant constant) }
 {
-    if constants::is_part(n) {
-        Ok(Value::Known(n))
-    } else {
-        Err(Fault::Broken(Code::Constant))
-    }
-}
-
-fn variable(table: &NameTable, name: &[u8]) -> Result<Value, Fault>
-    ensures { Agrees meaning_of result (spec.variable (number_in (scope_of table.now) name.now)) }
-{
-    match table.number(name) {
-        Some(number) => Ok(Value::Made(Term::Variable(number))),
-        None => Err(Fault::Broken(undeclared(name))),
-    }
-}
-
-/// The rule that the use of a name breaks where no variable has it.
-pub fn undeclared(name: &[u8]) -> Code {
-    if is_predeclared(name) || name == b"main".as_slice() {
-        Code::WrongForm
-    } else {
-        Code::UnknownName
-    }
-}
-
-fn unary(alloc: Global, op: UnaryOp, operand: Value) -> Result<Value, Fault>
-    ensures { Agrees meaning_of result (spec.unary_on op (meaning_of operand)) }
-{
-    match operand {
-        Value::Known(n) => match constants::unary(op, n) {
-            Some(result) => known(result),
+    match constant {
+        Constant::Whole(_) => match whole(constant) {
+            Some(n) => Ok((Type::Int, Term::Literal(Literal::Number(n)))),
             None => Err(Fault::Broken(Code::Constant)),
         },
-        Value::Made(term) => Ok(Value::Made(Term::Unary(op, Box::new(alloc, term)?))),
+        Constant::Truth(b) => Ok((Type::Bool, Term::Literal(Literal::Truth(b)))),
     }
 }
 
-/// A value on its own, or as an operand of something that is no constant.
-pub fn whole(value: Value) -> Result<Term, Fault>
-    ensures { Agrees plain_of result (spec.whole (meaning_of value)) }
+/// A value with its own type; a whole constant fits `int`, and `nil` has no type.
+#[tactic(auto, unfolding(crate::specs::Finding::typed))]
+pub fn typed(value: Value) -> Result<(Type, Term), Fault>
+    ensures { Agrees typed_of result (spec.typed (meaning_of value)) }
 {
     match value {
-        Value::Known(n) => match i64::try_from(n) {
-            Ok(n) => Ok(Term::Constant(n)),
-            Err(_) => Err(Fault::Broken(Code::Constant)),
-        },
-        Value::Made(term) => Ok(term),
+        Value::Constant(constant) => typed_constant(constant),
+        Value::Nil => Err(Fault::Broken(Code::WrongForm)),
+        Value::Made(value_type, term) => Ok((value_type, term)),
     }
 }
 
-fn binary(alloc: Global, op: BinaryOp, left: Value, right: Value) -> Result<Value, Fault>
-    ensures { Agrees meaning_of result (spec.binary_on op (meaning_of left) (meaning_of right)) }
+fn given_nil(target: &Type) -> Result<Term, Fault>
+    ensures { Agrees term_of result (spec.given_nil (ty_of target.now)) }
 {
-    match (left, right) {
-        (Value::Known(a), Value::Known(b)) => match constants::binary(op, a, b) {
-            Some(result) => known(result),
-            None => Err(Fault::Broken(Code::Constant)),
-        },
-        (left, right) => {
-            let left = Box::new(alloc, whole(left)?)?;
-            let right = Box::new(alloc, whole(right)?)?;
-            Ok(Value::Made(Term::Binary(op, left, right)))
-        }
-    }
-}
-
-/// What an expression is.
-pub fn evaluate(alloc: Global, table: &NameTable, expr: &Expr) -> Result<Value, Fault>
-    ensures { Agrees meaning_of result (spec.value_in (scope_of table.now) (tree_of expr.now)) }
-{
-    match expr {
-        Expr::Number(n) => known(i128::from(*n)),
-        Expr::Name(name) => variable(table, name.as_slice()),
-        Expr::Paren(inner) => evaluate(alloc, table, inner),
-        Expr::Unary(op, operand) => {
-            let Some(op) = operators::unary(*op) else {
-                return Err(Fault::Broken(Code::WrongForm));
-            };
-            let operand = evaluate(alloc, table, operand)?;
-            unary(alloc, op, operand)
-        }
-        Expr::Binary(op, left, right) => {
-            let Some(op) = operators::binary(*op) else {
-                return Err(Fault::Broken(Code::WrongForm));
-            };
-            let left = evaluate(alloc, table, left)?;
-            let right = evaluate(alloc, table, right)?;
-            binary(alloc, op, left, right)
-        }
+    match target {
+        Type::Chan(_, _) => Ok(Term::Literal(Literal::Nil)),
         _ => Err(Fault::Broken(Code::WrongForm)),
+    }
+}
+
+fn given_typed(target: &Type, own: &Type, term: Term) -> Result<Term, Fault>
+    ensures { Agrees term_of result (spec.given_typed (ty_of target.now) (ty_of own.now, term_of term)) }
+{
+    if is_assignable(own, target) {
+        Ok(term)
+    } else {
+        Err(Fault::Broken(Code::WrongForm))
+    }
+}
+
+/// A value that is given to a place of a type.
+#[tactic(auto, unfolding(crate::specs::Finding::given))]
+pub fn given(target: &Type, value: Value) -> Result<Term, Fault>
+    ensures { Agrees term_of result (spec.given (ty_of target.now) (meaning_of value)) }
+{
+    match value {
+        Value::Nil => given_nil(target),
+        value => {
+            let (own, term) = typed(value)?;
+            given_typed(target, &own, term)
+        }
+    }
+}
+
+/// A value whose own type is this one, `int` or `bool`.
+pub fn of_kind(kind: &Type, value: Value) -> Result<Term, Fault>
+    ensures { Agrees term_of result (spec.of_kind (ty_of kind.now) (meaning_of value)) }
+{
+    let (own, term) = typed(value)?;
+    match (kind, &own) {
+        (Type::Int, Type::Int) | (Type::Bool, Type::Bool) => Ok(term),
+        _ => Err(Fault::Broken(Code::WrongForm)),
+    }
+}
+
+/// Whether a value may be a size: no negative constant is.
+fn may_be_size(value: &Value) -> bool
+    ensures { result ≡ may_be_size (meaning_of value.now) }
+{
+    match value {
+        Value::Constant(Constant::Whole(n)) => *n >= 0,
+        _ => true,
+    }
+}
+
+/// A value as the size of a channel's buffer.
+pub fn size(value: Value) -> Result<Term, Fault>
+    ensures { Agrees term_of result (spec.size_of (meaning_of value)) }
+{
+    if !may_be_size(&value) {
+        return Err(Fault::Broken(Code::Constant));
+    }
+    of_kind(&Type::Int, value)
+}
+
+fn made_channel(value_type: Type, term: Term) -> Result<Channel, Fault>
+    ensures { Agrees channel_of result (spec.as_channel (Made (ty_of value_type) (term_of term))) }
+{
+    match value_type {
+        Type::Chan(direction, element) => Ok(Channel {
+            direction,
+            element: Box::into_inner(element),
+            term,
+        }),
+        _ => Err(Fault::Broken(Code::WrongForm)),
+    }
+}
+
+/// A value as a channel.
+pub fn as_channel(value: Value) -> Result<Channel, Fault>
+    ensures { Agrees channel_of result (spec.as_channel (meaning_of value)) }
+{
+    match value {
+        Value::Made(value_type, term) => made_channel(value_type, term),
+        Value::Constant(_) | Value::Nil => Err(Fault::Broken(Code::WrongForm)),
     }
 }

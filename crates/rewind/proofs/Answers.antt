@@ -2,7 +2,7 @@
 use Rattle.std.proofs.Common.{◌≡◌, ◌≢◌, ℕ, suc, codes, true, false, List, [], ◌∷◌, ◌++◌, length, refl, sym, ap, subst, ◌∙◌, append-nil, append_assoc, arith, Ok, Err, IfOk, OnErr}
 use Rattle.std.specs.declared.option.Option.{Option}
 use Rattle.std.specs.declared.result.Result.{Result}
-use Rattle.gr_types.specs.Programs.{Checked}
+use Rattle.gr_session.specs.PlainPrograms.{Program}
 use Rattle.gr_session.specs.declared.command.Command.{Command}
 use Rattle.gr_session.specs.declared.command.Entry.{Entry}
 use Rattle.gr_session.specs.declared.TheConstants.{JOURNAL_LIMIT}
@@ -55,7 +55,7 @@ output-append [] ms (x ∷ xs) ys n e = absurd (omega (arith, e))
 output-append (l ∷ ls) ms xs ys n e =
     output_at-append (meaning l) (output (ls ++ ms)) (output ls) (commands ls) ys (output ms ys) n.0 (λ zs h. output-append ls ms zs ys n.1 h) xs e
 
-pub Answered-length : (program : Checked) (asker : ℕ) (old : List Entry) (cs : List Command) (xs : List Answer) (new : List Entry) → Answered program asker old cs xs new → length xs ≡ length cs
+pub Answered-length : (program : Program) (asker : ℕ) (old : List Entry) (cs : List Command) (xs : List Answer) (new : List Entry) → Answered program asker old cs xs new → length xs ≡ length cs
 Answered-length program asker old [] [] new h = refl
 Answered-length program asker old [] (x ∷ xs) new h = absurd h
 Answered-length program asker old (c ∷ cs) [] new h = absurd h
@@ -63,7 +63,7 @@ Answered-length program asker old (c ∷ cs) (Replied s ∷ xs) new h = ap suc (
 Answered-length program asker old (c ∷ cs) (JournalFull ∷ xs) new h = ap suc (Answered-length program asker old cs xs new h.1)
 Answered-length program asker old (c ∷ cs) (NoMemory ∷ xs) new h = ap suc (Answered-length program asker old cs xs new h.1)
 
-pub Answered-append : (program : Checked) (asker : ℕ) (old : List Entry) (cs : List Command) (xs : List Answer) (mid : List Entry) (ds : List Command) (ys : List Answer) (new : List Entry)
+pub Answered-append : (program : Program) (asker : ℕ) (old : List Entry) (cs : List Command) (xs : List Answer) (mid : List Entry) (ds : List Command) (ys : List Answer) (new : List Entry)
     → Answered program asker old cs xs mid → Answered program asker mid ds ys new → Answered program asker old (cs ++ ds) (xs ++ ys) new
 Answered-append program asker old [] [] mid ds ys new h k = subst (λ (j : List Entry). Answered program asker j ds ys new) h k
 Answered-append program asker old [] (x ∷ xs) mid ds ys new h k = absurd h
@@ -72,10 +72,10 @@ Answered-append program asker old (c ∷ cs) (Replied s ∷ xs) mid ds ys new h 
 Answered-append program asker old (c ∷ cs) (JournalFull ∷ xs) mid ds ys new h k = (h.0, Answered-append program asker old cs xs mid ds ys new h.1 k)
 Answered-append program asker old (c ∷ cs) (NoMemory ∷ xs) mid ds ys new h k = (h.0, Answered-append program asker old cs xs mid ds ys new h.1 k)
 
-pub Served-none : (program : Checked) (asker : ℕ) (old : List Entry) (held : Option (List ℕ)) → Served program asker [] old old held held
+pub Served-none : (program : Program) (asker : ℕ) (old : List Entry) (held : Option (List ℕ)) → Served program asker [] old old held held
 Served-none program asker old held = record { answers = []; answered = refl; written = Appends-nil held held (Keeps-refl held) }
 
-pub Served-append : {program : Checked} {asker : ℕ} {ls ms : List (List ℕ)} {old mid new : List Entry} {a b c : Option (List ℕ)}
+pub Served-append : {program : Program} {asker : ℕ} {ls ms : List (List ℕ)} {old mid new : List Entry} {a b c : Option (List ℕ)}
     → NoQuit ls → Served program asker ls old mid a b → Served program asker ms mid new b c → Served program asker (ls ++ ms) old new a c
 Served-append {program = program} {asker = asker} {ls = ls} {ms = ms} {old = old} {mid = mid} {new = new} {a = a} {b = b} {c = c} n s t = record {
   answers = s.answers ++ t.answers;
@@ -85,7 +85,7 @@ Served-append {program = program} {asker = asker} {ls = ls} {ms = ms} {old = old
 }
 
 -- what stays as it was is served as before
-pub Served-kept : {program : Checked} {asker : ℕ} {ls : List (List ℕ)} {old mid new : List Entry} {a b c : Option (List ℕ)}
+pub Served-kept : {program : Program} {asker : ℕ} {ls : List (List ℕ)} {old mid new : List Entry} {a b c : Option (List ℕ)}
     → Served program asker ls old mid a b → new ≡ mid → Keeps b c → Served program asker ls old new a c
 Served-kept {program = program} {asker = asker} {ls = ls} {old = old} {a = a} {b = b} {c = c} s same kept = record {
   answers = s.answers;
@@ -100,7 +100,7 @@ quit_is says.Quit h = refl
 quit_is (says.Command c) h = cc
 
 -- after `quit` nothing is read
-pub Served-quit : {program : Checked} {asker : ℕ} {q : List ℕ} {old new : List Entry} {a b : Option (List ℕ)} (more : List (List ℕ))
+pub Served-quit : {program : Program} {asker : ℕ} {q : List ℕ} {old new : List Entry} {a b : Option (List ℕ)} (more : List (List ℕ))
     → is_quit (meaning q) ≡ true → Served program asker (q ∷ []) old new a b → Served program asker (q ∷ more) old new a b
 Served-quit {q = q} more h s = let e : meaning q ≡ says.Quit = quit_is (meaning q) h in record {
   answers = s.answers;
@@ -109,16 +109,16 @@ Served-quit {q = q} more h s = let e : meaning q ≡ says.Quit = quit_is (meanin
 }
 
 -- lines with one meaning are served alike
-pub Served-same : {program : Checked} {asker : ℕ} {k l : List ℕ} {old new : List Entry} {a b : Option (List ℕ)}
+pub Served-same : {program : Program} {asker : ℕ} {k l : List ℕ} {old new : List Entry} {a b : Option (List ℕ)}
     → meaning k ≡ meaning l → Served program asker (k ∷ []) old new a b → Served program asker (l ∷ []) old new a b
 Served-same e s = record { answers = s.answers; answered = rw (← e) s.answered; written = rw (← e) s.written }
 
-pub Begun-same : {program : Checked} {asker : ℕ} {k l : List ℕ} {old new : List Entry} {a b : Option (List ℕ)}
+pub Begun-same : {program : Program} {asker : ℕ} {k l : List ℕ} {old new : List Entry} {a b : Option (List ℕ)}
     → meaning k ≡ meaning l → Begun program asker k old new a b → Begun program asker l old new a b
 Begun-same e s = record { answers = s.answers; answered = rw (← e) s.answered; count = s.count; written = rw (← e) s.written }
 
 -- what came of one command
-pub Answers-replied : {program : Checked} {asker : ℕ} {command : Command} {old new : List Entry} {number : ℕ} {said : Said} {text : List ℕ}
+pub Answers-replied : {program : Program} {asker : ℕ} {command : Command} {old new : List Entry} {number : ℕ} {said : Said} {text : List ℕ}
     → Enters program asker command old new number said → text ≡ said_text said → Answers program asker (says.Command command) old new text
 Answers-replied {new = new} {said = said} h e = record {
   answers = Replied said ∷ [];
@@ -126,29 +126,29 @@ Answers-replied {new = new} {said = said} h e = record {
   text_is = e ∙ sym (append-nil (said_text said));
 }
 
-pub Answered-replied : {program : Checked} {asker : ℕ} {command : Command} {old new : List Entry} {number : ℕ} {said : Said}
+pub Answered-replied : {program : Program} {asker : ℕ} {command : Command} {old new : List Entry} {number : ℕ} {said : Said}
     → Enters program asker command old new number said → AnsweredLine program asker (says.Command command) old new
 Answered-replied {new = new} {said = said} h = record {
   answers = Replied said ∷ [];
   answered = (new, record { memory = h.memory; entered = h.entered; number_is = refl; before = h.before; stood = h.stood; after = h.after; meant = h.meant }, refl);
 }
 
-pub Answers-full : {program : Checked} {asker : ℕ} {command : Command} {old new : List Entry} {text : List ℕ}
+pub Answers-full : {program : Program} {asker : ℕ} {command : Command} {old new : List Entry} {text : List ℕ}
     → length old ≡ JOURNAL_LIMIT → new ≡ old → text ≡ codes "no Q1\n" → Answers program asker (says.Command command) old new text
 Answers-full f u e = record { answers = JournalFull ∷ []; answered = (f, u); text_is = e }
 
-pub Answered-full : {program : Checked} {asker : ℕ} {command : Command} {old new : List Entry} → length old ≡ JOURNAL_LIMIT → new ≡ old → AnsweredLine program asker (says.Command command) old new
+pub Answered-full : {program : Program} {asker : ℕ} {command : Command} {old new : List Entry} → length old ≡ JOURNAL_LIMIT → new ≡ old → AnsweredLine program asker (says.Command command) old new
 Answered-full f u = record { answers = JournalFull ∷ []; answered = (f, u) }
 
-pub Answers-no_memory : {program : Checked} {asker : ℕ} {command : Command} {old new : List Entry} {text : List ℕ}
+pub Answers-no_memory : {program : Program} {asker : ℕ} {command : Command} {old new : List Entry} {text : List ℕ}
     → length old ≢ JOURNAL_LIMIT → new ≡ old → text ≡ codes "no Q2\n" → Answers program asker (says.Command command) old new text
 Answers-no_memory n u e = record { answers = NoMemory ∷ []; answered = (n, u); text_is = e }
 
-pub Answered-no_memory : {program : Checked} {asker : ℕ} {command : Command} {old new : List Entry} → length old ≢ JOURNAL_LIMIT → new ≡ old → AnsweredLine program asker (says.Command command) old new
+pub Answered-no_memory : {program : Program} {asker : ℕ} {command : Command} {old new : List Entry} → length old ≢ JOURNAL_LIMIT → new ≡ old → AnsweredLine program asker (says.Command command) old new
 Answered-no_memory n u = record { answers = NoMemory ∷ []; answered = (n, u) }
 
 -- of the answer to a line nothing is written yet
-pub begun_none : (program : Checked) (asker : ℕ) (line : List ℕ) (old new : List Entry) (held : Option (List ℕ))
+pub begun_none : (program : Program) (asker : ℕ) (line : List ℕ) (old new : List Entry) (held : Option (List ℕ))
     → AnsweredLine program asker (meaning line) old new → Begun program asker line old new held held
 begun_none program asker line old new held h = record {
   answers = h.answers;

@@ -6,9 +6,9 @@ use Rattle.gr_scan.specs.Tokens.{Tok}
 use Rattle.gr_scan.specs.Scan.{IsScan}
 use Rattle.gr_scan.specs.declared.scan.ScanError.TheVariants as scanning
 use Rattle.gr_syntax.specs.declared.parse.ParseError.TheVariants as parsing
-use Rattle.gr_types.specs.declared.check.CheckError.TheVariants as checking
+use Rattle.gr_types.specs.declared.fault.CheckError.TheVariants as checking
 use Rattle.gr_scan.specs.declared.scan.TheConstants.{TEXT_LIMIT}
-use Rattle.gr_types.specs.Programs.{Checked}
+use Rattle.gr_session.specs.PlainPrograms.{Program}
 use Rattle.gr_session.specs.declared.command.Entry.{Entry}
 use Rattle.gr_session.specs.declared.open.OpenError.{OpenError}
 use Rattle.gr_session.specs.declared.open.OpenError.TheVariants as opening
@@ -49,9 +49,9 @@ true_refusal (opening.Parse parsing.Memory at) text all long says none = tt
 true_refusal (opening.Parse (parsing.NoFile n) at) text all long says none = none
 true_refusal (opening.Parse (parsing.LeftOut n) at) text all long says none = none
 true_refusal (opening.Parse (parsing.TooHigh n) at) text all long says none = none
-true_refusal opening.NotYet text all long says none = absurd (no_scan text says.tokens long says.scanned)
 true_refusal (opening.Check checking.Memory at) text all long says none = tt
 true_refusal (opening.Check (checking.Refused code n) at) text all long says none = absurd (no_scan text says.tokens long says.scanned)
+true_refusal opening.NotYet text all long says none = absurd (no_scan text says.checked.tokens long says.checked.scanned)
 true_refusal opening.Memory text all long says none = tt
 
 longer : (n m k : ℕ) → n < m → n < m + k
@@ -72,13 +72,13 @@ known None has text h e = tt
 known (Some all) None text h e = absurd h
 known (Some all) (Some rest) text h e = h ∙ ap (λ t. text ++ t) e ∙ append-nil text
 
-pub opened : (had has : Option (List ℕ)) (text : List ℕ) (program : Checked) → SourceRead had has text → IsProgramOf text program → Opened had has program
+pub opened : (had has : Option (List ℕ)) (text : List ℕ) (program : Program) → SourceRead had has text → IsProgramOf text program → Opened had has program
 opened had has text program h is = record {
   text = text;
   taken = h.0;
   whole = elim h.1 [
     | inl e ↦ known had has text h.0 e
-    | inr long ↦ absurd (long_source text long program is)
+    | inr long ↦ absurd (long_source text long is.whole is.checked)
   ];
   is_program = is;
 }
@@ -101,13 +101,13 @@ unserved (Serve Write) source_had source_has had held source_failed reader_faile
 unserved (Serve Memory) source_had source_has had held source_failed reader_failed writer_failed h = inl (Keeps-refl had, Keeps-refl held)
 
 -- the journal after lines is legal
-pub legal_served : {program : Checked} {lines : List (List ℕ)} {journal : List Entry} {held holds : Option (List ℕ)} → Served program 1 lines [] journal held holds → IsLegal program 1 journal
+pub legal_served : {program : Program} {lines : List (List ℕ)} {journal : List Entry} {held holds : Option (List ℕ)} → Served program 1 lines [] journal held holds → IsLegal program 1 journal
 legal_served {program = program} {journal = journal} s = legal_answered program 1 1 [] _ s.answers journal (omega arith) (omega arith) (legal_empty program 1) s.answered
 
-legal_part : {program : Checked} {had has : Option (List ℕ)} {journal : List Entry} {held holds : Option (List ℕ)} → ServedPart program 1 had has [] journal held holds → IsLegal program 1 journal
+legal_part : {program : Program} {had has : Option (List ℕ)} {journal : List Entry} {held holds : Option (List ℕ)} → ServedPart program 1 had has [] journal held holds → IsLegal program 1 journal
 legal_part {program = program} {journal = journal} s = legal_answered program 1 1 s.mid _ s.begun.answers journal (omega arith) (omega arith) (legal_served s.served) s.begun.answered
 
-pub legal_left : (fault : ServeFault) (program : Checked) (had has : Option (List ℕ)) (journal : List Entry) (held holds : Option (List ℕ)) (reader_failed writer_failed : Type 0)
+pub legal_left : (fault : ServeFault) (program : Program) (had has : Option (List ℕ)) (journal : List Entry) (held holds : Option (List ℕ)) (reader_failed writer_failed : Type 0)
     → Left fault program 1 had has [] journal held holds reader_failed writer_failed → IsLegal program 1 journal
 legal_left Read program had has journal held holds reader_failed writer_failed h = legal_served h.0.served
 legal_left Write program had has journal held holds reader_failed writer_failed h = legal_part h.0
@@ -122,7 +122,7 @@ stopped_left Write source_had source_has had has held holds source_failed reader
 stopped_left Memory source_had source_has had has held holds source_failed reader_failed writer_failed s = inr s
 
 -- the stream's fault is the session's
-pub stopped : (fault : ServeFault) (source_had source_has had has held holds : Option (List ℕ)) (program : Checked) (journal : List Entry) (source_failed reader_failed writer_failed : Type 0)
+pub stopped : (fault : ServeFault) (source_had source_has had has held holds : Option (List ℕ)) (program : Program) (journal : List Entry) (source_failed reader_failed writer_failed : Type 0)
     → Opened source_had source_has program → Left fault program 1 had has [] journal held holds reader_failed writer_failed
     → DebugLeft (Serve fault) source_had source_has had has held holds source_failed reader_failed writer_failed
 stopped fault source_had source_has had has held holds program journal source_failed reader_failed writer_failed o l =

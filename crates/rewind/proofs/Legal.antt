@@ -1,7 +1,7 @@
 -- A legal journal stays legal under an asker's commands.
 use Rattle.std.proofs.Common.{ℕ, ◌≤◌, List, [], ◌∷◌, refl, subst, sym, arith}
 use Rattle.std.proofs.lemmas.List.Elements.{All-push}
-use Rattle.gr_types.specs.Programs.{Checked}
+use Rattle.gr_session.specs.PlainPrograms.{Program}
 use Rattle.gr_session.specs.declared.command.Command.{Command}
 use Rattle.gr_session.specs.declared.command.Entry.{Entry}
 use Rattle.gr_session.specs.Journal.{Said, IsAskedBy, IsLegal, Enters}
@@ -9,10 +9,10 @@ use Rattle.gr_session.proofs.Journals.{world_push}
 use Rattle.rewind.specs.Replies.{Answer, Replied, JournalFull, NoMemory}
 use Rattle.rewind.specs.Stream.{Answered}
 
-pub legal_empty : (program : Checked) (askers : ℕ) → IsLegal program askers []
+pub legal_empty : (program : Program) (askers : ℕ) → IsLegal program askers []
 legal_empty program askers = record { asked = λ k d h. absurd (omega (arith, h)); world = record { log = [] }; means = refl }
 
-pub legal_entry : (program : Checked) (askers asker : ℕ) (command : Command) (old new : List Entry) (number : ℕ) (said : Said)
+pub legal_entry : (program : Program) (askers asker : ℕ) (command : Command) (old new : List Entry) (number : ℕ) (said : Said)
     → 1 ≤ asker → asker ≤ askers → IsLegal program askers old → Enters program asker command old new number said → IsLegal program askers new
 legal_entry program askers asker command old new number said low high legal e =
     let entry : Entry = record { asker = asker; command = command; memory = e.memory } in
@@ -22,7 +22,7 @@ legal_entry program askers asker command old new number said low high legal e =
       means = world_push program (record { log = [] }) old entry e.before (record { world = e.after; said = said }) e.stood e.meant;
     })
 
-pub legal_answered : (program : Checked) (askers asker : ℕ) (old : List Entry) (commands : List Command) (answers : List Answer) (new : List Entry)
+pub legal_answered : (program : Program) (askers asker : ℕ) (old : List Entry) (commands : List Command) (answers : List Answer) (new : List Entry)
     → 1 ≤ asker → asker ≤ askers → IsLegal program askers old → Answered program asker old commands answers new → IsLegal program askers new
 legal_answered program askers asker old [] [] new low high legal h = subst (λ (j : List Entry). IsLegal program askers j) (sym h) legal
 legal_answered program askers asker old [] (a ∷ others) new low high legal h = absurd h

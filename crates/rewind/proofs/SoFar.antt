@@ -4,7 +4,7 @@ use Rattle.std.proofs.lemmas.List.{take_all, length-take}
 use Rattle.std.proofs.lemmas.Bool.{ltb-true, lt-ltb, ltb-false}
 use Rattle.std.specs.declared.option.Option.{Option}
 use Rattle.std.specs.Io.KnownBytes.{Consumes, IsAtEnd}
-use Rattle.gr_types.specs.Programs.{Checked}
+use Rattle.gr_session.specs.PlainPrograms.{Program}
 use Rattle.gr_session.specs.declared.command.Entry.{Entry}
 use Rattle.rewind.specs.declared.command.TheConstants.{LINE_LIMIT}
 use Rattle.rewind.specs.declared.command.Line.TheVariants.{Rejected}
@@ -22,14 +22,14 @@ use Rattle.rewind.proofs.Cuts.{text_of, AllPlain, AllPlain-append, text_of-snoc,
 use Rattle.rewind.proofs.Answers.{QuitLast-none, QuitLast-one, NoQuit-append, Served-none, Served-kept, Served-append, Served-quit, Served-same, Begun-same}
 
 -- whole lines were read and served, none of them `quit`
-pub record SoFar (program : Checked) (asker : ℕ) (had has : Option (List ℕ)) (old new : List Entry) (held holds : Option (List ℕ)) : Type 0 where
+pub record SoFar (program : Program) (asker : ℕ) (had has : Option (List ℕ)) (old new : List Entry) (held holds : Option (List ℕ)) : Type 0 where
   pub done : List (List ℕ)
   pub plain : AllPlain done
   pub going : NoQuit done
   pub taken : Consumes had has (text_of done)
   pub served : Served program asker done old new held holds
 
-pub SoFar-none : (program : Checked) (asker : ℕ) (had : Option (List ℕ)) (old : List Entry) (held : Option (List ℕ)) → SoFar program asker had had old old held held
+pub SoFar-none : (program : Program) (asker : ℕ) (had : Option (List ℕ)) (old : List Entry) (held : Option (List ℕ)) → SoFar program asker had had old old held held
 SoFar-none program asker had old held = record {
   done = [];
   plain = tt;
@@ -66,7 +66,7 @@ something_kept : (n : ℕ) (text kept : List ℕ) → kept ≡ take (n + 1) text
 something_kept n text kept e z = omega (arith, length-take (n + 1) text, ap length e)
 
 -- a line with its newline was read and served, and was no `quit`
-pub SoFar-line : {program : Checked} {asker : ℕ} {had has rest : Option (List ℕ)} {old mid new : List Entry} {a b c : Option (List ℕ)} {kept : List ℕ}
+pub SoFar-line : {program : Program} {asker : ℕ} {had has rest : Option (List ℕ)} {old mid new : List Entry} {a b c : Option (List ℕ)} {kept : List ℕ}
     → SoFar program asker had has old mid a b → LineRead has rest kept Newline → Served program asker (kept ∷ []) mid new b c → is_quit (meaning kept) ≡ false
     → SoFar program asker had rest old new a c
 SoFar-line {program = program} {asker = asker} {had = had} {has = has} {rest = rest} {kept = kept} s r t n =
@@ -82,7 +82,7 @@ SoFar-line {program = program} {asker = asker} {had = had} {has = has} {rest = r
     }
 
 -- the reader fails, or memory, within a line
-pub SoFar-broken : {program : Checked} {asker : ℕ} {had has rest : Option (List ℕ)} {old new : List Entry} {a b : Option (List ℕ)}
+pub SoFar-broken : {program : Program} {asker : ℕ} {had has rest : Option (List ℕ)} {old new : List Entry} {a b : Option (List ℕ)}
     → SoFar program asker had has old new a b → Taken has rest → ServedWhole program asker had rest old new a b
 SoFar-broken {program = program} {asker = asker} {had = had} {has = has} {rest = rest} {old = old} {new = new} {a = a} {b = b} s p = record {
   bytes = text_of s.done ++ p.text;
@@ -107,7 +107,7 @@ had_more None has bytes P h p = tt
 had_more (Some xs) None bytes P h p = absurd h
 had_more (Some xs) (Some ys) bytes P h p = subst P (sym h) (p ys)
 
-ends : {program : Checked} {asker : ℕ} {had has : Option (List ℕ)} {old new : List Entry} {a b : Option (List ℕ)} (bytes : List ℕ)
+ends : {program : Program} {asker : ℕ} {had has : Option (List ℕ)} {old new : List Entry} {a b : Option (List ℕ)} (bytes : List ℕ)
     → Consumes had has bytes → IsAtEnd has → QuitLast (lines_of bytes) → Served program asker (lines_of bytes) old new a b → ServedAll program asker had has old new a b
 ends {program = program} {asker = asker} {had = had} {has = has} {old = old} {new = new} {a = a} {b = b} bytes t e l s = record {
   bytes = bytes;
@@ -118,7 +118,7 @@ ends {program = program} {asker = asker} {had = had} {has = has} {old = old} {ne
 }
 
 -- the bytes end after a newline
-pub SoFar-end : {program : Checked} {asker : ℕ} {had has rest : Option (List ℕ)} {old new : List Entry} {a b : Option (List ℕ)} {kept : List ℕ}
+pub SoFar-end : {program : Program} {asker : ℕ} {had has rest : Option (List ℕ)} {old new : List Entry} {a b : Option (List ℕ)} {kept : List ℕ}
     → SoFar program asker had has old new a b → LineRead has rest kept End → length kept ≡ 0 → ServedAll program asker had rest old new a b
 SoFar-end {program = program} {asker = asker} {had = had} {has = has} {rest = rest} {old = old} {new = new} {a = a} {b = b} {kept = kept} s r z =
     let p = r.0 in
@@ -127,7 +127,7 @@ SoFar-end {program = program} {asker = asker} {had = had} {has = has} {rest = re
     ends (text_of s.done ++ []) (Consumes-then had has rest (text_of s.done) [] s.taken (rw none at p.taken)) r.1 (rw lines (QuitLast-none s.done s.going)) (rw lines s.served)
 
 -- the bytes end in a line with no newline
-pub SoFar-last : {program : Checked} {asker : ℕ} {had has rest : Option (List ℕ)} {old mid new : List Entry} {a b c : Option (List ℕ)} {kept : List ℕ}
+pub SoFar-last : {program : Program} {asker : ℕ} {had has rest : Option (List ℕ)} {old mid new : List Entry} {a b c : Option (List ℕ)} {kept : List ℕ}
     → SoFar program asker had has old mid a b → LineRead has rest kept End → 0 < length kept → Served program asker (kept ∷ []) mid new b c → ServedAll program asker had rest old new a c
 SoFar-last {program = program} {asker = asker} {had = had} {has = has} {rest = rest} {kept = kept} s r z t =
     let p = r.0 in
@@ -137,7 +137,7 @@ SoFar-last {program = program} {asker = asker} {had = had} {has = has} {rest = r
     (rw lines (Served-append s.going s.served (Served-same (meaning-kept p.text kept p.kept_is) t)))
 
 -- a line was `quit`
-quits : {program : Checked} {asker : ℕ} {had has : Option (List ℕ)} {old new : List Entry} {a b : Option (List ℕ)} (done : List (List ℕ)) (line : List ℕ)
+quits : {program : Program} {asker : ℕ} {had has : Option (List ℕ)} {old new : List Entry} {a b : Option (List ℕ)} (done : List (List ℕ)) (line : List ℕ)
     → AllPlain done → Plain line → NoQuit done
     → Consumes had has (text_of done ++ (line ++ 10 ∷ [])) → ((more : List (List ℕ)) → Served program asker (done ++ line ∷ more) old new a b) → ServedAll program asker had has old new a b
 quits {program = program} {asker = asker} {had = had} {has = has} {old = old} {new = new} {a = a} {b = b} done line q p n t s = record {
@@ -149,7 +149,7 @@ quits {program = program} {asker = asker} {had = had} {has = has} {old = old} {n
       (λ rest. rw (append_assoc (text_of done) (line ++ 10 ∷ []) rest, append_assoc line (10 ∷ []) rest, lines-text done (line ++ 10 ∷ rest) q, lines-line line rest p) (s (lines_of rest)));
 }
 
-pub SoFar-quit : {program : Checked} {asker : ℕ} {had has rest : Option (List ℕ)} {old mid new : List Entry} {a b c : Option (List ℕ)} {kept : List ℕ}
+pub SoFar-quit : {program : Program} {asker : ℕ} {had has rest : Option (List ℕ)} {old mid new : List Entry} {a b c : Option (List ℕ)} {kept : List ℕ}
     → SoFar program asker had has old mid a b → LineRead has rest kept Newline → Served program asker (kept ∷ []) mid new b c → is_quit (meaning kept) ≡ true
     → ServedAll program asker had rest old new a c
 SoFar-quit {program = program} {asker = asker} {had = had} {has = has} {rest = rest} {kept = kept} s r t n =
@@ -160,7 +160,7 @@ SoFar-quit {program = program} {asker = asker} {had = had} {has = has} {rest = r
     (λ more. Served-append s.going s.served (Served-quit more (rw (← same) n) (Served-same same t)))
 
 -- the answer to a line was begun
-pub SoFar-begun : {program : Checked} {asker : ℕ} {had has rest : Option (List ℕ)} {old mid new : List Entry} {a b c : Option (List ℕ)} {kept : List ℕ}
+pub SoFar-begun : {program : Program} {asker : ℕ} {had has rest : Option (List ℕ)} {old mid new : List Entry} {a b c : Option (List ℕ)} {kept : List ℕ}
     → SoFar program asker had has old mid a b → LineRead has rest kept Newline → Begun program asker kept mid new b c → ServedPart program asker had rest old new a c
 SoFar-begun {program = program} {asker = asker} {had = had} {has = has} {rest = rest} {old = old} {mid = mid} {new = new} {a = a} {b = b} {c = c} {kept = kept} s r t =
     let p = r.1 in
@@ -177,7 +177,7 @@ SoFar-begun {program = program} {asker = asker} {had = had} {has = has} {rest = 
       begun = Begun-same (meaning-kept p.text kept p.kept_is) t;
     }
 
-pub SoFar-begun_last : {program : Checked} {asker : ℕ} {had has rest : Option (List ℕ)} {old mid new : List Entry} {a b c : Option (List ℕ)} {kept : List ℕ}
+pub SoFar-begun_last : {program : Program} {asker : ℕ} {had has rest : Option (List ℕ)} {old mid new : List Entry} {a b c : Option (List ℕ)} {kept : List ℕ}
     → SoFar program asker had has old mid a b → LineRead has rest kept End → 0 < length kept → Begun program asker kept mid new b c → ServedPart program asker had rest old new a c
 SoFar-begun_last {program = program} {asker = asker} {had = had} {has = has} {rest = rest} {old = old} {mid = mid} {new = new} {a = a} {b = b} {c = c} {kept = kept} s r z t =
     let p = r.0 in
@@ -195,7 +195,7 @@ SoFar-begun_last {program = program} {asker = asker} {had = had} {has = has} {re
     }
 
 -- a line was read and not asked
-pub SoFar-before : {program : Checked} {asker : ℕ} {had has rest : Option (List ℕ)} {old mid new : List Entry} {a b c : Option (List ℕ)} {kept : List ℕ}
+pub SoFar-before : {program : Program} {asker : ℕ} {had has rest : Option (List ℕ)} {old mid new : List Entry} {a b c : Option (List ℕ)} {kept : List ℕ}
     → SoFar program asker had has old mid a b → LineRead has rest kept Newline → Untouched mid new b c → ServedBefore program asker had rest old new a c
 SoFar-before {program = program} {asker = asker} {had = had} {has = has} {rest = rest} {old = old} {mid = mid} {new = new} {a = a} {b = b} {c = c} s r u =
     let p = r.1 in
@@ -209,7 +209,7 @@ SoFar-before {program = program} {asker = asker} {had = had} {has = has} {rest =
       served = Served-kept s.served u.0 u.1;
     }
 
-pub SoFar-before_last : {program : Checked} {asker : ℕ} {had has rest : Option (List ℕ)} {old mid new : List Entry} {a b c : Option (List ℕ)} {kept : List ℕ}
+pub SoFar-before_last : {program : Program} {asker : ℕ} {had has rest : Option (List ℕ)} {old mid new : List Entry} {a b c : Option (List ℕ)} {kept : List ℕ}
     → SoFar program asker had has old mid a b → LineRead has rest kept End → 0 < length kept → Untouched mid new b c → ServedBefore program asker had rest old new a c
 SoFar-before_last {program = program} {asker = asker} {had = had} {has = has} {rest = rest} {old = old} {mid = mid} {new = new} {a = a} {b = b} {c = c} {kept = kept} s r z u =
     let p = r.0 in
@@ -227,7 +227,7 @@ pub failed_later : (before mid after : ℕ) → before ≤ mid → HasFailed mid
 failed_later before mid after h k = omega arith
 
 -- a line's fault is the stream's
-pub line_left : (fault : ServeFault) {program : Checked} {asker : ℕ} {had has rest : Option (List ℕ)} {old mid : List Entry} {a b : Option (List ℕ)} {kept : List ℕ} (new : List Entry) (c : Option (List ℕ)) (reader_failed : Type 0) (early late last : ℕ)
+pub line_left : (fault : ServeFault) {program : Program} {asker : ℕ} {had has rest : Option (List ℕ)} {old mid : List Entry} {a b : Option (List ℕ)} {kept : List ℕ} (new : List Entry) (c : Option (List ℕ)) (reader_failed : Type 0) (early late last : ℕ)
     → SoFar program asker had has old mid a b → LineRead has rest kept Newline → early ≤ late → LineLeft fault program asker kept mid new b c (HasFailed late last)
     → Left fault program asker had rest old new a c reader_failed (HasFailed early last)
 line_left Read new c reader_failed early late last s r l h = absurd h
@@ -235,7 +235,7 @@ line_left Write new c reader_failed early late last s r l h = (SoFar-begun s r h
 line_left Memory new c reader_failed early late last s r l (inl u) = inr (inl (SoFar-before s r u))
 line_left Memory new c reader_failed early late last s r l (inr t) = inr (inr (SoFar-begun s r t))
 
-pub last_left : (fault : ServeFault) {program : Checked} {asker : ℕ} {had has rest : Option (List ℕ)} {old mid : List Entry} {a b : Option (List ℕ)} {kept : List ℕ} (new : List Entry) (c : Option (List ℕ)) (reader_failed : Type 0) (early late last : ℕ)
+pub last_left : (fault : ServeFault) {program : Program} {asker : ℕ} {had has rest : Option (List ℕ)} {old mid : List Entry} {a b : Option (List ℕ)} {kept : List ℕ} (new : List Entry) (c : Option (List ℕ)) (reader_failed : Type 0) (early late last : ℕ)
     → SoFar program asker had has old mid a b → LineRead has rest kept End → 0 < length kept → early ≤ late → LineLeft fault program asker kept mid new b c (HasFailed late last)
     → Left fault program asker had rest old new a c reader_failed (HasFailed early last)
 last_left Read new c reader_failed early late last s r z l h = absurd h

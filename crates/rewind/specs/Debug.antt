@@ -2,7 +2,7 @@
 use Rattle.std.specs.Prelude.{◌≡◌, ℕ, ◌<◌, List, [], length, Option, IfSome, ◌⊎◌}
 use Rattle.std.specs.Io.KnownBytes.{Keeps, Consumes, IsAtEnd}
 use Rattle.gr_scan.specs.declared.scan.TheConstants.{TEXT_LIMIT}
-use Rattle.gr_types.specs.Programs.{Checked}
+use Rattle.gr_session.specs.PlainPrograms.{Program}
 use Rattle.gr_session.specs.declared.command.Entry.{Entry}
 use Rattle.gr_session.specs.declared.open.OpenError.{OpenError}
 use Rattle.gr_session.specs.Journal.{IsLegal}
@@ -20,7 +20,7 @@ abbrev pub SourceRead : Option (List ℕ) → Option (List ℕ) → List ℕ →
 SourceRead had has text = Consumes had has text × (IsAtEnd has ⊎ (TEXT_LIMIT < length text))
 
 -- the source gave a text, all that there was, whose program this is
-pub record Opened (had has : Option (List ℕ)) (program : Checked) : Type 0 where
+pub record Opened (had has : Option (List ℕ)) (program : Program) : Type 0 where
   pub text : List ℕ
   pub taken : Consumes had has text
   pub whole : IfSome had (λ all. all ≡ text)
@@ -35,7 +35,7 @@ pub record Unopened (error : OpenError) (had has : Option (List ℕ)) : Type 0 w
 
 -- the lines were served by a session of the source's program, from an empty journal to a legal one, its one asker's number being 1
 pub record Debugged (source_had source_has had has held holds : Option (List ℕ)) : Type 0 where
-  pub program : Checked
+  pub program : Program
   pub opened : Opened source_had source_has program
   pub journal : List Entry
   pub served : ServedAll program 1 had has [] journal held holds
@@ -43,7 +43,7 @@ pub record Debugged (source_had source_has had has held holds : Option (List ℕ
 
 -- such a stream was left
 pub record Stopped (fault : ServeFault) (source_had source_has had has held holds : Option (List ℕ)) (reader_failed writer_failed : Type 0) : Type 0 where
-  pub program : Checked
+  pub program : Program
   pub opened : Opened source_had source_has program
   pub journal : List Entry
   pub left : Left fault program 1 had has [] journal held holds reader_failed writer_failed

@@ -1,7 +1,7 @@
 -- What holds where a stream was left.
 use Rattle.std.specs.Prelude.{◌≡◌, ℕ, List, Option, ◌⊎◌}
 use Rattle.std.specs.Io.KnownBytes.{Keeps}
-use Rattle.gr_types.specs.Programs.{Checked}
+use Rattle.gr_session.specs.PlainPrograms.{Program}
 use Rattle.gr_session.specs.declared.command.Entry.{Entry}
 use Rattle.rewind.specs.declared.stream.ServeFault.{ServeFault}
 use Rattle.rewind.specs.declared.stream.ServeFault.TheVariants.{Read, Write, Memory}
@@ -12,14 +12,14 @@ abbrev pub Untouched : List Entry → List Entry → Option (List ℕ) → Optio
 Untouched old new held holds = (new ≡ old) × Keeps held holds
 
 -- what a fault leaves of one line: the writer failed in its answer, or memory was wanted before it was asked or in its answer
-abbrev pub LineLeft : ServeFault → Checked → ℕ → List ℕ → List Entry → List Entry → Option (List ℕ) → Option (List ℕ) → Type 0 → Type 0
+abbrev pub LineLeft : ServeFault → Program → ℕ → List ℕ → List Entry → List Entry → Option (List ℕ) → Option (List ℕ) → Type 0 → Type 0
 LineLeft Read program asker line old new held holds writer_failed = ⊥
 LineLeft Write program asker line old new held holds writer_failed = Begun program asker line old new held holds × writer_failed
 LineLeft Memory program asker line old new held holds writer_failed = Untouched old new held holds ⊎ Begun program asker line old new held holds
 
 -- what a fault leaves of a stream: the reader failed between two lines or within one; the writer failed in an answer; or
 -- memory was wanted while a line was read, while it was made into its command, or for its answer
-abbrev pub Left : ServeFault → Checked → ℕ → Option (List ℕ) → Option (List ℕ) → List Entry → List Entry → Option (List ℕ) → Option (List ℕ) → Type 0 → Type 0 → Type 0
+abbrev pub Left : ServeFault → Program → ℕ → Option (List ℕ) → Option (List ℕ) → List Entry → List Entry → Option (List ℕ) → Option (List ℕ) → Type 0 → Type 0 → Type 0
 Left Read program asker had has old new held holds reader_failed writer_failed = ServedWhole program asker had has old new held holds × reader_failed
 Left Write program asker had has old new held holds reader_failed writer_failed = ServedPart program asker had has old new held holds × writer_failed
 Left Memory program asker had has old new held holds reader_failed writer_failed =

@@ -4,10 +4,10 @@ use Rattle.gr_scan.specs.declared.scan.ScanError.{ScanError}
 use Rattle.gr_scan.specs.declared.scan.ScanError.TheVariants as scanning
 use Rattle.gr_syntax.specs.declared.parse.ParseError.{ParseError}
 use Rattle.gr_syntax.specs.declared.parse.ParseError.TheVariants as parsing
-use Rattle.gr_types.specs.declared.check.Code.{Code}
-use Rattle.gr_types.specs.declared.check.Code.TheVariants as rules
-use Rattle.gr_types.specs.declared.check.CheckError.{CheckError}
-use Rattle.gr_types.specs.declared.check.CheckError.TheVariants as checking
+use Rattle.gr_types.specs.declared.fault.Code.{Code}
+use Rattle.gr_types.specs.declared.fault.Code.TheVariants as rules
+use Rattle.gr_types.specs.declared.fault.CheckError.{CheckError}
+use Rattle.gr_types.specs.declared.fault.CheckError.TheVariants as checking
 use Rattle.gr_session.specs.declared.open.Position.{Position}
 use Rattle.gr_session.specs.declared.open.OpenError.{OpenError}
 use Rattle.gr_session.specs.declared.open.OpenError.TheVariants as opening
@@ -40,7 +40,10 @@ rule_code rules.UnknownName = codes "C1"
 rule_code rules.DeclaredTwice = codes "C2"
 rule_code rules.WrongForm = codes "C3"
 rule_code rules.WrongCount = codes "C4"
+rule_code rules.WrongDirection = codes "C5"
+rule_code rules.MissingReturn = codes "C6"
 rule_code rules.Constant = codes "C7"
+rule_code rules.WrongLabel = codes "C8"
 rule_code rules.NoMain = codes "C9"
 rule_code rules.NoNewVariable = codes "C10"
 
@@ -57,8 +60,8 @@ place_text (Some at) = codes " at " ++ (decimal at.line ++ (codes ":" ++ decimal
 abbrev pub open_text : OpenError → List ℕ
 open_text (opening.Scan error at) = scan_code error ++ place_text at
 open_text (opening.Parse error at) = parse_code error ++ place_text at
-open_text opening.NotYet = codes "U1"
 open_text (opening.Check error at) = check_code error ++ place_text at
+open_text opening.NotYet = codes "U1"
 open_text opening.Memory = codes "memory"
 
 abbrev pub serve_text : ServeFault → List ℕ
@@ -80,8 +83,8 @@ abbrev pub status_of : DebugFault → ℕ
 status_of Source = 1
 status_of (Open (opening.Scan error at)) = 1
 status_of (Open (opening.Parse error at)) = 1
-status_of (Open opening.NotYet) = 1
 status_of (Open (opening.Check error at)) = 1
+status_of (Open opening.NotYet) = 1
 status_of (Open opening.Memory) = 3
 status_of (Serve fault) = 3
 

@@ -1,6 +1,6 @@
 -- The output for lines, and the answers that a session gives.
 use Rattle.std.specs.Prelude.{◌≡◌, ℕ, ◌≢◌, false, List, [], ◌∷◌, ◌++◌, length, codes}
-use Rattle.gr_types.specs.Programs.{Checked}
+use Rattle.gr_session.specs.PlainPrograms.{Program}
 use Rattle.gr_session.specs.declared.command.Command.{Command}
 use Rattle.gr_session.specs.declared.command.Entry.{Entry}
 use Rattle.gr_session.specs.declared.TheConstants.{JOURNAL_LIMIT}
@@ -36,7 +36,7 @@ commands [] = []
 commands (l ∷ ls) = commands_at (meaning l) (commands ls)
 
 -- From the journal old, the asker's commands may get these answers, and the journal is then new.
-abbrev pub Answered : Checked → ℕ → List Entry → List Command → List Answer → List Entry → Type 0
+abbrev pub Answered : Program → ℕ → List Entry → List Command → List Answer → List Entry → Type 0
 Answered program asker old [] [] new = new ≡ old
 Answered program asker old (c ∷ cs) (Replied said ∷ more) new =
     (mid : List Entry) × (Enters program asker c old mid (length mid) said) × Answered program asker mid cs more new
@@ -57,12 +57,12 @@ QuitLast (l ∷ []) = Unit {0}
 QuitLast (l ∷ m ∷ ls) = (is_quit (meaning l) ≡ false) × QuitLast (m ∷ ls)
 
 -- the session answered a line, with this text
-pub record Answers (program : Checked) (asker : ℕ) (line : Line) (old new : List Entry) (text : List ℕ) : Type 0 where
+pub record Answers (program : Program) (asker : ℕ) (line : Line) (old new : List Entry) (text : List ℕ) : Type 0 where
   pub answers : List Answer
   pub answered : Answered program asker old (commands_at line []) answers new
   pub text_is : text ≡ output_at line (λ more. []) answers
 
 -- the session answered a line
-pub record AnsweredLine (program : Checked) (asker : ℕ) (line : Line) (old new : List Entry) : Type 0 where
+pub record AnsweredLine (program : Program) (asker : ℕ) (line : Line) (old new : List Entry) : Type 0 where
   pub answers : List Answer
   pub answered : Answered program asker old (commands_at line []) answers new

@@ -1,6 +1,6 @@
 //! A session from its source to its last reply.
 ghost use Rattle.std.specs.Prelude.{◌≡◌, ℕ, ◌+◌, ◌≤◌, ◌<◌, [], length, IfOk, OnOk, IfErr, IsErrOf};
-ghost use Rattle.gr_types.specs.Programs.{program_of};
+ghost use Rattle.gr_session.specs.PlainPrograms.{program_of};
 ghost use Rattle.rewind.specs.Devices.{HasFailed, device_of, failures_of};
 ghost use Rattle.rewind.specs.Debug.{SourceRead, Opened, SourceLeft, Debugged, DebugLeft};
 

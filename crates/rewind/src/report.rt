@@ -8,7 +8,7 @@ use gr_base::NoMemory;
 use gr_scan::scan::ScanError;
 use gr_session::{OpenError, Position};
 use gr_syntax::parse::ParseError;
-use gr_types::check::{CheckError, Code};
+use gr_types::fault::{CheckError, Code};
 use itoa::Buffer;
 
 fn scan_code(error: ScanError) -> &'static [u8]
@@ -45,7 +45,10 @@ fn rule_code(code: Code) -> &'static [u8]
         Code::DeclaredTwice => b"C2",
         Code::WrongForm => b"C3",
         Code::WrongCount => b"C4",
+        Code::WrongDirection => b"C5",
+        Code::MissingReturn => b"C6",
         Code::Constant => b"C7",
+        Code::WrongLabel => b"C8",
         Code::NoMain => b"C9",
         Code::NoNewVariable => b"C10",
     }
@@ -100,8 +103,8 @@ fn put_open(text: &mut Vec<u8>, error: OpenError) -> Result<(), NoMemory>
     let (code, at) = match error {
         OpenError::Scan(error, at) => (scan_code(error), at),
         OpenError::Parse(error, at) => (parse_code(error), at),
-        OpenError::NotYet => return put(text, b"U1"),
         OpenError::Check(error, at) => (check_code(error), at),
+        OpenError::NotYet => return put(text, b"U1"),
         OpenError::Memory => return put(text, b"memory"),
     };
     put(text, code)?;

@@ -1,6 +1,6 @@
 //! A stream of commands, and its replies.
 ghost use Rattle.std.specs.Prelude.{◌≡◌, ℕ, ◌+◌, ◌≤◌, ◌∷◌, [], IfOk, OnOk, OnErr, IfErr};
-ghost use Rattle.gr_types.specs.Programs.{program_of};
+ghost use Rattle.gr_session.specs.PlainPrograms.{program_of};
 ghost use Rattle.rewind.specs.Lines.{meaning, is_quit};
 ghost use Rattle.rewind.specs.Devices.{HasFailed, device_of, failures_of};
 ghost use Rattle.rewind.specs.Stream.{Answers, AnsweredLine};

@@ -8,7 +8,7 @@ use crate::stream::{ServeFault, serve};
 use gr_scan::scan::ScanError;
 use gr_session::{Command, OpenError, Position, Session};
 use gr_syntax::parse::ParseError;
-use gr_types::check::{CheckError, Code};
+use gr_types::fault::{CheckError, Code};
 use std::io;
 use std::io::{ErrorKind, Read, Write};
 use std::test::Fail;
@@ -208,6 +208,17 @@ fn reports_faults(rt: HostRuntime) -> Result<(), Fail> {
                 at,
             )),
             "rewind: C10 at 3:20\n",
+            1,
+        ),
+        (
+            DebugFault::Open(OpenError::Check(
+                CheckError::Refused {
+                    code: Code::WrongLabel,
+                    at: 5,
+                },
+                at,
+            )),
+            "rewind: C8 at 3:20\n",
             1,
         ),
         (

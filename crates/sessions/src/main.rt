@@ -1,5 +1,6 @@
-//! Runs example sessions: for each NAME among its arguments the source NAME.go, the commands NAME.script, and the output
-//! NAME.expect, which is the line of the fault for a session that is not served. It prints `NAME: ok` or `NAME: differs`.
+//! Runs example sessions: for each NAME among its arguments the source NAME.go, the commands NAME.script, none where there
+//! is no such file, and the output NAME.expect, which ends in the line of the fault where there is one. It prints `NAME: ok`
+//! or `NAME: differs`.
 //!
 //! Exit status: 0 where all are as expected, else 1.
 #![tactic(auto)]
@@ -29,7 +30,10 @@ fn output(alloc: Global, file: &str, source: &[u8], script: &[u8]) -> Result<Vec
 fn is_expected(rt: &HostRuntime, name: &str) -> io::Result<bool> {
     let file = format!(in rt.alloc(); "{name}.go")?;
     let source = fs::read(rt, file.as_str())?;
-    let script = fs::read(rt, format!(in rt.alloc(); "{name}.script")?.as_str())?;
+    let script = match fs::read(rt, format!(in rt.alloc(); "{name}.script")?.as_str()) {
+        Ok(script) => script,
+        Err(_) => Vec::new(rt.alloc()),
+    };
     let expected = fs::read(rt, format!(in rt.alloc(); "{name}.expect")?.as_str())?;
     match output(
         rt.alloc(),

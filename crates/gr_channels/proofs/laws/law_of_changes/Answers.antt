@@ -1,4 +1,4 @@
-use Rattle.std.proofs.Common.{◌≡◌, subst, sym, refl}
+use Rattle.std.proofs.Common.{subst, refl}
 use Rattle.gr_channels.specs.Objects.{SameAt}
 use Rattle.gr_channels.proofs.Undoing.{taken_back, same_self}
 use Rattle.gr_channels.proofs.Written.{changes}

@@ -1,4 +1,4 @@
-use Rattle.std.proofs.Common.{◌≡◌, ◌+◌, ◌%◌, ◌<◌, ◌≤◌, ℕ, List, [], ◌∷◌, length, Some, None, arith, ap, subst, ◌∙◌, sym, refl, inl, inr}
+use Rattle.std.proofs.Common.{◌≡◌, ◌+◌, ◌%◌, ◌<◌, ◌≤◌, ℕ, List, [], ◌∷◌, length, None, arith, ap, subst, ◌∙◌, sym, refl, inl, inr}
 use Rattle.gr_channels.specs.Objects.{slot_from}
 use Rattle.std.proofs.Math.Nat.{add-mod_right}
 use Rattle.gr_channels.proofs.Slots.{le_or_more, some_is_not_none, slot_after, slot_first}

@@ -1,4 +1,4 @@
-use Rattle.std.proofs.Common.{◌≡◌, ◌+◌, length, List, arith, ap, ◌∙◌, sym}
+use Rattle.std.proofs.Common.{◌≡◌, length, arith, ap, ◌∙◌, sym}
 use Rattle.gr_channels.specs.Channels.{Content}
 use Rattle.gr_channels.specs.Objects.{GateContent, gate_of, slot_from}
 use Rattle.gr_channels.proofs.Slots.{slots_same}

@@ -1,5 +1,4 @@
-use Rattle.std.proofs.Common.{◌≡◌, ◌+◌, ◌-◌, ◌%◌, Some, arith, ap, ◌∙◌, sym}
-use Rattle.gr_channels.specs.Objects.{slot_from}
+use Rattle.std.proofs.Common.{◌≡◌, ◌+◌, ◌-◌, ◌%◌, Some, arith, ap, ◌∙◌}
 use Rattle.gr_channels.proofs.Slots.{slot_found, slot_held}
 use Rattle.gr_channels.proofs.laws.law_of_slots.Goals as goal
 

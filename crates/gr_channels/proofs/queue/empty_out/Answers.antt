@@ -1,4 +1,4 @@
-use Rattle.std.proofs.Common.{◌≡◌, ◌∷◌, sym, ap, ◌∙◌, subst, arith}
+use Rattle.std.proofs.Common.{◌∙◌, arith}
 use Rattle.gr_channels.proofs.QueueLemmas.{emptied_more, emptied_fit}
 use Rattle.gr_channels.proofs.queue.empty_out.Goals as goal
 

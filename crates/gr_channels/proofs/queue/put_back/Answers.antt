@@ -1,5 +1,4 @@
-use Rattle.std.proofs.Common.{◌≡◌, ◌≤◌, length, ap, sym, ◌∙◌, subst, arith}
-use Rattle.gr_channels.specs.Queues.{restored, PlacesFit}
+use Rattle.std.proofs.Common.{sym, ◌∙◌, arith}
 use Rattle.gr_channels.proofs.QueueLemmas.{back_first, fit_first}
 use Rattle.gr_channels.proofs.queue.put_back.Goals as goal
 

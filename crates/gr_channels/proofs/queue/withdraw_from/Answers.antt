@@ -1,6 +1,6 @@
-use Rattle.std.proofs.Common.{◌≡◌, ◌<◌, ◌≤◌, ◌+◌, ◌-◌, ◌∷◌, ◌++◌, [], length, sym, ◌∙◌, arith, ap, subst, vec_len, true, false, count_by}
+use Rattle.std.proofs.Common.{◌≡◌, ◌<◌, ◌-◌, length, sym, ◌∙◌, arith, true, false}
 use Rattle.gr_channels.specs.Queues.{is_of}
-use Rattle.gr_channels.proofs.QueueLemmas.{Rotated, rotated_start, rotated_out, rotated_stay, rotated_room, rotated_end}
+use Rattle.gr_channels.proofs.QueueLemmas.{rotated_start, rotated_out, rotated_stay, rotated_room, rotated_end}
 use Rattle.gr_channels.proofs.queue.withdraw_from.Goals.{then-eq, else-eq}
 use Rattle.gr_channels.proofs.queue.withdraw_from.Goals as goal
 

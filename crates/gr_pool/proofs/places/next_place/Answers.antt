@@ -1,4 +1,4 @@
-use Rattle.std.proofs.Common.{◌≡◌, ◌<◌, ◌≤◌, length, arith}
+use Rattle.std.proofs.Common.{arith}
 use Rattle.gr_pool.specs.Goroutines.{names_at}
 use Rattle.gr_pool.proofs.Order.{length_names}
 use Rattle.gr_pool.proofs.Sets.{next_within, next_past}

@@ -1,5 +1,5 @@
 use Rattle.std.proofs.Common.{◌<◌, ◌≤◌, length, arith}
-use Rattle.gr_types.specs.Programs.{program_of}
+use Rattle.gr_session.specs.PlainPrograms.{program_of}
 use Rattle.gr_session.specs.declared.TheConstants.{LOG_LIMIT}
 use Rattle.gr_session.proofs.Runs.{step_taken}
 use Rattle.gr_session.proofs.Outcomes.{refused_leads, full_leads, kept_leads, unkept_leads}

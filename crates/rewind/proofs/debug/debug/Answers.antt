@@ -1,5 +1,5 @@
 use Rattle.std.proofs.Common.{rules, ◌≡◌, []}
-use Rattle.gr_types.specs.Programs.{program_of}
+use Rattle.gr_session.specs.PlainPrograms.{program_of}
 use Rattle.rewind.specs.Served.{ServedAll}
 use Rattle.rewind.proofs.Debugging.{stopped, legal_served}
 use Rattle.rewind.proofs.debug.debug.Goals as goal

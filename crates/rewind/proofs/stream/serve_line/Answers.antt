@@ -1,5 +1,5 @@
 use Rattle.std.proofs.Common.{rules, inr}
-use Rattle.gr_types.specs.Programs.{program_of}
+use Rattle.gr_session.specs.PlainPrograms.{program_of}
 use Rattle.rewind.specs.Lines.{meaning}
 use Rattle.rewind.specs.Stream.{AnsweredLine}
 use Rattle.rewind.proofs.Answers.{begun_none}

@@ -1,4 +1,4 @@
-use Rattle.std.proofs.Common.{◌≡◌, ◌∙◌, ap}
+use Rattle.std.proofs.Common.{◌∙◌, ap}
 use Rattle.channel_bench.specs.Journals.{Journal}
 use Rattle.channel_bench.proofs.Unwinding.{start_kept, fit_kept}
 use Rattle.channel_bench.proofs.journal.Journal.offer.Goals as goal

@@ -1,4 +1,4 @@
-use Rattle.std.proofs.Common.{◌≡◌, ◌∙◌, ap}
+use Rattle.std.proofs.Common.{◌∙◌, ap}
 use Rattle.channel_bench.specs.Journals.{Journal}
 use Rattle.channel_bench.proofs.Unwinding.{last_fits, others_fit, same_start}
 use Rattle.channel_bench.proofs.journal.Journal.undo.Goals as goal

@@ -1,4 +1,4 @@
-use Rattle.std.proofs.Common.{◌≡◌, sym, ◌∙◌, ap}
+use Rattle.std.proofs.Common.{sym, ◌∙◌, ap}
 use Rattle.gr_pool.specs.Goroutines.{Goroutines, is_among}
 use Rattle.gr_pool.proofs.Sets.{among_standing, among_missing}
 use Rattle.gr_pool.proofs.pool.Pool.contains.Goals as goal

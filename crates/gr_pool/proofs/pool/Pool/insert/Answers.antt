@@ -1,4 +1,4 @@
-use Rattle.std.proofs.Common.{◌≡◌, ◌<◌, length, vec_len, sym, ◌∙◌, ap, arith}
+use Rattle.std.proofs.Common.{◌<◌, length, sym, ◌∙◌, ap, arith}
 use Rattle.gr_pool.specs.Goroutines.{Goroutines, with_name}
 use Rattle.gr_pool.proofs.Sets.{with_standing, inserted_names, inserted_within, inserted_order, inserted_room}
 use Rattle.gr_pool.proofs.pool.Pool.insert.Goals as goal

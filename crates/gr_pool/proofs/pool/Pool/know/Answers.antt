@@ -1,4 +1,4 @@
-use Rattle.std.proofs.Common.{◌≡◌, ◌<◌, length, vec_len, sym, ◌∙◌, ap, arith}
+use Rattle.std.proofs.Common.{◌∙◌, ap, arith}
 use Rattle.gr_pool.specs.Goroutines.{Goroutines}
 use Rattle.gr_pool.proofs.Sets.{known_names, known_within, known_order, known_long}
 use Rattle.gr_pool.proofs.pool.Pool.know.Goals as goal

@@ -1,4 +1,4 @@
-use Rattle.std.proofs.Common.{◌≡◌, ◌<◌, length, vec_len, sym, ◌∙◌, ap, arith}
+use Rattle.std.proofs.Common.{length, ◌∙◌, ap, arith}
 use Rattle.gr_pool.specs.Goroutines.{Goroutines, without_name}
 use Rattle.gr_pool.proofs.Sets.{removed_names, removed_order, all_remove}
 use Rattle.gr_pool.proofs.pool.Pool.remove.Goals as goal

@@ -1,0 +1,9 @@
+package main
+
+func twice(n int) int {
+	return n + n
+}
+
+func main() {
+	println(twice(21))
+}

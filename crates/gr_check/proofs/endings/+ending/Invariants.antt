@@ -1,7 +1,0 @@
-use Rattle.std.proofs.Common.{◌≡◌, drop}
-use Rattle.gr_check.specs.Endings.{all_end}
-use Rattle.gr_check.specs.StatementViews.{clauses_of}
-use Rattle.gr_check.proofs.endings.+ending.Given as goal
-
-abbrev pub invariant-all_end-loop-clause : goal.invariant-all_end-loop-clause
-invariant-all_end-loop-clause l = all_end (clauses_of (drop l.clause-index l.clauses)) ≡ all_end (clauses_of l.clauses)

@@ -1,0 +1,13 @@
+pub mod CellLemmas
+pub mod RefusalLemmas
+pub mod CountLemmas
+pub mod RuleCounts
+pub mod TouchLemmas
+pub mod RuleTouches
+pub mod AttemptTouches
+pub mod BufferLemmas
+pub mod SoundLemmas
+pub mod RuleSound
+pub mod WaitLemmas
+pub mod LeafLemmas
+pub mod RuleWaits

@@ -1,0 +1,9 @@
+use Rattle.std.proofs.Common.{◌≡◌, drop}
+use Rattle.gr_tree.specs.Exprs.{names_of}
+use Rattle.gr_types.specs.TypeViews.{ty_of}
+use Rattle.gr_types.specs.StatementChecks as statements
+use Rattle.gr_types.proofs.Arguments.{terms_before}
+use Rattle.gr_types.proofs.declarations.zeros.Given as goal
+
+abbrev pub invariant-loop : goal.invariant-loop
+invariant-loop l = terms_before l.values.items (statements.zeros (names_of (drop l.index l.names)) (ty_of l.own)) ≡ statements.zeros (names_of l.names) (ty_of l.own)

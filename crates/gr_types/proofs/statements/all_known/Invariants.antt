@@ -1,9 +1,0 @@
-use Rattle.std.proofs.Common.{◌≡◌, drop}
-use Rattle.std.specs.List.{list_all}
-use Rattle.gr_tree.specs.Exprs.{names_of}
-use Rattle.gr_types.specs.Names.{is_known}
-use Rattle.gr_types.specs.Tables.{scope_of}
-use Rattle.gr_types.proofs.statements.all_known.Given as goal
-
-abbrev pub invariant-loop-name : goal.invariant-loop-name
-invariant-loop-name l = list_all (is_known (scope_of l.table)) (names_of (drop l.name-index l.names)) ≡ list_all (is_known (scope_of l.table)) (names_of l.names)

@@ -1,0 +1,189 @@
+//! Statements with no statements in them.
+ghost use Rattle.std.specs.Prelude.{◌≡◌};
+ghost use Rattle.gr_tree.specs.Exprs.{tree_of};
+ghost use Rattle.gr_tree.specs.Statements as trees;
+ghost use Rattle.gr_tree.specs.Statements.{optional};
+ghost use Rattle.gr_types.specs.Scopes.{first_where};
+ghost use Rattle.gr_types.specs.StatementChecks.{is_left, is_continued};
+ghost use Rattle.gr_types.specs.Tables.{scope_of};
+ghost use Rattle.gr_types.specs.FunctionTables.{functions_of};
+ghost use Rattle.gr_types.specs.Contexts.{context_of, nest_of};
+ghost use Rattle.gr_types.specs.TypeViews.{ty_of};
+ghost use Rattle.gr_types.specs.Programs.{term_of, act_of};
+ghost use Rattle.gr_types.specs.FindingStatements as spec;
+ghost use Rattle.gr_types.specs.Checking.{Agrees, meaning_of};
+
+use crate::assignments::{assign, define};
+use crate::calls::unusable;
+use crate::communications::sent;
+use crate::context::{Context, Nest, continued_by, left_by};
+use crate::declarations::{declare, declare_values};
+use crate::evaluations::evaluate;
+use crate::expressions::{call_in, find};
+use crate::fault::{Code, Fault};
+use crate::functions::Functions;
+use crate::operators::{binary_type, may_stand_right};
+use crate::program::{Act, Literal, Term};
+use crate::scope::Scope;
+use crate::types::Type;
+use crate::values::{Value, given, of_kind};
+use gr_tree::{Action, BinaryOp, Expr, Simple};
+use std::alloc::Global;
+
+// The variable that a name stands for, which is a whole number.
+#[tactic(auto, unfolding(crate::specs::FindingStatements::number_variable, crate::specs::FindingStatements::variable_in))]
+fn number_variable(functions: &Functions, scope: &Scope, name: &[u8]) -> Result<usize, Fault>
+    ensures { Agrees (λ k. k) result (spec.number_variable (scope_of scope.now) name.now) }
+{
+    let Some(number) = scope.number_of(name) else {
+        return Err(Fault::Broken(unusable(functions, scope, name)));
+    };
+    match scope.type_of(number) {
+        Some(Type::Int) => Ok(number),
+        _ => Err(Fault::Broken(Code::WrongForm)),
+    }
+}
+
+// An assignment of a variable's value and this one, joined by an operator that gives a whole number.
+fn updated(op: BinaryOp, variable: usize, value: Value) -> Result<Act, Fault>
+    ensures { Agrees act_of result (spec.updated op variable (meaning_of value)) }
+{
+    let Some(Type::Int) = binary_type(op, &Type::Int, &Type::Int) else {
+        return Err(Fault::Broken(Code::WrongForm));
+    };
+    if !may_stand_right(op, &value) {
+        return Err(Fault::Broken(Code::Constant));
+    }
+    let value = of_kind(&Type::Int, value)?;
+    Ok(Act::Update {
+        variable,
+        op,
+        value,
+    })
+}
+
+// An assignment with an operator.
+#[tactic(auto, unfolding(crate::specs::FindingStatements::simple_in))]
+fn update(
+    alloc: Global,
+    functions: &Functions,
+    scope: &Scope,
+    name: &[u8],
+    op: BinaryOp,
+    expr: &Expr,
+) -> Result<Act, Fault>
+    ensures { Agrees (λ a. (act_of a, scope_of scope.now)) result (spec.simple_in (functions_of functions.now) (scope_of scope.now) (trees.Update name.now op (tree_of expr.now))) }
+{
+    let variable = number_variable(functions, scope, name)?;
+    let value = find(alloc, functions, scope, expr)?;
+    updated(op, variable, value)
+}
+
+// An increment or a decrement.
+fn by_one(op: BinaryOp, variable: usize) -> Act
+    ensures { act_of result ≡ spec.by_one op variable }
+{
+    let value = Term::Literal(Literal::Number(1));
+    Act::Update {
+        variable,
+        op,
+        value,
+    }
+}
+
+/// What a simple statement does.
+#[tactic(auto, unfolding(crate::specs::FindingStatements::simple_in))]
+pub fn simple(
+    alloc: Global,
+    functions: &Functions,
+    scope: &mut Scope,
+    simple: &Simple,
+) -> Result<Act, Fault>
+    ensures { Agrees (λ a. (act_of a, scope_of scope.new)) result (spec.simple_in (functions_of functions.now) (scope_of scope.old) (trees.simple_of simple.now)) }
+{
+    match simple {
+        Simple::Eval(expr) => evaluate(alloc, functions, scope, expr),
+        Simple::Send(channel, value) => {
+            let (channel, value) = sent(alloc, functions, scope, channel, value)?;
+            Ok(Act::Send { channel, value })
+        }
+        Simple::Assign(names, exprs) => assign(alloc, functions, scope, names, exprs),
+        Simple::Define(names, exprs) => define(alloc, functions, scope, names, exprs),
+        Simple::Update(name, op, expr) => update(alloc, functions, scope, name, *op, expr),
+        Simple::Increment(name) => {
+            let variable = number_variable(functions, scope, name)?;
+            Ok(by_one(BinaryOp::Add, variable))
+        }
+        Simple::Decrement(name) => {
+            let variable = number_variable(functions, scope, name)?;
+            Ok(by_one(BinaryOp::Subtract, variable))
+        }
+    }
+}
+
+// The value that a return gives, in a function with this result.
+#[tactic(auto, unfolding(crate::specs::FindingStatements::returned_in))]
+fn returned(
+    alloc: Global,
+    functions: &Functions,
+    scope: &Scope,
+    result_type: &Option<Type>,
+    expr: &Option<Expr>,
+) -> Result<Option<Term>, Fault>
+    ensures { Agrees (optional term_of) result (spec.returned_in (functions_of functions.now) (scope_of scope.now) (optional ty_of result_type.now) (optional tree_of expr.now)) }
+{
+    match (result_type, expr) {
+        (None, None) => Ok(None),
+        (Some(own), Some(expr)) => {
+            let value = find(alloc, functions, scope, expr)?;
+            Ok(Some(given(own, value)?))
+        }
+        _ => Err(Fault::Broken(Code::WrongCount)),
+    }
+}
+
+// Which of the statements around a place a break leaves.
+fn left(label: &Option<Vec<u8>>, nest: &Nest) -> Result<usize, Fault>
+    ensures { Agrees (λ k. k) result (first_where (is_left (optional trees.name_of label.now)) (nest_of nest.now)) }
+{
+    left_by(label.as_deref(), nest)
+}
+
+// Which of the statements around a place a continue begins anew.
+fn continued(label: &Option<Vec<u8>>, nest: &Nest) -> Result<usize, Fault>
+    ensures { Agrees (λ k. k) result (first_where (is_continued (optional trees.name_of label.now)) (nest_of nest.now)) }
+{
+    continued_by(label.as_deref(), nest)
+}
+
+/// What a statement with no statements in it does.
+#[tactic(auto, unfolding(crate::specs::FindingStatements::act_in))]
+pub fn act(
+    alloc: Global,
+    context: &Context,
+    scope: &mut Scope,
+    action: &Action,
+) -> Result<Act, Fault>
+    ensures { Agrees (λ a. (act_of a, scope_of scope.new)) result (spec.act_in (context_of context.now) (scope_of scope.old) (trees.act_of action.now)) }
+{
+    let functions = context.functions;
+    match action {
+        Action::Simple(plain) => simple(alloc, functions, scope, plain),
+        Action::Var(names, type_tree) => declare(alloc, functions, scope, names, type_tree),
+        Action::VarValues(names, type_tree, exprs) => {
+            declare_values(alloc, functions, scope, names, type_tree, exprs)
+        }
+        Action::Go(name, arguments) => {
+            let called = call_in(alloc, functions, scope, name, arguments)?;
+            Ok(Act::Go {
+                function: called.function,
+                arguments: called.arguments,
+            })
+        }
+        Action::Return(expr) => {
+            Ok(Act::Return(returned(alloc, functions, scope, context.result, expr)?))
+        }
+        Action::Break(label) => Ok(Act::Break(left(label, context.nest)?)),
+        Action::Continue(label) => Ok(Act::Continue(continued(label, context.nest)?)),
+    }
+}

@@ -1,0 +1,115 @@
+//! The bodies of functions.
+ghost use Rattle.std.specs.Prelude.{◌≡◌};
+ghost use Rattle.gr_tree.specs.Files as trees;
+ghost use Rattle.gr_tree.specs.Statements.{statements_of};
+ghost use Rattle.gr_types.specs.Programs as programs;
+ghost use Rattle.gr_types.specs.Programs.{steps_of};
+ghost use Rattle.gr_types.specs.Tables.{scope_of};
+ghost use Rattle.gr_types.specs.Contexts.{context_of};
+ghost use Rattle.gr_types.specs.FunctionTables.{functions_of};
+ghost use Rattle.gr_types.specs.Outlines as spec;
+ghost use Rattle.gr_types.specs.OutlineViews.{outline_of, outlines_of};
+ghost use Rattle.gr_types.specs.Checking.{Settles};
+
+use crate::context::{Context, Nest};
+use crate::endings::ends;
+use crate::fault::{CheckError, Code};
+use crate::functions::Functions;
+use crate::labels::{LabelFault, UnfitLabel, unfit_label};
+use crate::names::copy;
+use crate::outlines::Outline;
+use crate::program::{Function, Step};
+use crate::scope::Scope;
+use crate::statements::body;
+use gr_tree::Stmt;
+use std::alloc::Global;
+
+fn label_code(fault: LabelFault) -> Code {
+    match fault {
+        LabelFault::Blank | LabelFault::Unused => Code::WrongLabel,
+        LabelFault::DeclaredTwice => Code::DeclaredTwice,
+    }
+}
+
+// The rule that is broken first, and where: that of a statement, or that of a label.
+fn earlier(code: Code, at: usize, unfit: Option<UnfitLabel>) -> (Code, usize) {
+    match unfit {
+        Some(label) if label.place.start < at => (label_code(label.fault), label.place.start),
+        _ => (code, at),
+    }
+}
+
+// The statements of a body, among which every label fits.
+fn labeled(
+    alloc: Global,
+    context: &Context,
+    scope: &mut Scope,
+    stmts: &[Stmt],
+) -> Result<Vec<Step>, CheckError>
+    ensures { Settles (λ v. (steps_of v.items, scope_of scope.new)) result (spec.labeled_in (context_of context.now) (scope_of scope.old) (statements_of stmts.now)) }
+{
+    let unfit = unfit_label(alloc, stmts)?;
+    let steps = match body(alloc, context, scope, stmts) {
+        Ok(steps) => steps,
+        Err(CheckError::Refused { code, at }) => {
+            let (code, at) = earlier(code, at, unfit);
+            return Err(CheckError::Refused { code, at });
+        }
+        Err(CheckError::Memory) => return Err(CheckError::Memory),
+    };
+    match unfit {
+        None => Ok(steps),
+        Some(label) => Err(CheckError::Refused {
+            code: label_code(label.fault),
+            at: label.place.start,
+        }),
+    }
+}
+
+// The function of an outline.
+#[tactic(auto, unfolding(crate::specs::Outlines::finished))]
+fn finish(alloc: Global, functions: &Functions, outline: Outline) -> Result<Function, CheckError>
+    ensures { Settles programs.function_of result (spec.finished (functions_of functions.now) (outline_of outline.entry)) }
+{
+    let Outline {
+        func,
+        parameters,
+        result: wanted,
+        mut scope,
+    } = outline;
+    let context = Context {
+        functions,
+        result: &wanted,
+        nest: &Nest::Outside,
+    };
+    let body = labeled(alloc, &context, &mut scope, &func.body)?;
+    if wanted.is_some() && !ends(&func.body) {
+        return Err(CheckError::Refused {
+            code: Code::MissingReturn,
+            at: func.end.start,
+        });
+    }
+    Ok(Function {
+        name: copy(alloc, &func.name)?,
+        parameters,
+        result: wanted,
+        variables: scope.into_variables(),
+        body,
+        end: func.end.line,
+    })
+}
+
+/// The functions of these outlines.
+pub fn bodies(
+    alloc: Global,
+    functions: &Functions,
+    outlines: Vec<Outline>,
+) -> Result<Vec<Function>, CheckError>
+    ensures { Settles (λ v. programs.functions_of v.items) result (spec.finished_all (functions_of functions.now) (outlines_of outlines.entry.items)) }
+{
+    let mut finished = Vec::new(alloc);
+    for outline in outlines {
+        finished.push(finish(alloc, functions, outline)?)?;
+    }
+    Ok(finished)
+}

@@ -1,0 +1,159 @@
+//! Receives, sends, and what the clauses of a select wait for.
+ghost use Rattle.std.specs.Prelude.{◌≡◌};
+ghost use Rattle.gr_tree.specs.Exprs.{tree_of, names_of};
+ghost use Rattle.gr_tree.specs.Statements as trees;
+ghost use Rattle.gr_tree.specs.Statements.{comm_of};
+ghost use Rattle.gr_types.specs.Tables.{scope_of};
+ghost use Rattle.gr_types.specs.FunctionTables.{functions_of};
+ghost use Rattle.gr_types.specs.Acting.{received_from};
+ghost use Rattle.gr_types.specs.FindingStatements as spec;
+ghost use Rattle.gr_types.specs.Checking.{Agrees, meaning_of, typed_of};
+ghost use Rattle.gr_types.specs.ActViews.{awaited_of, sent_of};
+
+use crate::expressions::find;
+use crate::fault::{Code, Fault};
+use crate::functions::Functions;
+use crate::program::{Literal, Term};
+use crate::scope::Scope;
+use crate::targets::{all_defined, all_taken};
+use crate::types::{Type, may_receive, may_send, zero};
+use crate::values::{Value, as_channel, given};
+use gr_tree::{Communication, Expr, UnaryOp};
+use std::alloc::Global;
+
+/// What a clause of a select waits for.
+#[derive(Drop)]
+pub enum Awaited {
+    Send {
+        channel: Term,
+        value: Term,
+    },
+    /// A receive: what its value, and then whether there was one, are given to, as many as are asked for.
+    Receive {
+        targets: Vec<Option<usize>>,
+        channel: Term,
+        zero: Literal,
+    },
+}
+
+/// A value as a channel that values are received from: the type of its elements, and the channel.
+pub fn receives(value: Value) -> Result<(Type, Term), Fault>
+    ensures { Agrees typed_of result (received_from (meaning_of value)) }
+{
+    let channel = as_channel(value)?;
+    if !may_receive(channel.direction) {
+        return Err(Fault::Broken(Code::WrongDirection));
+    }
+    Ok((channel.element, channel.term))
+}
+
+/// A receive: the type of the channel's elements, and the channel.
+#[tactic(auto, unfolding(crate::specs::FindingStatements::receive_in))]
+pub fn received(
+    alloc: Global,
+    functions: &Functions,
+    scope: &Scope,
+    expr: &Expr,
+) -> Result<(Type, Term), Fault>
+    ensures { Agrees typed_of result (spec.receive_in (functions_of functions.now) (scope_of scope.now) (tree_of expr.now)) }
+{
+    match expr {
+        Expr::Paren(inner) => received(alloc, functions, scope, inner),
+        Expr::Unary(UnaryOp::Receive, operand) => {
+            receives(find(alloc, functions, scope, operand)?)
+        }
+        _ => Err(Fault::Broken(Code::WrongForm)),
+    }
+}
+
+/// A send: the channel, and the value.
+#[tactic(auto, unfolding(crate::specs::FindingStatements::send_in))]
+pub fn sent(
+    alloc: Global,
+    functions: &Functions,
+    scope: &Scope,
+    channel: &Expr,
+    value: &Expr,
+) -> Result<(Term, Term), Fault>
+    ensures { Agrees sent_of result (spec.send_in (functions_of functions.now) (scope_of scope.now) (tree_of channel.now) (tree_of value.now)) }
+{
+    let channel = as_channel(find(alloc, functions, scope, channel)?)?;
+    if !may_send(channel.direction) {
+        return Err(Fault::Broken(Code::WrongDirection));
+    }
+    let value = given(&channel.element, find(alloc, functions, scope, value)?)?;
+    Ok((channel.term, value))
+}
+
+// What a clause waits for that assigns to these names.
+#[tactic(auto, unfolding(crate::specs::FindingStatements::comm_in))]
+fn awaits_assigned(
+    alloc: Global,
+    functions: &Functions,
+    scope: &Scope,
+    names: &[Vec<u8>],
+    expr: &Expr,
+) -> Result<Awaited, Fault>
+    ensures { Agrees (λ o. (awaited_of o, scope_of scope.now)) result (spec.comm_in (functions_of functions.now) (scope_of scope.now) (trees.AssignTo (names_of names.now) (tree_of expr.now))) }
+{
+    let (element, channel) = received(alloc, functions, scope, expr)?;
+    let zero = zero(&element);
+    let types = [element, Type::Bool];
+    let targets = all_taken(alloc, functions, scope, names, &types)?;
+    Ok(Awaited::Receive {
+        targets,
+        channel,
+        zero,
+    })
+}
+
+// What a clause waits for that defines these names.
+#[tactic(auto, unfolding(crate::specs::FindingStatements::comm_in))]
+fn awaits_defined(
+    alloc: Global,
+    functions: &Functions,
+    scope: &mut Scope,
+    names: &[Vec<u8>],
+    expr: &Expr,
+) -> Result<Awaited, Fault>
+    ensures { Agrees (λ o. (awaited_of o, scope_of scope.new)) result (spec.comm_in (functions_of functions.now) (scope_of scope.old) (trees.DefineAs (names_of names.now) (tree_of expr.now))) }
+{
+    let (element, channel) = received(alloc, functions, scope, expr)?;
+    let zero = zero(&element);
+    let types = [element, Type::Bool];
+    let targets = all_defined(alloc, functions, scope, names, &types)?;
+    Ok(Awaited::Receive {
+        targets,
+        channel,
+        zero,
+    })
+}
+
+/// What a clause waits for; its names are declared in the block of the place.
+#[tactic(auto, unfolding(crate::specs::FindingStatements::comm_in))]
+pub fn awaits(
+    alloc: Global,
+    functions: &Functions,
+    scope: &mut Scope,
+    communication: &Communication,
+) -> Result<Awaited, Fault>
+    ensures { Agrees (λ o. (awaited_of o, scope_of scope.new)) result (spec.comm_in (functions_of functions.now) (scope_of scope.old) (comm_of communication.now)) }
+{
+    match communication {
+        Communication::Send(channel, value) => {
+            let (channel, value) = sent(alloc, functions, scope, channel, value)?;
+            Ok(Awaited::Send { channel, value })
+        }
+        Communication::Receive(expr) => {
+            let (element, channel) = received(alloc, functions, scope, expr)?;
+            let targets = Vec::new(alloc);
+            Ok(Awaited::Receive {
+                targets,
+                channel,
+                zero: zero(&element),
+            })
+        }
+        Communication::Assign(names, expr) => awaits_assigned(alloc, functions, scope, names, expr),
+        Communication::Define(names, expr) => awaits_defined(alloc, functions, scope, names, expr),
+    }
+}

@@ -1,0 +1,192 @@
+//! What stands between `if` or `for` and a block.
+ghost use Rattle.gr_tree.specs.Exprs.{tree_of};
+ghost use Rattle.gr_tree.specs.Statements.{optional, simple_of, heading_of, if_of, target_of};
+ghost use Rattle.gr_types.specs.Tables.{scope_of};
+ghost use Rattle.gr_types.specs.FunctionTables.{functions_of};
+ghost use Rattle.gr_types.specs.Programs.{term_of, act_of, opening_of};
+ghost use Rattle.gr_types.specs.FindingStatements as spec;
+ghost use Rattle.gr_types.specs.Stepping.{if_parts_of, loop_parts_of, range_parts_of};
+ghost use Rattle.gr_types.specs.Checking.{Agrees, Settles};
+
+use crate::acts::simple;
+use crate::communications::receives;
+use crate::expressions::find;
+use crate::fault::{CheckError, Code, Fault, refused};
+use crate::functions::Functions;
+use crate::program::{Act, Opening, Term};
+use crate::scope::Scope;
+use crate::targets::range_target;
+use crate::types::Type;
+use crate::values::{Value, of_kind};
+use gr_const::Constant;
+use gr_scan::token::Place;
+use gr_tree::{Expr, Header, IfHead, RangeTarget};
+use std::alloc::Global;
+
+/// What stands between `if` and its block.
+#[derive(Drop)]
+pub struct IfParts {
+    pub init: Option<Opening>,
+    pub condition: Term,
+}
+
+/// What stands between `for` and its block, unless it is a range.
+#[derive(Drop)]
+pub struct LoopParts {
+    pub init: Option<Opening>,
+    pub condition: Option<Term>,
+    pub post: Option<Opening>,
+}
+
+/// What stands between `for` and its block in a loop over the values that a channel gives.
+#[derive(Drop)]
+pub struct RangeParts {
+    pub target: Option<usize>,
+    pub channel: Term,
+}
+
+fn header_act(
+    alloc: Global,
+    functions: &Functions,
+    scope: &mut Scope,
+    header: &Header,
+) -> Result<Act, CheckError>
+    ensures { Settles (λ a. (act_of a, scope_of scope.new)) result (spec.simple_in (functions_of functions.now) (scope_of scope.old) (simple_of header.now.simple)) }
+{
+    match simple(alloc, functions, scope, &header.simple) {
+        Ok(act) => Ok(act),
+        Err(fault) => Err(refused(fault, header.place)),
+    }
+}
+
+// A statement of a heading; what it breaks stands at its own place.
+#[tactic(auto, unfolding(crate::specs::FindingStatements::opening_in))]
+fn opening(
+    alloc: Global,
+    functions: &Functions,
+    scope: &mut Scope,
+    header: &Option<Header>,
+) -> Result<Option<Opening>, CheckError>
+    ensures { Settles (λ o. (optional opening_of o, scope_of scope.new)) result (spec.opening_in (functions_of functions.now) (scope_of scope.old) (optional heading_of header.now)) }
+{
+    let Some(header) = header else {
+        return Ok(None);
+    };
+    let act = header_act(alloc, functions, scope, header)?;
+    let line = header.place.line;
+    Ok(Some(Opening { line, act }))
+}
+
+#[tactic(auto, using(crate::proofs::Conditions::no_truth), unfolding(crate::specs::FindingStatements::condition_in))]
+fn truth(alloc: Global, functions: &Functions, scope: &Scope, expr: &Expr) -> Result<Term, Fault>
+    ensures { Agrees term_of result (spec.condition_in (functions_of functions.now) (scope_of scope.now) (tree_of expr.now)) }
+{
+    match find(alloc, functions, scope, expr)? {
+        Value::Constant(Constant::Whole(_)) => Err(Fault::Broken(Code::WrongForm)),
+        value => of_kind(&Type::Bool, value),
+    }
+}
+
+fn condition(
+    alloc: Global,
+    functions: &Functions,
+    scope: &Scope,
+    place: Place,
+    expr: &Expr,
+) -> Result<Term, CheckError>
+    ensures { Settles term_of result (spec.condition_in (functions_of functions.now) (scope_of scope.now) (tree_of expr.now)) }
+{
+    match truth(alloc, functions, scope, expr) {
+        Ok(term) => Ok(term),
+        Err(fault) => Err(refused(fault, place)),
+    }
+}
+
+#[tactic(auto, unfolding(crate::specs::FindingStatements::loop_condition_in))]
+fn loop_condition(
+    alloc: Global,
+    functions: &Functions,
+    scope: &Scope,
+    place: Place,
+    expr: &Option<Expr>,
+) -> Result<Option<Term>, CheckError>
+    ensures { Settles (λ o. optional term_of o) result (spec.loop_condition_in (functions_of functions.now) (scope_of scope.now) (optional tree_of expr.now)) }
+{
+    let Some(expr) = expr else {
+        return Ok(None);
+    };
+    Ok(Some(condition(alloc, functions, scope, place, expr)?))
+}
+
+/// The heading of an if at a place. The block of the place is the if's own.
+#[tactic(auto, unfolding(crate::specs::FindingStatements::if_head_in))]
+pub fn if_parts(
+    alloc: Global,
+    functions: &Functions,
+    scope: &mut Scope,
+    place: Place,
+    head: &IfHead,
+) -> Result<IfParts, CheckError>
+    ensures { Settles (λ p. (if_parts_of p, scope_of scope.new)) result (spec.if_head_in (functions_of functions.now) (scope_of scope.old) (if_of head.now)) }
+{
+    let init = opening(alloc, functions, scope, &head.init)?;
+    let condition = condition(alloc, functions, scope, place, &head.condition)?;
+    Ok(IfParts { init, condition })
+}
+
+/// The heading of a for at a place. The block of the place is the for's own.
+#[tactic(auto, unfolding(crate::specs::FindingStatements::for_parts))]
+pub fn loop_parts(
+    alloc: Global,
+    functions: &Functions,
+    scope: &mut Scope,
+    place: Place,
+    init: &Option<Header>,
+    condition: &Option<Expr>,
+    post: &Option<Header>,
+) -> Result<LoopParts, CheckError>
+    ensures { Settles (λ p. (loop_parts_of p, scope_of scope.new)) result (spec.for_parts (functions_of functions.now) (scope_of scope.old) (optional heading_of init.now) (optional tree_of condition.now) (optional heading_of post.now)) }
+{
+    let init = opening(alloc, functions, scope, init)?;
+    let condition = loop_condition(alloc, functions, scope, place, condition)?;
+    let post = opening(alloc, functions, scope, post)?;
+    Ok(LoopParts {
+        init,
+        condition,
+        post,
+    })
+}
+
+#[tactic(auto, unfolding(crate::specs::FindingStatements::range_parts))]
+fn range(
+    alloc: Global,
+    functions: &Functions,
+    scope: &mut Scope,
+    target: &RangeTarget,
+    expr: &Expr,
+) -> Result<RangeParts, Fault>
+    ensures { Agrees (λ p. (range_parts_of p, scope_of scope.new)) result (spec.range_parts (functions_of functions.now) (scope_of scope.old) (target_of target.now) (tree_of expr.now)) }
+{
+    let value = find(alloc, functions, scope, expr)?;
+    let (element, channel) = receives(value)?;
+    scope.enter(alloc)?;
+    let target = range_target(alloc, functions, scope, &element, target)?;
+    Ok(RangeParts { target, channel })
+}
+
+/// The heading of a range at a place. It goes into the block of the for.
+pub fn range_parts(
+    alloc: Global,
+    functions: &Functions,
+    scope: &mut Scope,
+    place: Place,
+    target: &RangeTarget,
+    expr: &Expr,
+) -> Result<RangeParts, CheckError>
+    ensures { Settles (λ p. (range_parts_of p, scope_of scope.new)) result (spec.range_parts (functions_of functions.now) (scope_of scope.old) (target_of target.now) (tree_of expr.now)) }
+{
+    match range(alloc, functions, scope, target, expr) {
+        Ok(parts) => Ok(parts),
+        Err(fault) => Err(refused(fault, place)),
+    }
+}

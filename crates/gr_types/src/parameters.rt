@@ -1,0 +1,129 @@
+//! The parameters of a function (Go: Function types, Function declarations).
+ghost use Rattle.std.specs.Prelude.{◌≡◌};
+ghost use Rattle.gr_tree.specs.Exprs as trees;
+ghost use Rattle.gr_tree.specs.Statements.{optional};
+ghost use Rattle.gr_tree.specs.Files.{groups_of};
+ghost use Rattle.gr_types.specs.Types as types;
+ghost use Rattle.gr_types.specs.TypeViews.{ty_of};
+ghost use Rattle.gr_types.specs.Tables.{scope_of};
+ghost use Rattle.gr_types.specs.FindingStatements.{written_of};
+ghost use Rattle.gr_types.specs.Outlines as spec;
+ghost use Rattle.gr_types.specs.OutlineViews.{taken_of};
+ghost use Rattle.gr_types.specs.Checking.{Agrees};
+
+use crate::fault::{Code, Fault};
+use crate::names::{is_blank, is_predeclared};
+use crate::program::Parameter;
+use crate::scope::Scope;
+use crate::types::{Type, copy, written};
+use gr_tree::{Func, Group, TypeTree};
+use std::alloc::Global;
+
+/// The parameters of a function.
+#[derive(Drop)]
+pub struct Parameters {
+    pub types: Vec<Type>,
+    pub parameters: Vec<Parameter>,
+    /// The scope of the function's body, with its parameters.
+    pub scope: Scope,
+}
+
+fn is_function(funcs: &[Func], name: &[u8]) -> bool {
+    for func in funcs {
+        if func.name.as_slice() == name {
+            return true;
+        }
+    }
+    false
+}
+
+// The rule that a written type breaks which is none.
+fn no_type(funcs: &[Func], tree: &TypeTree) -> Code {
+    match tree {
+        TypeTree::Name(name) if is_blank(name) => Code::UnknownName,
+        TypeTree::Name(name) if is_predeclared(name) || is_function(funcs, name) => Code::WrongForm,
+        TypeTree::Name(_) => Code::UnknownName,
+        TypeTree::Unit => Code::WrongForm,
+        TypeTree::Chan(_, inner) | TypeTree::Paren(inner) => no_type(funcs, inner),
+    }
+}
+
+fn written_type(alloc: Global, funcs: &[Func], tree: &TypeTree) -> Result<Type, Fault>
+    ensures { Agrees ty_of result (types.type_written (trees.type_of tree.now)) }
+{
+    match written(alloc, tree)? {
+        Some(own) => Ok(own),
+        None => Err(Fault::Broken(no_type(funcs, tree))),
+    }
+}
+
+/// The result of a function.
+pub fn result_type(
+    alloc: Global,
+    funcs: &[Func],
+    tree: &Option<TypeTree>,
+) -> Result<Option<Type>, Fault>
+    ensures { Agrees (optional ty_of) result (written_of (optional trees.type_of tree.now)) }
+{
+    match tree {
+        Some(tree) => Ok(Some(written_type(alloc, funcs, tree)?)),
+        None => Ok(None),
+    }
+}
+
+impl Parameters {
+    fn new(alloc: Global) -> Self
+        ensures { taken_of result ≡ spec.none_taken }
+    {
+        Parameters {
+            types: Vec::new(alloc),
+            parameters: Vec::new(alloc),
+            scope: Scope::new(alloc),
+        }
+    }
+
+    fn may_take(&self, name: &[u8]) -> bool
+        ensures { result ≡ spec.may_take (scope_of self.now.scope) name.now }
+    {
+        !is_predeclared(name) && (is_blank(name) || !self.scope.is_here(name))
+    }
+
+    // Takes one more parameter.
+    fn take(&mut self, alloc: Global, name: &[u8], own: &Type) -> Result<(), Fault>
+        ensures { Agrees (λ u. taken_of self.new) result (spec.take (taken_of self.old) name.now (ty_of own.now)) }
+    {
+        if !self.may_take(name) {
+            return Err(Fault::Broken(Code::DeclaredTwice));
+        }
+        self.scope.declare(alloc, name, copy(alloc, own)?)?;
+        let variable = self.scope.number_of(name);
+        self.types.push(copy(alloc, own)?)?;
+        self.parameters.push(Parameter {
+            variable,
+            value_type: copy(alloc, own)?,
+        })?;
+        Ok(())
+    }
+
+    // Takes parameters of one type.
+    fn take_each(&mut self, alloc: Global, names: &[Vec<u8>], own: &Type) -> Result<(), Fault>
+        ensures { Agrees (λ u. taken_of self.new) result (spec.take_each (taken_of self.old) (trees.names_of names.now) (ty_of own.now)) }
+    {
+        for name in names {
+            self.take(alloc, name, own)?;
+        }
+        Ok(())
+    }
+}
+
+/// The parameters of these groups.
+pub fn take_groups(alloc: Global, funcs: &[Func], groups: &[Group]) -> Result<Parameters, Fault>
+    ensures { Agrees taken_of result (spec.take_groups spec.none_taken (groups_of groups.now)) }
+{
+    let mut parameters = Parameters::new(alloc);
+    for group in groups {
+        let own = written_type(alloc, funcs, &group.type_tree)?;
+        parameters.take_each(alloc, &group.names, &own)?;
+    }
+    Ok(parameters)
+}
