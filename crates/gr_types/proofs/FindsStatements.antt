@@ -1,5 +1,5 @@
 -- What the checker finds of a statement is what the judgement says.
-use Rattle.std.proofs.Common.{◌≡◌, ℕ, true, List, [], ◌∷◌, map, refl, ap, sym, ◌∙◌, subst}
+use Rattle.std.proofs.Common.{◌≡◌, ℕ, true, false, List, [], ◌∷◌, map, refl, ap, sym, ◌∙◌, subst}
 use Rattle.std.specs.Prelude.{Option, Some, None}
 use Rattle.gr_tree.specs.declared.expr.Direction.{Direction}
 use Rattle.gr_tree.specs.Exprs as tree
@@ -13,10 +13,10 @@ use Rattle.gr_types.specs.Scopes.{Scope, number_of, entered, left, first_where, 
 use Rattle.gr_types.specs.Values.{Made, IsValue, IsCall}
 use Rattle.gr_types.specs.Finding.{◌>>=◌, where_true, Typed, given, of_kind, as_channel, call_in, value_in, arguments_in}
 use Rattle.gr_types.specs.StatementChecks as rules
-use Rattle.gr_types.specs.StatementChecks.{Around, Loop, Choice, Context, Within, functions, inside, is_left, is_continued, may_define, may_declare, all_declared, zeros, defaults, at_most_one, IsReceive, TakeAll, TakeAllNew, Returns, IsWritten, DoesAct, IsOpening, IsCondition, IsLoopCondition, IsTarget, IsStatement, IsIfHead, IsBody, AreClauses}
-use Rattle.gr_types.specs.FindingStatements.{in_scope, receives, receive_in, takes, takes_new, send_in, Done, pair_of, assigned, simple_in, returned_in, written_of, var_pair, var_by, go_with, var_zero, act_in, opening_in, condition_in, loop_condition_in, target_in, all_take, all_take_new, Stepped, alone, if_head_in, Parts, for_parts, range_parts, Opened, received_case, comm_in, statement_in, body_in, clauses_in, all_declared_as}
+use Rattle.gr_types.specs.StatementChecks.{Around, Loop, Choice, Context, Within, functions, inside, is_left, is_continued, may_define, may_declare, all_declared, zeros, declares, defaults, at_most_one, IsReceive, TakeAll, TakeAllNew, Returns, IsWritten, DoesAct, IsOpening, IsCondition, IsLoopCondition, IsTarget, IsStatement, IsIfHead, IsBody, AreClauses}
+use Rattle.gr_types.specs.FindingStatements.{in_scope, receives, receive_in, takes, takes_new, send_in, Done, pair_of, assigned, simple_in, returned_in, written_of, var_pair, var_by, go_with, var_zero, act_in, opening_in, post_in, condition_in, loop_condition_in, target_in, all_take, all_take_new, Stepped, alone, if_head_in, Parts, for_parts, range_parts, Opened, received_case, comm_in, statement_in, body_in, clauses_in, all_declared_as}
 use Rattle.gr_types.proofs.Finds.{some_inj, none_some, on_some, on_true, given_sound, truth_sound, channel_is, value_sound, arguments_sound, call_found}
-use Rattle.gr_types.proofs.FindsSimple.{takes_sound, takes_new_sound, receive_found, send_sound, simple_sound, all_declared_sound, pair_is}
+use Rattle.gr_types.proofs.FindsSimple.{on_cond, takes_sound, takes_new_sound, receive_found, send_sound, simple_sound, all_declared_sound, pair_is}
 
 returns_sound : (fs : List Signature) (s : Scope) (result : Option Ty) (e : Option Tree) (p : Option Term) → returned_in fs s result e ≡ Some p → Returns fs s result e p
 unfolding returned_in
@@ -95,6 +95,14 @@ opening_sound fs s None o q = subst (λ o. IsOpening fs s None o.0 o.1) (some_in
 opening_sound fs s (Some (statements.Heads place a)) o q = on_some (simple_in fs s a) (λ d. Some (Some (Opens place.line d.0), d.1)) o q (λ d id q.
     subst (λ o. IsOpening fs s (Some (statements.Heads place a)) o.0 o.1) (some_inj q) (rules.opening (simple_sound fs s a d id)))
 
+record IsPost (fs : List Signature) (s : Scope) (post : Option statements.Heading) (o : Option Opening × Scope) : Type 0 where
+  keeps : declares post ≡ false
+  does : IsOpening fs s post o.0 o.1
+
+post_sound : (fs : List Signature) (s : Scope) (post : Option statements.Heading) (o : Option Opening × Scope) → post_in fs s post ≡ Some o → IsPost fs s post o
+unfolding post_in
+post_sound fs s post o q = on_cond (declares post) None (opening_in fs s post) o q (λ b q. none_some q) (λ b q. record { keeps = b; does = opening_sound fs s post o q })
+
 condition_sound : (fs : List Signature) (s : Scope) (e : Tree) (p : Term) → condition_in fs s e ≡ Some p → IsCondition fs s e p
 unfolding condition_in
 condition_sound fs s e p q = on_some (value_in fs s e) (of_kind BoolType) p q (λ v iv q. rules.condition (value_sound fs s e v iv) (truth_sound v p q))
@@ -141,14 +149,14 @@ record AreParts (fs : List Signature) (s : Scope) (init : Option statements.Head
   middle : Scope
   first : IsOpening fs s init h.0.0 middle
   test : IsLoopCondition fs middle e h.0.1.0
-  last : IsOpening fs middle post h.0.1.1 h.1
+  last : IsPost fs middle post (h.0.1.1, h.1)
 
 parts_sound : (fs : List Signature) (s : Scope) (init : Option statements.Heading) (e : Option Tree) (post : Option statements.Heading) (h : Parts) → for_parts fs s init e post ≡ Some h → AreParts fs s init e post h
 unfolding for_parts
-parts_sound fs s init e post h q = on_some (opening_in fs s init) (λ i. loop_condition_in fs i.1 e >>= λ p. opening_in fs i.1 post >>= λ o. Some ((i.0, (p, o.0)), o.1)) h q (λ i ii q.
-    on_some (loop_condition_in fs i.1 e) (λ p. opening_in fs i.1 post >>= λ o. Some ((i.0, (p, o.0)), o.1)) h q (λ p ip q.
-    on_some (opening_in fs i.1 post) (λ o. Some ((i.0, (p, o.0)), o.1)) h q (λ o io q.
-    subst (λ h. AreParts fs s init e post h) (some_inj q) (record { middle = i.1; first = opening_sound fs s init i ii; test = loop_condition_sound fs i.1 e p ip; last = opening_sound fs i.1 post o io }))))
+parts_sound fs s init e post h q = on_some (opening_in fs s init) (λ i. loop_condition_in fs i.1 e >>= λ p. post_in fs i.1 post >>= λ o. Some ((i.0, (p, o.0)), o.1)) h q (λ i ii q.
+    on_some (loop_condition_in fs i.1 e) (λ p. post_in fs i.1 post >>= λ o. Some ((i.0, (p, o.0)), o.1)) h q (λ p ip q.
+    on_some (post_in fs i.1 post) (λ o. Some ((i.0, (p, o.0)), o.1)) h q (λ o io q.
+    subst (λ h. AreParts fs s init e post h) (some_inj q) (record { middle = i.1; first = opening_sound fs s init i ii; test = loop_condition_sound fs i.1 e p ip; last = post_sound fs i.1 post o io }))))
 
 -- the parts of a range
 record IsRange (fs : List Signature) (s : Scope) (x : statements.Target) (e : Tree) (h : (Term × Option ℕ) × Scope) : Type 0 where
@@ -219,7 +227,7 @@ mutual
       on_some (for_parts (functions c) (entered s) init e post) (λ h. body_in (inside (Loop label) c) (entered h.1) body >>= λ b. alone (For place.line h.0.0 h.0.1.0 h.0.1.1 b.0) (left (left b.1))) d q (λ h ih q.
       on_some (body_in (inside (Loop label) c) (entered h.1) body) (λ b. alone (For place.line h.0.0 h.0.1.0 h.0.1.1 b.0) (left (left b.1))) d q (λ b ib q.
       let p = parts_sound (functions c) (entered s) init e post h ih in
-      subst (λ d. IsStep c s label (statements.For place (statements.Loop init e post) body) d) (some_inj q) (rules.for p.first p.test p.last (body_sound (inside (Loop label) c) (entered h.1) body b ib))))
+      subst (λ d. IsStep c s label (statements.For place (statements.Loop init e post) body) d) (some_inj q) (rules.for p.first p.test p.last.keeps p.last.does (body_sound (inside (Loop label) c) (entered h.1) body b ib))))
   statement_sound c s label (statements.For place (statements.Range x e) body) d q =
       on_some (range_parts (functions c) s x e) (λ h. body_in (inside (Loop label) c) (entered h.1) body >>= λ b. alone (Range place.line h.0.1 h.0.0 b.0) (left (left b.1))) d q (λ h ih q.
       on_some (body_in (inside (Loop label) c) (entered h.1) body) (λ b. alone (Range place.line h.0.1 h.0.0 b.0) (left (left b.1))) d q (λ b ib q.

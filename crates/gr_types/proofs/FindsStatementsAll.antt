@@ -1,5 +1,5 @@
 -- What the judgement says of a statement is what the checker finds.
-use Rattle.std.proofs.Common.{◌≡◌, ℕ, true, List, [], ◌∷◌, refl, ap, ◌∙◌}
+use Rattle.std.proofs.Common.{◌≡◌, ℕ, true, false, List, [], ◌∷◌, refl, ap, ◌∙◌}
 use Rattle.std.specs.Prelude.{Option, Some, None}
 use Rattle.gr_tree.specs.declared.expr.Direction.{Direction}
 use Rattle.gr_tree.specs.Exprs as tree
@@ -12,11 +12,11 @@ use Rattle.gr_types.specs.Scopes.{Scope, number_of, entered, left, first_where, 
 use Rattle.gr_types.specs.Values.{Made, IsValue}
 use Rattle.gr_types.specs.Finding.{◌>>=◌, where_true, given, of_kind, as_channel, call_in, value_in, arguments_in}
 use Rattle.gr_types.specs.StatementChecks as rules
-use Rattle.gr_types.specs.StatementChecks.{Around, Loop, Choice, Context, Within, functions, inside, is_left, is_continued, may_define, may_declare, all_declared, zeros, defaults, at_most_one, IsReceive, TakeAll, TakeAllNew, Returns, IsWritten, DoesAct, IsOpening, IsCondition, IsLoopCondition, IsTarget, IsStatement, IsIfHead, IsBody, AreClauses}
-use Rattle.gr_types.specs.FindingStatements.{in_scope, receives, receive_in, takes, takes_new, send_in, pair_of, assigned, simple_in, returned_in, written_of, var_pair, var_by, go_with, var_zero, act_in, opening_in, condition_in, loop_condition_in, target_in, all_take, all_take_new, Stepped, alone, if_head_in, for_parts, range_parts, Opened, received_case, comm_in, statement_in, body_in, clauses_in, all_declared_as}
+use Rattle.gr_types.specs.StatementChecks.{Around, Loop, Choice, Context, Within, functions, inside, is_left, is_continued, may_define, may_declare, all_declared, zeros, declares, defaults, at_most_one, IsReceive, TakeAll, TakeAllNew, Returns, IsWritten, DoesAct, IsOpening, IsCondition, IsLoopCondition, IsTarget, IsStatement, IsIfHead, IsBody, AreClauses}
+use Rattle.gr_types.specs.FindingStatements.{in_scope, receives, receive_in, takes, takes_new, send_in, pair_of, assigned, simple_in, returned_in, written_of, var_pair, var_by, go_with, var_zero, act_in, opening_in, post_in, condition_in, loop_condition_in, target_in, all_take, all_take_new, Stepped, alone, if_head_in, for_parts, range_parts, Opened, received_case, comm_in, statement_in, body_in, clauses_in, all_declared_as}
 use Rattle.gr_types.proofs.Finds.{then_some, if_true, given_complete, truth_complete}
 use Rattle.gr_types.proofs.FindsAll.{value_complete, call_complete}
-use Rattle.gr_types.proofs.FindsSimpleAll.{receive_complete, takes_complete, takes_new_complete, send_complete, simple_complete, all_declared_complete, declared_no_pair}
+use Rattle.gr_types.proofs.FindsSimpleAll.{on_other, receive_complete, takes_complete, takes_new_complete, send_complete, simple_complete, all_declared_complete, declared_no_pair}
 
 returns_complete : {fs : List Signature} {s : Scope} {result : Option Ty} {e : Option Tree} {p : Option Term} → Returns fs s result e p → returned_in fs s result e ≡ Some p
 unfolding returned_in
@@ -61,6 +61,10 @@ unfolding opening_in
 opening_complete rules.no_opening = refl
 opening_complete {fs} {s} (rules.opening {place = place} {a = a} {b = b} {n = n} d) = then_some (simple_in fs s a) (b, n) (λ d. Some (Some (Opens place.line d.0), d.1)) (simple_complete d)
 
+post_complete : {fs : List Signature} {s n : Scope} {post : Option statements.Heading} {o : Option Opening} → declares post ≡ false → IsOpening fs s post o n → post_in fs s post ≡ Some (o, n)
+unfolding post_in
+post_complete {fs} {s} {post = post} keeps d = on_other (declares post) None (opening_in fs s post) keeps ∙ opening_complete d
+
 condition_complete : {fs : List Signature} {s : Scope} {e : Tree} {p : Term} → IsCondition fs s e p → condition_in fs s e ≡ Some p
 unfolding condition_in
 condition_complete {fs} {s} (rules.condition {e = e} {v = v} {p = p} d h) = then_some (value_in fs s e) v (of_kind BoolType) (value_complete d) ∙ truth_complete h
@@ -95,12 +99,12 @@ if_head_complete (rules.if_head {c = c} {s = s} {m = m} {init = init} {condition
     then_some (opening_in (functions c) s init) (o, m) (λ i. condition_in (functions c) i.1 e >>= λ p. Some ((i.0, p), i.1)) (opening_complete first)
     ∙ then_some (condition_in (functions c) m e) p (λ p. Some ((o, p), m)) (condition_complete test)
 
-parts_complete : {fs : List Signature} {s m n : Scope} {init post : Option statements.Heading} {e : Option Tree} {first last : Option Opening} {p : Option Term} → IsOpening fs s init first m → IsLoopCondition fs m e p → IsOpening fs m post last n → for_parts fs s init e post ≡ Some ((first, (p, last)), n)
+parts_complete : {fs : List Signature} {s m n : Scope} {init post : Option statements.Heading} {e : Option Tree} {first last : Option Opening} {p : Option Term} → IsOpening fs s init first m → IsLoopCondition fs m e p → declares post ≡ false → IsOpening fs m post last n → for_parts fs s init e post ≡ Some ((first, (p, last)), n)
 unfolding for_parts
-parts_complete {fs} {s} {m} {n} {init} {post} {e} {first} {last} {p} a b c =
-    then_some (opening_in fs s init) (first, m) (λ i. loop_condition_in fs i.1 e >>= λ p. opening_in fs i.1 post >>= λ o. Some ((i.0, (p, o.0)), o.1)) (opening_complete a)
-    ∙ then_some (loop_condition_in fs m e) p (λ p. opening_in fs m post >>= λ o. Some ((first, (p, o.0)), o.1)) (loop_condition_complete b)
-    ∙ then_some (opening_in fs m post) (last, n) (λ o. Some ((first, (p, o.0)), o.1)) (opening_complete c)
+parts_complete {fs} {s} {m} {n} {init} {post} {e} {first} {last} {p} a b keeps c =
+    then_some (opening_in fs s init) (first, m) (λ i. loop_condition_in fs i.1 e >>= λ p. post_in fs i.1 post >>= λ o. Some ((i.0, (p, o.0)), o.1)) (opening_complete a)
+    ∙ then_some (loop_condition_in fs m e) p (λ p. post_in fs m post >>= λ o. Some ((first, (p, o.0)), o.1)) (loop_condition_complete b)
+    ∙ then_some (post_in fs m post) (last, n) (λ o. Some ((first, (p, o.0)), o.1)) (post_complete keeps c)
 
 range_complete : {fs : List Signature} {s n : Scope} {x : statements.Target} {e : Tree} {d : Direction} {t : Ty} {p : Term} {k : Option ℕ} → IsValue fs s e (Made (ChanType d t) p) → may_receive d ≡ true → IsTarget (entered s) t x k n → range_parts fs s x e ≡ Some ((p, k), n)
 unfolding range_parts
@@ -157,8 +161,8 @@ mutual
       then_some (if_head_in (functions c) (entered s) head) ((o, p), m) (λ h. body_in c (entered h.1) body >>= λ b. statement_in c (left b.1) None otherwise >>= λ r. alone (If place.line h.0.0 h.0.1 b.0 r.0) (left r.1)) (if_head_complete h)
       ∙ then_some (body_in c (entered m) body) (steps, n) (λ b. statement_in c (left b.1) None otherwise >>= λ r. alone (If place.line o p b.0 r.0) (left r.1)) (body_complete d)
       ∙ then_some (statement_in c (left n) None otherwise) (others, z) (λ r. alone (If place.line o p steps r.0) (left r.1)) (statement_complete e)
-  statement_complete {c} {s} (rules.for {m = m} {n = n} {o = z} {label = label} {place = place} {init = init} {post = post} {condition = e} {body = body} {first = first} {last = last} {p = p} {steps = steps} a t l d) =
-      then_some (for_parts (functions c) (entered s) init e post) ((first, (p, last)), n) (λ h. body_in (inside (Loop label) c) (entered h.1) body >>= λ b. alone (For place.line h.0.0 h.0.1.0 h.0.1.1 b.0) (left (left b.1))) (parts_complete a t l)
+  statement_complete {c} {s} (rules.for {m = m} {n = n} {o = z} {label = label} {place = place} {init = init} {post = post} {condition = e} {body = body} {first = first} {last = last} {p = p} {steps = steps} a t keeps l d) =
+      then_some (for_parts (functions c) (entered s) init e post) ((first, (p, last)), n) (λ h. body_in (inside (Loop label) c) (entered h.1) body >>= λ b. alone (For place.line h.0.0 h.0.1.0 h.0.1.1 b.0) (left (left b.1))) (parts_complete a t keeps l)
       ∙ then_some (body_in (inside (Loop label) c) (entered n) body) (steps, z) (λ b. alone (For place.line first p last b.0) (left (left b.1))) (body_complete d)
   statement_complete {c} {s} (rules.range {m = m} {n = n} {label = label} {place = place} {target = x} {e = e} {body = body} {p = p} {k = k} {steps = steps} h may t d) =
       then_some (range_parts (functions c) s x e) ((p, k), m) (λ h. body_in (inside (Loop label) c) (entered h.1) body >>= λ b. alone (Range place.line h.0.1 h.0.0 b.0) (left (left b.1))) (range_complete h may t)

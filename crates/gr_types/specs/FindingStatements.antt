@@ -16,7 +16,7 @@ use Rattle.gr_types.specs.Names.{is_blank}
 use Rattle.gr_types.specs.Scopes.{Scope, variable_named, type_of_variable, is_here, declare, declared, number_of, entered, left, first_where, Signature, function_in}
 use Rattle.gr_types.specs.Values.{Value, binary_type, may_stand_right}
 use Rattle.gr_types.specs.Finding.{◌>>=◌, where_true, has_text, Typed, typed, given, of_kind, as_channel, if_unknown, call_in, value_in, arguments_in, only_in}
-use Rattle.gr_types.specs.StatementChecks.{Loop, Choice, Context, Within, functions, inside, is_left, is_continued, may_define, may_declare, all_declared, zeros, defaults, at_most_one}
+use Rattle.gr_types.specs.StatementChecks.{Loop, Choice, Context, Within, functions, inside, is_left, is_continued, may_define, may_declare, all_declared, zeros, declares, defaults, at_most_one}
 
 -- a number and a type
 abbrev pub Known : Type 0
@@ -279,6 +279,10 @@ unfoldable pub opening_in : List Signature → Scope → Option statements.Headi
 opening_in fs s None = Some (None, s)
 opening_in fs s (Some (statements.Heads place a)) = simple_in fs s a >>= λ d. Some (Some (Opens place.line d.0), d.1)
 
+-- the post statement of a for, which may not be a definition
+unfoldable pub post_in : List Signature → Scope → Option statements.Heading → Option (Option Opening × Scope)
+post_in fs s post = cond (declares post) None (opening_in fs s post)
+
 unfoldable pub condition_in : List Signature → Scope → Tree → Option Term
 condition_in fs s e = value_in fs s e >>= of_kind BoolType
 
@@ -316,7 +320,7 @@ abbrev pub Parts : Type 0
 Parts = (Option Opening × (Option Term × Option Opening)) × Scope
 
 unfoldable pub for_parts : List Signature → Scope → Option statements.Heading → Option Tree → Option statements.Heading → Option Parts
-for_parts fs s init condition post = opening_in fs s init >>= λ i. loop_condition_in fs i.1 condition >>= λ p. opening_in fs i.1 post >>= λ o. Some ((i.0, (p, o.0)), o.1)
+for_parts fs s init condition post = opening_in fs s init >>= λ i. loop_condition_in fs i.1 condition >>= λ p. post_in fs i.1 post >>= λ o. Some ((i.0, (p, o.0)), o.1)
 
 -- a range: its channel, the variable, and the scope after it
 unfoldable pub range_parts : List Signature → Scope → statements.Target → Tree → Option ((Term × Option ℕ) × Scope)

@@ -244,6 +244,13 @@ pub data IsOpening (fs : List Signature) (s : Scope) : Option statements.Heading
   opening : {place : Place} {a : Simple} {b : Act} {n : Scope}
       → DoesSimple fs s a b n → IsOpening fs s (Some (statements.Heads place a)) (Some (Opens place.line b)) n
 
+-- whether the post statement of a for declares variables, which the body would see before they hold values: it may not
+-- (Go: For statements with for clause)
+abbrev pub declares : Option statements.Heading → Bool
+declares None = false
+declares (Some (statements.Heads place (statements.Define names values))) = true
+declares (Some (statements.Heads place a)) = false
+
 pub data IsCondition (fs : List Signature) (s : Scope) : Tree → Term → Type 0 where
   condition : {e : Tree} {v : Value} {p : Term} → IsValue fs s e v → HasType v BoolType p → IsCondition fs s e p
 
@@ -305,6 +312,7 @@ mutual
     for : {c : Context} {s m n o : Scope} {label : Option (List ℕ)} {place : Place} {init post : Option statements.Heading} {condition : Option Tree} {body : Statements} {first last : Option Opening} {p : Option Term} {steps : Steps}
         → IsOpening (functions c) (entered s) init first m
         → IsLoopCondition (functions c) m condition p
+        → declares post ≡ false
         → IsOpening (functions c) m post last n
         → IsBody (inside (Loop label) c) (entered n) body steps o
         → IsStatement c s label (statements.For place (statements.Loop init condition post) body) (then (For place.line first p last steps) stop) (left (left o))

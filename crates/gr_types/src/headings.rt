@@ -20,7 +20,7 @@ use crate::types::Type;
 use crate::values::{Value, of_kind};
 use gr_const::Constant;
 use gr_scan::token::Place;
-use gr_tree::{Expr, Header, IfHead, RangeTarget};
+use gr_tree::{Expr, Header, IfHead, RangeTarget, Simple};
 use std::alloc::Global;
 
 /// What stands between `if` and its block.
@@ -75,6 +75,24 @@ fn opening(
     let act = header_act(alloc, functions, scope, header)?;
     let line = header.place.line;
     Ok(Some(Opening { line, act }))
+}
+
+// The post statement of a for, which may not be a definition.
+#[tactic(auto, unfolding(crate::specs::FindingStatements::post_in))]
+fn post_statement(
+    alloc: Global,
+    functions: &Functions,
+    scope: &mut Scope,
+    header: &Option<Header>,
+) -> Result<Option<Opening>, CheckError>
+    ensures { Settles (λ o. (optional opening_of o, scope_of scope.new)) result (spec.post_in (functions_of functions.now) (scope_of scope.old) (optional heading_of header.now)) }
+{
+    if let Some(post) = header {
+        if let Simple::Define(_, _) = post.simple {
+            return Err(refused(Fault::Broken(Code::WrongForm), post.place));
+        }
+    }
+    opening(alloc, functions, scope, header)
 }
 
 #[tactic(auto, using(crate::proofs::Conditions::no_truth), unfolding(crate::specs::FindingStatements::condition_in))]
@@ -149,7 +167,7 @@ pub fn loop_parts(
 {
     let init = opening(alloc, functions, scope, init)?;
     let condition = loop_condition(alloc, functions, scope, place, condition)?;
-    let post = opening(alloc, functions, scope, post)?;
+    let post = post_statement(alloc, functions, scope, post)?;
     Ok(LoopParts {
         init,
         condition,
