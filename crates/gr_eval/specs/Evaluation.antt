@@ -1,17 +1,17 @@
 -- Evaluation of expressions without calls, receives, `make`, `len` and `cap`, which have steps of their own: from left to
 -- right, operands before their operator (Go: Order of evaluation).
-use Rattle.std.specs.Prelude.{Option, List, [], ◌∷◌, slice_get, if◌then◌else◌}
+use Rattle.std.specs.Prelude.{Option, Some, List, [], ◌∷◌, slice_get, if◌then◌else◌}
 use Rattle.gr_base.specs.declared.values.Value.{Value}
-use Rattle.gr_eval.specs.Outcomes.{Outcome, gives, wrong, ◌>>=◌, present}
+use Rattle.gr_eval.specs.Outcomes.{Outcome, gives, wrong, ◌>>=◌}
 use Rattle.gr_eval.specs.Operators.{operate, apply, settles}
-use Rattle.gr_eval.specs.Trees.{Tree, Done, Variable, Unary, Binary, Receive, Call, Len, Cap, Make, Trees, nothing, also}
+use Rattle.gr_eval.specs.Trees.{Tree, Done, Variable, Unary, Binary, Trees, nothing, also}
 
 -- the values of a function's variables by their numbers; none before the variable is declared
 abbrev pub Variables : Type 0
 Variables = List (Option Value)
 
 abbrev pub held : Option (Option Value) → Outcome Value
-held o = present o >>= present
+held o = elim o [ Some (Some v) ↦ gives v | _ ↦ wrong ]
 
 -- `&&` and `||` leave the right operand alone where the left one decides (Go: Logical operators)
 abbrev pub evaluate : Variables → Tree → Outcome Value
@@ -19,11 +19,7 @@ evaluate vs (Done v) = gives v
 evaluate vs (Variable x) = held (slice_get vs x)
 evaluate vs (Unary op a) = evaluate vs a >>= apply op
 evaluate vs (Binary op a b) = evaluate vs a >>= λ x. if settles op x then gives x else (evaluate vs b >>= operate op x)
-evaluate vs (Receive c zero) = wrong
-evaluate vs (Call f arguments) = wrong
-evaluate vs (Len c) = wrong
-evaluate vs (Cap c) = wrong
-evaluate vs (Make n) = wrong
+evaluate vs _ = wrong
 
 abbrev pub evaluate_all : Variables → Trees → Outcome (List Value)
 evaluate_all vs nothing = gives []

@@ -1,5 +1,6 @@
 -- What the next step of a frame is, its operands being evaluated.
-use Rattle.std.specs.Prelude.{ℕ, ℤ, Bool, true, false, List, [], ◌∷◌, ◌++◌, Option, Some, if◌then◌else◌}
+use Rattle.std.specs.Prelude.{ℕ, ℤ, Bool, true, false, List, [], ◌∷◌, Option, Some, if◌then◌else◌}
+use Rattle.std.specs.List.{join_with_byte}
 use Rattle.gr_base.specs.Values.{value_text}
 use Rattle.gr_base.specs.declared.names.ChName.{ChName}
 use Rattle.gr_base.specs.declared.values.Value.{Value}
@@ -36,21 +37,17 @@ pub data Deed : Type 0 where
   Chooses : (clauses : List Communication) → Deed
 
 abbrev pub as_channel : Value → Outcome (Option ChName)
-as_channel (Chan c) = gives c
-as_channel _ = wrong
+as_channel v = elim v [ Chan c ↦ gives c | _ ↦ wrong ]
 
 abbrev pub as_int : Value → Outcome ℤ
-as_int (Int n) = gives n
-as_int _ = wrong
+as_int v = elim v [ Int n ↦ gives n | _ ↦ wrong ]
 
 abbrev pub as_truth : Value → Outcome Bool
-as_truth (Truth b) = gives b
-as_truth _ = wrong
+as_truth v = elim v [ Truth b ↦ gives b | _ ↦ wrong ]
 
 -- the value of the one operand
 abbrev pub only : List Value → Outcome Value
-only (v ∷ []) = gives v
-only _ = wrong
+only vs = elim vs [ v ∷ [] ↦ gives v | _ ↦ wrong ]
 
 -- the texts of what is printed
 abbrev pub texts : List Piece → List Value → List (List ℕ)
@@ -61,9 +58,7 @@ texts (OfValue ∷ ps) (v ∷ vs) = value_text v ∷ texts ps vs
 
 -- with one space between them
 abbrev pub spaced : List (List ℕ) → List ℕ
-spaced [] = []
-spaced (t ∷ []) = t
-spaced (t ∷ u ∷ ts) = t ++ 32 ∷ spaced (u ∷ ts)
+spaced = join_with_byte 32
 
 -- a received value, and whether it was sent, for a statement that assigns them (Go: Receive operator)
 abbrev pub received : ℕ → List (Option ℕ) → Rest → Value → Bool → Point

@@ -1,11 +1,12 @@
 -- Where a frame stands: the statement, its parts that are done replaced by their values, and what remains after it.
-use Rattle.std.specs.Prelude.{ℕ, zero, suc, true, List, [], ◌∷◌, Option, Some, None}
+use Rattle.std.specs.Prelude.{ℕ, zero, suc, true, List, [], ◌∷◌, Option, Some, None, unwrap_or}
+use Rattle.std.specs.Option.{option_map_or, option_or}
 use Rattle.gr_tree.specs.declared.expr.BinaryOp.{BinaryOp}
 use Rattle.gr_base.specs.declared.values.Value.{Value}
 use Rattle.gr_base.specs.declared.values.Value.TheVariants.{Bool as Truth}
 use Rattle.gr_types.specs.Terms as program
 use Rattle.gr_types.specs.Terms.{Term, Printed, PrintTerm, PrintText, Act, Opening, Opens, Step, Does, Block, If, For, Steps, stop, then, Cases, no_case, default_case, send_case, receive_case}
-use Rattle.gr_eval.specs.Trees.{Tree, Done, Trees, nothing, also, one, two, value_of, tree_of, trees_of}
+use Rattle.gr_eval.specs.Trees.{Done, Trees, nothing, also, one, two, value_of, tree_of, trees_of}
 
 -- what remains of a function, from the inside out
 pub data Rest : Type 0 where
@@ -88,12 +89,8 @@ printed_of [] = nothing
 printed_of (PrintTerm value ∷ ps) = also (tree_of value) (printed_of ps)
 printed_of (PrintText bytes ∷ ps) = printed_of ps
 
--- a `return` without a value is that of a function without a result
-abbrev pub returned_of : Option Term → Trees
-returned_of None = nothing
-returned_of (Some value) = one (tree_of value)
-
--- Go: Break statements, Continue statements
+-- a `return` without a value is that of a function without a result (Go: Return statements, Break statements, Continue
+-- statements)
 abbrev pub act_at : ℕ → Act → Rest → Point
 act_at line (program.Assign targets values) rest = at line (Assign targets) (trees_of values) rest
 act_at line (program.AssignReceive value ok channel initial) rest = at line (AssignReceive value ok (value_of initial)) (one (tree_of channel)) rest
@@ -103,24 +100,17 @@ act_at line (program.Close channel) rest = at line Close (one (tree_of channel))
 act_at line (program.Print values) rest = at line (Print (pieces_of values)) (printed_of values) rest
 act_at line (program.Send channel value) rest = at line Send (two (tree_of channel) (tree_of value)) rest
 act_at line (program.Go function arguments) rest = at line (Go function) (trees_of arguments) rest
-act_at line (program.Return value) rest = at line Return (returned_of value) rest
+act_at line (program.Return value) rest = at line Return (option_map_or (λ v. one (tree_of v)) value nothing) rest
 act_at line (program.Break depth) rest = at line GoOn nothing (past (around depth rest))
 act_at line (program.Continue depth) rest = at line GoOn nothing (around depth rest)
 
--- Go: For statements: a missing condition is `true`
-abbrev pub condition_of : Option Term → Tree
-condition_of None = Done (Truth true)
-condition_of (Some condition) = tree_of condition
-
 -- a statement that begins with another, if there is one before it
 abbrev pub opened : Option Opening → Step → Point → Rest → Point
-opened None s point rest = point
-opened (Some (Opens line act)) s point rest = act_at line act (following (then s stop) rest)
+opened init s point rest = elim init [ Some (Opens line act) ↦ act_at line act (following (then s stop) rest) | None ↦ point ]
 
 -- the statements of the next turn: the post statement, and the loop again
 abbrev pub turn : Option Opening → Step → Steps
-turn None s = then s stop
-turn (Some (Opens line act)) s = then (Does line act) (then s stop)
+turn post s = elim post [ Some (Opens line act) ↦ then (Does line act) (then s stop) | None ↦ then s stop ]
 
 -- the channels and the values to send of a select, in source order (Go: Select statements)
 abbrev pub operands_of : Cases → Trees
@@ -129,11 +119,8 @@ operands_of (default_case body others) = operands_of others
 operands_of (send_case channel value body others) = also (tree_of channel) (also (tree_of value) (operands_of others))
 operands_of (receive_case targets channel initial body others) = also (tree_of channel) (operands_of others)
 
-abbrev pub or_else : {A : Type 0} → Option A → Option A → Option A
-or_else (Some a) other = Some a
-or_else None other = other
-
--- the first point of a statement, and of statements; blocks, and statements that are empty, have none of their own
+-- the first point of a statement, and of statements; blocks, and statements that are empty, have none of their own. A
+-- missing condition is `true` (Go: For statements).
 abbrev mutual
   pub first_of : Step → Rest → Option Point
   first_of (Does line act) rest = Some (act_at line act rest)
@@ -143,23 +130,19 @@ abbrev mutual
       Some (opened init (If line None condition body otherwise) test rest)
   first_of (For line init condition post body) rest =
       let again = For line None condition post body in
-      let test = at line (Test (onto body (looping (turn post again) rest))) (one (condition_of condition)) rest in
+      let test = at line (Test (onto body (looping (turn post again) rest))) (one (option_map_or tree_of condition (Done (Truth true)))) rest in
       Some (opened init again test rest)
   first_of (program.Range line target channel body) rest = Some (at line (Range target body) (one (tree_of channel)) rest)
   first_of (program.Select line cases) rest = Some (at line (Select cases) (operands_of cases) rest)
 
   pub first_in : Steps → Rest → Option Point
   first_in stop rest = None
-  first_in (then s ss) rest = or_else (first_of s (onto ss rest)) (first_in ss rest)
-
-abbrev pub point_or : Option Point → Point → Point
-point_or (Some p) other = p
-point_or None other = other
+  first_in (then s ss) rest = option_or (first_of s (onto ss rest)) (first_in ss rest)
 
 -- where a frame stands next; after the statements of a function comes its closing brace, which returns
 abbrev pub point_after : Rest → Point
 point_after (closing line) = at line Return nothing (closing line)
-point_after (following ss rest) = point_or (first_in ss rest) (point_after rest)
-point_after (looping again rest) = point_or (first_in again rest) (point_after rest)
+point_after (following ss rest) = unwrap_or (first_in ss rest) (point_after rest)
+point_after (looping again rest) = unwrap_or (first_in again rest) (point_after rest)
 point_after (ranging line target channel body rest) = at line (Turn target body) (one (Done channel)) rest
 point_after (chosen rest) = point_after rest

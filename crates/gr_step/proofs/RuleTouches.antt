@@ -1,5 +1,6 @@
 -- Each rule touches what the table says.
 use Rattle.std.proofs.Common.{fold, ◌≡◌, ℕ, ◌+◌, ◌%◌, ◌||◌, Bool, true, false, if◌then◌else◌, List, [], ◌∷◌, ◌++◌, map, is_some, Option, Some, None, ◌⊎◌, ◌↔◌, refl, sym, ◌∙◌, ap, subst, arith, inl, inr}
+use Rattle.std.specs.Prelude.{take as front}
 use Rattle.std.proofs.lemmas.List.{append-nil}
 use Rattle.std.specs.List.{flat_map}
 use Rattle.gr_base.specs.declared.names.ChName.{ChName}
@@ -23,7 +24,7 @@ use Rattle.gr_step.specs.Attempts.{no_such_choice, Operation, sends_on, receives
 use Rattle.gr_step.specs.Actors.{Actor, onward, does, without, channels_but, met, ask_met}
 use Rattle.gr_step.specs.Communications.{send_to, send, take, receive_from, receive, communicate, all_waits, enqueued, ask_enqueued, wait, proceed_or_wait, once, ask_waiters, close_open, close}
 use Rattle.gr_step.specs.Selects.{ask_ready, if_none_ready}
-use Rattle.gr_step.specs.Touches.{touches, senders_at, receivers_at, tail_slot, head_slot, waits_at, woken, first, send_side, receive_side, side, taken, with_channel, without_channel, and_always, row}
+use Rattle.gr_step.specs.Touches.{touches, senders_at, receivers_at, tail_slot, head_slot, waits_at, woken, send_side, receive_side, side, taken, with_channel, without_channel, and_always, row}
 use Rattle.gr_step.proofs.TouchLemmas.{seen, F, refused, asked, leaf, wide, if_fits, there_fits, gate_fits, room_fits, item_fits, withdrawn_fits, waiter_fits}
 
 module _ (s : State) (a : Actor) (choice : Choice) (here : s.goroutines a.name ≡ Some a.before) where
@@ -63,7 +64,7 @@ module _ (s : State) (a : Actor) (choice : Choice) (here : s.goroutines a.name �
   send_to_fits clause c gate v on otherwise (w ∷ ws) at r h = met_fits c w (Some v)
       (λ cells. does a clause (Some (sends_on c)) kinds.Hand (onward a on) (gate_has c (Some (without (w.go ∷ []) gate)) ∷ cells))
       (λ cells q. with_fits (sends_on c) [] (Gate c ∷ woken s c (w.go ∷ []))
-      (ap (λ x. touches [] (Gate c ∷ woken s c (first (receivers_at x)))) at ∙ ap (λ (x : List (Waiter (Unit {0}))). touches [] (Gate c ∷ woken s c (first (map (λ w. w.go) x)))) r)
+      (ap (λ x. touches [] (Gate c ∷ woken s c (front 1 (receivers_at x)))) at ∙ ap (λ (x : List (Waiter (Unit {0}))). touches [] (Gate c ∷ woken s c (front 1 (map (λ w. w.go) x)))) r)
       (ap (◌∷◌ (Gate c)) q) (λ o. ((λ z. grind (arith)), (λ z. grind (arith)))))
   send_to_fits clause c gate v on otherwise [] at r h = room_fits s e c gate (elim [
     | Some n ↦ does a clause (Some (sends_on c)) kinds.Buffer (onward a on) (tail_has c (n + 1) ∷ slot_has c (n % gate.capacity) (Some (n, v)) ∷ [])
@@ -97,7 +98,7 @@ module _ (s : State) (a : Actor) (choice : Choice) (here : s.goroutines a.name �
   receive_from_fits clause c gate initial on otherwise (w ∷ ws) at r h = met_fits c w None
       (λ cells. does a clause (Some (receives_from c)) kinds.Meet (onward a (on w.value true)) (gate_has c (Some (without (w.go ∷ []) gate)) ∷ cells))
       (λ cells d. with_fits (receives_from c) (receive_side s c) (Gate c ∷ woken s c (w.go ∷ []))
-      (ap (λ x. touches (receive_side s c) (Gate c ∷ woken s c (first (senders_at x)))) at ∙ ap (λ (x : List (Waiter Value)). touches (receive_side s c) (Gate c ∷ woken s c (first (map (λ w. w.go) x)))) r)
+      (ap (λ x. touches (receive_side s c) (Gate c ∷ woken s c (front 1 (senders_at x)))) at ∙ ap (λ (x : List (Waiter Value)). touches (receive_side s c) (Gate c ∷ woken s c (front 1 (map (λ w. w.go) x)))) r)
       (ap (◌∷◌ (Gate c)) d) (λ o. ((λ z. grind (arith)), (λ z. grind (arith)))))
   receive_from_fits clause c gate initial on otherwise [] at r h = if_fits s e gate.closed
       (with_fits (receives_from c) (receive_side s c) [] refl refl (λ o. ((λ z. grind (arith)), (λ z. grind (arith)))))

@@ -65,8 +65,7 @@ channels_but seen (w ∷ ws) =
 
 -- a goroutine that waits, and what it waits for
 abbrev pub if_waiting : (List Wait → Attempt) → Status → Attempt
-if_waiting k (waiting ws) = k ws
-if_waiting k _ = refuse unsound
+if_waiting k status = elim status [ waiting ws ↦ k ws | _ ↦ refuse unsound ]
 
 abbrev pub ask_waiter : List ℕ → (Goroutine → List Wait → Attempt) → Attempt
 ask_waiter name k = ask_go name (if_there (λ g. if_waiting (k g) g.status))

@@ -1,5 +1,6 @@
 -- Attempts at a step: rules that ask for objects, and end in a step or in a refusal.
 use Rattle.std.specs.Prelude.{ℕ, ◌%◌, ◌==◌, List, Option, Some, None, option_map, if◌then◌else◌}
+use Rattle.std.specs.Option.{option_map_or}
 use Rattle.gr_base.specs.declared.names.ChName.{ChName}
 use Rattle.gr_base.specs.declared.values.Value.{Value}
 use Rattle.gr_base.specs.declared.kinds.Kind.{Kind}
@@ -40,12 +41,8 @@ pub record Report : Type 0 where
   pub operation : Option Operation
 
 -- the kind of a step
-abbrev pub kind_by : Option ℕ → Kind → Kind
-kind_by None kind = kind
-kind_by (Some i) kind = Pick i
-
 abbrev pub kind_of : Report → Kind
-kind_of r = kind_by r.clause r.deed
+kind_of r = option_map_or Pick r.clause r.deed
 
 pub data Attempt : Type 0 where
   refuse : Refusal → Attempt
@@ -88,8 +85,7 @@ abbrev pub ask_gate : ChName → (GateContent → Attempt) → Attempt
 ask_gate c k = ask (objects.Gate c) (elim [ gate_has d x ↦ if_there k x | _ ↦ refuse unsound ])
 
 abbrev pub room_for : ℕ → Option (ℕ × Value) → Option ℕ
-room_for n None = Some n
-room_for n (Some item) = None
+room_for n item = elim item [ None ↦ Some n | Some x ↦ None ]
 
 -- the number of the next value that enters the buffer, if there is room: the slot of the tail is empty
 abbrev pub ask_room : ChName → GateContent → (Option ℕ → Attempt) → Attempt

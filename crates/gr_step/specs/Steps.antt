@@ -1,5 +1,6 @@
 -- The steps of a program.
 use Rattle.std.specs.Prelude.{ℕ, ℤ, pos, negsuc, ◌+◌, ◌-◌, ◌^◌, nat_le, Bool, false, List, [], ◌∷◌, ◌++◌, length, Option, Some, None, if◌then◌else◌}
+use Rattle.std.specs.Option.{option_map_or}
 use Rattle.gr_base.specs.declared.names.ChName.{ChName}
 use Rattle.gr_base.specs.declared.values.Value.{Value}
 use Rattle.gr_base.specs.declared.values.Value.TheVariants as values
@@ -50,8 +51,7 @@ abbrev pub child : Actor → List ℕ
 child a = a.name ++ (a.before.children + 1) ∷ []
 
 abbrev pub if_absent : Attempt → Option Goroutine → Attempt
-if_absent then_this None = then_this
-if_absent then_this (Some g) = refuse unsound
+if_absent then_this child = elim child [ None ↦ then_this | Some g ↦ refuse unsound ]
 
 -- The child is named after its parent, by how many children that has started; a name has at most 32 counts, each below 2^32
 -- (Go: Go statements).
@@ -166,8 +166,7 @@ ordinal n = n.kind.ordinal
 
 -- how many steps a goroutine has taken
 abbrev pub steps_of : Option Goroutine → ℕ
-steps_of None = 0
-steps_of (Some g) = g.steps
+steps_of g = option_map_or (λ g. g.steps) g 0
 
 abbrev pub count : State → List ℕ → ℕ
 count s name = steps_of (s.goroutines name)

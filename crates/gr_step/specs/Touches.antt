@@ -1,6 +1,7 @@
 -- What a step reads and writes: a table by its kind, and by what it did with a channel. The rules touch just this.
-use Rattle.std.specs.Prelude.{◌≡◌, ◌↔◌, ℕ, zero, suc, ◌+◌, ◌%◌, List, [], ◌∷◌, ◌++◌, map, Option, Some, None}
+use Rattle.std.specs.Prelude.{◌≡◌, ◌↔◌, ℕ, zero, suc, ◌+◌, ◌%◌, List, [], ◌∷◌, ◌++◌, map, take, Option, Some, None}
 use Rattle.std.specs.List.{flat_map}
+use Rattle.std.specs.Option.{option_map_or}
 use Rattle.gr_base.specs.declared.names.ChName.{ChName}
 use Rattle.gr_base.specs.declared.events.Choice.{Choice}
 use Rattle.gr_base.specs.declared.events.Choice.TheVariants as choices
@@ -32,16 +33,13 @@ touches reads writes = record { reads = reads; writes = writes }
 
 -- who waits to send and to receive on a channel, and its capacity
 abbrev pub senders_at : Option GateContent → List (List ℕ)
-senders_at None = []
-senders_at (Some gate) = map (λ w. w.go) gate.senders
+senders_at o = option_map_or (λ gate. map (λ w. w.go) gate.senders) o []
 
 abbrev pub receivers_at : Option GateContent → List (List ℕ)
-receivers_at None = []
-receivers_at (Some gate) = map (λ w. w.go) gate.receivers
+receivers_at o = option_map_or (λ gate. map (λ w. w.go) gate.receivers) o []
 
 abbrev pub capacity_at : Option GateContent → ℕ
-capacity_at None = 0
-capacity_at (Some gate) = gate.capacity
+capacity_at o = option_map_or (λ gate. gate.capacity) o 0
 
 -- the slot of a number; there is none at capacity 0
 abbrev pub slot_of : ChName → ℕ → ℕ → List Object
@@ -62,10 +60,6 @@ waits_at (Some g) = elim g.status [ waiting ws ↦ ws | _ ↦ [] ]
 abbrev pub woken : State → ChName → List (List ℕ) → List Object
 woken s c names = map Go names ++ map Gate (channels_but (c ∷ []) (flat_map (λ name. waits_at (s.goroutines name)) names))
 
-abbrev pub first : List (List ℕ) → List (List ℕ)
-first [] = []
-first (n ∷ ns) = n ∷ []
-
 -- what a wait looks at
 abbrev pub send_side : State → ChName → List Object
 send_side s c = Gate c ∷ Tail c ∷ tail_slot s c
@@ -84,11 +78,11 @@ taken s c [] = touches (Gate c ∷ []) (Head c ∷ head_slot s c)
 taken s c (n ∷ ns) = touches [] (Gate c ∷ Head c ∷ Tail c ∷ head_slot s c ++ woken s c (n ∷ []))
 
 abbrev pub with_channel : State → Operation → Kind → Touches
-with_channel s (sends_on c) kinds.Hand = touches [] (Gate c ∷ woken s c (first (receivers_at (s.gates c))))
+with_channel s (sends_on c) kinds.Hand = touches [] (Gate c ∷ woken s c (take 1 (receivers_at (s.gates c))))
 with_channel s (sends_on c) kinds.Buffer = touches (Gate c ∷ []) (Tail c ∷ tail_slot s c)
 with_channel s (sends_on c) kinds.SendWait = touches (send_side s c) (Gate c ∷ [])
 with_channel s (receives_from c) kinds.Take = taken s c (senders_at (s.gates c))
-with_channel s (receives_from c) kinds.Meet = touches (receive_side s c) (Gate c ∷ woken s c (first (senders_at (s.gates c))))
+with_channel s (receives_from c) kinds.Meet = touches (receive_side s c) (Gate c ∷ woken s c (take 1 (senders_at (s.gates c))))
 with_channel s (receives_from c) kinds.Closed = touches (receive_side s c) []
 with_channel s (receives_from c) kinds.RecvWait = touches (receive_side s c) (Gate c ∷ [])
 with_channel s (takes_len_of c) kinds.Length = touches (Gate c ∷ Head c ∷ Tail c ∷ []) []
@@ -100,12 +94,10 @@ with_channel s _ _ = touches [] []
 
 -- the clauses of the select at which a goroutine stands, if it does
 abbrev pub clauses_by : Outcome Deed → List Communication
-clauses_by (gives (Chooses cs)) = cs
-clauses_by _ = []
+clauses_by d = elim d [ gives (Chooses cs) ↦ cs | _ ↦ [] ]
 
 abbrev pub clauses_in : List Frame → List Communication
-clauses_in [] = []
-clauses_in (f ∷ fs) = clauses_by (deed f)
+clauses_in fs = elim fs [ [] ↦ [] | f ∷ below ↦ clauses_by (deed f) ]
 
 -- those that a choice looks at
 abbrev pub looked_at : Choice → List Communication → List Communication
