@@ -1,0 +1,65 @@
+-- A send that is a statement of its own has its value; only the clauses of a select have values that may be faults.
+use Rattle.std.proofs.Common.{◌≡◌, List, [], ◌∷◌, Option, Some, None, subst}
+use Rattle.gr_base.specs.declared.names.ChName.{ChName}
+use Rattle.gr_base.specs.declared.values.Value.{Value}
+use Rattle.gr_eval.specs.Outcomes.{Outcome, gives, faults, wrong, ◌>>=◌}
+use Rattle.gr_eval.specs.Operators.{operate}
+use Rattle.gr_eval.specs.Trees.{Variable, Trees}
+use Rattle.gr_eval.specs.Evaluation.{evaluate, evaluate_all}
+use Rattle.gr_goros.specs.Parts.{Ask, Calls, Receives, Makes, CountsItems, CountsPlaces, Decides, Next, Plain, Asks, next_of}
+use Rattle.gr_goros.specs.Points.{Work, Assign, AssignReceive, Update, Eval, Close, Print, Send, Go, Return, GoOn, Test, Range, Turn, Select}
+use Rattle.gr_goros.specs.Frames.{Frame, goes_on, filled}
+use Rattle.gr_goros.specs.Deeds.{Communication, Sending, Deed, Communicates, as_channel, as_int, as_truth, only, clauses_of, part_of, work_of, statement_of, deed_by, deed}
+use Rattle.gr_step.proofs.WaitLemmas.{Known}
+
+abbrev KnownDeed : Outcome Deed → Type 0
+KnownDeed (gives (Communicates x)) = Known x
+KnownDeed _ = Unit {0}
+
+bound : {A : Type 0} (o : Outcome A) (g : A → Outcome Deed) → ((x : A) → KnownDeed (g x)) → KnownDeed (o >>= g)
+bound (gives x) g h = h x
+bound (faults e) g h = tt
+bound wrong g h = tt
+
+sent : (c : Option ChName) (v : Value) (on : Frame) → Known (Sending c (gives v) on)
+sent (Some c) v on = tt
+sent None v on = tt
+
+part_known : (f : Frame) (ask : Ask) (k : Value → Frame) → KnownDeed (part_of f ask k)
+part_known f (Calls n arguments) k = bound (evaluate_all f.variables arguments) _ (λ vs. tt)
+part_known f (Receives c initial) k = bound (evaluate f.variables c >>= as_channel) _ (λ c. tt)
+part_known f (Makes size) k = bound (evaluate f.variables size >>= as_int) _ (λ n. tt)
+part_known f (CountsItems c) k = bound (evaluate f.variables c >>= as_channel) _ (λ c. tt)
+part_known f (CountsPlaces c) k = bound (evaluate f.variables c >>= as_channel) _ (λ c. tt)
+part_known f (Decides op left) k = bound (evaluate f.variables left) _ (λ v. tt)
+
+work_known : (f : Frame) (w : Work) (vs : List Value) → KnownDeed (work_of f w vs)
+work_known f (Assign targets) vs = tt
+work_known f (AssignReceive value ok initial) vs = bound (only vs >>= as_channel) _ (λ c. tt)
+work_known f (Update x op) vs = bound (evaluate f.variables (Variable x) >>= λ u. only vs >>= operate op u) _ (λ w. tt)
+work_known f Eval vs = tt
+work_known f Close vs = bound (only vs >>= as_channel) _ (λ c. tt)
+work_known f (Print pieces) vs = tt
+work_known f Send [] = tt
+work_known f Send (c ∷ []) = tt
+work_known f Send (c ∷ v ∷ []) = bound (as_channel c) _ (λ c. sent c v (goes_on f))
+work_known f Send (c ∷ v ∷ w ∷ vs) = tt
+work_known f (Go n) vs = tt
+work_known f Return [] = tt
+work_known f Return (v ∷ vs) = tt
+work_known f GoOn vs = tt
+work_known f (Test holds) vs = bound (only vs >>= as_truth) _ (λ b. tt)
+work_known f (Range target body) vs = bound (only vs) _ (λ c. tt)
+work_known f (Turn target body) vs = bound (only vs >>= as_channel) _ (λ c. tt)
+work_known f (Select cases) vs = tt
+
+statement_known : (f : Frame) (w : Work) (operands : Trees) → KnownDeed (statement_of f w operands)
+statement_known f (Select cases) operands = bound (clauses_of f cases operands) _ (λ cs. tt)
+statement_known f w operands = bound (evaluate_all f.variables operands) (work_of f w) (work_known f w)
+
+deed_known : (f : Frame) (n : Next Trees) → KnownDeed (deed_by f n)
+deed_known f (Asks ask k) = part_known f ask (λ v. filled f (k v))
+deed_known f Plain = statement_known f f.point.work f.point.operands
+
+pub alone_known : (f : Frame) (x : Communication) → deed f ≡ gives (Communicates x) → Known x
+alone_known f x e = subst KnownDeed e (deed_known f (next_of f.point.operands))
