@@ -1,5 +1,5 @@
 -- The arguments of calls.
-use Rattle.std.proofs.Common.{◌≡◌, ℕ, ◌+◌, List, [], ◌∷◌, ◌++◌, length, get_or, drop, ◌<◌, ◌≤◌, refl, ap, sym, ◌∙◌, subst, arith, add-one, drop-cons, inl, inr, Global}
+use Rattle.std.proofs.Common.{◌≡◌, ℕ, ◌+◌, List, [], ◌∷◌, ◌++◌, length, get_or, drop, ◌<◌, ◌≤◌, refl, ap, sym, ◌∙◌, subst, arith, add-one, drop-cons, append-nil, inl, inr, Global}
 use Rattle.std.specs.Prelude.{Option, Some, None, Result, Vec, codes}
 use Rattle.std.proofs.lemmas.List.{drop_all}
 use Rattle.std.proofs.Math.Path.{fun_ext}
@@ -23,7 +23,7 @@ use Rattle.gr_types.specs.Calling.{values_in, given_all, only_of, measure_named,
 use Rattle.gr_types.specs.declared.fault.Fault.{Fault}
 use Rattle.gr_types.specs.declared.fault.Fault.TheVariants as faults
 use Rattle.gr_types.specs.Checking.{meaning_of, meanings_of, Rejects, Agrees}
-use Rattle.gr_types.proofs.Scopes.{true_or_false}
+use Rattle.gr_types.proofs.Basics.{true_or_false, then_none}
 use Rattle.gr_types.proofs.Trees.{tree_call}
 
 abbrev pub terms_before : List code_term.Term → Terms → Terms
@@ -39,10 +39,6 @@ before_none [] = refl
 before_none (t ∷ ts) = ap (more (term_of t)) (before_none ts)
 
 -- arguments by their values
-then_none : {A B : Type 0} (o : Option A) → ◌>>=◌ {B = B} o (λ a. None) ≡ None
-then_none (Some a) = refl
-then_none None = refl
-
 more_values : (o : Option Value) (w : Option (List Value)) (t : Ty) (ts : List Ty) (r : Option Terms) → r ≡ (w >>= λ vs. given_all vs ts)
     → (o >>= given t >>= λ p. r >>= λ ps. Some (more p ps)) ≡ ((o >>= λ v. w >>= λ vs. Some (v ∷ vs)) >>= λ vs. given_all vs (t ∷ ts))
 more_values None w t ts r e = refl
@@ -116,7 +112,7 @@ called_is fs s x o (Some k) None e g = rw (g, e) refl
 called_is fs s x o None (Some j) e g = rw (g, e, g) (function_all fs j o)
 called_is fs s x o None None e g = rw (g, e) (measure_all fs x o)
 
-pub call_is : (fs : List Signature) (s : Scope) (x : List ℕ) (es : Trees) → value_in fs s (tree.Call x es) ≡ (callee_in fs s x >>= λ c. values_in fs s es >>= called_as fs c)
+call_is : (fs : List Signature) (s : Scope) (x : List ℕ) (es : Trees) → value_in fs s (tree.Call x es) ≡ (callee_in fs s x >>= λ c. values_in fs s es >>= called_as fs c)
 unfolding value_in
 call_is fs s x es =
     ap (λ a. called fs s x a (only_in fs s es)) (fun_ext (arguments_is fs s es)) ∙ ap (called fs s x (λ ts. values_in fs s es >>= λ vs. given_all vs ts)) (only_is fs s es) ∙ called_is fs s x (values_in fs s es) (variable_named s x) (function_in fs x) refl refl
@@ -142,11 +138,11 @@ not_one (v ∷ []) n e other = absurd (other (omega (arith, e)))
 not_one (v ∷ (w ∷ vs)) n e other = refl
 
 -- the loop over the parameters
-after_terms : (o : Option Terms) (ts : List code_term.Term) (t : code_term.Term) → (o >>= λ ps. Some (terms_before (ts ++ (t ∷ [])) ps)) ≡ ((o >>= λ ps. Some (more (term_of t) ps)) >>= λ ps. Some (terms_before ts ps))
+pub after_terms : (o : Option Terms) (ts : List code_term.Term) (t : code_term.Term) → (o >>= λ ps. Some (terms_before (ts ++ (t ∷ [])) ps)) ≡ ((o >>= λ ps. Some (more (term_of t) ps)) >>= λ ps. Some (terms_before ts ps))
 after_terms (Some ps) ts t = ap Some (before_push ts t ps)
 after_terms None ts t = refl
 
-front_types : (ps : List code_type.Type) (i : ℕ) (p : code_type.Type) → i < length ps → p ≡ get_or ps i p → types_of (drop i ps) ≡ ty_of p ∷ types_of (drop (i + 1) ps)
+pub front_types : (ps : List code_type.Type) (i : ℕ) (p : code_type.Type) → i < length ps → p ≡ get_or ps i p → types_of (drop i ps) ≡ ty_of p ∷ types_of (drop (i + 1) ps)
 front_types ps i p lt e =
     let f : drop i ps ≡ get_or ps i p ∷ drop (i + 1) ps = rw (add-one, drop-cons ps i p) in
     ap types_of f ∙ ap (λ p. ty_of p ∷ types_of (drop (i + 1) ps)) (sym e)
@@ -218,10 +214,6 @@ front_trees es i e lt is =
     let f : drop i es ≡ get_or es i e ∷ drop (i + 1) es = rw (add-one, drop-cons es i e) in
     ap trees_of f ∙ ap (λ e. tree.more (tree_of e) (trees_of (drop (i + 1) es))) (sym is)
 
-nothing_after : (vs : List Value) → vs ++ [] ≡ vs
-nothing_after [] = refl
-nothing_after (v ∷ vs) = ap (λ l. v ∷ l) (nothing_after vs)
-
 module _ (fs : List Signature) (s : Scope) (es : List code_expr.Expr) (i : ℕ) (ws : List code_value.Value) (o : Option (List Value)) (so_far : (values_in fs s (trees_of (drop i es)) >>= λ vs. Some (meanings_of ws ++ vs)) ≡ o) where
   pub value_on : (e : code_expr.Expr) (v : code_value.Value) (new : List code_value.Value) → i < length es → e ≡ get_or es i e → value_in fs s (tree_of e) ≡ Some (meaning_of v) → new ≡ ws ++ (v ∷ []) → (values_in fs s (trees_of (drop (i + 1) es)) >>= λ vs. Some (meanings_of new ++ vs)) ≡ o
   value_on e v new lt is gives pushed =
@@ -231,4 +223,4 @@ module _ (fs : List Signature) (s : Scope) (es : List code_expr.Expr) (i : ℕ) 
 
   pub all_values : length es ≤ i → o ≡ Some (meanings_of ws)
   all_values le =
-      sym so_far ∙ ap (λ l. values_in fs s (trees_of l) >>= λ vs. Some (meanings_of ws ++ vs)) (drop_all i es le) ∙ ap Some (nothing_after (meanings_of ws))
+      sym so_far ∙ ap (λ l. values_in fs s (trees_of l) >>= λ vs. Some (meanings_of ws ++ vs)) (drop_all i es le) ∙ ap Some (append-nil (meanings_of ws))

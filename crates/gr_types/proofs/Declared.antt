@@ -1,30 +1,23 @@
 -- Names that a `var` declares may be declared one after the other.
-use Rattle.std.proofs.Common.{◌≡◌, ℕ, Bool, true, false, List, [], ◌∷◌, ◌++◌, refl, ap, sym, ◌∙◌, true≢false, inl, inr, nat_eq}
+use Rattle.std.proofs.Common.{◌≡◌, ℕ, true, false, List, [], ◌∷◌, ◌++◌, refl, ap, sym, ◌∙◌, true≢false, inl, inr, nat_eq}
 use Rattle.std.specs.Prelude.{not, ◌&&◌}
-use Rattle.std.specs.Cmp.Lexicographic.{pointwise, same_text, other_text}
+use Rattle.std.specs.Cmp.Lexicographic.{pointwise, same_text}
 use Rattle.std.specs.List.{list_all}
-use Rattle.std.proofs.lemmas.Bool.{and_from, and_parts}
+use Rattle.std.proofs.lemmas.Bool.{and_from, and_parts, not-true}
 use Rattle.gr_types.specs.Types.{Ty}
 use Rattle.gr_types.specs.Names.{among, is_blank, are_distinct, predeclared}
 use Rattle.gr_types.specs.Scopes.{Block, Scope, In, in_block, is_free, declare}
 use Rattle.gr_types.specs.StatementChecks.{may_declare}
 use Rattle.gr_types.specs.Declaring.{Declarable}
-use Rattle.gr_types.proofs.Scopes.{true_or_false}
-
-is_itself : (x : List ℕ) → pointwise nat_eq x x ≡ true
-is_itself x = elim (true_or_false (pointwise nat_eq x x)) [ inl t ↦ t | inr f ↦ absurd (other_text x x (sym f) refl) ]
+use Rattle.gr_types.proofs.Basics.{true_or_false, same_name}
 
 among_last : (names : List (List ℕ)) (x : List ℕ) → among (names ++ (x ∷ [])) x ≡ true
-among_last [] x = rw (is_itself x) refl
+among_last [] x = rw (same_name x) refl
 among_last (z ∷ names) x = elim (true_or_false (pointwise nat_eq x z)) [ inl t ↦ rw t refl | inr f ↦ rw f (among_last names x) ]
 
 among_kept : (names : List (List ℕ)) (x y : List ℕ) → among names x ≡ true → among (names ++ (y ∷ [])) x ≡ true
 among_kept [] x y e = absurd (true≢false (sym e))
 among_kept (z ∷ names) x y e = elim (true_or_false (pointwise nat_eq x z)) [ inl t ↦ rw t refl | inr f ↦ rw f (among_kept names x y (rw f at e)) ]
-
-not_true : (b : Bool) → not b ≡ true → b ≡ false
-not_true true e = absurd (true≢false (sym e))
-not_true false e = refl
 
 -- another name than one of these
 other_name : (names : List (List ℕ)) (x y : List ℕ) → among names x ≡ true → among names y ≡ false → pointwise nat_eq y x ≡ false
@@ -49,7 +42,7 @@ others_free s before x t (y ∷ ys) e d f =
       | inl b ↦ and_from (is_free (declare s x t) y) (list_all (is_free (declare s x t)) ys) (rw b refl) (others_free s before x t ys e (rw b at d) g.1)
       | inr b ↦
           let p = and_parts (not (among before y)) (are_distinct (before ++ (y ∷ [])) ys) (rw b at d) in
-          let other = other_name before x y e (not_true (among before y) p.0) in
+          let other = other_name before x y e (not-true (among before y) p.0) in
           and_from (is_free (declare s x t) y) (list_all (is_free (declare s x t)) ys) (other_free s x y t other ∙ g.0) (others_free s (before ++ (y ∷ [])) x t ys (among_kept before x y e) p.1 g.1)
     ]
 

@@ -19,9 +19,10 @@ use Rattle.gr_types.specs.FindingStatements.{Given, Defined, Done, with_defined,
 use Rattle.gr_types.specs.Declaring.{Declarable, placed, all_placed, by_values, type_for, by_receive, both_received, both_declared}
 use Rattle.gr_types.specs.Checking.{meaning_of, meanings_of}
 use Rattle.gr_types.proofs.Arguments.{terms_before, before_push, before_none}
+use Rattle.gr_types.proofs.Basics.{true_or_false}
+use Rattle.gr_types.proofs.Counts.{no_pair}
 use Rattle.gr_types.proofs.Finds.{some_inj}
 use Rattle.gr_types.proofs.NameLists.{front_names}
-use Rattle.gr_types.proofs.Scopes.{true_or_false}
 
 -- the values for names, each before those after it
 abbrev Placed : Type 0
@@ -88,8 +89,8 @@ other_count fs s t (x ∷ names) (e ∷ es) m other =
     then_nothing (value_in fs s (tree_of e) >>= declared_as t) (λ w. r (one x.items m w).1 >>= with_rest (one x.items m w).0)
     (λ w. ap (λ o. o >>= with_rest (one x.items m w).0) (other_count fs s t names es (one x.items m w).1 (λ l. other (omega (arith, l)))))
 
-pub wrong_count : (fs : List Signature) (s : Scope) (names : List (Vec ℕ Global)) (t : Option Ty) (es : List code_expr.Expr) → (length names ≡ length es → ⊥) → by_values fs s (names_of names) t (trees_of es) ≡ None
-wrong_count fs s names t es other = sym (by_values_is fs s (names_of names) t (trees_of es)) ∙ ap (λ o. o >>= finished) (other_count fs s t names es s other)
+pub wrong_names : (fs : List Signature) (s : Scope) (names : List (Vec ℕ Global)) (t : Option Ty) (es : List code_expr.Expr) → (length names ≡ length es → ⊥) → by_values fs s (names_of names) t (trees_of es) ≡ None
+wrong_names fs s names t es other = sym (by_values_is fs s (names_of names) t (trees_of es)) ∙ ap (λ o. o >>= finished) (other_count fs s t names es s other)
 
 -- two names and a receive
 abbrev received_as : Scope → List ℕ → List ℕ → Option Ty → Typed → Option Done
@@ -115,14 +116,6 @@ pair_at (a ∷ (b ∷ (c ∷ names))) es x y e l m ix iy ie = absurd (omega (ari
 pair_at (a ∷ (b ∷ [])) [] x y e l m ix iy ie = absurd (omega (arith, m))
 pair_at (a ∷ (b ∷ [])) (f ∷ (g ∷ es)) x y e l m ix iy ie = absurd (omega (arith, m))
 
-no_pair : (names : List (Vec ℕ Global)) (es : List code_expr.Expr) → (length names ≡ 2 → length es ≡ 1 → ⊥) → pair_of (names_of names) (trees_of es) ≡ None
-no_pair [] es other = refl
-no_pair (a ∷ []) es other = refl
-no_pair (a ∷ (b ∷ (c ∷ names))) es other = refl
-no_pair (a ∷ (b ∷ [])) [] other = refl
-no_pair (a ∷ (b ∷ [])) (f ∷ []) other = absurd (other refl refl)
-no_pair (a ∷ (b ∷ [])) (f ∷ (g ∷ es)) other = refl
-
 pub by_pair : (fs : List Signature) (s : Scope) (names : List (Vec ℕ Global)) (t : Option Ty) (es : List code_expr.Expr) (x y : Vec ℕ Global) (e : code_expr.Expr) (a b : List ℕ) → length names ≡ 2 → length es ≡ 1 → x ≡ get_or names 0 x → y ≡ get_or names 1 y → e ≡ get_or es 0 e → a ≡ x.items → b ≡ y.items
     → by_receive fs s a b t (tree_of e) ≡ var_by fs s (names_of names) t (trees_of es) (pair_of (names_of names) (trees_of es))
 by_pair fs s names t es x y e a b l m ix iy ie ax by =
@@ -130,7 +123,7 @@ by_pair fs s names t es x y e a b l m ix iy ie ax by =
     ∙ sym (ap (var_by fs s (names_of names) t (trees_of es)) (pair_at names es x y e l m ix iy ie) ∙ by_receive_is fs s (names_of names) t (trees_of es) x.items y.items (tree_of e))
 
 pub by_no_pair : (fs : List Signature) (s : Scope) (names : List (Vec ℕ Global)) (t : Option Ty) (es : List code_expr.Expr) → (length names ≡ 2 → length es ≡ 1 → ⊥) → by_values fs s (names_of names) t (trees_of es) ≡ var_by fs s (names_of names) t (trees_of es) (pair_of (names_of names) (trees_of es))
-by_no_pair fs s names t es other = sym (ap (var_by fs s (names_of names) t (trees_of es)) (no_pair names es other) ∙ by_values_is fs s (names_of names) t (trees_of es))
+by_no_pair fs s names t es other = sym (ap (var_by fs s (names_of names) t (trees_of es)) (sym (no_pair names es other)) ∙ by_values_is fs s (names_of names) t (trees_of es))
 
 -- the loop over a zero value for each name
 zeros_on : (names : List (Vec ℕ Global)) (i : ℕ) (t : Ty) → i < length names → zeros (names_of (drop i names)) t ≡ more (Literally (zero_of t)) (zeros (names_of (drop (suc i) names)) t)

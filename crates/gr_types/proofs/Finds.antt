@@ -1,5 +1,5 @@
 -- What the checker finds of an expression is what the judgement says, and all of it.
-use Rattle.std.proofs.Common.{◌≡◌, ℕ, Bool, true, false, List, [], ◌∷◌, refl, ap, sym, ◌∙◌, subst, true≢false, inl, inr, ◌⊎◌, cond}
+use Rattle.std.proofs.Common.{◌≡◌, ℕ, Bool, true, false, List, [], ◌∷◌, refl, ap, sym, ◌∙◌, subst, true≢false, inl, inr, cond}
 use Rattle.std.specs.Prelude.{ℤ, Option, Some, None, codes}
 use Rattle.std.specs.Cmp.Lexicographic.{same_text}
 use Rattle.gr_tree.specs.declared.expr.Direction.{Direction}
@@ -17,6 +17,7 @@ use Rattle.gr_types.specs.Scopes.{Scope, variable_named, type_of_variable, Signa
 use Rattle.gr_types.specs.Values as rules
 use Rattle.gr_types.specs.Values.{Value, Known, NilValue, Made, HasType, Fits, unary_type, binary_type, is_comparison, may_stand_right, may_be_size, both_known, IsPredeclared, IsValue, IsCall, AreArguments}
 use Rattle.gr_types.specs.Finding.{◌>>=◌, where_true, has_text, Typed, int_typed, typed_constant, typed, given_typed, given, if_same, of_kind, as_channel, named_constant, if_unknown, name_by, name_value, unary_value, received, receive_value, on_operand, nil_compared, binary_typed, binary_made, binary_value, made_channel, size_of, measured, measure, result_value, call_of, called_function, call_in, call_value, called_by, called, value_in, arguments_in, only_in}
+use Rattle.gr_types.proofs.Basics.{true_or_false}
 
 -- looking at what is there
 pub some_inj : {A : Type 0} {x y : A} → Some x ≡ Some y → x ≡ y
@@ -120,10 +121,6 @@ channel_is NilValue c e = none_some e
 -- what is found is what the judgement says
 abbrev pub Finds : List Signature → Scope → Tree → Type 0
 Finds fs s e = (v : Value) → value_in fs s e ≡ Some v → IsValue fs s e v
-
-pub true_or_false : (b : Bool) → (b ≡ true) ⊎ (b ≡ false)
-true_or_false true = inl refl
-true_or_false false = inr refl
 
 -- a test of a name
 pub on_text : {A P : Type 0} (x y : List ℕ) (a b : A) (z : A) → cond (has_text x y) a b ≡ z → (x ≡ y → a ≡ z → P) → (has_text x y ≡ false → b ≡ z → P) → P

@@ -1,5 +1,5 @@
 -- What the judgement says of an expression is what the checker finds.
-use Rattle.std.proofs.Common.{◌≡◌, ℕ, true, false, List, refl, ap, sym, ◌∙◌, true≢false}
+use Rattle.std.proofs.Common.{◌≡◌, ℕ, true, false, List, refl, ap, ◌∙◌, true≢false}
 use Rattle.std.specs.Prelude.{Option, Some, None, codes}
 use Rattle.gr_tree.specs.declared.expr.Direction.{Direction}
 use Rattle.gr_tree.specs.declared.expr.UnaryOp.{UnaryOp}
@@ -17,9 +17,6 @@ use Rattle.gr_types.specs.Values as rules
 use Rattle.gr_types.specs.Values.{Value, Known, NilValue, Made, HasType, unary_type, binary_type, is_comparison, may_stand_right, may_be_size, both_known, IsPredeclared, IsValue, IsCall, AreArguments}
 use Rattle.gr_types.specs.Finding.{◌>>=◌, where_true, typed, given, of_kind, named_constant, if_unknown, name_by, name_value, unary_value, receive_value, on_operand, binary_typed, binary_made, binary_value, made_channel, size_of, measure, call_of, called_function, call_in, call_value, called_by, called, value_in, arguments_in, only_in}
 use Rattle.gr_types.proofs.Finds.{none_some, then_some, if_true, typed_complete, given_complete, int_complete}
-
-abbrev IsFound : List Signature → Scope → Tree → Value → Type 0
-IsFound fs s e v = value_in fs s e ≡ Some v
 
 -- names
 variable_all : (fs : List Signature) (s : Scope) (x : List ℕ) (k : ℕ) (t : Ty) → variable_named s x ≡ Some k → type_of_variable s k ≡ Some t → name_value fs s x ≡ Some (Made t (Variable k))
@@ -92,9 +89,6 @@ two op a b u v r ea eb e = then_some a u (λ u. b >>= λ v. binary_value op u v)
 -- calls
 arguments_call : (arguments : List Ty → Option Terms) (k : ℕ) (y : List ℕ) (parameters : List Ty) (result : Option Ty) (ps : Terms) → arguments parameters ≡ Some ps → call_of arguments k (Some (Sign y parameters result)) ≡ Some (result, Call k ps)
 arguments_call arguments k y parameters result ps e = then_some (arguments parameters) ps (λ ps. Some (result, Call k ps)) e
-
-abbrev IsCalled : List Signature → Scope → List ℕ → Trees → Option Ty → Term → Type 0
-IsCalled fs s x es result p = call_in fs s x (arguments_in fs s es) ≡ Some (result, p)
 
 call_all : (fs : List Signature) (s : Scope) (x y : List ℕ) (arguments : List Ty → Option Terms) (k : ℕ) (parameters : List Ty) (result : Option Ty) (ps : Terms) → variable_named s x ≡ None → function_in fs x ≡ Some k → signature fs k ≡ Some (Sign y parameters result) → arguments parameters ≡ Some ps → call_in fs s x arguments ≡ Some (result, Call k ps)
 unfolding call_in
@@ -175,7 +169,3 @@ mutual
       ap (λ o. o >>= given t >>= λ p. arguments_in fs s es ts >>= λ ps. Some (more p ps)) (value_complete d)
       ∙ then_some (given t v) p (λ p. arguments_in fs s es ts >>= λ ps. Some (more p ps)) (given_complete fits)
       ∙ then_some (arguments_in fs s es ts) ps (λ ps. Some (more p ps)) (arguments_complete rest)
-
--- an expression is one thing at most
-pub one_value : {fs : List Signature} {s : Scope} {e : Tree} {u v : Value} → IsValue fs s e u → IsValue fs s e v → u ≡ v
-one_value a b = let same = sym (value_complete a) ∙ value_complete b in cc

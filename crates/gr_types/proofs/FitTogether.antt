@@ -3,7 +3,7 @@ use Rattle.std.proofs.Common.{◌≡◌, ℕ, suc, ◌+◌, Bool, true, false, L
 use Rattle.std.specs.Prelude.{Option, Some, None, not, ◌&&◌, ◌||◌, is_some, is_none, if◌then◌else◌, codes}
 use Rattle.std.specs.List.{list_all}
 use Rattle.std.specs.Cmp.Lexicographic.{pointwise, bytes_decides}
-use Rattle.std.proofs.Math.Bool.{and-false}
+use Rattle.std.proofs.Math.Bool.{and-false, and-true, or-false, or-true}
 use Rattle.gr_types.specs.Types.{Ty}
 use Rattle.gr_types.specs.Names.{among, predeclared, is_blank, are_distinct}
 use Rattle.gr_types.specs.Scopes.{first_of, next_number, has_name, Signature, Sign, function_in, signature}
@@ -11,10 +11,9 @@ use Rattle.gr_types.specs.FileChecks.{names_of, may_be_functions}
 use Rattle.gr_types.specs.Finding.{◌>>=◌, where_true, has_text}
 use Rattle.gr_types.specs.FindingFiles.{is_bare, main_in}
 use Rattle.gr_types.specs.Outlines.{fits_main}
+use Rattle.gr_types.proofs.Basics.{true_or_false, among_push}
 use Rattle.gr_types.proofs.Finds.{none_some, some_inj}
 use Rattle.gr_types.proofs.FunctionNumbers.{name_of, function_push, has_blank, has_other}
-use Rattle.gr_types.proofs.Scopes.{true_or_false}
-use Rattle.gr_types.proofs.TakenGroups.{among_push}
 use Rattle.gr_types.proofs.Headed.{all_fit}
 
 -- names before, and the functions that have them
@@ -29,14 +28,6 @@ found_or None false n = refl
 some_more : (known : List Signature) (g : Signature) (x : List ℕ) → is_some (function_in (known ++ (g ∷ [])) x) ≡ (is_some (function_in known x) || has_name g x)
 some_more known g x = ap is_some (function_push known g x) ∙ found_or (function_in known x) (has_name g x) (length known)
 
-or_false : (b : Bool) → (b || false) ≡ b
-or_false true = refl
-or_false false = refl
-
-or_true : (b : Bool) → (b || true) ≡ true
-or_true true = refl
-or_true false = refl
-
 turned : (x y : List ℕ) → pointwise nat_eq y x ≡ pointwise nat_eq x y
 turned x y = elim (true_or_false (pointwise nat_eq x y)) [
   | inl t ↦ (bytes_decides y x).1 (sym ((bytes_decides x y).0 t)) ∙ sym t
@@ -47,11 +38,7 @@ turned x y = elim (true_or_false (pointwise nat_eq x y)) [
 ]
 
 has_text_name : (x : List ℕ) (ts : List Ty) (r : Option Ty) (y : List ℕ) → is_blank y ≡ false → has_name (Sign x ts r) y ≡ pointwise nat_eq y x
-has_text_name x ts r y other = ap (λ b. pointwise nat_eq x y && not b) other ∙ and_true (pointwise nat_eq x y) ∙ sym (turned x y)
-  where
-    and_true : (b : Bool) → (b && true) ≡ b
-    and_true true = refl
-    and_true false = refl
+has_text_name x ts r y other = ap (λ b. pointwise nat_eq x y && not b) other ∙ and-true (pointwise nat_eq x y) ∙ sym (turned x y)
 
 known_more : (before : List (List ℕ)) (known : List Signature) (x : List ℕ) (ts : List Ty) (r : Option Ty) → AreKnown before known → AreKnown (before ++ (x ∷ [])) (known ++ (Sign x ts r ∷ []))
 known_more before known x ts r same y other =
@@ -60,7 +47,7 @@ known_more before known x ts r same y other =
 
 known_still : (before : List (List ℕ)) (known : List Signature) (x : List ℕ) (ts : List Ty) (r : Option Ty) → is_blank x ≡ true → AreKnown before known → AreKnown before (known ++ (Sign x ts r ∷ []))
 known_still before known x ts r blank same y other =
-    same y other ∙ sym (some_more known (Sign x ts r) y ∙ ap (λ b. is_some (function_in known y) || b) no_name ∙ or_false (is_some (function_in known y)))
+    same y other ∙ sym (some_more known (Sign x ts r) y ∙ ap (λ b. is_some (function_in known y) || b) no_name ∙ or-false (is_some (function_in known y)))
   where
     no_name : has_name (Sign x ts r) y ≡ false
     no_name = elim (true_or_false (pointwise nat_eq x y)) [
@@ -104,7 +91,7 @@ main_counts known (Sign x ts r) e = elim (true_or_false (has_text x (codes "main
   | inl t ↦ ap (λ b. b || fits_main (Sign x ts r)) (ap (λ y. is_some (function_in known y)) (sym ((bytes_decides x (codes "main")).0 t)) ∙ e)
   | inr f ↦
       let free : fits_main (Sign x ts r) ≡ true = ap (λ b. cond b (is_bare (Sign x ts r)) true) f in
-      ap (λ b. is_some (function_in known (codes "main")) || b) free ∙ or_true (is_some (function_in known (codes "main"))) ∙ sym free
+      ap (λ b. is_some (function_in known (codes "main")) || b) free ∙ or-true (is_some (function_in known (codes "main"))) ∙ sym free
 ]
 
 abbrev all_new : List Signature → Bool
@@ -142,7 +129,7 @@ all_apart before known (Sign x ts r ∷ fs) same =
           ap (λ o. ((new && (free && is_none o)) && fits_main g) && all_fit (known ++ (g ∷ [])) fs) (blank_unknown known x blank)
           ∙ ap (λ b. ((new && (free && true)) && fits_main g) && b) (all_apart before (known ++ (g ∷ [])) fs (known_still before known x ts r blank same))
           ∙ apart new free (fits_main g) distinct all others rest
-          ∙ ap (λ b. ((distinct && (new && all)) && (free && others)) && (b && rest)) (blank_fits g blank ∙ sym (or_true main) ∙ ap (λ b. main || b) (sym (blank_fits g blank)))
+          ∙ ap (λ b. ((distinct && (new && all)) && (free && others)) && (b && rest)) (blank_fits g blank ∙ sym (or-true main) ∙ ap (λ b. main || b) (sym (blank_fits g blank)))
           ∙ sym (ap (λ b. ((cond b distinct (not (among before x) && are_distinct (before ++ (x ∷ [])) (names_of fs)) && (new && all)) && (free && others)) && ((main || fits_main g) && rest)) blank)
       | inr named ↦
           let distinct = are_distinct (before ++ (x ∷ [])) (names_of fs) in
@@ -167,18 +154,10 @@ later_mains known (g ∷ fs) e =
     ap (λ b. (b || fits_main g) && mains_fit (known ++ (g ∷ [])) fs) e ∙ later_mains (known ++ (g ∷ [])) fs more
 
 main_named : (g : Signature) → has_name g (codes "main") ≡ has_text (name_of g) (codes "main")
-main_named (Sign x ts r) = and_true (pointwise nat_eq x (codes "main"))
-  where
-    and_true : (b : Bool) → (b && true) ≡ b
-    and_true true = refl
-    and_true false = refl
+main_named (Sign x ts r) = and-true (pointwise nat_eq x (codes "main"))
 
 fits_named : (g : Signature) (b : Bool) → has_name g (codes "main") ≡ b → fits_main g ≡ (if b then is_bare g else true)
 fits_named (Sign x ts r) b e = ap (λ b. cond b (is_bare (Sign x ts r)) true) (sym (main_named (Sign x ts r)) ∙ e)
-
-and_true : (b : Bool) → (b && true) ≡ b
-and_true true = refl
-and_true false = refl
 
 first_main : (known fs : List Signature) → is_some (function_in known (codes "main")) ≡ false → mains_fit known fs ≡ first_bare fs
 first_main known [] e = refl
@@ -187,7 +166,7 @@ first_main known (g ∷ fs) e =
     ap (λ b. (b || fits_main g) && mains_fit (known ++ (g ∷ [])) fs) e
     ∙ elim (true_or_false (has_name g (codes "main"))) [
       | inl t ↦
-          ap (λ b. b && mains_fit (known ++ (g ∷ [])) fs) (fits_named g true t) ∙ ap (λ b. is_bare g && b) (later_mains (known ++ (g ∷ [])) fs (more ∙ t)) ∙ and_true (is_bare g)
+          ap (λ b. b && mains_fit (known ++ (g ∷ [])) fs) (fits_named g true t) ∙ ap (λ b. is_bare g && b) (later_mains (known ++ (g ∷ [])) fs (more ∙ t)) ∙ and-true (is_bare g)
           ∙ sym (ap (λ b. cond b (is_bare g) (first_bare fs)) t)
       | inr f ↦
           ap (λ b. b && mains_fit (known ++ (g ∷ [])) fs) (fits_named g false f) ∙ first_main (known ++ (g ∷ [])) fs (more ∙ f)

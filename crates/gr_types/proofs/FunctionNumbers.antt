@@ -11,7 +11,8 @@ use Rattle.gr_types.specs.Scopes.{Block, in_block, first_of, Signature, Sign, ha
 use Rattle.gr_types.specs.TypeViews.{sign_of, signs_of}
 use Rattle.gr_types.specs.Tables.{Finds}
 use Rattle.gr_types.specs.FunctionNumbers.{if_new, with_function}
-use Rattle.gr_types.proofs.Scopes.{true_or_false, first_none}
+use Rattle.gr_types.proofs.Basics.{true_or_false}
+use Rattle.gr_types.proofs.Scopes.{first_none}
 
 abbrev pub name_of : Signature → List ℕ
 name_of (Sign name parameters result) = name

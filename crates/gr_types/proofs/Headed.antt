@@ -13,7 +13,7 @@ use Rattle.gr_types.specs.Finding.{◌>>=◌, where_true}
 use Rattle.gr_types.specs.FindingStatements.{written_of}
 use Rattle.gr_types.specs.FindingFiles.{types_in, signature_in, signatures_in}
 use Rattle.gr_types.specs.Outlines.{none_taken, take_groups, Outline, OutlineOf, name_fits, fits_main, Headed, headed, heading_in, headings_in}
-use Rattle.gr_types.proofs.Scopes.{true_or_false}
+use Rattle.gr_types.proofs.Basics.{true_or_false}
 use Rattle.gr_types.proofs.TakenGroups.{groups_are, made}
 
 -- one heading

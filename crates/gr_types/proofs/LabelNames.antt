@@ -1,15 +1,17 @@
 -- Tables of labels.
-use Rattle.std.proofs.Common.{◌≡◌, ℕ, Bool, true, false, List, [], ◌∷◌, ◌++◌, map, refl, ap, sym, ◌∙◌, nat_eq, Bor, ◌⊎◌, inl, inr, append_assoc, append-nil}
+use Rattle.std.proofs.Common.{◌≡◌, ℕ, Bool, true, false, List, [], ◌∷◌, ◌++◌, map, refl, ap, sym, ◌∙◌, nat_eq, Bor, inl, inr, append_assoc, append-nil}
 use Rattle.std.specs.Prelude.{Option, Some, None, is_some, is_none, not, ◌&&◌, ◌||◌, if◌then◌else◌}
 use Rattle.indexmap.specs.IndexSet.{insert_key}
 use Rattle.std.specs.Cmp.Lexicographic.{pointwise, same_text}
 use Rattle.std.specs.List.{list_any, list_all}
+use Rattle.std.proofs.Math.Bool.{and_assoc, or-false, or-true, or_assoc}
 use Rattle.gr_tree.specs.declared.stmt.Clause as code_clause
 use Rattle.gr_tree.specs.declared.stmt.Clause.TheVariants as clauses
 use Rattle.gr_types.specs.Endings.{uses_in, uses_among, labels_in, labels_among}
 use Rattle.gr_types.specs.StatementViews.{clause_body, clauses_of}
 use Rattle.gr_types.specs.Names.{among, is_blank, are_distinct}
 use Rattle.gr_types.specs.LabelTables.{with_name, with_names, fit_after}
+use Rattle.gr_types.proofs.Basics.{true_or_false, among_push}
 
 pub among_keys : (ks : List (Bor (List ℕ))) (x : List ℕ) → list_any (λ k. pointwise nat_eq x k.now) ks ≡ among (map (λ k. k.now) ks) x
 among_keys [] x = refl
@@ -40,23 +42,19 @@ pub labels_clause : (k : code_clause.Clause) (ks : List code_clause.Clause) → 
 labels_clause (clauses.Default' shape body) ks = refl
 labels_clause (clauses.Case' communication shape body) ks = refl
 
-and_assoc : (a b c : Bool) → ((a && b) && c) ≡ (a && (b && c))
-and_assoc true b c = refl
-and_assoc false b c = refl
-
-pub fit_on : (used before xs ys : List (List ℕ)) → fit_after used before (xs ++ ys) ≡ (fit_after used before xs && fit_after used (before ++ xs) ys)
-fit_on used before [] ys = rw (append-nil before) refl
-fit_on used before (x ∷ xs) ys =
+pub fit_append : (used before xs ys : List (List ℕ)) → fit_after used before (xs ++ ys) ≡ (fit_after used before xs && fit_after used (before ++ xs) ys)
+fit_append used before [] ys = rw (append-nil before) refl
+fit_append used before (x ∷ xs) ys =
     let one = not (is_blank x) && (not (among before x) && among used x) in
-    ap (λ b. one && b) (fit_on used (before ++ (x ∷ [])) xs ys ∙ ap (λ l. fit_after used (before ++ (x ∷ [])) xs && fit_after used l ys) (append_assoc before (x ∷ []) xs)) ∙ sym (and_assoc one (fit_after used (before ++ (x ∷ [])) xs) (fit_after used (before ++ (x ∷ xs)) ys))
+    ap (λ b. one && b) (fit_append used (before ++ (x ∷ [])) xs ys ∙ ap (λ l. fit_after used (before ++ (x ∷ [])) xs && fit_after used l ys) (append_assoc before (x ∷ []) xs)) ∙ sym (and_assoc one (fit_after used (before ++ (x ∷ [])) xs) (fit_after used (before ++ (x ∷ xs)) ys))
 
 -- where the first labels don't fit, the labels don't
 pub unfit_on : (used before xs ys : List (List ℕ)) (b : Bool) → b ≡ false → b ≡ fit_after used before xs → fit_after used before (xs ++ ys) ≡ false
-unfit_on used before xs ys b e f = fit_on used before xs ys ∙ ap (λ c. c && fit_after used (before ++ xs) ys) (sym f ∙ e)
+unfit_on used before xs ys b e f = fit_append used before xs ys ∙ ap (λ c. c && fit_after used (before ++ xs) ys) (sym f ∙ e)
 
 -- where they do, those after them decide
 pub fit_next : (used before xs ys mid : List (List ℕ)) (b : Bool) → b ≡ true → b ≡ fit_after used before xs → mid ≡ before ++ xs → fit_after used before (xs ++ ys) ≡ fit_after used mid ys
-fit_next used before xs ys mid b e f g = fit_on used before xs ys ∙ ap (λ c. c && fit_after used (before ++ xs) ys) (sym f ∙ e) ∙ sym (ap (λ l. fit_after used l ys) g)
+fit_next used before xs ys mid b e f g = fit_append used before xs ys ∙ ap (λ c. c && fit_after used (before ++ xs) ys) (sym f ∙ e) ∙ sym (ap (λ l. fit_after used l ys) g)
 
 -- whether labels fit speaks of the names that are used, and not of their order
 pub fit_same : (used others before xs : List (List ℕ)) → ((x : List ℕ) → among used x ≡ among others x) → fit_after used before xs ≡ fit_after others before xs
@@ -71,13 +69,13 @@ rearranged false false true first distinct all = refl
 rearranged false false false first true all = refl
 rearranged false false false first false all = refl
 
-pub fit_is : (used before xs : List (List ℕ)) → fit_after used before xs ≡ (are_distinct before xs && list_all (λ x. not (is_blank x) && among used x) xs)
-fit_is used before [] = refl
-fit_is used before (x ∷ xs) =
+pub fit_by_name : (used before xs : List (List ℕ)) → fit_after used before xs ≡ (are_distinct before xs && list_all (λ x. not (is_blank x) && among used x) xs)
+fit_by_name used before [] = refl
+fit_by_name used before (x ∷ xs) =
     let one = not (is_blank x) && (not (among before x) && among used x) in
     let all = list_all (λ y. not (is_blank y) && among used y) xs in
     let more = before ++ (x ∷ []) in
-    ap (λ b. one && b) (fit_is used more xs) ∙ rearranged (is_blank x) (among before x) (among used x) (are_distinct before xs) (are_distinct more xs) all
+    ap (λ b. one && b) (fit_by_name used more xs) ∙ rearranged (is_blank x) (among before x) (among used x) (are_distinct before xs) (are_distinct more xs) all
 
 pub names_next : (before xs ys mid : List (List ℕ)) → mid ≡ before ++ xs → mid ++ ys ≡ before ++ (xs ++ ys)
 names_next before xs ys mid e = ap (λ l. l ++ ys) e ∙ append_assoc before xs ys
@@ -90,31 +88,11 @@ pub none_true : {A : Type 0} (o : Option A) → is_some o ≡ false → is_none 
 none_true None e = refl
 none_true (Some a) e = sym e
 
-true_or_false : (b : Bool) → (b ≡ true) ⊎ (b ≡ false)
-true_or_false true = inl refl
-true_or_false false = inr refl
-
-or_true : (b : Bool) → (b || true) ≡ true
-or_true true = refl
-or_true false = refl
-
-or_false : (b : Bool) → (b || false) ≡ b
-or_false true = refl
-or_false false = refl
-
-or_assoc : (a b c : Bool) → ((a || b) || c) ≡ (a || (b || c))
-or_assoc true b c = refl
-or_assoc false b c = refl
-
 known : (names : List (List ℕ)) (y x : List ℕ) → among names y ≡ true → among names x ≡ (among names x || pointwise nat_eq x y)
 known names y x e = elim (true_or_false (pointwise nat_eq x y)) [
-  | inl t ↦ ap (among names) (same_text x y (sym t)) ∙ e ∙ sym (ap (λ b. among names x || b) t ∙ or_true (among names x))
-  | inr f ↦ sym (ap (λ b. among names x || b) f ∙ or_false (among names x))
+  | inl t ↦ ap (among names) (same_text x y (sym t)) ∙ e ∙ sym (ap (λ b. among names x || b) t ∙ or-true (among names x))
+  | inr f ↦ sym (ap (λ b. among names x || b) f ∙ or-false (among names x))
 ]
-
-among_push : (names : List (List ℕ)) (y x : List ℕ) → among (names ++ (y ∷ [])) x ≡ (among names x || pointwise nat_eq x y)
-among_push [] y x = or_false (pointwise nat_eq x y)
-among_push (z ∷ names) y x = ap (λ b. pointwise nat_eq x z || b) (among_push names y x) ∙ sym (or_assoc (pointwise nat_eq x z) (among names x) (pointwise nat_eq x y))
 
 among_one : (names : List (List ℕ)) (y x : List ℕ) → among (with_name names y) x ≡ (among names x || pointwise nat_eq x y)
 among_one names y x = elim (true_or_false (among names y)) [
@@ -123,9 +101,9 @@ among_one names y x = elim (true_or_false (among names y)) [
 ]
 
 among_with : (names xs : List (List ℕ)) (x : List ℕ) → among (with_names names xs) x ≡ (among names x || among xs x)
-among_with names [] x = sym (or_false (among names x))
+among_with names [] x = sym (or-false (among names x))
 among_with names (y ∷ ys) x = among_with (with_name names y) ys x ∙ ap (λ b. b || among ys x) (among_one names y x) ∙ or_assoc (among names x) (pointwise nat_eq x y) (among ys x)
 
 -- the labels of a body fit where the tables say so
 pub body_fits : (used uses labels : List (List ℕ)) → used ≡ with_names [] uses → fit_after used [] labels ≡ (are_distinct [] labels && list_all (λ x. not (is_blank x) && among uses x) labels)
-body_fits used uses labels e = fit_same used uses [] labels (λ x. ap (λ l. among l x) e ∙ among_with [] uses x) ∙ fit_is uses [] labels
+body_fits used uses labels e = fit_same used uses [] labels (λ x. ap (λ l. among l x) e ∙ among_with [] uses x) ∙ fit_by_name uses [] labels

@@ -1,4 +1,5 @@
 pub mod Arguments
+pub mod Basics
 pub mod Conditions
 pub mod Counts
 pub mod Declared

@@ -1,7 +1,7 @@
 -- The loops over the functions of a file.
-use Rattle.std.proofs.Common.{◌≡◌, ℕ, List, [], ◌∷◌, ◌++◌, length, get_or, drop, ◌<◌, ◌≤◌, ◌+◌, refl, ap, sym, ◌∙◌, add-one, drop-cons, arith}
+use Rattle.std.proofs.Common.{◌≡◌, ℕ, List, [], ◌∷◌, ◌++◌, length, get_or, drop, ◌<◌, ◌≤◌, ◌+◌, refl, ap, sym, ◌∙◌, add-one, drop-cons, append-nil}
 use Rattle.std.specs.Prelude.{Option, Some, None}
-use Rattle.std.proofs.lemmas.List.{drop_all}
+use Rattle.std.proofs.lemmas.List.{drop_all, nil_from_length}
 use Rattle.gr_tree.specs.Files as files
 use Rattle.gr_tree.specs.declared.file.Func.{Func}
 use Rattle.gr_types.specs.declared.fault.Fault.{Fault}
@@ -61,14 +61,6 @@ after_functions : (o : Option (List Function)) (cs : List code_function.Function
 after_functions (Some rest) cs c = ap Some (functions_push cs c rest)
 after_functions None cs c = refl
 
-nothing_after : (cs : List Function) → cs ++ [] ≡ cs
-nothing_after [] = refl
-nothing_after (c ∷ cs) = ap (λ l. c ∷ l) (nothing_after cs)
-
-nothing_left : {X : Type 0} (l : List X) → length l ≡ 0 → l ≡ []
-nothing_left [] h = refl
-nothing_left (x ∷ xs) h = absurd (omega arith)
-
 module _ (fs : List Signature) (os : List code_outline.Outline) (cs : List code_function.Function) (r : Option (List Function)) (so_far : (finished_all fs (outlines_of os) >>= λ rest. Some (functions_of cs ++ rest)) ≡ r) where
   left : List code_outline.Outline → Option (List Function)
   left others = finished_all fs (outlines_of others)
@@ -91,4 +83,4 @@ module _ (fs : List Signature) (os : List code_outline.Outline) (cs : List code_
   pub bodies_end : length os ≡ 0 → r ≡ Some (functions_of cs)
   unfolding finished_all
   bodies_end none =
-      sym so_far ∙ ap (λ l. finished_all fs (outlines_of l) >>= λ rest. Some (functions_of cs ++ rest)) (nothing_left os none) ∙ ap Some (nothing_after (functions_of cs))
+      sym so_far ∙ ap (λ l. finished_all fs (outlines_of l) >>= λ rest. Some (functions_of cs ++ rest)) (nil_from_length os none) ∙ ap Some (append-nil (functions_of cs))

@@ -1,5 +1,5 @@
 -- Expressions as statements.
-use Rattle.std.proofs.Common.{◌≡◌, ℕ, ◌+◌, List, [], ◌∷◌, ◌++◌, length, get_or, drop, ◌<◌, ◌≤◌, refl, ap, sym, ◌∙◌, Global}
+use Rattle.std.proofs.Common.{◌≡◌, ℕ, ◌+◌, List, [], ◌∷◌, ◌++◌, length, get_or, drop, ◌<◌, ◌≤◌, refl, ap, sym, ◌∙◌, append-nil, Global}
 use Rattle.std.specs.Prelude.{Option, Some, None, Vec}
 use Rattle.std.proofs.lemmas.List.{drop_all}
 use Rattle.gr_tree.specs.Exprs.{tree_of, trees_of}
@@ -37,10 +37,6 @@ after_prints : (o : Option (List Printed)) (ds : List code_printed.Printed) (d :
 after_prints (Some ps) ds d = ap Some (prints_push ds d ps)
 after_prints None ds d = refl
 
-nothing_after : (ps : List Printed) → ps ++ [] ≡ ps
-nothing_after [] = refl
-nothing_after (p ∷ ps) = ap (λ l. p ∷ l) (nothing_after ps)
-
 first_printed : (fs : List Signature) (s : Scope) (es : List code_expr.Expr) (i : ℕ) (e : code_expr.Expr) → i < length es → e ≡ get_or es i e → printed_in fs s (trees_of (drop i es)) ≡ (printed_one fs s (tree_of e) >>= λ p. printed_in fs s (trees_of (drop (i + 1) es)) >>= λ ps. Some (p ∷ ps))
 unfolding printed_in
 first_printed fs s es i e lt is = ap (printed_in fs s) (front_trees es i e lt is)
@@ -63,4 +59,4 @@ module _ (fs : List Signature) (s : Scope) (es : List code_expr.Expr) (i : ℕ) 
       sym so_far ∙ ap (λ g. g >>= λ ps. Some (prints_of ds ++ ps)) (first_printed fs s es i e lt is ∙ ap (λ g. g >>= λ p. r >>= λ ps. Some (p ∷ ps)) none)
 
   pub all_printed : length es ≤ i → o ≡ Some (prints_of ds)
-  all_printed le = sym so_far ∙ ap (λ g. g >>= λ ps. Some (prints_of ds ++ ps)) (none_printed fs s es i le) ∙ ap Some (nothing_after (prints_of ds))
+  all_printed le = sym so_far ∙ ap (λ g. g >>= λ ps. Some (prints_of ds ++ ps)) (none_printed fs s es i le) ∙ ap Some (append-nil (prints_of ds))

@@ -1,5 +1,5 @@
 -- Look-ups in tables are look-ups in a scope.
-use Rattle.std.proofs.Common.{◌≡◌, ℕ, zero, suc, Bool, true, false, List, [], ◌∷◌, ◌++◌, length, get_or, ◌<◌, ◌≤◌, refl, ap, sym, ◌∙◌, true≢false, arith, inl, inr, ◌⊎◌, nat_eq, Global}
+use Rattle.std.proofs.Common.{◌≡◌, ℕ, zero, suc, true, false, List, [], ◌∷◌, ◌++◌, length, get_or, ◌<◌, ◌≤◌, refl, ap, sym, ◌∙◌, true≢false, arith, inl, inr, nat_eq, Global}
 use Rattle.std.specs.Prelude.{Option, Some, None, is_some, Vec}
 use Rattle.std.specs.Cmp.Lexicographic.{pointwise}
 use Rattle.std.specs.Map.{lookup}
@@ -11,10 +11,7 @@ use Rattle.gr_types.specs.Names.{is_blank}
 use Rattle.gr_types.specs.Scopes.{Block, In, in_block, in_blocks, first_of, numbered, type_of, declared, last_block, but_last}
 use Rattle.gr_types.specs.TypeViews.{ty_of, variable_of, declared_of}
 use Rattle.gr_types.specs.Tables.{entries_of, block_of, blocks_of}
-
-pub true_or_false : (b : Bool) → (b ≡ true) ⊎ (b ≡ false)
-true_or_false true = inl refl
-true_or_false false = inr refl
+use Rattle.gr_types.proofs.Basics.{true_or_false}
 
 pub looked_up : (es : List (Vec ℕ Global × ℕ)) (x : List ℕ) → lookup (λ k. pointwise nat_eq x k.items) es ≡ in_block (entries_of es) x
 looked_up [] x = refl
@@ -26,11 +23,11 @@ looked_up (e ∷ es) x = elim (true_or_false (pointwise nat_eq x e.0.items)) [
 some_none : (n : ℕ) → Some n ≡ None → ⊥
 some_none n e = cc
 
-pub inserted : (es : List (Vec ℕ Global × ℕ)) (k : Vec ℕ Global) (v : ℕ) → in_block (entries_of es) k.items ≡ None → entries_of (insert_entry (λ a b. pointwise nat_eq a.items b.items) es k v) ≡ entries_of es ++ ((k.items, v) ∷ [])
-inserted [] k v h = refl
-inserted (e ∷ es) k v h = elim (true_or_false (pointwise nat_eq k.items e.0.items)) [
+pub entry_inserted : (es : List (Vec ℕ Global × ℕ)) (k : Vec ℕ Global) (v : ℕ) → in_block (entries_of es) k.items ≡ None → entries_of (insert_entry (λ a b. pointwise nat_eq a.items b.items) es k v) ≡ entries_of es ++ ((k.items, v) ∷ [])
+entry_inserted [] k v h = refl
+entry_inserted (e ∷ es) k v h = elim (true_or_false (pointwise nat_eq k.items e.0.items)) [
   | inl t ↦ absurd (some_none e.1 (rw t at h))
-  | inr f ↦ rw f (ap (λ r. (e.0.items, e.1) ∷ r) (inserted es k v (rw f at h)))
+  | inr f ↦ rw f (ap (λ r. (e.0.items, e.1) ∷ r) (entry_inserted es k v (rw f at h)))
 ]
 
 pub first_first : (a b c : Option ℕ) → first_of (first_of a b) c ≡ first_of a (first_of b c)

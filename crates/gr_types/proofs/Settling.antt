@@ -3,6 +3,7 @@ use Rattle.std.proofs.Common.{◌≡◌, ℕ, Bool, true, false, List, [], ◌�
 use Rattle.std.specs.Prelude.{Some, is_some, not, ◌&&◌, ◌||◌}
 use Rattle.std.specs.Cmp.Lexicographic.{pointwise}
 use Rattle.std.specs.List.{list_all}
+use Rattle.std.proofs.lemmas.Bool.{not-true}
 use Rattle.gr_types.specs.Types.{Ty}
 use Rattle.gr_types.specs.Terms.{Term, Terms}
 use Rattle.gr_types.specs.Names.{among, predeclared, is_blank, are_distinct}
@@ -11,7 +12,7 @@ use Rattle.gr_types.specs.Values.{Value}
 use Rattle.gr_types.specs.StatementChecks.{may_define}
 use Rattle.gr_types.specs.Finding.{◌>>=◌, where_true, typed}
 use Rattle.gr_types.specs.Taking.{target, fit, accepts, Taker, Old, New, old_taker, taker, takers, old_share, new_share, share, with_share, shares, settled, may_settle, may_settle_all}
-use Rattle.gr_types.proofs.Scopes.{true_or_false}
+use Rattle.gr_types.proofs.Basics.{true_or_false}
 use Rattle.gr_types.proofs.Finds.{some_inj, none_some, on_some, on_true}
 use Rattle.gr_types.proofs.FindsSimple.{on_cond}
 
@@ -26,10 +27,6 @@ and_left false b e = e
 and_right : (a b : Bool) → (a && b) ≡ true → b ≡ true
 and_right true b e = e
 and_right false b e = absurd (true≢false (sym e))
-
-not_true : (a : Bool) → not a ≡ true → a ≡ false
-not_true true e = sym e
-not_true false e = refl
 
 neither : (a b : Bool) → (a || b) ≡ false → (a ≡ false) × (b ≡ false)
 neither true b e = absurd (true≢false e)
@@ -110,13 +107,13 @@ new_free m x b h = rw (b, h) refl
 not_old : (s : Scope) (x : List ℕ) → not (is_old s x) ≡ true → (is_blank x ≡ false) × (is_here s x ≡ false)
 not_old s x e = elim (true_or_false (is_blank x)) [
   | inl b ↦ absurd (true≢false (sym (rw b at e)))
-  | inr b ↦ (b, not_true (is_here s x) (rw b at e))
+  | inr b ↦ (b, not-true (is_here s x) (rw b at e))
 ]
 
 distinct_named : (before xs : List (List ℕ)) (x : List ℕ) → is_blank x ≡ false → are_distinct before (x ∷ xs) ≡ true → (among before x ≡ false) × (are_distinct (before ++ (x ∷ [])) xs ≡ true)
 distinct_named before xs x b d =
     let e : (not (among before x) && are_distinct (before ++ (x ∷ [])) xs) ≡ true = rw b at d in
-    (not_true (among before x) (and_left (not (among before x)) (are_distinct (before ++ (x ∷ [])) xs) e), and_right (not (among before x)) (are_distinct (before ++ (x ∷ [])) xs) e)
+    (not-true (among before x) (and_left (not (among before x)) (are_distinct (before ++ (x ∷ [])) xs) e), and_right (not (among before x)) (are_distinct (before ++ (x ∷ [])) xs) e)
 
 distinct_blank : (before xs : List (List ℕ)) (x : List ℕ) → is_blank x ≡ true → are_distinct before (x ∷ xs) ≡ true → are_distinct before xs ≡ true
 distinct_blank before xs x b d = rw b at d
@@ -148,17 +145,10 @@ settles_by s xs ts ks e q = settles_all s xs ks e (takers_suit s xs ts ks q)
 pub settles_values : (s : Scope) (xs : List (List ℕ)) (vs : List Value) (p : List Taker × Terms) → may_define s xs ≡ true → shares s xs vs ≡ Some p → may_settle_all xs p.0 s ≡ true
 settles_values s xs vs p e q = settles_all s xs p.0 e (shares_suit s xs vs p q)
 
--- one name and two
-pub settles_one : (s : Scope) (x : List ℕ) (t : Ty) (k : Taker) → may_define s (x ∷ []) ≡ true → taker s x t ≡ Some k → may_settle x k s ≡ true
-settles_one s x t k e q =
-    and_left (may_settle x k s) true (settles_all s (x ∷ []) (k ∷ []) e (both (suits s x k) true (taker_suits s x t k q) refl))
-
+-- two names
 module _ (s : Scope) (x y : List ℕ) (t u : Ty) (k l : Taker) (e : may_define s (x ∷ (y ∷ [])) ≡ true) (p : taker s x t ≡ Some k) (q : taker s y u ≡ Some l) where
   two_settle : (may_settle x k s && (may_settle y l (settled x k s).1 && true)) ≡ true
   two_settle = settles_all s (x ∷ (y ∷ [])) (k ∷ (l ∷ [])) e (both (suits s x k) (suits s y l && true) (taker_suits s x t k p) (both (suits s y l) true (taker_suits s y u l q) refl))
-
-  pub settles_first : may_settle x k s ≡ true
-  settles_first = and_left (may_settle x k s) (may_settle y l (settled x k s).1 && true) two_settle
 
   pub settles_second : may_settle y l (settled x k s).1 ≡ true
   settles_second = and_left (may_settle y l (settled x k s).1) true (and_right (may_settle x k s) (may_settle y l (settled x k s).1 && true) two_settle)

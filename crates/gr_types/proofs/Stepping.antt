@@ -31,6 +31,7 @@ use Rattle.gr_types.specs.Checking.{Denies}
 use Rattle.gr_types.specs.Finding.{◌>>=◌, where_true}
 use Rattle.gr_types.specs.FindingStatements.{Stepped, alone, Opened, comm_in, if_head_in, statement_in, body_in, clauses_in}
 use Rattle.gr_types.specs.Stepping.{only_step, block_in, Tested, tested_in, if_in, else_in, else_if_in, for_in, select_in, Cased, default_in, case_in, clause_in, case_before, steps_before, with_cases, cases_before}
+use Rattle.gr_types.proofs.Basics.{bound_twice}
 use Rattle.gr_types.proofs.Rows.{default_is, send_is, receive_is, steps_push}
 use Rattle.gr_types.proofs.TreeRows.{drop_first, drop_clause, held, block_is, if_is, else_is, else_if_is, for_is, select_is}
 
@@ -116,10 +117,6 @@ no_cases ks o e = ap (λ ks. cases_before ks o) e ∙ no_case_before o
 with_none : (ks : List code_case.Case) → with_cases ks no_case ≡ cases_of ks
 with_none [] = refl
 with_none (k ∷ ks) = ap (case_on k) (with_none ks)
-
-bound_twice : {A B C : Type 0} (o : Option A) (f : A → Option B) (g : B → Option C) → ((o >>= f) >>= g) ≡ (o >>= λ a. f a >>= g)
-bound_twice (Some a) f g = refl
-bound_twice None f g = refl
 
 opened_twice : {A : Type 0} (c : Context) (body : Statements) (o : Option Opened) (g : Cased → Option A) → ((o >>= λ h. body_in c h.1 body >>= λ b. Some (h.0 b.0, left b.1)) >>= g) ≡ (o >>= λ h. body_in c h.1 body >>= λ b. g (h.0 b.0, left b.1))
 opened_twice c body (Some h) g = bound_twice (body_in c h.1 body) (λ b. Some (h.0 b.0, left b.1)) g

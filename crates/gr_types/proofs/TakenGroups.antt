@@ -14,17 +14,9 @@ use Rattle.gr_types.specs.FileChecks.{parameter_names, each, scope_with, paramet
 use Rattle.gr_types.specs.Finding.{◌>>=◌, where_true}
 use Rattle.gr_types.specs.FindingFiles.{types_in}
 use Rattle.gr_types.specs.Outlines.{Taken, none_taken, may_take, taken_with, take, take_each, take_groups}
+use Rattle.gr_types.proofs.Basics.{true_or_false, then_none, among_push, bound_twice}
 use Rattle.gr_types.proofs.Finds.{on_some, some_inj}
 use Rattle.gr_types.proofs.FunctionNumbers.{block_push}
-use Rattle.gr_types.proofs.Scopes.{true_or_false}
-
-pub then_none : {A B : Type 0} (o : Option A) → ◌>>=◌ {B = B} o (λ a. None) ≡ None
-then_none (Some a) = refl
-then_none None = refl
-
-chain : {A B C : Type 0} (o : Option A) (f : A → Option B) (g : B → Option C) → ((o >>= f) >>= g) ≡ (o >>= λ a. f a >>= g)
-chain None f g = refl
-chain (Some a) f g = refl
 
 -- parameters, each with its type
 abbrev take_list : Taken → List (List ℕ) → List Ty → Option Taken
@@ -35,7 +27,7 @@ take_list p (x ∷ xs) (t ∷ ts) = take p x t >>= λ p. take_list p xs ts
 list_append : (p : Taken) (xs ys : List (List ℕ)) (t : Ty) (ts : List Ty) → take_list p (xs ++ ys) (each xs t ++ ts) ≡ (take_each p xs t >>= λ q. take_list q ys ts)
 list_append p [] ys t ts = refl
 list_append p (x ∷ xs) ys t ts =
-    ap (λ f. take p x t >>= f) (fun_ext (λ q. list_append q xs ys t ts)) ∙ sym (chain (take p x t) (λ q. take_each q xs t) (λ q. take_list q ys ts))
+    ap (λ f. take p x t >>= f) (fun_ext (λ q. list_append q xs ys t ts)) ∙ sym (bound_twice (take p x t) (λ q. take_each q xs t) (λ q. take_list q ys ts))
 
 by_group : (p : Taken) (xs : List (List ℕ)) (gs : List Group) (w : Option Ty) (o : Option (List Ty)) → ((q : Taken) → take_groups q gs ≡ (o >>= λ ts. take_list q (parameter_names gs) ts))
     → (w >>= λ t. take_each p xs t >>= λ q. take_groups q gs) ≡ ((w >>= λ t. o >>= λ ts. Some (each xs t ++ ts)) >>= λ ts. take_list p (xs ++ parameter_names gs) ts)
@@ -89,18 +81,6 @@ list_is us ps s (x ∷ xs) (t ∷ ts) e = elim (true_or_false (may_take s x)) [
 -- names before, and the scope that declares them
 abbrev pub AreHere : List (List ℕ) → Scope → Type 0
 AreHere before s = (x : List ℕ) → is_blank x ≡ false → among before x ≡ is_here s x
-
-pub among_push : (before : List (List ℕ)) (x y : List ℕ) → among (before ++ (x ∷ [])) y ≡ (among before y || pointwise nat_eq y x)
-among_push [] x y = or_false (pointwise nat_eq y x)
-  where
-    or_false : (b : Bool) → (b || false) ≡ b
-    or_false true = refl
-    or_false false = refl
-among_push (z ∷ before) x y = ap (λ b. pointwise nat_eq y z || b) (among_push before x y) ∙ sym (or_assoc (pointwise nat_eq y z) (among before y) (pointwise nat_eq y x))
-  where
-    or_assoc : (a b c : Bool) → ((a || b) || c) ≡ (a || (b || c))
-    or_assoc true b c = refl
-    or_assoc false b c = refl
 
 some_push : (b : Block) (x y : List ℕ) (n : ℕ) → is_some (in_block (b ++ ((x, n) ∷ [])) y) ≡ (is_some (in_block b y) || pointwise nat_eq y x)
 some_push b x y n = ap is_some (block_push b x n y) ∙ first (in_block b y) (pointwise nat_eq y x) refl

@@ -1,7 +1,7 @@
 -- The loops over names and what takes their values.
 use Rattle.std.proofs.Common.{◌≡◌, ℕ, zero, suc, ◌+◌, ◌<◌, ◌≤◌, false, List, [], ◌∷◌, ◌++◌, length, get_or, drop, refl, ap, sym, ◌∙◌, arith, add-one, drop-cons, append-nil, Global}
 use Rattle.std.specs.Prelude.{Option, Some, None, Vec}
-use Rattle.std.proofs.lemmas.List.{drop_all}
+use Rattle.std.proofs.lemmas.List.{drop_all, nil_from_length}
 use Rattle.gr_tree.specs.Exprs.{names_of}
 use Rattle.gr_types.specs.declared.types.Type as code_type
 use Rattle.gr_types.specs.declared.takers.Taker as code_taker
@@ -15,13 +15,8 @@ use Rattle.gr_types.specs.Finding.{◌>>=◌}
 use Rattle.gr_types.specs.Taking.{fit, fits, Taker, taker, takers, share, with_share, shares, all_accept}
 use Rattle.gr_types.specs.TakerViews.{taker_of, takers_of}
 use Rattle.gr_types.specs.Checking.{meaning_of, meanings_of}
-use Rattle.gr_types.proofs.Arguments.{terms_before, before_push, before_none}
+use Rattle.gr_types.proofs.Arguments.{terms_before, before_push, before_none, after_terms, front_types}
 use Rattle.gr_types.proofs.NameLists.{front_names}
-
-pub front_types : (ts : List code_type.Type) (i : ℕ) (t : code_type.Type) → i < length ts → t ≡ get_or ts i t → types_of (drop i ts) ≡ ty_of t ∷ types_of (drop (i + 1) ts)
-front_types ts i t lt is =
-    let f : drop i ts ≡ get_or ts i t ∷ drop (i + 1) ts = rw (add-one, drop-cons ts i t) in
-    ap types_of f ∙ ap (λ u. ty_of u ∷ types_of (drop (i + 1) ts)) (sym is)
 
 takers_push : (ks : List code_taker.Taker) (k : code_taker.Taker) (rest : List Taker) → takers_of (ks ++ (k ∷ [])) ++ rest ≡ takers_of ks ++ (taker_of k ∷ rest)
 takers_push [] k rest = refl
@@ -66,14 +61,6 @@ abbrev pub shares_before : List code_taker.Taker → List code_term.Term → Lis
 shares_before ks ts rest = (takers_of ks ++ rest.0, terms_before ts rest.1)
 
 -- values for what names stand for
-after_terms : (o : Option Terms) (ts : List code_term.Term) (t : code_term.Term) → (o >>= λ ps. Some (terms_before (ts ++ (t ∷ [])) ps)) ≡ ((o >>= λ ps. Some (more (term_of t) ps)) >>= λ ps. Some (terms_before ts ps))
-after_terms (Some ps) ts t = ap Some (before_push ts t ps)
-after_terms None ts t = refl
-
-no_values : (vs : List code_value.Value) → length vs ≡ 0 → vs ≡ []
-no_values [] e = refl
-no_values (v ∷ vs) e = absurd (omega (arith, e))
-
 module _ (s : Scope) (ks : List (Option ℕ)) (i : ℕ) (vs : List code_value.Value) (ts : List code_term.Term) (o : Option Terms) (so_far : (fits s (drop i ks) (meanings_of vs) >>= λ ps. Some (terms_before ts ps)) ≡ o) where
   pub fit_on : (k : Option ℕ) (v : code_value.Value) (rest : List code_value.Value) (t : code_term.Term) (new : List code_term.Term) → i < length ks → vs ≡ v ∷ rest → fit s (get_or ks i k) (meaning_of v) ≡ Some (term_of t) → new ≡ ts ++ (t ∷ []) → (fits s (drop (i + 1) ks) (meanings_of rest) >>= λ ps. Some (terms_before new ps)) ≡ o
   fit_on k v rest t new lt popped gives pushed =
@@ -88,7 +75,7 @@ module _ (s : Scope) (ks : List (Option ℕ)) (i : ℕ) (vs : List code_value.Va
 
   pub fit_none : i < length ks → length vs ≡ 0 → o ≡ None
   fit_none lt empty =
-      sym so_far ∙ ap (λ l. fits s (drop i ks) (meanings_of l) >>= λ ps. Some (terms_before ts ps)) (no_values vs empty) ∙ ap (λ g. g >>= λ ps. Some (terms_before ts ps)) (no_value ks i lt)
+      sym so_far ∙ ap (λ l. fits s (drop i ks) (meanings_of l) >>= λ ps. Some (terms_before ts ps)) (nil_from_length vs empty) ∙ ap (λ g. g >>= λ ps. Some (terms_before ts ps)) (no_value ks i lt)
     where
       no_value : (js : List (Option ℕ)) (j : ℕ) → j < length js → fits s (drop j js) [] ≡ None
       no_value [] j lt = absurd (omega arith)

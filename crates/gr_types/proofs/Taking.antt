@@ -13,12 +13,8 @@ use Rattle.gr_types.specs.Values.{Value}
 use Rattle.gr_types.specs.Finding.{◌>>=◌, where_true, Typed, typed, given, value_in}
 use Rattle.gr_types.specs.FindingStatements.{variable_in, Given, to_variable, given_to, with_given, all_given, Defined, newly, in_scope, defined_by, with_defined, all_defined, receive_in, taken_by, takes, takes_new, all_take, all_take_new, Done, pair_of, assigned, assign_both, assign_by, define_both, define_by}
 use Rattle.gr_types.specs.Taking.{target, targets, fit, fits, is_wide, accepts, all_accept, Taker, Old, old_taker, taker, takers, new_share, share, with_share, shares, settled, all_settled, same_count, is_receive, values_for, assign_values, assign_received, shared_done, define_values, define_received}
-use Rattle.gr_types.proofs.Scopes.{true_or_false}
+use Rattle.gr_types.proofs.Basics.{true_or_false, then_none}
 use Rattle.gr_types.proofs.NewNames.{named_after}
-
-then_none : {A B : Type 0} (o : Option A) → ◌>>=◌ {B = B} o (λ a. None) ≡ None
-then_none (Some a) = refl
-then_none None = refl
 
 -- a value that is given to a name
 abbrev no_place : Term → Option Given
