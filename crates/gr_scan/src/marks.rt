@@ -33,75 +33,12 @@ const KEYWORDS: [(&[u8], Mark); 25] = [
     (b"var", Mark::Var),
 ];
 
-// The longest first.
-const OPERATORS: [(&[u8], Mark); 47] = [
-    (b"<<=", Mark::ShiftLeftAssign),
-    (b">>=", Mark::ShiftRightAssign),
-    (b"&^=", Mark::AndNotAssign),
-    (b"...", Mark::Ellipsis),
-    (b"<<", Mark::ShiftLeft),
-    (b">>", Mark::ShiftRight),
-    (b"&^", Mark::AndNot),
-    (b"+=", Mark::PlusAssign),
-    (b"-=", Mark::MinusAssign),
-    (b"*=", Mark::StarAssign),
-    (b"/=", Mark::SlashAssign),
-    (b"%=", Mark::PercentAssign),
-    (b"&=", Mark::AndAssign),
-    (b"|=", Mark::OrAssign),
-    (b"^=", Mark::CaretAssign),
-    (b"&&", Mark::AndAnd),
-    (b"||", Mark::OrOr),
-    (b"<-", Mark::Arrow),
-    (b"++", Mark::PlusPlus),
-    (b"--", Mark::MinusMinus),
-    (b"==", Mark::Equal),
-    (b"!=", Mark::NotEqual),
-    (b"<=", Mark::LessEqual),
-    (b">=", Mark::GreaterEqual),
-    (b":=", Mark::Define),
-    (b"+", Mark::Plus),
-    (b"-", Mark::Minus),
-    (b"*", Mark::Star),
-    (b"/", Mark::Slash),
-    (b"%", Mark::Percent),
-    (b"&", Mark::And),
-    (b"|", Mark::Or),
-    (b"^", Mark::Caret),
-    (b"<", Mark::Less),
-    (b">", Mark::Greater),
-    (b"=", Mark::Assign),
-    (b"!", Mark::Not),
-    (b"(", Mark::LeftParen),
-    (b"[", Mark::LeftBracket),
-    (b"{", Mark::LeftBrace),
-    (b",", Mark::Comma),
-    (b".", Mark::Dot),
-    (b")", Mark::RightParen),
-    (b"]", Mark::RightBracket),
-    (b"}", Mark::RightBrace),
-    (b";", Mark::Semicolon),
-    (b":", Mark::Colon),
-];
-
 fn look_up(mut table: &[(&[u8], Mark)], spelling: &[u8]) -> Option<Mark>
     ensures { result ≡ mark_in (map (λ entry. (entry.0.now, entry.1)) table.entry.now) spelling.now }
 {
     while let [entry, rest @ ..] = table {
         if entry.0 == spelling {
             return Some(entry.1);
-        }
-        table = rest;
-    }
-    None
-}
-
-fn look_ahead(mut table: &[(&[u8], Mark)], text: &[u8]) -> Option<(Mark, usize)>
-    ensures { result ≡ first_prefix (map (λ entry. (entry.0.now, entry.1)) table.entry.now) text.now }
-{
-    while let [entry, rest @ ..] = table {
-        if text.starts_with(entry.0) {
-            return Some((entry.1, entry.0.len()));
         }
         table = rest;
     }
@@ -121,5 +58,54 @@ pub fn keyword(word: &[u8]) -> Option<Mark>
 pub fn operator(text: &[u8]) -> Option<(Mark, usize)>
     ensures { result ≡ first_prefix operators text.now }
 {
-    look_ahead(&OPERATORS, text)
+    match text {
+        [b'<', b'<', b'=', ..] => Some((Mark::ShiftLeftAssign, 3)),
+        [b'>', b'>', b'=', ..] => Some((Mark::ShiftRightAssign, 3)),
+        [b'&', b'^', b'=', ..] => Some((Mark::AndNotAssign, 3)),
+        [b'.', b'.', b'.', ..] => Some((Mark::Ellipsis, 3)),
+        [b'<', b'<', ..] => Some((Mark::ShiftLeft, 2)),
+        [b'>', b'>', ..] => Some((Mark::ShiftRight, 2)),
+        [b'&', b'^', ..] => Some((Mark::AndNot, 2)),
+        [b'+', b'=', ..] => Some((Mark::PlusAssign, 2)),
+        [b'-', b'=', ..] => Some((Mark::MinusAssign, 2)),
+        [b'*', b'=', ..] => Some((Mark::StarAssign, 2)),
+        [b'/', b'=', ..] => Some((Mark::SlashAssign, 2)),
+        [b'%', b'=', ..] => Some((Mark::PercentAssign, 2)),
+        [b'&', b'=', ..] => Some((Mark::AndAssign, 2)),
+        [b'|', b'=', ..] => Some((Mark::OrAssign, 2)),
+        [b'^', b'=', ..] => Some((Mark::CaretAssign, 2)),
+        [b'&', b'&', ..] => Some((Mark::AndAnd, 2)),
+        [b'|', b'|', ..] => Some((Mark::OrOr, 2)),
+        [b'<', b'-', ..] => Some((Mark::Arrow, 2)),
+        [b'+', b'+', ..] => Some((Mark::PlusPlus, 2)),
+        [b'-', b'-', ..] => Some((Mark::MinusMinus, 2)),
+        [b'=', b'=', ..] => Some((Mark::Equal, 2)),
+        [b'!', b'=', ..] => Some((Mark::NotEqual, 2)),
+        [b'<', b'=', ..] => Some((Mark::LessEqual, 2)),
+        [b'>', b'=', ..] => Some((Mark::GreaterEqual, 2)),
+        [b':', b'=', ..] => Some((Mark::Define, 2)),
+        [b'+', ..] => Some((Mark::Plus, 1)),
+        [b'-', ..] => Some((Mark::Minus, 1)),
+        [b'*', ..] => Some((Mark::Star, 1)),
+        [b'/', ..] => Some((Mark::Slash, 1)),
+        [b'%', ..] => Some((Mark::Percent, 1)),
+        [b'&', ..] => Some((Mark::And, 1)),
+        [b'|', ..] => Some((Mark::Or, 1)),
+        [b'^', ..] => Some((Mark::Caret, 1)),
+        [b'<', ..] => Some((Mark::Less, 1)),
+        [b'>', ..] => Some((Mark::Greater, 1)),
+        [b'=', ..] => Some((Mark::Assign, 1)),
+        [b'!', ..] => Some((Mark::Not, 1)),
+        [b'(', ..] => Some((Mark::LeftParen, 1)),
+        [b'[', ..] => Some((Mark::LeftBracket, 1)),
+        [b'{', ..] => Some((Mark::LeftBrace, 1)),
+        [b',', ..] => Some((Mark::Comma, 1)),
+        [b'.', ..] => Some((Mark::Dot, 1)),
+        [b')', ..] => Some((Mark::RightParen, 1)),
+        [b']', ..] => Some((Mark::RightBracket, 1)),
+        [b'}', ..] => Some((Mark::RightBrace, 1)),
+        [b';', ..] => Some((Mark::Semicolon, 1)),
+        [b':', ..] => Some((Mark::Colon, 1)),
+        _ => None,
+    }
 }
