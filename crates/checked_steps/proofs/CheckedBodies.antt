@@ -2,7 +2,7 @@
 -- it is terminating.
 use Rattle.std.proofs.Common.{true≢false, ◌≡◌, ℕ, Bool, true, false, List, [], ◌∷◌, ◌++◌, Option, Some, None, refl, sym, ap, subst}
 use Rattle.std.specs.Prelude.{not, ◌&&◌, ◌||◌}
-use Rattle.std.proofs.lemmas.Bool.{and_parts}
+use Rattle.std.proofs.lemmas.Bool.{and_parts, not-true}
 use Rattle.gr_scan.specs.declared.token.Place.{Place}
 use Rattle.gr_tree.specs.Statements as statements
 use Rattle.gr_tree.specs.Statements.{Statement, Statements, Clauses}
@@ -63,10 +63,6 @@ one_sorted d nests live s false h = bodies.ends h
 goes_on_sorted : (d : Setting) (nests : List Nest) (live : List ℕ) (s : Step) (z : Bool) → (z ≡ false → false ≡ true) → SortedStep d nests live s true → SortedStep d nests live s z
 goes_on_sorted d nests live s true h k = k
 goes_on_sorted d nests live s false h k = no_ending (h refl)
-
-not_true : (b : Bool) → not b ≡ true → b ≡ false
-not_true true e = no_ending e
-not_true false e = refl
 
 -- an act inside these nests
 pub act_in : (d : Setting) (nests : List Nest) (live : List ℕ) (around : List Around) (s n : Scope) (a : statements.Act) (b : Act) (z : Bool)
@@ -200,7 +196,7 @@ module _ (d : Setting) where
         let inner = begins_left o d.variables (begins_left (left o) d.variables begins) in
         let i = loop_sorted nests live s m n init post first last start again plain lives (begins_before n o (body_grows b) inner) in
         let r = body_sorted (Loops z ∷ nests) (after_opening first live) true b goes_nowhere
-        (loop_permits (leaves_in body) around nests label z (λ q. not_true (breaks_in label true body) (ending q)) permits) (live_entered n (after_opening first live) i.2) inner in (
+        (loop_permits (leaves_in body) around nests label z (λ q. not-true (breaks_in label true body) (ending q)) permits) (live_entered n (after_opening first live) i.2) inner in (
           one_sorted d nests live (For place.line first None last steps) z (bodies.endless i.0 i.1 r),
           live_wide s (left (left o)) live (head_wide s n o (loop_grown s m n start again) (body_grows b)) lives,
         )
@@ -226,7 +222,7 @@ module _ (d : Setting) where
         )
     statement_sorted {around} {s} {n} nests live z (rules.select {label = label} {place = place} {clauses = clauses} {cases = cases} one h) ending permits lives begins =
         let r = clauses_sorted (Chooses z ∷ nests) live z h (λ q. (and_parts (all_end clauses) (not (breaks_among label true clauses)) (ending q)).0)
-        (choice_permits (leaves_among clauses) around nests label z (λ q. not_true (breaks_among label true clauses) ((and_parts (all_end clauses) (not (breaks_among label true clauses)) (ending q)).1)) permits) lives begins in
+        (choice_permits (leaves_among clauses) around nests label z (λ q. not-true (breaks_among label true clauses) ((and_parts (all_end clauses) (not (breaks_among label true clauses)) (ending q)).1)) permits) lives begins in
         (one_sorted d nests live (Select place.line cases) z (bodies.select r), live_wide s n live (clauses_widen h) lives)
     statement_sorted nests live z (rules.label h) ending permits lives begins = statement_sorted nests live z h ending permits lives begins
     statement_sorted nests live z rules.empty_label ending permits lives begins = (stop_sorted d nests live z ending, lives)

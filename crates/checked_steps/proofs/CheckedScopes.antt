@@ -1,6 +1,5 @@
 -- Scopes of statements: what a block declares ends with it, its variables keep their numbers.
 use Rattle.std.proofs.Common.{◌≡◌, ℕ, List, [], ◌∷◌, ◌++◌, refl, sym, ◌∙◌, ap, subst, append_assoc, append-nil}
-use Rattle.gr_causal.proofs.ListLemmas.{In-append_right}
 use Rattle.gr_types.specs.Terms.{Declared}
 use Rattle.gr_types.specs.Scopes.{Block, Scope, In, entered, left, last_block, but_last}
 use Rattle.gr_types.proofs.Scopes.{in_blocks_push}
@@ -38,9 +37,6 @@ grows_wide s n w = subst (Grows s) (sym w.1) (wider_grows s w.0)
 pub widens_itself : (s : Scope) → Widens s s
 widens_itself (In here around variables) = ([], ap (In here around) (sym (append-nil variables)))
 
-pub grows_itself : (s : Scope) → Grows s s
-grows_itself s = grows_wide s s (widens_itself s)
-
 wider_twice : (s : Scope) (more others : List Declared) → wider (wider s more) others ≡ wider s (more ++ others)
 wider_twice (In here around variables) more others = ap (In here around) (append_assoc variables more others)
 
@@ -70,6 +66,3 @@ begins_left (In here around variables) ds h = h
 
 pub begins_entered : (s : Scope) (ds : List Declared) → Begins (entered s) ds → Begins s ds
 begins_entered (In here around variables) ds h = h
-
-pub live_more : (s : Scope) (more live : List ℕ) → Live s live → Live s (more ++ live)
-live_more s more live h x k e = In-append_right k more live (h x k e)

@@ -13,7 +13,7 @@ use Rattle.gr_goros.specs.Frames.{Frame}
 use Rattle.gr_goros.specs.Goroutines.{Goroutine}
 use Rattle.gr_step.specs.States.{Run, Cell, go_has, State, look}
 use Rattle.gr_step.specs.Attempts.{Refusal, Operation, Attempt, ask, ask_run, ask_go, ask_tail, ask_head, ask_slot, if_there, ask_gate, room_for, ask_room, ask_item}
-use Rattle.gr_step.specs.Actors.{Actor, onward, does, simply, fault, given}
+use Rattle.gr_step.specs.Actors.{Actor, onward, does, fault, given}
 use Rattle.gr_step.proofs.WaitLemmas.{All}
 use Rattle.checked_steps.proofs.Sorts.{Sort, Made}
 use Rattle.checked_steps.proofs.Running.{SortedFrame, SortedFrames, is_ready, SortedGoroutine}
@@ -68,9 +68,6 @@ module _ {P : Refusal → Type 0} {fs : List Signature} {made : Made} {s : State
   pub head_fine : {c : ChName} {k : ℕ → Attempt} → IsFine P fs made s (k (s.heads c)) → IsFine P fs made s (ask_head c k)
   head_fine h = asked h
 
-  pub slot_fine : {c : ChName} {i : ℕ} {k : Option (ℕ × Value) → Attempt} → IsFine P fs made s (k (s.slots c i)) → IsFine P fs made s (ask_slot c i k)
-  slot_fine h = asked h
-
   pub gate_fine : {c : ChName} {k : GateContent → Attempt} (gate : GateContent) → s.gates c ≡ Some gate → IsFine P fs made s (k gate) → IsFine P fs made s (ask_gate c k)
   gate_fine {c} {k} gate e h = asked (subst (λ x. IsFine P fs made s (if_there k x)) (sym e) h)
 
@@ -94,10 +91,6 @@ module _ {P : Refusal → Type 0} {fs : List Signature} {made : Made} {s : State
     pub does_fine : {clause : Option ℕ} {operation : Option Operation} {kind : Kind} {g : Goroutine} {cells : List Cell}
         → SortedGoroutine fs made g → g.children ≡ a.before.children → All (SortedCell fs made s) cells → IsFine P fs made s (does a clause operation kind g cells)
     does_fine {g = g} h e o = record { fine = plain (own_sorted acting g h e, o) }
-
-    pub simply_fine : {kind : Kind} {g : Goroutine} {cells : List Cell}
-        → SortedGoroutine fs made g → g.children ≡ a.before.children → All (SortedCell fs made s) cells → IsFine P fs made s (simply a kind g cells)
-    simply_fine h e o = does_fine h e o
 
     -- a step after which its innermost frame is this one
     pub goes_fine : {clause : Option ℕ} {operation : Option Operation} {kind : Kind} {f : Frame} {cells : List Cell}

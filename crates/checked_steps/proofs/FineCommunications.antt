@@ -19,7 +19,7 @@ use Rattle.gr_step.specs.Actors.{Actor, onward, does, without}
 use Rattle.gr_step.specs.Communications.{send_to, send, take, receive_from, receive, communicate}
 use Rattle.gr_step.specs.Selects.{ask_ready}
 use Rattle.gr_step.specs.Soundness.{Stands}
-use Rattle.gr_step.proofs.WaitLemmas.{Known}
+use Rattle.gr_step.proofs.WaitLemmas.{false_not, Known}
 use Rattle.checked_steps.proofs.Sorts.{Sort, Made, HasSort, Yields, yields, faulty}
 use Rattle.checked_steps.proofs.Running.{SortedFrame, SortedState, SortedTransfer, sends_nil, sends, receives_nil, receives}
 use Rattle.checked_steps.proofs.Promises.{Acting, Readiness, ReadinessOf}
@@ -28,9 +28,6 @@ use Rattle.checked_steps.proofs.FineMeetings.{past_send, past_receive, thin_sort
 
 none_of : (a b c : Bool) → a ≡ false → b ≡ false → c ≡ false → (a || b || c) ≡ false
 none_of a b c d e f = rw (d, e, f) refl
-
-false_not_true : (b : Bool) → b ≡ true → b ≡ false → ⊥
-false_not_true b t f = let e : true ≡ false = sym t ∙ f in cc
 
 -- whether a send on the channel with this gate can proceed, and whether a receive can
 abbrev pub can_send : State → ChName → GateContent → Bool
@@ -146,14 +143,14 @@ module _ {P : Refusal → Type 0} {fs : List Signature} {made : Made} {s : State
       receive_fine clause c e g.0 initial on other m g.1 f h (λ t. o)
 
   readiness : (clause : Option ℕ) (x : Communication) → SortedTransfer fs made k x → Readiness P fs made s a clause x
-  readiness clause x (sends_nil y f) = record { can = false; asks = λ next h. h; proceeds = λ other known t. absurd (false_not_true false t refl); or_else = λ other known h. h }
-  readiness clause x (receives_nil) = record { can = false; asks = λ next h. h; proceeds = λ other known t. absurd (false_not_true false t refl); or_else = λ other known h. h }
+  readiness clause x (sends_nil y f) = record { can = false; asks = λ next h. h; proceeds = λ other known t. absurd (false_not false t refl); or_else = λ other known h. h }
+  readiness clause x (receives_nil) = record { can = false; asks = λ next h. h; proceeds = λ other known t. absurd (false_not false t refl); or_else = λ other known h. h }
   readiness clause x (sends {c = c} {v = v} {on = on} {e = e} m y f) =
       let g = acting.sorted.gates c e m in
       record {
         can = can_send s c g.0;
         asks = λ next h. let r : IsFine P fs made s (ask_ready (Sending (Some c) v on) next) = gate_fine g.0 g.1 (room_fine c g.0 (λ room. next (g.0.closed || has_any g.0.receivers || is_some room)) (record { fine = h })) in r.fine;
-        proceeds = λ other known t. (communicate_send_fine clause c e g.0 v on other m g.1 y f known (λ n. absurd (false_not_true _ t n))).fine;
+        proceeds = λ other known t. (communicate_send_fine clause c e g.0 v on other m g.1 y f known (λ n. absurd (false_not _ t n))).fine;
         or_else = λ other known h. (communicate_send_fine clause c e g.0 v on other m g.1 y f known (λ n. record { fine = h })).fine;
       }
   readiness clause x (receives {c = c} {zero = initial} {on = on} {e = e} m f h) =
@@ -161,7 +158,7 @@ module _ {P : Refusal → Type 0} {fs : List Signature} {made : Made} {s : State
       record {
         can = can_receive s c g.0;
         asks = λ next h. let r : IsFine P fs made s (ask_ready (Receiving (Some c) initial on) next) = gate_fine g.0 g.1 (item_fine c g.0 (λ item. next (g.0.closed || has_any g.0.senders || is_some item)) (record { fine = h })) in r.fine;
-        proceeds = λ other known t. (receive_fine clause c e g.0 initial on other m g.1 f h (λ n. absurd (false_not_true _ t n))).fine;
+        proceeds = λ other known t. (receive_fine clause c e g.0 initial on other m g.1 f h (λ n. absurd (false_not _ t n))).fine;
         or_else = λ other known o. (receive_fine clause c e g.0 initial on other m g.1 f h (λ n. record { fine = o })).fine;
       }
 

@@ -17,7 +17,7 @@ use Rattle.gr_step.specs.Steps.{act_by, act_in, if_ready, if_known, if_live, att
 use Rattle.gr_step.proofs.WaitLemmas.{All}
 use Rattle.checked_steps.proofs.Sorts.{Sort, Made}
 use Rattle.checked_steps.proofs.Running.{SortedFrame, SortedBelow, SortedFrames, is_ready, SortedClause, SortedDeed, chooses, Comes, to}
-use Rattle.checked_steps.proofs.Promises.{Acting, Going, AttemptFine, Progresses}
+use Rattle.checked_steps.proofs.Promises.{Acting, Going, AttemptFine}
 use Rattle.checked_steps.proofs.SortedDeeds.{deed_sorted}
 use Rattle.checked_steps.proofs.FineAttempts.{IsFine, run_fine, go_fine, fault_fine}
 use Rattle.checked_steps.proofs.FineSteps.{act_fine}
@@ -141,6 +141,3 @@ module _ (fs : List Signature) (p : Program) (made : Made) (s : State) (going : 
 
 pub attempt_fine : AttemptFine
 attempt_fine fs p made s e going = (attempted_fine fs p made s going e).fine
-
-pub progresses : Progresses
-progresses fs p made s name g going l here r = let h = ready_goes fs p made s going name g here l r in (h.0, h.1.fine)

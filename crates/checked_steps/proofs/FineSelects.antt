@@ -21,7 +21,7 @@ use Rattle.gr_step.specs.Actors.{Actor, onward, simply, fault, given, clause_at}
 use Rattle.gr_step.specs.Communications.{all_waits, waits_for, wait}
 use Rattle.gr_step.specs.Selects.{values_of, if_none_ready, pick, default_of, numbered, default, park, choose}
 use Rattle.std.specs.List.{range_with_len}
-use Rattle.gr_step.proofs.WaitLemmas.{All, Known}
+use Rattle.gr_step.proofs.WaitLemmas.{All, Known, known_values}
 use Rattle.checked_steps.proofs.Sorts.{Sort, Made, Yields, yields, faulty}
 use Rattle.checked_steps.proofs.Running.{SortedFrame, StandsAt, sends_nil, sends, SortedClause, transfers, otherwise}
 use Rattle.checked_steps.proofs.Promises.{Acting, Readiness}
@@ -30,36 +30,11 @@ use Rattle.checked_steps.proofs.FineMeetings.{all_at}
 use Rattle.checked_steps.proofs.FineCommunications.{readiness_of}
 use Rattle.checked_steps.proofs.FineWaits.{wait_fine}
 
-no_fault : {A : Type 0} (e : Fault) (x : A) → faults e ≡ gives x → ⊥
-no_fault f x e = cc
-
-no_wrong : {A : Type 0} (x : A) → wrong ≡ gives x → ⊥
-no_wrong x e = cc
-
 not_wrong : {A : Type 0} (x : A) → gives x ≡ wrong → ⊥
 not_wrong x e = cc
 
 fault_not_wrong : {A : Type 0} (e : Fault) → ◌≡◌ {A = Outcome A} (faults e) wrong → ⊥
 fault_not_wrong f e = cc
-
--- where all values to send are there
-known_values : (cs : List Communication) (vs : List Value) → values_of cs ≡ gives vs → All Known cs
-known_values [] vs e = tt
-known_values (Sending c (gives v) on ∷ cs) vs e = (known c, by_rest (known_values cs) (values_of cs) refl e)
-  where
-    known : (c : _) → Known (Sending c (gives v) on)
-    known None = tt
-    known (Some c) = tt
-
-    by_rest : ((xs : List Value) → values_of cs ≡ gives xs → All Known cs) → (x : Outcome (List Value)) → values_of cs ≡ x → (x >>= λ xs. gives (v ∷ xs)) ≡ gives vs → All Known cs
-    by_rest ih (gives xs) d g = ih xs d
-    by_rest ih (faults f) d g = absurd (no_fault f _ g)
-    by_rest ih wrong d g = absurd (no_wrong _ g)
-known_values (Sending c (faults f) on ∷ cs) vs e = absurd (no_fault f _ e)
-known_values (Sending c wrong on ∷ cs) vs e = absurd (no_wrong _ e)
-known_values (Receiving (Some c) initial on ∷ cs) vs e = (tt, known_values cs vs e)
-known_values (Receiving None initial on ∷ cs) vs e = (tt, known_values cs vs e)
-known_values (Otherwise on ∷ cs) vs e = (tt, known_values cs vs e)
 
 -- a clause that is picked is one of so many
 abbrev pub Within : ℕ → Choice → Type 0

@@ -142,6 +142,3 @@ reaches_then m n o j ks first others y k e = elim (others y k e) [
   | inl q ↦ elim (first y k q) [ inl p ↦ inl p | inr i ↦ inr (in_first j ks k i) ]
   | inr i ↦ inr (in_others j ks k i)
 ]
-
-pub declare_reaches : (m : Scope) (x : List ℕ) (t : Ty) → Reaches m (declare m x t) (Some (next_of m) ∷ [])
-declare_reaches m x t y k e = elim (declare_named m x t y k e) [ inl q ↦ inl q | inr q ↦ inr (inl q.1) ]

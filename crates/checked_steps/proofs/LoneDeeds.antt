@@ -1,6 +1,5 @@
 -- A send that is a statement of its own has its value; only the clauses of a select have values that may be faults.
-use Rattle.std.proofs.Common.{◌≡◌, List, [], ◌∷◌, Option, Some, None, subst}
-use Rattle.gr_base.specs.declared.names.ChName.{ChName}
+use Rattle.std.proofs.Common.{◌≡◌, List, [], ◌∷◌, subst}
 use Rattle.gr_base.specs.declared.values.Value.{Value}
 use Rattle.gr_eval.specs.Outcomes.{Outcome, gives, faults, wrong, ◌>>=◌}
 use Rattle.gr_eval.specs.Operators.{operate}
@@ -9,8 +8,8 @@ use Rattle.gr_eval.specs.Evaluation.{evaluate, evaluate_all}
 use Rattle.gr_goros.specs.Parts.{Ask, Calls, Receives, Makes, CountsItems, CountsPlaces, Decides, Next, Plain, Asks, next_of}
 use Rattle.gr_goros.specs.Points.{Work, Assign, AssignReceive, Update, Eval, Close, Print, Send, Go, Return, GoOn, Test, Range, Turn, Select}
 use Rattle.gr_goros.specs.Frames.{Frame, goes_on, filled}
-use Rattle.gr_goros.specs.Deeds.{Communication, Sending, Deed, Communicates, as_channel, as_int, as_truth, only, clauses_of, part_of, work_of, statement_of, deed_by, deed}
-use Rattle.gr_step.proofs.WaitLemmas.{Known}
+use Rattle.gr_goros.specs.Deeds.{Communication, Deed, Communicates, as_channel, as_int, as_truth, only, clauses_of, part_of, work_of, statement_of, deed_by, deed}
+use Rattle.gr_step.proofs.WaitLemmas.{Known, sent_known}
 
 abbrev KnownDeed : Outcome Deed → Type 0
 KnownDeed (gives (Communicates x)) = Known x
@@ -20,10 +19,6 @@ bound : {A : Type 0} (o : Outcome A) (g : A → Outcome Deed) → ((x : A) → K
 bound (gives x) g h = h x
 bound (faults e) g h = tt
 bound wrong g h = tt
-
-sent : (c : Option ChName) (v : Value) (on : Frame) → Known (Sending c (gives v) on)
-sent (Some c) v on = tt
-sent None v on = tt
 
 part_known : (f : Frame) (ask : Ask) (k : Value → Frame) → KnownDeed (part_of f ask k)
 part_known f (Calls n arguments) k = bound (evaluate_all f.variables arguments) _ (λ vs. tt)
@@ -42,7 +37,7 @@ work_known f Close vs = bound (only vs >>= as_channel) _ (λ c. tt)
 work_known f (Print pieces) vs = tt
 work_known f Send [] = tt
 work_known f Send (c ∷ []) = tt
-work_known f Send (c ∷ v ∷ []) = bound (as_channel c) _ (λ c. sent c v (goes_on f))
+work_known f Send (c ∷ v ∷ []) = bound (as_channel c) _ (λ c. sent_known c v (goes_on f))
 work_known f Send (c ∷ v ∷ w ∷ vs) = tt
 work_known f (Go n) vs = tt
 work_known f Return [] = tt

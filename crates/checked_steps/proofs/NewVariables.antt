@@ -1,8 +1,8 @@
 -- Variables that names on a left side stand for, new ones among them, and the sorts that may be given to them.
-use Rattle.std.proofs.Common.{◌≡◌, ◌⊎◌, ℕ, nat_eq, Bool, true, false, not, List, [], ◌∷◌, ◌++◌, map, Option, Some, None, option_map, refl, sym, ◌∙◌, ap, subst, inl, inr, true≢false}
+use Rattle.std.proofs.Common.{◌≡◌, ◌⊎◌, ℕ, nat_eq, true, false, not, List, [], ◌∷◌, ◌++◌, map, Option, Some, None, option_map, refl, sym, ◌∙◌, ap, subst, inl, inr, true≢false}
 use Rattle.std.specs.List.{list_all}
 use Rattle.std.specs.Cmp.Lexicographic.{pointwise, bytes_decides}
-use Rattle.std.proofs.lemmas.Bool.{and_parts}
+use Rattle.std.proofs.lemmas.Bool.{and_parts, not-true}
 use Rattle.gr_causal.proofs.ListLemmas.{some_is, true_or_false}
 use Rattle.gr_types.specs.Types.{Ty}
 use Rattle.gr_types.specs.Terms.{Declared}
@@ -53,16 +53,12 @@ sets_new ds m x k t free is = record {
     same : k ≡ next_of m
     same = some_is k (next_of m) (sym is ∙ declare_new m x t free)
 
-not_true : (b : Bool) → not b ≡ true → b ≡ false
-not_true true e = absurd (true≢false (sym e))
-not_true false e = refl
-
 pub sets_declared : (ds : List Declared) (m : Scope) (x : List ℕ) (t : Ty) → is_free m x ≡ true → Sets ds m (declared m x t) (number_of (declared m x t) x ∷ []) (sort_of t ∷ [])
 sets_declared ds m x t free = elim (true_or_false (is_blank x)) [
   | inl b ↦ rw b (sets_blank ds m (sort_of t))
   | inr b ↦
-      let new = declare_new m x t (not_true (is_here m x) (rw b at free)) in
-      rw (b, new) (sets_new ds m x (next_of m) t (not_true (is_here m x) (rw b at free)) new)
+      let new = declare_new m x t (not-true (is_here m x) (rw b at free)) in
+      rw (b, new) (sets_new ds m x (next_of m) t (not-true (is_here m x) (rw b at free)) new)
 ]
 
 pub sets_then : (ds : List Declared) (m n o : Scope) (k : Option ℕ) (ks : List (Option ℕ)) (l : Sort) (ls : List Sort)
@@ -78,9 +74,9 @@ pub number_kept : (m n : Scope) (x : List ℕ) (t : Ty) → is_free m x ≡ true
 number_kept m n x t free g = elim (true_or_false (is_blank x)) [
   | inl b ↦ rw b refl
   | inr b ↦
-      let new = declare_new m x t (not_true (is_here m x) (rw b at free)) in
+      let new = declare_new m x t (not-true (is_here m x) (rw b at free)) in
       let later : Grows (declare m x t) n = rw b at g in
-      rw b (grows_named (declare m x t) n x (next_of m) later (declared_here m x t (not_true (is_here m x) (rw b at free))) new ∙ sym new)
+      rw b (grows_named (declare m x t) n x (next_of m) later (declared_here m x t (not-true (is_here m x) (rw b at free))) new ∙ sym new)
 ]
 
 pub all_sets : (ds : List Declared) (m : Scope) (xs : List (List ℕ)) (t : Ty) → Declarable m xs
@@ -125,7 +121,7 @@ all_define s m before (x ∷ xs) e h = elim (true_or_false (is_blank x)) [
   | inl b ↦ (λ f. absurd (true≢false (sym b ∙ f)), all_define s m before xs (rw b at e) h, λ f. absurd (true≢false (sym b ∙ f)))
   | inr b ↦
       let p = and_parts (not (among before x)) (are_distinct (before ++ (x ∷ [])) xs) (rw b at e) in
-      let other = not_true (among before x) p.0 in (
+      let other = not-true (among before x) p.0 in (
         λ f free. elim (true_or_false (is_here m x)) [
           | inl here ↦ elim (h x here) [ inl q ↦ absurd (true≢false (sym q ∙ free)) | inr q ↦ absurd (true≢false (sym q ∙ other)) ]
           | inr q ↦ q

@@ -8,7 +8,6 @@ use Rattle.gr_base.specs.declared.values.Value.{Value}
 use Rattle.gr_base.specs.declared.kinds.Fault.{Fault}
 use Rattle.gr_base.specs.declared.names.ChName.{ChName}
 use Rattle.gr_base.specs.declared.kinds.Kind.{Kind}
-use Rattle.gr_base.specs.declared.events.Choice.{Choice}
 use Rattle.gr_base.specs.declared.events.Event.{Event}
 use Rattle.gr_types.specs.Types.{Ty}
 use Rattle.gr_types.specs.Terms.{Term, Act, Declared, Program}
@@ -26,7 +25,6 @@ use Rattle.gr_goros.specs.Parts.{Ask, Calls, Receives, Makes, CountsItems, Count
 use Rattle.gr_goros.specs.Frames.{Frame, assigned}
 use Rattle.gr_goros.specs.Goroutines.{Wait, Goroutine, ready}
 use Rattle.gr_goros.specs.Deeds.{Communication, Communicates, deed, resumed}
-use Rattle.gr_step.specs.States as states
 use Rattle.gr_step.specs.States.{State, call_of}
 use Rattle.gr_step.specs.Attempts.{Refusal, unsound, Operation, Attempt}
 use Rattle.gr_step.specs.Actors.{Actor}
@@ -155,11 +153,6 @@ pub record Going (fs : List Signature) (p : Program) (made : Made) (s : State) :
 abbrev pub AttemptFine : Type 0
 AttemptFine = (fs : List Signature) (p : Program) (made : Made) (s : State) (e : Event)
     → Going fs p made s → Fine (λ r. r ≡ unsound → ⊥) fs made s (attempt p e)
-
-abbrev pub Progresses : Type 0
-Progresses = (fs : List Signature) (p : Program) (made : Made) (s : State) (name : List ℕ) (g : Goroutine)
-    → Going fs p made s → s.run ≡ states.live → s.goroutines name ≡ Some g → g.status ≡ ready
-    → (choice : Choice) × Fine (λ r. ⊥) fs made s (attempt p (record { go = name; choice = choice }))
 
 -- 5. Checked programs: what names stand for holds a value; the variables so far are the first of the function's; a scope
 -- with more names in its block and more variables.

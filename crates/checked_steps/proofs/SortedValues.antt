@@ -17,7 +17,7 @@ use Rattle.gr_causal.proofs.ListLemmas.{some_is, none_not, In-append_left, In-ap
 use Rattle.gr_eval.specs.Operators.{int, divided, shifted, on_ints, compared, on_truths, operate, apply, settles}
 use Rattle.gr_goros.specs.Frames.{assigned}
 use Rattle.gr_goros.specs.Parts.{is_logical}
-use Rattle.checked_steps.proofs.Sorts.{Sort, IntSort, BoolSort, Made, More, HasSort, has_int, has_truth, has_unit, has_nil, has_channel, HaveSorts, no_value, one_value, Yields, yields, faulty, is_arithmetic, is_order, UnarySorts, plus, negate, complement, not, BinarySorts, arithmetic, order, comparison, logical, Setting, SortedTree, done, variable, unary, binary, receive, call, len, cap, make, SortedTrees, no_tree, one_tree, sort_at, Holding, AreTargets, no_target, blank, target, numbers_of, Sub}
+use Rattle.checked_steps.proofs.Sorts.{Sort, IntSort, BoolSort, Made, More, HasSort, has_int, has_truth, has_unit, has_nil, has_channel, HaveSorts, one_value, Yields, yields, faulty, is_arithmetic, is_order, UnarySorts, plus, negate, complement, not, BinarySorts, arithmetic, order, comparison, logical, Setting, SortedTree, done, variable, unary, binary, receive, call, len, cap, make, SortedTrees, no_tree, one_tree, sort_at, Holding, AreTargets, no_target, blank, target, numbers_of, Sub}
 use Rattle.checked_steps.proofs.Promises.{TreesMore, AssignedHolding}
 
 untrue : false ≡ true → ⊥
@@ -31,10 +31,6 @@ module _ (made after : Made) (m : More made after) where
   sort_more has_unit = has_unit
   sort_more has_nil = has_nil
   sort_more (has_channel {c} {k} e) = has_channel (m c k e)
-
-  pub sorts_more : {vs : List Value} {ks : List Sort} → HaveSorts made vs ks → HaveSorts after vs ks
-  sorts_more no_value = no_value
-  sorts_more (one_value h rest) = one_value (sort_more h) (sorts_more rest)
 
   module _ (d : Setting) (live : List ℕ) where
     mutual

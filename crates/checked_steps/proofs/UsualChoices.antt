@@ -27,11 +27,11 @@ filtered test x (y ∷ xs) i = elim (true_or_false (test y)) [
     dropped : test y ≡ false → filter test (y ∷ xs) ≡ filter test xs
     dropped e = rw e refl
 
-in_filter : {A : Type 0} (test : A → Bool) (x : A) (xs : List A) → In x xs → test x ≡ true → In x (filter test xs)
-in_filter test x [] i t = absurd i
-in_filter test x (y ∷ xs) i t = elim (true_or_false (test y)) [
-  | inl e ↦ subst (In x) (sym (kept e)) (elim i [ inl q ↦ inl q | inr j ↦ inr (in_filter test x xs j t) ])
-  | inr e ↦ subst (In x) (sym (dropped e)) (elim i [ inl q ↦ absurd (let f : true ≡ false = sym t ∙ ap test q ∙ e in cc) | inr j ↦ in_filter test x xs j t ])
+kept_in_filter : {A : Type 0} (test : A → Bool) (x : A) (xs : List A) → In x xs → test x ≡ true → In x (filter test xs)
+kept_in_filter test x [] i t = absurd i
+kept_in_filter test x (y ∷ xs) i t = elim (true_or_false (test y)) [
+  | inl e ↦ subst (In x) (sym (kept e)) (elim i [ inl q ↦ inl q | inr j ↦ inr (kept_in_filter test x xs j t) ])
+  | inr e ↦ subst (In x) (sym (dropped e)) (elim i [ inl q ↦ absurd (let f : true ≡ false = sym t ∙ ap test q ∙ e in cc) | inr j ↦ kept_in_filter test x xs j t ])
 ]
   where
     kept : test y ≡ true → filter test (y ∷ xs) ≡ y ∷ filter test xs
@@ -72,11 +72,11 @@ module _ (p : Program) (s : State) (name : List ℕ) where
   among : (choice : Choice) → Within (clauses_of (s.goroutines name)) choice → refused choice ≡ None → (choice ≡ Plain) ⊎ In choice steps
   among choices.Plain w e = inl refl
   among (choices.Pick i) w e = inr (In-append_left (Pick i) (map Pick (ready_clauses p s name)) (filter (may p s name) (Default ∷ Park ∷ []))
-      (In-map Pick i (ready_clauses p s name) (in_filter (λ i. may p s name (Pick i)) i picks w (may_go (Pick i) e))))
+      (In-map Pick i (ready_clauses p s name) (kept_in_filter (λ i. may p s name (Pick i)) i picks w (may_go (Pick i) e))))
   among choices.Default w e = inr (In-append_right Default (map Pick (ready_clauses p s name)) (filter (may p s name) (Default ∷ Park ∷ []))
-      (in_filter (may p s name) Default (Default ∷ Park ∷ []) (inl refl) (may_go Default e)))
+      (kept_in_filter (may p s name) Default (Default ∷ Park ∷ []) (inl refl) (may_go Default e)))
   among choices.Park w e = inr (In-append_right Park (map Pick (ready_clauses p s name)) (filter (may p s name) (Default ∷ Park ∷ []))
-      (in_filter (may p s name) Park (Default ∷ Park ∷ []) (inr (inl refl)) (may_go Park e)))
+      (kept_in_filter (may p s name) Park (Default ∷ Park ∷ []) (inr (inl refl)) (may_go Park e)))
 
   first_goes : (cs : List Choice) (choice : Choice) → ((c : Choice) → In c cs → refused c ≡ None) → (choice ≡ Plain) ⊎ In choice cs → refused choice ≡ None → refused (get_or cs 0 Plain) ≡ None
   first_goes [] choice all (inl q) e = subst (λ c. refused c ≡ None) q e

@@ -7,7 +7,12 @@ pub mod RuleTouches
 pub mod AttemptTouches
 pub mod BufferLemmas
 pub mod SoundLemmas
+pub mod SoundCommunications
+pub mod SoundSelects
 pub mod RuleSound
 pub mod WaitLemmas
 pub mod LeafLemmas
+pub mod WaitAttempts
+pub mod WaitCommunications
+pub mod WaitSelects
 pub mod RuleWaits

@@ -3,19 +3,22 @@ use Rattle.std.proofs.Common.{fold, ◌≡◌, ◌⊎◌, ◌↔◌, ℕ, Bool, 
 use Rattle.std.specs.List.{list_any}
 use Rattle.gr_base.specs.declared.names.ChName.{ChName}
 use Rattle.gr_base.specs.declared.values.Value.{Value}
+use Rattle.gr_base.specs.declared.kinds.Fault.{Fault}
 use Rattle.gr_base.specs.declared.objects.Object.{Object}
 use Rattle.gr_causal.specs.Sequences.{In}
 use Rattle.gr_causal.proofs.ListLemmas.{In-append_cases, In-append_left, In-append_right, or_true, true_or_false}
 use Rattle.gr_channels.specs.declared.waiter.Waiter.{Waiter}
 use Rattle.gr_channels.specs.Objects.{GateContent}
 use Rattle.gr_channels.specs.Queues.{others}
-use Rattle.gr_eval.specs.Outcomes.{gives, faults, wrong}
+use Rattle.gr_eval.specs.Outcomes.{Outcome, gives, faults, wrong, ◌>>=◌}
 use Rattle.gr_eval.specs.Operators.{same_channel}
+use Rattle.gr_goros.specs.Frames.{Frame}
 use Rattle.gr_goros.specs.Deeds.{Communication, Sending, Receiving, Otherwise}
 use Rattle.gr_goros.specs.Goroutines.{Wait, ToSend, ToReceive, channel_of}
 use Rattle.gr_step.specs.States.{Cell, State, same_go, same, object_of, look, put}
 use Rattle.gr_step.specs.Actors.{without, channels_but}
 use Rattle.gr_step.specs.Communications.{waits_for, all_waits, enqueued}
+use Rattle.gr_step.specs.Selects.{values_of}
 use Rattle.gr_step.specs.Soundness.{Stands}
 use Rattle.gr_step.proofs.CellLemmas.{go_is, go_self, channel_is, channel_self, same_is, same_self, put_here, put_else}
 
@@ -32,7 +35,7 @@ pub all_append : {A : Type 0} (P : A → Type 0) (xs ys : List A) → All P xs �
 all_append P [] ys g h = h
 all_append P (x ∷ xs) ys g h = (g.0, all_append P xs ys g.1 h)
 
-false_not : (b : Bool) → b ≡ true → b ≡ false → ⊥
+pub false_not : (b : Bool) → b ≡ true → b ≡ false → ⊥
 false_not b t f = let e : true ≡ false = sym t ∙ f in cc
 
 pub which_go : (n m : List ℕ) → (n ≡ m) ⊎ (n ≡ m → ⊥)
@@ -112,6 +115,31 @@ abbrev pub Known : Communication → Type 0
 Known (Sending (Some c) (gives v) on) = Unit {0}
 Known (Sending (Some c) _ on) = ⊥
 Known _ = Unit {0}
+
+pub sent_known : (c : Option ChName) (v : Value) (on : Frame) → Known (Sending c (gives v) on)
+sent_known None v on = tt
+sent_known (Some c) v on = tt
+
+no_fault : {A : Type 0} (e : Fault) (x : A) → faults e ≡ gives x → ⊥
+no_fault f x e = cc
+
+no_wrong : {A : Type 0} (x : A) → wrong ≡ gives x → ⊥
+no_wrong x e = cc
+
+-- where all values to send are there
+pub known_values : (cs : List Communication) (vs : List Value) → values_of cs ≡ gives vs → All Known cs
+known_values [] vs e = tt
+known_values (Sending c (gives v) on ∷ cs) vs e = (sent_known c v on, by_rest (known_values cs) (values_of cs) refl e)
+  where
+    by_rest : ((xs : List Value) → values_of cs ≡ gives xs → All Known cs) → (x : Outcome (List Value)) → values_of cs ≡ x → (x >>= λ xs. gives (v ∷ xs)) ≡ gives vs → All Known cs
+    by_rest ih (gives xs) d g = ih xs d
+    by_rest ih (faults f) d g = absurd (no_fault f _ g)
+    by_rest ih wrong d g = absurd (no_wrong _ g)
+known_values (Sending c (faults f) on ∷ cs) vs e = absurd (no_fault f _ e)
+known_values (Sending c wrong on ∷ cs) vs e = absurd (no_wrong _ e)
+known_values (Receiving (Some c) initial on ∷ cs) vs e = (tt, known_values cs vs e)
+known_values (Receiving None initial on ∷ cs) vs e = (tt, known_values cs vs e)
+known_values (Otherwise on ∷ cs) vs e = (tt, known_values cs vs e)
 
 not_alike : (c d : ChName) (i j : Option ℕ) → ToSend c i ≡ ToReceive d j → ⊥
 not_alike c d i j e = cc
