@@ -1,5 +1,5 @@
 -- What a scan has done, and what is left.
-use Rattle.std.proofs.Common.{◌≡◌, ℕ, ◌<◌, ◌≤◌, ◌+◌, Bool, false, List, [], ◌∷◌, ◌++◌, length, length-take, take, drop, refl, ap, sym, ◌∙◌, subst, arith, append_assoc, append-nil, true≢false}
+use Rattle.std.proofs.Common.{◌≡◌, ℕ, ◌<◌, ◌+◌, Bool, false, List, [], ◌∷◌, ◌++◌, length, length-take, take, drop, refl, ap, sym, ◌∙◌, subst, arith, append_assoc, append-nil, true≢false}
 use Rattle.std.specs.Prelude.{Option, Some, None, Ok, Err, ◌==◌}
 use Rattle.gr_scan.specs.declared.token.Token.{Token}
 use Rattle.gr_scan.specs.declared.piece.Piece.{Piece}
@@ -9,15 +9,13 @@ use Rattle.gr_scan.specs.Tokens.{Tok, token_of, tokens_of}
 use Rattle.gr_scan.specs.Pieces.{IsPiece, NoPiece, Cut, end, piece}
 use Rattle.gr_scan.specs.Scan.{Item, LineEnd, It, items_of, line_after, both_items, all_items, ends, semicolon, with_semicolons, mark_size, IsScan, HasNoTokens}
 use Rattle.gr_scan.specs.Scanning.{emitted, wanted_after, Tells, Puts}
+use Rattle.gr_scan.proofs.Basics.{some_inj}
 use Rattle.gr_scan.proofs.Classes.{spells_length}
 use Rattle.gr_scan.proofs.Unique.{one_piece}
 
 pub tokens_of_push : (xs : List Token) (x : Token) → tokens_of (xs ++ (x ∷ [])) ≡ tokens_of xs ++ (token_of x ∷ [])
 tokens_of_push [] x = refl
 tokens_of_push (y ∷ xs) x = ap (λ r. token_of y ∷ r) (tokens_of_push xs x)
-
-some_inj : {A : Type 0} {x y : A} → Some x ≡ Some y → x ≡ y
-some_inj e = cc
 
 abbrev pub Pieces : Type 0
 Pieces = List (Piece × List ℕ)
@@ -38,12 +36,6 @@ semicolons_append wanted (It t ∷ is) js = ap (λ r. t ∷ r) (semicolons_appen
 pub record Goes (text : List ℕ) (done : List Tok) (wanted : Bool) (start line : ℕ) (rest : List ℕ) : Type 0 where
   pub to : (ps : Pieces) (is : List Item) → Cut ps rest → all_items start line ps ≡ Some is → IsScan text (done ++ with_semicolons wanted is)
   pub from : (ts : List Tok) → IsScan text ts → (ps : Pieces) × (is : List Item) × Cut ps rest × (all_items start line ps ≡ Some is) × (ts ≡ done ++ with_semicolons wanted is)
-
-pub goes_start : (text : List ℕ) → length text ≤ 1048576 → Goes text [] false (mark_size text) 1 (drop (mark_size text) text)
-goes_start text short = record {
-  to = λ ps is c a. record { short = short; pieces = ps; cut = c; items = is; are = a; tokens = refl };
-  from = λ ts s. (s.pieces, s.items, s.cut, s.are, s.tokens);
-}
 
 both_some : (a b : Option (List Item)) (is js : List Item) → a ≡ Some is → b ≡ Some js → both_items a b ≡ Some (is ++ js)
 both_some a b is js e f = rw (e, f) refl

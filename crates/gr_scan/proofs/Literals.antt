@@ -5,12 +5,10 @@ use Rattle.gr_scan.specs.declared.quoted.Part.{Part}
 use Rattle.gr_scan.specs.declared.quoted.Part.TheVariants.{Byte, Backslash, Close, LeftOut, Malformed}
 use Rattle.gr_scan.specs.Strings.{is_plain, escaped, with_byte, body_of, text_of}
 use Rattle.gr_scan.specs.Scanning.{is_left_out, escape_part, part_of, end_by, end_after, text_end}
+use Rattle.gr_scan.proofs.Basics.{some_inj, no_value}
 
 abbrev Value : Type 0
 Value = Option (List ℕ)
-
-no_value : {A Z : Type 0} {x : A} → None ≡ Some x → Z
-no_value e = absurd (cc)
 
 -- what a body stands for, by what its first byte is
 abbrev body_by : Part → (last : Bool) → Value → Value → Value
@@ -42,9 +40,6 @@ by_part false b s = by_byte (b == 34) (b == 92) (is_plain b) (b == 10) (length s
 by_this : (f : Bool) (b : ℕ) (s : List ℕ) (p : Part) → part_of f b ≡ p → body_of f (b ∷ s) ≡ body_by p (length s == 0) (body_of false s) (body_of true s)
 by_this f b s p e = by_part f b s ∙ ap (λ q. body_by q (length s == 0) (body_of false s) (body_of true s)) e
 
-some_same : (n m : ℕ) → Some n ≡ Some m → n ≡ m
-some_same n m e = cc
-
 quoted : (t : Bool) (r : Value) (bytes : List ℕ) → cond t r None ≡ Some bytes → r ≡ Some bytes
 quoted true r bytes h = h
 quoted false r bytes h = no_value h
@@ -65,7 +60,7 @@ found_by i n f b s Backslash e next h =
     let w = next true h in
     (suc w.0, omega (arith, w.1), omega (arith, w.2), w.3, by_this f b (take w.0 s) Backslash e ∙ w.4)
 found_by i n f b s Close e next h =
-    let same : i + 1 ≡ n = some_same (i + 1) n h in
+    let same : i + 1 ≡ n = some_inj h in
     (1, sym same, omega arith, [], by_this f b [] Close e)
 found_by i n f b s LeftOut e next h = no_value h
 found_by i n f b s Malformed e next h = no_value h

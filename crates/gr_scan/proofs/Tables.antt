@@ -6,6 +6,7 @@ use Rattle.std.specs.List.{list_all, starts_with}
 use Rattle.gr_scan.specs.declared.token.Mark.{Mark}
 use Rattle.gr_scan.specs.Marks.{Spelling, mark_in, operators}
 use Rattle.gr_scan.specs.Scanning.{first_prefix}
+use Rattle.gr_scan.proofs.Basics.{some_inj}
 use Rattle.gr_scan.proofs.Bools.{true_or_false, and_true, both, equal_texts}
 
 -- what a test says of every entry holds of what is found
@@ -15,9 +16,6 @@ found P (entry ∷ t) s m all e = elim (true_or_false (pointwise nat_eq entry.0 
   | inl w ↦ subst (λ x. P x ≡ true) (same_text entry.0 s (sym w)) ((and_true (P entry.0) (list_all (λ entry. P entry.0) t) all).0)
   | inr w ↦ found P t s m ((and_true (P entry.0) (list_all (λ entry. P entry.0) t) all).1) (rw w at e)
 ]
-
-some_inj : {A : Type 0} {x y : A} → Some x ≡ Some y → x ≡ y
-some_inj e = cc
 
 -- what is answered where the first entry is a prefix
 taken : (entry : Spelling) (t : List Spelling) (text : List ℕ) (m : Mark) (n : ℕ) → starts_with nat_eq text entry.0 ≡ true → first_prefix (entry ∷ t) text ≡ Some (m, n) → (entry.1 ≡ m) × (length entry.0 ≡ n)

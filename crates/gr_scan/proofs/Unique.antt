@@ -1,5 +1,5 @@
 -- The kind of a piece is a function of its spelling.
-use Rattle.std.proofs.Common.{◌≡◌, ℕ, ◌≤◌, ◌-◌, true, false, cond, List, length, take, get_or, refl, ap, sym, ◌∙◌, subst, arith, ⊎_elim, true≢false}
+use Rattle.std.proofs.Common.{◌≡◌, ℕ, ◌≤◌, ◌-◌, true, false, cond, List, length, take, get_or, refl, ap, sym, ◌∙◌, subst, arith, ⊎_elim}
 use Rattle.std.specs.Prelude.{Option, Some, None, ◌==◌}
 use Rattle.std.proofs.lemmas.Bool.Decides.{nat_tests}
 use Rattle.gr_scan.specs.declared.token.Mark.{Mark}
@@ -10,9 +10,10 @@ use Rattle.gr_scan.specs.declared.piece.Class.TheVariants.{Letter, Digit, Space,
 use Rattle.gr_scan.specs.Marks.{operators, mark_in}
 use Rattle.gr_scan.specs.Pieces.{is_digit, is_letter, is_word, Spells, IsPiece}
 use Rattle.gr_scan.specs.Scanning.{class_of}
+use Rattle.gr_scan.proofs.Basics.{not_here, some_inj}
 use Rattle.gr_scan.proofs.Classes.{may, may_begin, holds_at, operator_follows, space_class, digit_class}
 use Rattle.gr_scan.proofs.Literals.{text_front}
-use Rattle.gr_scan.proofs.Longest.{slash_second, point_second}
+use Rattle.gr_scan.proofs.OperatorPieces.{slash_second, point_second}
 
 abbrev operator_kind : Option Mark → Option Piece
 operator_kind (Some mark) = Some (pieces.Operator mark)
@@ -28,9 +29,6 @@ kind_at Quote s = Some pieces.Text
 kind_at Slash s = cond (get_or s 1 0 == 47) (Some pieces.Comment) (cond (get_or s 1 0 == 42) (cond (length s == 2) (Some pieces.OpenComment) (Some pieces.GeneralComment)) (operator_kind (mark_in operators s)))
 kind_at Point s = cond (is_digit (get_or s 1 0)) (Some pieces.Fraction) (operator_kind (mark_in operators s))
 kind_at Other s = operator_kind (mark_in operators s)
-
-not_here : {Z : Type 0} → false ≡ true → Z
-not_here e = absurd (true≢false (sym e))
 
 not_point : (b : ℕ) → is_word b ≡ true → (b == 46) ≡ false
 not_point b e = grind (arith, nat_tests)
@@ -72,9 +70,6 @@ kind_is pieces.Fraction s sp = ⊎_elim
 kind_is pieces.Text s sp = at_class pieces.Text s Quote (ap class_of (text_front s sp.0 sp.1).1) refl
 kind_is pieces.GeneralComment s sp = at_class pieces.GeneralComment s Slash (ap class_of sp.1) (rw (sp.2, not_two (length s) sp.0) refl)
 kind_is pieces.OpenComment s sp = at_class pieces.OpenComment s Slash (ap (λ (x : List ℕ). class_of (get_or x 0 0)) sp) (rw sp refl)
-
-some_inj : {A : Type 0} {x y : A} → Some x ≡ Some y → x ≡ y
-some_inj e = cc
 
 le_antisymm : (n m : ℕ) → n ≤ m → m ≤ n → n ≡ m
 le_antisymm n m a b = omega arith

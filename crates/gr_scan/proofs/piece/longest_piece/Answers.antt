@@ -1,5 +1,7 @@
 use Rattle.std.proofs.Common.{◌∙◌, sym}
-use Rattle.gr_scan.proofs.Longest.{word_piece, space_piece, newline_piece, other_only}
+use Rattle.gr_scan.proofs.BlankPieces.{space_piece, newline_piece}
+use Rattle.gr_scan.proofs.WordPieces.{word_piece}
+use Rattle.gr_scan.proofs.OperatorPieces.{other_only}
 use Rattle.gr_scan.proofs.piece.longest_piece.Goals as goal
 
 pub mark-requires : goal.mark-requires

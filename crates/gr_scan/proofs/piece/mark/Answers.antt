@@ -1,5 +1,5 @@
 use Rattle.std.proofs.Common.{◌∙◌, sym}
-use Rattle.gr_scan.proofs.Longest.{mark_piece, no_mark}
+use Rattle.gr_scan.proofs.OperatorPieces.{mark_piece, no_mark}
 use Rattle.gr_scan.proofs.piece.mark.Goals as goal
 
 pub returns-in-Some-clause-ok : goal.returns-in-Some-clause-ok

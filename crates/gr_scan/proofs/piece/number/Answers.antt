@@ -1,5 +1,6 @@
 use Rattle.std.proofs.Common.{◌≡◌, get_or, ◌∙◌, sym, arith}
-use Rattle.gr_scan.proofs.Longest.{number_piece, pointed_piece, there}
+use Rattle.gr_scan.proofs.Fronts.{there}
+use Rattle.gr_scan.proofs.NumberPieces.{number_piece, pointed_piece}
 use Rattle.gr_scan.proofs.piece.number.Goals as goal
 
 pub returns-then-byte-eq46 : goal.returns-then-byte-eq46

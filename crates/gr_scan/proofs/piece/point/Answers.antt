@@ -1,6 +1,7 @@
 use Rattle.std.proofs.Common.{◌≡◌, true, get_or, ◌∙◌, sym, ap}
 use Rattle.gr_scan.specs.Pieces.{is_digit}
-use Rattle.gr_scan.proofs.Longest.{point_piece, point_only, digit_there}
+use Rattle.gr_scan.proofs.Fronts.{digit_there}
+use Rattle.gr_scan.proofs.PointPieces.{point_piece, point_only}
 use Rattle.gr_scan.proofs.piece.point.Goals as goal
 
 pub returns-then-digit-clause-ok : goal.returns-then-digit-clause-ok

@@ -1,5 +1,6 @@
 use Rattle.std.proofs.Common.{◌≡◌, get_or, ◌∙◌, sym, arith}
-use Rattle.gr_scan.proofs.Longest.{comment_piece, general_piece, open_piece, there}
+use Rattle.gr_scan.proofs.Fronts.{there}
+use Rattle.gr_scan.proofs.CommentPieces.{comment_piece, general_piece, open_piece}
 use Rattle.gr_scan.proofs.piece.slash.Goals as goal
 
 pub returns-then-second-eq47-clause-ok : goal.returns-then-second-eq47-clause-ok

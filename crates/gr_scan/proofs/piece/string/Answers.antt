@@ -3,7 +3,7 @@ use Rattle.std.proofs.lemmas.Result.{err_from_is_err_and}
 use Rattle.gr_scan.specs.Pieces.{NoPiece}
 use Rattle.gr_scan.specs.Scanning.{text_end}
 use Rattle.gr_scan.proofs.Goes.{tells_next}
-use Rattle.gr_scan.proofs.Longest.{text_piece, no_text}
+use Rattle.gr_scan.proofs.TextPieces.{text_piece, no_text}
 use Rattle.gr_scan.proofs.piece.string.Goals as goal
 
 pub returns-in_err-size-clause-err : goal.returns-in_err-size-clause-err
