@@ -15,7 +15,8 @@ use Rattle.gr_tree.specs.declared.stmt.Clause.TheVariants as clauses
 use Rattle.gr_tree.specs.Statements.{Comm, Statement, IfElseIf, Select, Statements, Clauses, default, case, if_of, comm_of, statement_of, row_statements, row_clauses, statements_of}
 use Rattle.gr_syntax.specs.Grammar.{after_mark}
 use Rattle.gr_syntax.specs.Reading.{Fault, Found, ◌>>=◌, turned, loop, need}
-use Rattle.gr_syntax.specs.StatementReading.{stops_at, past_semicolon, list_turn, comm_at, list_at, with_default, with_case, case_at, default_at, clause_turn, statement_at}
+use Rattle.gr_syntax.specs.SimpleReading.{stops_at}
+use Rattle.gr_syntax.specs.StatementReading.{past_semicolon, list_turn, comm_at, list_at, with_default, with_case, case_at, default_at, clause_turn, statement_at}
 use Rattle.gr_syntax.specs.CodeViews.{clauses_of}
 use Rattle.gr_syntax.proofs.Turns.{tokens_length}
 use Rattle.gr_syntax.proofs.Rows.{held, statements_push}
@@ -23,7 +24,7 @@ use Rattle.gr_syntax.proofs.StatementTurns.{list_go}
 use Rattle.gr_syntax.proofs.SoundHeads.{comm_sound}
 use Rattle.gr_syntax.proofs.SoundStatements.{list_sound, statement_sound}
 use Rattle.gr_syntax.proofs.StatementSizes.{comm_shrunk, list_shrunk}
-use Rattle.gr_syntax.proofs.CompleteStatements.{clause_step}
+use Rattle.gr_syntax.proofs.CompleteClauses.{clause_step}
 
 -- one turn of the clauses of a select
 module _ (h : ℕ) (cs : Found Clauses) where

@@ -1,126 +1,23 @@
--- What stands before the block of an if or a for, what a clause of a select waits for, and what has no statements in it: what
--- is in the grammar is read, where it is not too high.
-use Rattle.std.proofs.Common.{◌≡◌, ℕ, zero, suc, ◌+◌, ◌<◌, ◌≤◌, max, Bool, true, false, cond, List, [], ◌∷◌, length, refl, ap, sym, ◌∙◌, subst, arith}
-use Rattle.std.specs.Prelude.{Option, Some, None, Result, Ok, Err}
+-- What stands before the block of an if or a for: what is in the grammar is read, where it is not too high.
+use Rattle.std.proofs.Common.{◌≡◌, ℕ, max, true, false, List, ◌∷◌, refl, ap, sym, ◌∙◌, arith}
+use Rattle.std.specs.Prelude.{Option, Some, None, Result, Ok}
 use Rattle.gr_scan.specs.declared.token.Place.{Place}
 use Rattle.gr_scan.specs.declared.token.Mark.TheVariants as marks
 use Rattle.gr_scan.specs.Tokens.{Tok, At, Sign}
 use Rattle.gr_scan.specs.Tokens as words
-use Rattle.gr_tree.specs.declared.expr.UnaryOp.TheVariants as unaries
-use Rattle.gr_tree.specs.Exprs.{WrittenType, type_height, Tree, Name, Paren, Unary, Call, Trees, height, heights}
-use Rattle.gr_tree.specs.Statements.{Act, Plain, Var, VarValues, Go, Return, Break, Continue, Heading, Heads, IfHead, Test, Target, Nothing, Old, New, ForHead, Loop, Range, Comm, SendTo, Receive, AssignTo, DefineAs, simple_height, act_height, heading_height, if_height, for_height, comm_height, part_height}
-use Rattle.gr_syntax.specs.Grammar.{SpellsType, type_name, type_unit, type_chan, type_send, type_receive, type_paren, SpellsUnary, SpellsExpr, SpellsExprs, SpellsNames, alone, name, paren, unary, call_none, call, call_comma, last_name, comma_name, after_mark, is_make}
+use Rattle.gr_tree.specs.Exprs.{Tree, Name, height}
+use Rattle.gr_tree.specs.Statements.{Heading, Heads, IfHead, Test, Target, Nothing, Old, New, ForHead, Loop, Range, simple_height, heading_height, if_height, for_height, part_height}
+use Rattle.gr_syntax.specs.Grammar.{SpellsExpr, alone, name, after_mark}
 use Rattle.gr_syntax.specs.StatementGrammar as grammar
-use Rattle.gr_syntax.specs.StatementGrammar.{SpellsSimple, SpellsAct, SpellsHeading, heads, SpellsPart, missing, there, SpellsIfHead, SpellsPost, SpellsForHead, SpellsReceive, SpellsComm, defines}
-use Rattle.gr_syntax.specs.Reading.{Fault, Found, Reads, ◌>>=◌, match_after, binary_of, operator_at, name_at, need, names_at, type_at, expr_at, exprs_at, arguments_at, operand_at}
-use Rattle.gr_syntax.specs.StatementReading.{up_to, joint_of, done_at, first_name, place_at, bare, simple_after, var_typed, var_after, var_at, go_at, return_at, jump_at, heading_after, tested, if_after, if_head_at, ranged, condition_at, post_at, parts_at, target_at, for_init, for_named, for_after, for_head_at, is_receive, receive_at, received_at, comm_names, comm_after, comm_at}
-use Rattle.gr_syntax.proofs.Bound.{bound, within, above, bound_bind, bound_max, under}
+use Rattle.gr_syntax.specs.StatementGrammar.{SpellsSimple, SpellsHeading, heads, SpellsPart, missing, there, SpellsIfHead, SpellsPost, SpellsForHead, defines}
+use Rattle.gr_syntax.specs.Reading.{Fault, Found, Reads, ◌>>=◌, match_after, binary_of, need, expr_at}
+use Rattle.gr_syntax.specs.SimpleReading.{place_at, bare}
+use Rattle.gr_syntax.specs.StatementReading.{heading_after, tested, if_after, if_head_at, ranged, condition_at, post_at, parts_at, target_at, for_init, for_named, for_after, for_head_at}
+use Rattle.gr_syntax.proofs.Bound.{bound, within, bound_bind, bound_max}
 use Rattle.gr_syntax.proofs.Chains.{Quiet}
-use Rattle.gr_syntax.proofs.Names.{names_whole}
-use Rattle.gr_syntax.proofs.WrittenTypes.{type_whole}
 use Rattle.gr_syntax.proofs.Sizes.{height_pos}
-use Rattle.gr_syntax.proofs.CompleteExprs.{expr_whole, exprs_whole, unary_whole, arguments_whole}
-use Rattle.gr_syntax.proofs.CompleteSimple.{goes_on, from_first, Over, over_brace, over_semicolon, over_closing, over_colon_quiet, Opened, expr_opened, exprs_opened, values_raised, expr_raised, First, simple_first, heading_goes}
-
--- what may follow a statement
-pub record Ends (ts : List Tok) : Type 0 where
-  pub over : Over ts
-  pub done : done_at ts ≡ true
-  pub name : first_name ts ≡ None
-  pub otherwise : after_mark marks.Else ts ≡ None
-
-pub ends_semicolon : (p : Place) (ts : List Tok) → Ends (At p (Sign marks.Semicolon) ∷ ts)
-unfolding done_at first_name after_mark
-ends_semicolon p ts = record { over = over_semicolon p ts; done = refl; name = refl; otherwise = refl }
-
-pub ends_brace : (p : Place) (ts : List Tok) → Ends (At p (Sign marks.RightBrace) ∷ ts)
-unfolding done_at first_name after_mark
-ends_brace p ts = record { over = over_closing p ts; done = refl; name = refl; otherwise = refl }
-
-abbrev pub ActReads : (List Tok → Reads Act) → ℕ → Act → List Tok → List Tok → Type 0
-ActReads read h a ts rest = read ts ≡ bound h (act_height a) (Ok (a, act_height a, rest))
-
-type_opened : {t : WrittenType} {ts rest : List Tok} → SpellsType t ts rest → (after_mark marks.Comma ts ≡ None) × (after_mark marks.Assign ts ≡ None)
-unfolding after_mark
-type_opened type_name = (refl, refl)
-type_opened type_unit = (refl, refl)
-type_opened (type_chan m d) = (refl, refl)
-type_opened (type_send d) = (refl, refl)
-type_opened (type_receive d) = (refl, refl)
-type_opened (type_paren d) = (refl, refl)
-
-after_names : (h : ℕ) (xs : List (List ℕ)) (ts mid : List Tok) → SpellsNames xs ts mid → after_mark marks.Comma mid ≡ None → var_at h ts ≡ var_after h xs mid
-unfolding var_at
-after_names h xs ts mid d m = ap (λ r. r >>= λ (xs : Found (List (List ℕ))). var_after h xs.0 xs.2) (names_whole d m)
-
-after_type : (h : ℕ) (xs : List (List ℕ)) (ts : List Tok) → after_mark marks.Assign ts ≡ None → var_after h xs ts ≡ (type_at h ts >>= λ t. var_typed h xs t)
-unfolding var_after
-after_type h xs ts m = rw m refl
-
-only_type : (h : ℕ) (xs : List (List ℕ)) (t : WrittenType) (rest : List Tok) → after_mark marks.Assign rest ≡ None → var_typed h xs (t, type_height t, rest) ≡ bound h (type_height t + 1) (Ok (Var xs t, type_height t + 1, rest))
-unfolding var_typed
-only_type h xs t rest m = rw m refl
-
-typed_values : (h : ℕ) (xs : List (List ℕ)) (t : WrittenType) (es : Trees) (p : Place) (ts rest : List Tok) → SpellsExprs es ts rest → Over rest → var_typed h xs (t, type_height t, At p (Sign marks.Assign) ∷ ts) ≡ bound h (max (type_height t) (heights es) + 1) (Ok (VarValues xs (Some t) es, max (type_height t) (heights es) + 1, rest))
-unfolding var_typed after_mark
-typed_values h xs t es p ts rest d o =
-    let f : Found Trees → Reads Act = λ es. up_to h (VarValues xs (Some t) es.0, max (type_height t) es.1 + 1, es.2) in
-    goes_on h (heights es) h (max (type_height t) (heights es) + 1) (exprs_at (expr_at h) false ts) (es, heights es, rest) f (Ok (VarValues xs (Some t) es, max (type_height t) (heights es) + 1, rest)) (exprs_whole d o.quiet o.comma h) (λ le. refl) (λ lt. omega arith)
-
-untyped_values : (h : ℕ) (xs : List (List ℕ)) (es : Trees) (p : Place) (ts rest : List Tok) → SpellsExprs es ts rest → Over rest → var_after h xs (At p (Sign marks.Assign) ∷ ts) ≡ bound h (heights es + 1) (Ok (VarValues xs None es, heights es + 1, rest))
-unfolding var_after after_mark
-untyped_values h xs es p ts rest d o = values_raised h (VarValues xs None) es ts rest d o
-
-assign_mark : (p : Place) (ts : List Tok) → after_mark marks.Comma (At p (Sign marks.Assign) ∷ ts) ≡ None
-unfolding after_mark
-assign_mark p ts = refl
-
-pub var_whole : (h : ℕ) (xs : List (List ℕ)) (t : WrittenType) (ts mid rest : List Tok) → SpellsNames xs ts mid → SpellsType t mid rest → Over rest → ActReads (var_at h) h (Var xs t) ts rest
-var_whole h xs t ts mid rest d dt o =
-    after_names h xs ts mid d (type_opened dt).0 ∙ after_type h xs mid (type_opened dt).1
-    ∙ goes_on h (type_height t) h (type_height t + 1) (type_at h mid) (t, type_height t, rest) (λ t. var_typed h xs t) (Ok (Var xs t, type_height t + 1, rest)) (type_whole dt h) (λ le. only_type h xs t rest o.assign) (λ lt. omega arith)
-
-pub var_typed_whole : (h : ℕ) (xs : List (List ℕ)) (t : WrittenType) (es : Trees) (q : Place) (ts mid values rest : List Tok) → SpellsNames xs ts mid → SpellsType t mid (At q (Sign marks.Assign) ∷ values) → SpellsExprs es values rest → Over rest → ActReads (var_at h) h (VarValues xs (Some t) es) ts rest
-var_typed_whole h xs t es q ts mid values rest d dt ds o =
-    after_names h xs ts mid d (type_opened dt).0 ∙ after_type h xs mid (type_opened dt).1
-    ∙ goes_on h (type_height t) h (max (type_height t) (heights es) + 1) (type_at h mid) (t, type_height t, At q (Sign marks.Assign) ∷ values) (λ t. var_typed h xs t) (Ok (VarValues xs (Some t) es, max (type_height t) (heights es) + 1, rest)) (type_whole dt h) (λ le. typed_values h xs t es q values rest ds o) (λ lt. omega arith)
-
-pub var_values_whole : (h : ℕ) (xs : List (List ℕ)) (es : Trees) (q : Place) (ts values rest : List Tok) → SpellsNames xs ts (At q (Sign marks.Assign) ∷ values) → SpellsExprs es values rest → Over rest → ActReads (var_at h) h (VarValues xs None es) ts rest
-var_values_whole h xs es q ts values rest d ds o =
-    let z : max 0 (heights es) ≡ heights es = omega arith in
-    after_names h xs ts (At q (Sign marks.Assign) ∷ values) d (assign_mark q values) ∙ untyped_values h xs es q values rest ds o
-    ∙ ap (λ n. bound h (n + 1) (Ok (VarValues xs None es, n + 1, rest))) (sym z)
-
-go_reads : (h : ℕ) (p q : Place) (f : List ℕ) (ts : List Tok) → is_make f ≡ false → go_at h (At p (words.Name f) ∷ At q (Sign marks.LeftParen) ∷ ts) ≡ (arguments_at (expr_at h) ts >>= λ es. up_to h (Go f es.0, es.1 + 2, es.2))
-unfolding go_at name_at need after_mark
-go_reads h p q f ts m = rw m refl
-
-gone : (h : ℕ) (p q : Place) (f : List ℕ) (es : Trees) (ts rest : List Tok) → is_make f ≡ false → SpellsUnary (Call f es) (At p (words.Name f) ∷ At q (Sign marks.LeftParen) ∷ ts) rest → ActReads (go_at h) h (Go f es) (At p (words.Name f) ∷ At q (Sign marks.LeftParen) ∷ ts) rest
-gone h p q f es ts rest m d =
-    let k : Found Trees → Reads Act = λ es. up_to h (Go f es.0, es.1 + 2, es.2) in
-    go_reads h p q f ts m
-    ∙ goes_on h (heights es) h (heights es + 2) (arguments_at (expr_at h) ts) (es, heights es, rest) k (Ok (Go f es, heights es + 2, rest)) (arguments_whole d h) (λ le. refl) (λ lt. omega arith)
-
-pub go_whole : {f : List ℕ} {es : Trees} {ts rest : List Tok} → SpellsUnary (Call f es) ts rest → (h : ℕ) → ActReads (go_at h) h (Go f es) ts rest
-go_whole (call_none {p = p} {q = q} {r = r} {x = x} {rest = rest} m) h = gone h p q x _ (At r (Sign marks.RightParen) ∷ rest) rest m (call_none m)
-go_whole (call {p = p} {q = q} {x = x} {es = es} {ts = ts} {rest = rest} m d) h = gone h p q x es ts rest m (call m d)
-go_whole (call_comma {p = p} {q = q} {x = x} {es = es} {ts = ts} {rest = rest} m d) h = gone h p q x es ts rest m (call_comma m d)
-
-pub return_whole : (h : ℕ) (e : Tree) (ts rest : List Tok) → SpellsExpr 1 e ts rest → Over rest → ActReads (return_at h) h (Return (Some e)) ts rest
-unfolding return_at
-return_whole h e ts rest d o = let n = (expr_opened d).done in rw n (expr_raised h (λ e. Return (Some e)) e ts rest d o.quiet)
-
-pub return_none_whole : (h : ℕ) (rest : List Tok) → 1 ≤ h → Ends rest → ActReads (return_at h) h (Return None) rest rest
-unfolding return_at
-return_none_whole h rest pos n = let m = n.done in rw m (sym (within h 1 (Ok (Return None, 1, rest)) pos))
-
-pub jump_none_whole : (h : ℕ) (act : Option (List ℕ) → Act) (rest : List Tok) → act_height (act None) ≡ 1 → 1 ≤ h → Ends rest → ActReads (jump_at act) h (act None) rest rest
-unfolding jump_at
-jump_none_whole h act rest one pos n = let m = n.name in rw (m, one) (sym (within h 1 (Ok (act None, 1, rest)) pos))
-
-pub jump_whole : (h : ℕ) (act : Option (List ℕ) → Act) (q : Place) (x : List ℕ) (rest : List Tok) → act_height (act (Some x)) ≡ 1 → 1 ≤ h → ActReads (jump_at act) h (act (Some x)) (At q (words.Name x) ∷ rest) rest
-unfolding jump_at first_name
-jump_whole h act q x rest one pos = rw one (sym (within h 1 (Ok (act (Some x), 1, rest)) pos))
+use Rattle.gr_syntax.proofs.CompleteExprs.{expr_whole}
+use Rattle.gr_syntax.proofs.CompleteSimple.{from_first, over_brace, over_semicolon, Opened, expr_opened, First, simple_first, heading_goes}
 
 -- a condition after what stands before it
 tested_whole : (h : ℕ) (init : Option Heading) (k : ℕ) (e : Tree) (ts rest : List Tok) → SpellsExpr 1 e ts rest → Quiet rest → tested h init k ts ≡ bound h (height e) (Ok (Test init e, max k (height e), rest))
@@ -331,7 +228,7 @@ new_after : (h : ℕ) (p q r : Place) (x : List ℕ) (ts : List Tok) → for_aft
 unfolding for_after for_named target_at bare after_mark
 new_after h p q r x ts = refl
 
-quiet_both : (q : Place) (ts : List Tok) → Quiet (At q (Sign marks.Assign) ∷ ts) × Quiet (At q (Sign marks.Define) ∷ ts) × Quiet (At q (Sign marks.Comma) ∷ ts)
+pub quiet_both : (q : Place) (ts : List Tok) → Quiet (At q (Sign marks.Assign) ∷ ts) × Quiet (At q (Sign marks.Define) ∷ ts) × Quiet (At q (Sign marks.Comma) ∷ ts)
 unfolding after_mark binary_of
 quiet_both q ts = ((refl, refl), (refl, refl), (refl, refl))
 
@@ -353,131 +250,3 @@ for_head_whole {b = b} {tail = tail} (grammar.range_old {p = p} {q = q} {r = r} 
     ranged_name h p x (Old x) e (At q (Sign marks.Assign) ∷ At r (Sign marks.Range) ∷ ts) ts (At b (Sign marks.LeftBrace) ∷ tail) (quiet_both q (At r (Sign marks.Range) ∷ ts)).0 (old_after h p q r x ts) d (over_brace b tail).quiet
 for_head_whole {b = b} {tail = tail} (grammar.range_new {p = p} {q = q} {r = r} {x = x} {e = e} {ts = ts} d) h =
     ranged_name h p x (New x) e (At q (Sign marks.Define) ∷ At r (Sign marks.Range) ∷ ts) ts (At b (Sign marks.LeftBrace) ∷ tail) (quiet_both q (At r (Sign marks.Range) ∷ ts)).1 (new_after h p q r x ts) d (over_brace b tail).quiet
-
--- receives
-receive_zero : (ts : List Tok) → receive_at zero ts ≡ Err Rattle.gr_syntax.specs.Reading.High
-unfolding receive_at
-receive_zero ts = refl
-
-receive_arrow : (h : ℕ) (p : Place) (ts : List Tok) → receive_at (suc h) (At p (Sign marks.Arrow) ∷ ts) ≡ operand_at h (At p (Sign marks.Arrow) ∷ ts)
-unfolding receive_at after_mark
-receive_arrow h p ts = refl
-
-receive_opens : (h : ℕ) (p : Place) (ts : List Tok) → receive_at (suc h) (At p (Sign marks.LeftParen) ∷ ts) ≡ (receive_at h ts >>= λ e. need marks.RightParen e.2 >>= λ r. Ok (Paren e.0, e.1 + 1, r.1))
-unfolding receive_at after_mark
-receive_opens h p ts = refl
-
-paren_closes : (q : Place) (ts : List Tok) → need marks.RightParen (At q (Sign marks.RightParen) ∷ ts) ≡ Ok (q, ts)
-unfolding need after_mark
-paren_closes q ts = refl
-
-paren_shut : (q : Place) (ts : List Tok) → after_mark marks.LeftParen (At q (Sign marks.RightParen) ∷ ts) ≡ None
-unfolding after_mark
-paren_shut q ts = refl
-
-arrow_unary : {p : Place} {e : Tree} {ts rest : List Tok} → SpellsUnary e ts rest → SpellsUnary (Unary unaries.Receive e) (At p (Sign marks.Arrow) ∷ ts) rest
-arrow_unary d = unary d
-
-pub receive_unary : {e : Tree} {ts rest : List Tok} → SpellsReceive e ts rest → SpellsUnary e ts rest
-receive_unary (grammar.receive d) = arrow_unary d
-receive_unary (grammar.receive_paren d) = paren (alone (receive_unary d))
-
-abbrev ReceiveReads : ℕ → Tree → List Tok → List Tok → Type 0
-ReceiveReads h e ts rest = receive_at h ts ≡ bound h (height e) (Ok (e, height e, rest))
-
-receive_whole : {e : Tree} {ts rest : List Tok} → SpellsReceive e ts rest → after_mark marks.LeftParen rest ≡ None → (h : ℕ) → ReceiveReads h e ts rest
-receive_whole (grammar.receive {p = p} {e = e} {ts = ts} {rest = rest} d) m zero = receive_zero (At p (Sign marks.Arrow) ∷ ts) ∙ sym (above zero (height e + 1) _ (omega arith))
-receive_whole (grammar.receive {p = p} {e = e} {ts = ts} {rest = rest} d) m (suc h) = receive_arrow h p ts ∙ unary_whole (arrow_unary d) m h
-receive_whole (grammar.receive_paren {p = p} {q = q} {e = e} {ts = ts} {rest = rest} d) m zero = receive_zero (At p (Sign marks.LeftParen) ∷ ts) ∙ sym (above zero (height e + 1) _ (omega arith))
-receive_whole (grammar.receive_paren {p = p} {q = q} {e = e} {ts = ts} {rest = rest} d) m (suc h) =
-    let f : Found Tree → Reads Tree = λ e. need marks.RightParen e.2 >>= λ r. Ok (Paren e.0, e.1 + 1, r.1) in
-    receive_opens h p ts
-    ∙ under h (height e) (receive_at h ts) (e, height e, At q (Sign marks.RightParen) ∷ rest) f (receive_whole d (paren_shut q rest) h)
-    ∙ ap (λ r. bound (suc h) (height e + 1) (r >>= λ (r : Place × List Tok). Ok (Paren e, height e + 1, r.1))) (paren_closes q rest)
-
-is_receive_of : {e : Tree} {ts rest : List Tok} → SpellsReceive e ts rest → (is_receive e ≡ true) × (bare e ≡ None)
-unfolding bare
-is_receive_of (grammar.receive d) = (refl, refl)
-is_receive_of (grammar.receive_paren d) = ((is_receive_of d).0, refl)
-
-abbrev CommReads : ℕ → Comm → List Tok → List Tok → Type 0
-CommReads h c ts rest = comm_at h ts ≡ bound h (comm_height c) (Ok (c, comm_height c, rest))
-
-comm_first : (h : ℕ) (c : Comm) (e : Tree) (ts mid rest : List Tok) → SpellsExpr 1 e ts mid → Quiet mid → height e ≤ comm_height c → (height e ≤ h → comm_after h (e, height e, mid) ≡ bound h (comm_height c) (Ok (c, comm_height c, rest))) → CommReads h c ts rest
-unfolding comm_at
-comm_first h c e ts mid rest d n le g = from_first h e ts mid (λ e. comm_after h e) (comm_height c) (Ok (c, comm_height c, rest)) d n le g
-
-comm_sends : (h : ℕ) (c : Tree) (p : Place) (ts : List Tok) → comm_after h (c, height c, At p (Sign marks.Arrow) ∷ ts) ≡ (expr_at h 1 ts >>= λ e. Ok (SendTo c e.0, max (height c) e.1, e.2))
-unfolding comm_after after_mark
-comm_sends h c p ts = refl
-
-arrow_quiet : (p : Place) (ts : List Tok) → Quiet (At p (Sign marks.Arrow) ∷ ts)
-unfolding after_mark binary_of
-arrow_quiet p ts = (refl, refl)
-
-comm_sent : (h : ℕ) (c e : Tree) (p : Place) (ts rest : List Tok) → SpellsExpr 1 e ts rest → Quiet rest → height c ≤ h → comm_after h (c, height c, At p (Sign marks.Arrow) ∷ ts) ≡ bound h (max (height c) (height e)) (Ok (SendTo c e, max (height c) (height e), rest))
-comm_sent h c e p ts rest d o le =
-    let f : Found Tree → Reads Comm = λ e. Ok (SendTo c e.0, max (height c) e.1, e.2) in
-    comm_sends h c p ts
-    ∙ goes_on h (height e) h (max (height c) (height e)) (expr_at h 1 ts) (e, height e, rest) f (Ok (SendTo c e, max (height c) (height e), rest)) (expr_whole d o h) (λ fit. sym (within h (max (height c) (height e)) _ (omega (arith, le, fit)))) (λ lt. omega arith)
-
-comm_receives : (h : ℕ) (e : Tree) (q : Place) (ts : List Tok) → is_receive e ≡ true → bare e ≡ None → comm_after h (e, height e, At q (Sign marks.Colon) ∷ ts) ≡ Ok (Receive e, height e, At q (Sign marks.Colon) ∷ ts)
-unfolding comm_after after_mark
-comm_receives h e q ts r b = rw (b, r) refl
-
-assigns_comm : (h : ℕ) (xs : List (List ℕ)) (e : Tree) (p q : Place) (ts rest : List Tok) → SpellsReceive e ts (At q (Sign marks.Colon) ∷ rest) → received_at h xs (At p (Sign marks.Assign) ∷ ts) ≡ bound h (height e) (Ok (AssignTo xs e, height e, At q (Sign marks.Colon) ∷ rest))
-unfolding received_at need after_mark
-assigns_comm h xs e p q ts rest d =
-    let f : Found Tree → Reads Comm = λ e. Ok (AssignTo xs e.0, e.1, e.2) in
-    ap (λ r. r >>= f) (receive_whole d (over_colon_quiet q rest).1 h) ∙ bound_bind h (height e) (Ok (e, height e, At q (Sign marks.Colon) ∷ rest)) f
-
-defines_comm : (h : ℕ) (xs : List (List ℕ)) (e : Tree) (p q : Place) (ts rest : List Tok) → SpellsReceive e ts (At q (Sign marks.Colon) ∷ rest) → received_at h xs (At p (Sign marks.Define) ∷ ts) ≡ bound h (height e) (Ok (DefineAs xs e, height e, At q (Sign marks.Colon) ∷ rest))
-unfolding received_at after_mark
-defines_comm h xs e p q ts rest d =
-    let f : Found Tree → Reads Comm = λ e. Ok (DefineAs xs e.0, e.1, e.2) in
-    ap (λ r. r >>= f) (receive_whole d (over_colon_quiet q rest).1 h) ∙ bound_bind h (height e) (Ok (e, height e, At q (Sign marks.Colon) ∷ rest)) f
-
-one_old : (h : ℕ) (x : List ℕ) (p : Place) (ts : List Tok) → comm_after h (Name x, 1, At p (Sign marks.Assign) ∷ ts) ≡ received_at h (x ∷ []) (At p (Sign marks.Assign) ∷ ts)
-unfolding comm_after comm_names bare after_mark
-one_old h x p ts = refl
-
-one_new : (h : ℕ) (x : List ℕ) (p : Place) (ts : List Tok) → comm_after h (Name x, 1, At p (Sign marks.Define) ∷ ts) ≡ received_at h (x ∷ []) (At p (Sign marks.Define) ∷ ts)
-unfolding comm_after comm_names bare after_mark
-one_new h x p ts = refl
-
-two_names : (h : ℕ) (x y : List ℕ) (p q : Place) (ts : List Tok) → comm_after h (Name x, 1, At p (Sign marks.Comma) ∷ At q (words.Name y) ∷ ts) ≡ received_at h (x ∷ y ∷ []) ts
-unfolding comm_after comm_names bare after_mark name_at
-two_names h x y p q ts = refl
-
-names_some : {xs : List (List ℕ)} {ts rest : List Tok} → SpellsNames xs ts rest → 1 ≤ length xs
-names_some last_name = omega arith
-names_some (comma_name d) = omega arith
-
--- names, and what reading the rest gives
-comm_named : (h : ℕ) (c : Comm) (x : List ℕ) (p : Place) (mid rest : List Tok) → Quiet mid → 1 ≤ comm_height c → comm_after h (Name x, 1, mid) ≡ bound h (comm_height c) (Ok (c, comm_height c, rest)) → CommReads h c (At p (words.Name x) ∷ mid) rest
-comm_named h c x p mid rest n pos g =
-    let first : SpellsExpr 1 (Name x) (At p (words.Name x) ∷ mid) mid = alone name in
-    comm_first h c (Name x) (At p (words.Name x) ∷ mid) mid rest first n pos (λ le. g)
-
-assign_comm : {xs : List (List ℕ)} {ts : List Tok} {p : Place} {mid : List Tok} → SpellsNames xs ts (At p (Sign marks.Assign) ∷ mid) → length xs ≤ 2 → (e : Tree) (q : Place) (rest : List Tok) → SpellsReceive e mid (At q (Sign marks.Colon) ∷ rest) → (h : ℕ) → CommReads h (AssignTo xs e) ts (At q (Sign marks.Colon) ∷ rest)
-assign_comm {p = p} {mid = mid} (last_name {p = r} {x = x}) le e q rest d h =
-    comm_named h (AssignTo (x ∷ []) e) x r (At p (Sign marks.Assign) ∷ mid) (At q (Sign marks.Colon) ∷ rest) (quiet_both p mid).0 (omega (arith, height_pos e)) (one_old h x p mid ∙ assigns_comm h (x ∷ []) e p q mid rest d)
-assign_comm {p = p} {mid = mid} (comma_name {p = r} {q = s} {x = x} (last_name {p = t} {x = y})) le e q rest d h =
-    comm_named h (AssignTo (x ∷ y ∷ []) e) x r (At s (Sign marks.Comma) ∷ At t (words.Name y) ∷ At p (Sign marks.Assign) ∷ mid) (At q (Sign marks.Colon) ∷ rest) (quiet_both s (At t (words.Name y) ∷ At p (Sign marks.Assign) ∷ mid)).2 (omega (arith, height_pos e)) (two_names h x y s t (At p (Sign marks.Assign) ∷ mid) ∙ assigns_comm h (x ∷ y ∷ []) e p q mid rest d)
-assign_comm (comma_name (comma_name ds)) le e q rest d h = absurd (omega (arith, le, names_some ds))
-
-define_comm : {xs : List (List ℕ)} {ts : List Tok} {p : Place} {mid : List Tok} → SpellsNames xs ts (At p (Sign marks.Define) ∷ mid) → length xs ≤ 2 → (e : Tree) (q : Place) (rest : List Tok) → SpellsReceive e mid (At q (Sign marks.Colon) ∷ rest) → (h : ℕ) → CommReads h (DefineAs xs e) ts (At q (Sign marks.Colon) ∷ rest)
-define_comm {p = p} {mid = mid} (last_name {p = r} {x = x}) le e q rest d h =
-    comm_named h (DefineAs (x ∷ []) e) x r (At p (Sign marks.Define) ∷ mid) (At q (Sign marks.Colon) ∷ rest) (quiet_both p mid).1 (omega (arith, height_pos e)) (one_new h x p mid ∙ defines_comm h (x ∷ []) e p q mid rest d)
-define_comm {p = p} {mid = mid} (comma_name {p = r} {q = s} {x = x} (last_name {p = t} {x = y})) le e q rest d h =
-    comm_named h (DefineAs (x ∷ y ∷ []) e) x r (At s (Sign marks.Comma) ∷ At t (words.Name y) ∷ At p (Sign marks.Define) ∷ mid) (At q (Sign marks.Colon) ∷ rest) (quiet_both s (At t (words.Name y) ∷ At p (Sign marks.Define) ∷ mid)).2 (omega (arith, height_pos e)) (two_names h x y s t (At p (Sign marks.Define) ∷ mid) ∙ defines_comm h (x ∷ y ∷ []) e p q mid rest d)
-define_comm (comma_name (comma_name ds)) le e q rest d h = absurd (omega (arith, le, names_some ds))
-
-pub comm_whole : {c : Comm} {ts : List Tok} {q : Place} {rest : List Tok} → SpellsComm c ts (At q (Sign marks.Colon) ∷ rest) → (h : ℕ) → CommReads h c ts (At q (Sign marks.Colon) ∷ rest)
-comm_whole {q = q} {rest = rest} (grammar.send_case {p = p} {c = c} {e = e} {ts = ts} {mid = mid} d de) h =
-    comm_first h (SendTo c e) c ts (At p (Sign marks.Arrow) ∷ mid) (At q (Sign marks.Colon) ∷ rest) d (arrow_quiet p mid) (omega arith) (λ le. comm_sent h c e p mid (At q (Sign marks.Colon) ∷ rest) de (over_colon_quiet q rest) le)
-comm_whole {q = q} {rest = rest} (grammar.receive_case {e = e} {ts = ts} d) h =
-    let i = is_receive_of d in
-    comm_first h (Receive e) e ts (At q (Sign marks.Colon) ∷ rest) (At q (Sign marks.Colon) ∷ rest) (alone (receive_unary d)) (over_colon_quiet q rest) (omega arith) (λ le. comm_receives h e q rest i.0 i.1 ∙ sym (within h (height e) _ le))
-comm_whole {q = q} {rest = rest} (grammar.assign_case {e = e} d le de) h = assign_comm d le e q rest de h
-comm_whole {q = q} {rest = rest} (grammar.define_case {e = e} d le de) h = define_comm d le e q rest de h

@@ -18,7 +18,8 @@ use Rattle.gr_syntax.specs.Grammar.{SpellsUnary, SpellsExpr, SpellsExprs, Spells
 use Rattle.gr_syntax.specs.StatementGrammar as grammar
 use Rattle.gr_syntax.specs.StatementGrammar.{update_mark, SpellsSimple, SpellsHeading, heads, defines}
 use Rattle.gr_syntax.specs.Reading.{Fault, High, Found, Reads, ◌>>=◌, match_after, binary_of, operator_at, name_at, need, names_at, expr_at, exprs_at}
-use Rattle.gr_syntax.specs.StatementReading.{up_to, keyword_of, joint_of, done_at, stops_at, place_at, bare, define_at, values_at, names_from, update_at, joined_at, alone_at, simple_named, sent_at, simple_after, heading_after, target_at}
+use Rattle.gr_syntax.specs.SimpleReading.{up_to, keyword_of, joint_of, done_at, stops_at, place_at, bare, define_at, values_at, names_from, update_at, joined_at, alone_at, simple_named, sent_at, simple_after}
+use Rattle.gr_syntax.specs.StatementReading.{heading_after, target_at}
 use Rattle.gr_syntax.proofs.Bound.{bound, within, above, bound_bind}
 use Rattle.gr_syntax.proofs.Cases.{some_inj, after_is}
 use Rattle.gr_syntax.proofs.Chains.{strength, Quiet}

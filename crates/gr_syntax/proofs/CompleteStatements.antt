@@ -1,219 +1,27 @@
 -- A statement of the grammar is read, where it is not too high.
-use Rattle.std.proofs.Common.{◌≡◌, ℕ, zero, suc, ◌+◌, ◌<◌, ◌≤◌, max, Bool, true, false, cond, List, [], ◌∷◌, length, refl, ap, sym, ◌∙◌, subst, arith}
-use Rattle.std.specs.Prelude.{Option, Some, None, Result, Ok, Err}
+use Rattle.std.proofs.Common.{◌≡◌, ℕ, suc, ◌+◌, max, true, false, List, ◌∷◌, refl, ap, sym, ◌∙◌, arith}
+use Rattle.std.specs.Prelude.{Option, Some, None, Ok}
 use Rattle.gr_scan.specs.declared.token.Place.{Place}
 use Rattle.gr_scan.specs.declared.token.Mark.TheVariants as marks
 use Rattle.gr_scan.specs.Tokens.{Tok, At, Sign, Word}
 use Rattle.gr_scan.specs.Tokens as words
 use Rattle.gr_tree.specs.Exprs.{Tree, Name, height}
-use Rattle.gr_tree.specs.Statements.{Simple, Act, Plain, Var, VarValues, Go, Return, Break, Continue, IfHead, ForHead, Comm, Statement, Does, Block, If, IfElse, IfElseIf, For, Select, Label, EmptyLabel, Statements, end, then, Clauses, closed, default, case, Eval, Send, Assign, Define, Update, Increment, Decrement, simple_height, act_height, if_height, for_height, comm_height, statement_height, body_height, clauses_height}
-use Rattle.gr_syntax.specs.declared.opening.Keyword.TheVariants as keywords
-use Rattle.gr_syntax.specs.Grammar.{SpellsExpr, SpellsNames, last_name, comma_name, alone, name, after_mark}
+use Rattle.gr_tree.specs.Statements.{Simple, Act, Plain, Var, VarValues, Go, Return, Break, Continue, IfHead, ForHead, Statement, Does, Block, If, IfElse, IfElseIf, For, Select, Label, EmptyLabel, Statements, end, Clauses, closed, simple_height, act_height, if_height, for_height, comm_height, statement_height, body_height, clauses_height}
+use Rattle.gr_syntax.specs.Grammar.{SpellsExpr, alone, name, after_mark}
 use Rattle.gr_syntax.specs.StatementGrammar as grammar
-use Rattle.gr_syntax.specs.StatementGrammar.{SpellsSimple, SpellsAct, SpellsIfHead, SpellsForHead, SpellsComm, SpellsStatement, SpellsIf, SpellsList, SpellsBlock, SpellsClauses}
-use Rattle.gr_syntax.specs.Reading.{Fault, High, Found, Reads, ◌>>=◌, Turn, turned, loop, match_after, operator_at, need, expr_at}
-use Rattle.gr_syntax.specs.Reading as reading
-use Rattle.gr_syntax.specs.StatementReading.{keyword_of, done_at, stops_at, place_at, bare, simple_after, var_at, go_at, return_at, jump_at, if_head_at, for_head_at, comm_at, past_semicolon, added, list_more, list_turn, list_at, block_at, else_at, if_at, for_at, with_default, with_case, case_at, default_at, clause_turn, clauses_at, select_at, placed, labelled_at, plain_after, name_open, open_after, open_at, braced_at, keyed_at, tier_at, statement_at}
-use Rattle.gr_syntax.proofs.Bound.{bound, within, above, bound_bind, bound_suc, bound_max, under}
-use Rattle.gr_syntax.proofs.Loops.{Shrinks, loop_is}
-use Rattle.gr_syntax.proofs.Cases.{ok_inj, on_ok, on_look, on_test, go_inj, stop≢go, after_is, need_is}
+use Rattle.gr_syntax.specs.StatementGrammar.{SpellsSimple, SpellsAct, SpellsIfHead, SpellsForHead, SpellsStatement, SpellsIf, SpellsList, SpellsBlock, SpellsClauses}
+use Rattle.gr_syntax.specs.Reading.{Found, Reads, ◌>>=◌, loop, match_after, operator_at, need, expr_at}
+use Rattle.gr_syntax.specs.SimpleReading.{keyword_of, done_at, stops_at, place_at, bare, var_at, go_at, return_at, jump_at}
+use Rattle.gr_syntax.specs.StatementReading.{if_head_at, for_head_at, added, block_at, else_at, if_at, for_at, with_default, with_case, clause_turn, clauses_at, select_at, placed, labelled_at, plain_after, name_open, open_after, open_at, braced_at, keyed_at, tier_at, statement_at}
+use Rattle.gr_syntax.proofs.Bound.{bound, within, bound_bind, bound_suc, bound_max, under}
 use Rattle.gr_syntax.proofs.Chains.{Quiet}
-use Rattle.gr_syntax.proofs.CompleteSimple.{either, from_first, Over, Opened, expr_opened, First, simple_first}
-use Rattle.gr_syntax.proofs.CompleteHeads.{Ends, ends_semicolon, ends_brace, var_whole, var_typed_whole, var_values_whole, go_whole, return_whole, return_none_whole, jump_none_whole, jump_whole, if_head_whole, for_head_whole, comm_whole}
-use Rattle.gr_syntax.proofs.SoundHeads.{comm_sound}
-use Rattle.gr_syntax.proofs.SoundStatements.{joined, added_joined, joined_end, clauses_joined, default_joined, case_joined, joined_closed, statement_sound, list_sound}
-use Rattle.gr_syntax.proofs.StatementSizes.{statement_shrunk, list_shrunk, comm_shrunk, past_shrinks}
-
--- a statement has a level at least
-simple_pos : (s : Simple) → 0 < simple_height s
-simple_pos (Eval e) = omega arith
-simple_pos (Send c e) = omega arith
-simple_pos (Assign xs es) = omega arith
-simple_pos (Define xs es) = omega arith
-simple_pos (Update x op e) = omega arith
-simple_pos (Increment x) = omega arith
-simple_pos (Decrement x) = omega arith
-
-act_pos : (a : Act) → 0 < act_height a
-act_pos (Plain s) = simple_pos s
-act_pos (Var xs t) = omega arith
-act_pos (VarValues xs t es) = omega arith
-act_pos (Go f es) = omega arith
-act_pos (Return e) = omega arith
-act_pos (Break x) = omega arith
-act_pos (Continue x) = omega arith
-
-statement_pos : (s : Statement) → 0 < statement_height s
-statement_pos (Does p a) = act_pos a
-statement_pos (Block p ss) = omega arith
-statement_pos (If p c ss) = omega arith
-statement_pos (IfElse p c ss es) = omega arith
-statement_pos (IfElseIf p c ss e) = omega arith
-statement_pos (For p c ss) = omega arith
-statement_pos (Select p cs) = omega arith
-statement_pos (Label p x s) = omega arith
-statement_pos (EmptyLabel p x) = omega arith
-
--- what a statement does not begin with
-pub record Starts (ts : List Tok) : Type 0 where
-  pub stops : stops_at ts ≡ false
-  pub semicolon : after_mark marks.Semicolon ts ≡ None
-  pub done : done_at ts ≡ false
-
-from_opened : {ts : List Tok} → Opened ts → Starts ts
-from_opened o = record { stops = o.stops; semicolon = o.semicolon; done = o.done }
-
-names_start : {xs : List (List ℕ)} {ts rest : List Tok} → SpellsNames xs ts rest → Starts ts
-unfolding stops_at after_mark done_at
-names_start last_name = record { stops = refl; semicolon = refl; done = refl }
-names_start (comma_name d) = record { stops = refl; semicolon = refl; done = refl }
-
-simple_starts : {s : Simple} {ts rest : List Tok} → SpellsSimple s ts rest → Starts ts
-unfolding stops_at after_mark done_at
-simple_starts (grammar.eval d) = from_opened (expr_opened d)
-simple_starts (grammar.send d de) = from_opened (expr_opened d)
-simple_starts (grammar.assign d ds) = names_start d
-simple_starts (grammar.define d ds) = names_start d
-simple_starts (grammar.update m d) = record { stops = refl; semicolon = refl; done = refl }
-simple_starts grammar.increment = record { stops = refl; semicolon = refl; done = refl }
-simple_starts grammar.decrement = record { stops = refl; semicolon = refl; done = refl }
-
-act_starts : {a : Act} {ts rest : List Tok} → SpellsAct a ts rest → Starts ts
-unfolding stops_at after_mark done_at
-act_starts (grammar.plain d) = simple_starts d
-act_starts (grammar.var d dt) = record { stops = refl; semicolon = refl; done = refl }
-act_starts (grammar.var_typed d dt ds) = record { stops = refl; semicolon = refl; done = refl }
-act_starts (grammar.var_values d ds) = record { stops = refl; semicolon = refl; done = refl }
-act_starts (grammar.go d) = record { stops = refl; semicolon = refl; done = refl }
-act_starts grammar.return_none = record { stops = refl; semicolon = refl; done = refl }
-act_starts (grammar.return d) = record { stops = refl; semicolon = refl; done = refl }
-act_starts grammar.break_none = record { stops = refl; semicolon = refl; done = refl }
-act_starts grammar.break = record { stops = refl; semicolon = refl; done = refl }
-act_starts grammar.continue_none = record { stops = refl; semicolon = refl; done = refl }
-act_starts grammar.continue = record { stops = refl; semicolon = refl; done = refl }
-
-block_starts : {ss : Statements} {q : Place} {ts rest : List Tok} → SpellsBlock ss q ts rest → Starts ts
-unfolding stops_at after_mark done_at
-block_starts (grammar.braces d) = record { stops = refl; semicolon = refl; done = refl }
-
-if_starts : {s : Statement} {ts rest : List Tok} → SpellsIf s ts rest → Starts ts
-unfolding stops_at after_mark done_at
-if_starts (grammar.if d b) = record { stops = refl; semicolon = refl; done = refl }
-if_starts (grammar.if_else d b e) = record { stops = refl; semicolon = refl; done = refl }
-if_starts (grammar.if_else_if d b e) = record { stops = refl; semicolon = refl; done = refl }
-
-pub statement_starts : {s : Statement} {ts rest : List Tok} → SpellsStatement s ts rest → Starts ts
-unfolding stops_at after_mark done_at
-statement_starts (grammar.does d) = act_starts d
-statement_starts (grammar.block d) = block_starts d
-statement_starts (grammar.branch d) = if_starts d
-statement_starts (grammar.for d b) = record { stops = refl; semicolon = refl; done = refl }
-statement_starts (grammar.select d) = record { stops = refl; semicolon = refl; done = refl }
-statement_starts (grammar.label d) = record { stops = refl; semicolon = refl; done = refl }
-statement_starts grammar.empty_label = record { stops = refl; semicolon = refl; done = refl }
-
-abbrev pub StatementReads : ℕ → Statement → List Tok → List Tok → Type 0
-StatementReads h s ts rest = statement_at h ts ≡ bound h (statement_height s) (Ok (s, statement_height s, rest))
-
-abbrev Tier : ℕ → Statement → List Tok → List Tok → Type 0
-Tier h s ts rest = tier_at h (statement_at h) ts ≡ bound (suc h) (statement_height s) (Ok (s, statement_height s, rest))
-
-from_tier : (s : Statement) (ts rest : List Tok) → ((h : ℕ) → Tier h s ts rest) → (h : ℕ) → StatementReads h s ts rest
-unfolding statement_at
-from_tier s ts rest f zero = sym (above zero (statement_height s) _ (statement_pos s))
-from_tier s ts rest f (suc h) = f h
-
--- the turns of a list
-module _ (h : ℕ) where
-  abbrev rec : List Tok → Reads Statement
-  rec = statement_at h
-
-  abbrev after_one : Found Statements → Found Statement → Result (Turn (Found Statements)) Fault
-  after_one ss s = past_semicolon s.2 >>= λ rest. Ok (reading.Go (added ss.0 s.0, max ss.1 s.1, rest))
-
-  pub list_shrinks : Shrinks (list_turn rec)
-  unfolding list_turn
-  list_shrinks ss t q =
-      on_test (stops_at ss.2) _ _ (Ok (reading.Go t)) q
-      (λ b q. stop≢go ss t q)
-      (λ b q. on_look (after_mark marks.Semicolon ss.2) _ _ (Ok (reading.Go t)) q
-      (λ rest m q. omega (arith, ap length (after_is marks.Semicolon ss.2 rest m).is, ap length (go_inj (ss.0, ss.1, rest) t q)))
-      (λ m q. on_ok (rec ss.2) _ (reading.Go t) q (λ s es q. on_ok (past_semicolon s.2) _ (reading.Go t) q (λ rest er q.
-      omega (arith, statement_shrunk (statement_sound h ss.2 s es).spelled, past_shrinks s.2 rest er, ap length (go_inj (added ss.0 s.0, max ss.1 s.1, rest) t q))))))
-
-  list_step : (ss : Found Statements) → loop (list_turn rec) ss ≡ (list_turn rec ss >>= turned (loop (list_turn rec)))
-  list_step ss = loop_is (list_turn rec) list_shrinks ss
-
-  pub turn_close : (ss : Found Statements) → stops_at ss.2 ≡ true → loop (list_turn rec) ss ≡ Ok ss
-  unfolding list_turn
-  turn_close ss m = list_step ss ∙ rw m refl
-
-  pub turn_empty : (ss : Found Statements) (rest : List Tok) → stops_at ss.2 ≡ false → after_mark marks.Semicolon ss.2 ≡ Some rest → loop (list_turn rec) ss ≡ loop (list_turn rec) (ss.0, ss.1, rest)
-  unfolding list_turn
-  turn_empty ss rest m k = list_step ss ∙ rw (m, k) refl
-
-  pub turn_statement : (ss : Found Statements) → stops_at ss.2 ≡ false → after_mark marks.Semicolon ss.2 ≡ None → loop (list_turn rec) ss ≡ ((rec ss.2 >>= after_one ss) >>= turned (loop (list_turn rec)))
-  unfolding list_turn
-  turn_statement ss m k = list_step ss ∙ rw (m, k) refl
-
-abbrev ListTo : ℕ → Statements → ℕ → Statements → List Tok → List Tok → Type 0
-ListTo h acc k ss ts rest = loop (list_turn (statement_at h)) (acc, k, ts) ≡ bound h (body_height ss) (Ok (joined acc ss, max k (body_height ss), rest))
-
-list_end : (h : ℕ) (acc : Statements) (k : ℕ) (ts : List Tok) → stops_at ts ≡ true → ListTo h acc k end ts ts
-list_end h acc k ts m =
-    let z : max k 0 ≡ k = omega arith in
-    turn_close h (acc, k, ts) m
-    ∙ sym (within h 0 _ (omega arith) ∙ rw (z, joined_end acc) refl)
-
-list_empty : (h : ℕ) (acc : Statements) (k : ℕ) (ss : Statements) (p : Place) (ts rest : List Tok) → ListTo h acc k ss ts rest → ListTo h acc k ss (At p (Sign marks.Semicolon) ∷ ts) rest
-unfolding after_mark stops_at
-list_empty h acc k ss p ts rest r = turn_empty h (acc, k, At p (Sign marks.Semicolon) ∷ ts) ts refl refl ∙ r
-
--- a statement, and the list after it
-list_statement : (h : ℕ) (acc : Statements) (k : ℕ) (s : Statement) (ts after rest : List Tok) → Starts ts → StatementReads h s ts after → past_semicolon after ≡ Ok rest → loop (list_turn (statement_at h)) (acc, k, ts) ≡ bound h (statement_height s) (loop (list_turn (statement_at h)) (added acc s, max k (statement_height s), rest))
-list_statement h acc k s ts after rest o r e =
-    let j : ℕ = statement_height s in
-    let f : Found Statement → Result (Turn (Found Statements)) Fault = after_one h (acc, k, ts) in
-    let again : Turn (Found Statements) → Reads Statements = turned (loop (list_turn (statement_at h))) in
-    turn_statement h (acc, k, ts) o.stops o.semicolon
-    ∙ ap (λ r. (r >>= f) >>= again) r
-    ∙ ap (λ r. r >>= again) (bound_bind h j (Ok (s, j, after)) f)
-    ∙ bound_bind h j (f (s, j, after)) again
-    ∙ ap (λ r. bound h j ((r >>= λ (rest : List Tok). Ok (reading.Go (added acc s, max k j, rest))) >>= again)) e
-
-past_one : (p : Place) (ts : List Tok) → past_semicolon (At p (Sign marks.Semicolon) ∷ ts) ≡ Ok ts
-unfolding past_semicolon need after_mark
-past_one p ts = refl
-
-past_none : (p : Place) (ts : List Tok) → past_semicolon (At p (Sign marks.RightBrace) ∷ ts) ≡ Ok (At p (Sign marks.RightBrace) ∷ ts)
-unfolding past_semicolon after_mark
-past_none p ts = refl
-
-pub brace_stops : (p : Place) (ts : List Tok) → stops_at (At p (Sign marks.RightBrace) ∷ ts) ≡ true
-unfolding stops_at
-brace_stops p ts = refl
-
-list_then : (h : ℕ) (acc : Statements) (k : ℕ) (s : Statement) (ss : Statements) (mid rest : List Tok) → ListTo h (added acc s) (max k (statement_height s)) ss mid rest → bound {B = Found Statements} h (statement_height s) (loop (list_turn (statement_at h)) (added acc s, max k (statement_height s), mid)) ≡ bound h (body_height ((then) s ss)) (Ok (joined acc ((then) s ss), max k (body_height ((then) s ss)), rest))
-list_then h acc k s ss mid rest r =
-    let high : max (max k (statement_height s)) (body_height ss) ≡ max k (max (statement_height s) (body_height ss)) = omega arith in
-    ap (bound h (statement_height s)) r
-    ∙ bound_max h (statement_height s) (body_height ss) _
-    ∙ rw (high, added_joined acc s ss) refl
-
--- a list is read as its loop, from nothing on
-list_whole : (h : ℕ) (ss : Statements) (ts rest : List Tok) → ListTo h end 0 ss ts rest → list_at (statement_at h) ts ≡ bound h (body_height ss) (Ok (ss, body_height ss, rest))
-unfolding list_at
-list_whole h ss ts rest r = let z : max 0 (body_height ss) ≡ body_height ss = omega arith in r ∙ ap (λ n. bound h (body_height ss) (Ok (ss, n, rest))) z
-
-abbrev BlockReads : ℕ → Statements → Place → List Tok → List Tok → Type 0
-BlockReads h ss q ts rest = block_at (statement_at h) ts ≡ bound h (body_height ss) (Ok ((ss, q), body_height ss, rest))
-
-block_whole : (h : ℕ) (ss : Statements) (p q : Place) (ts rest : List Tok) → ListTo h end 0 ss ts (At q (Sign marks.RightBrace) ∷ rest) → BlockReads h ss q (At p (Sign marks.LeftBrace) ∷ ts) rest
-unfolding block_at need after_mark
-block_whole h ss p q ts rest r =
-    let f : Found Statements → Reads (Statements × Place) = λ ss. need marks.RightBrace ss.2 >>= λ b. Ok ((ss.0, b.0), ss.1, b.1) in
-    ap (λ r. r >>= f) (list_whole h ss ts (At q (Sign marks.RightBrace) ∷ rest) r)
-    ∙ bound_bind h (body_height ss) (Ok (ss, body_height ss, At q (Sign marks.RightBrace) ∷ rest)) f
+use Rattle.gr_syntax.proofs.CompleteSimple.{either, from_first, Over, expr_opened, First, simple_first}
+use Rattle.gr_syntax.proofs.CompleteActs.{Ends, ends_semicolon, ends_brace, var_whole, var_typed_whole, var_values_whole, go_whole, return_whole, return_none_whole, jump_none_whole, jump_whole}
+use Rattle.gr_syntax.proofs.CompleteHeads.{if_head_whole, for_head_whole}
+use Rattle.gr_syntax.proofs.CompleteReceives.{comm_whole}
+use Rattle.gr_syntax.proofs.StatementStarts.{statement_pos, statement_starts}
+use Rattle.gr_syntax.proofs.StatementLists.{StatementReads, Tier, from_tier, ListTo, list_end, list_empty, list_statement, past_one, past_none, brace_stops, list_then, list_whole, BlockReads, block_whole}
+use Rattle.gr_syntax.proofs.CompleteClauses.{ClausesTo, clauses_end, clauses_default, clauses_case, clauses_stop}
 
 -- a block where a statement is read
 block_tier : (h : ℕ) (p q : Place) (ss : Statements) (ts rest : List Tok) → BlockReads h ss q (At p (Sign marks.LeftBrace) ∷ ts) rest → Tier h (Block p ss) (At p (Sign marks.LeftBrace) ∷ ts) rest
@@ -346,84 +154,6 @@ act_tier {p = p} {rest = rest} grammar.break_none n h = act_goes h p (Break None
 act_tier {p = p} {rest = rest} (grammar.break {q = q} {x = x}) n h = act_goes h p (Break (Some x)) (jump_at Break (At q (words.Name x) ∷ rest)) rest (jump_whole (suc h) Break q x rest refl (omega arith))
 act_tier {p = p} {rest = rest} grammar.continue_none n h = act_goes h p (Continue None) (jump_at Continue rest) rest (jump_none_whole (suc h) Continue rest refl (omega arith) n)
 act_tier {p = p} {rest = rest} (grammar.continue {q = q} {x = x}) n h = act_goes h p (Continue (Some x)) (jump_at Continue (At q (words.Name x) ∷ rest)) rest (jump_whole (suc h) Continue q x rest refl (omega arith))
-
--- the turns of the clauses of a select
-module _ (h : ℕ) where
-  case_shrinks : (cs t : Found Clauses) (rest : List Tok) → after_mark marks.Case cs.2 ≡ Some rest → case_at h (statement_at h) cs rest ≡ Ok (reading.Go t) → length t.2 < length cs.2
-  case_shrinks cs t rest m q =
-      on_ok (comm_at h rest) _ (reading.Go t) q (λ c ec q. on_ok (need marks.Colon c.2) _ (reading.Go t) q (λ r er q. on_ok (list_at (statement_at h) r.1) _ (reading.Go t) q (λ ss es q.
-      omega (arith, ap length (after_is marks.Case cs.2 rest m).is, comm_shrunk (comm_sound h rest c ec).spelled, ap length (need_is marks.Colon c.2 r er), list_shrunk (list_sound h (statement_at h) (statement_sound h) r.1 ss es).spelled, ap length (go_inj (with_case cs.0 c.0 ss.0, max cs.1 (max c.1 ss.1), ss.2) t q)))))
-
-  default_shrinks : (cs t : Found Clauses) (rest : List Tok) → after_mark marks.Default cs.2 ≡ Some rest → default_at (statement_at h) cs rest ≡ Ok (reading.Go t) → length t.2 < length cs.2
-  default_shrinks cs t rest m q =
-      on_ok (need marks.Colon rest) _ (reading.Go t) q (λ r er q. on_ok (list_at (statement_at h) r.1) _ (reading.Go t) q (λ ss es q.
-      omega (arith, ap length (after_is marks.Default cs.2 rest m).is, ap length (need_is marks.Colon rest r er), list_shrunk (list_sound h (statement_at h) (statement_sound h) r.1 ss es).spelled, ap length (go_inj (with_default cs.0 ss.0, max cs.1 ss.1, ss.2) t q))))
-
-  pub clauses_shrink : Shrinks (clause_turn h (statement_at h))
-  unfolding clause_turn
-  clauses_shrink cs t q =
-      on_look (after_mark marks.Case cs.2) _ _ (Ok (reading.Go t)) q
-      (λ rest m q. case_shrinks cs t rest m q)
-      (λ m q. on_look (after_mark marks.Default cs.2) _ _ (Ok (reading.Go t)) q
-      (λ rest m q. default_shrinks cs t rest m q)
-      (λ m q. stop≢go cs t q))
-
-  pub clause_step : (cs : Found Clauses) → loop (clause_turn h (statement_at h)) cs ≡ (clause_turn h (statement_at h) cs >>= turned (loop (clause_turn h (statement_at h))))
-  clause_step cs = loop_is (clause_turn h (statement_at h)) clauses_shrink cs
-
-abbrev ClausesTo : ℕ → Clauses → ℕ → Clauses → List Tok → List Tok → Type 0
-ClausesTo h acc k cs ts rest = loop (clause_turn h (statement_at h)) (acc, k, ts) ≡ bound h (clauses_height cs) (Ok (clauses_joined acc cs, max k (clauses_height cs), rest))
-
-clauses_end : (h : ℕ) (acc : Clauses) (k : ℕ) (q : Place) (rest : List Tok) → ClausesTo h acc k closed (At q (Sign marks.RightBrace) ∷ rest) (At q (Sign marks.RightBrace) ∷ rest)
-unfolding clause_turn after_mark
-clauses_end h acc k q rest =
-    let z : max k 0 ≡ k = omega arith in
-    clause_step h (acc, k, At q (Sign marks.RightBrace) ∷ rest)
-    ∙ sym (within h 0 _ (omega arith) ∙ rw (z, joined_closed acc) refl)
-
-abbrev ListReads : ℕ → Statements → List Tok → List Tok → Type 0
-ListReads h ss ts rest = list_at (statement_at h) ts ≡ bound h (body_height ss) (Ok (ss, body_height ss, rest))
-
-clauses_default : (h : ℕ) (acc : Clauses) (k : ℕ) (p q : Place) (ss : Statements) (cs : Clauses) (ts mid rest : List Tok) → ListReads h ss ts mid → ClausesTo h (with_default acc ss) (max k (body_height ss)) cs mid rest → ClausesTo h acc k (default ss cs) (At p (Sign marks.Default) ∷ At q (Sign marks.Colon) ∷ ts) rest
-unfolding clause_turn after_mark need
-clauses_default h acc k p q ss cs ts mid rest r rs =
-    let j : ℕ = body_height ss in
-    let again : Turn (Found Clauses) → Reads Clauses = turned (loop (clause_turn h (statement_at h))) in
-    let f : Found Statements → Result (Turn (Found Clauses)) Fault = λ ss. Ok (reading.Go (with_default acc ss.0, max k ss.1, ss.2)) in
-    let high : max (max k j) (clauses_height cs) ≡ max k (max j (clauses_height cs)) = omega arith in
-    clause_step h (acc, k, At p (Sign marks.Default) ∷ At q (Sign marks.Colon) ∷ ts)
-    ∙ ap (λ r. (r >>= f) >>= again) r
-    ∙ ap (λ r. r >>= again) (bound_bind h j (Ok (ss, j, mid)) f)
-    ∙ bound_bind h j (f (ss, j, mid)) again
-    ∙ ap (bound h j) rs ∙ bound_max h j (clauses_height cs) _
-    ∙ rw (high, default_joined acc ss cs) refl
-
-clauses_case : (h : ℕ) (acc : Clauses) (k : ℕ) (p q : Place) (c : Comm) (ss : Statements) (cs : Clauses) (ts body mid rest : List Tok) → comm_at h ts ≡ bound h (comm_height c) (Ok (c, comm_height c, At q (Sign marks.Colon) ∷ body)) → ListReads h ss body mid → ClausesTo h (with_case acc c ss) (max k (max (comm_height c) (body_height ss))) cs mid rest → ClausesTo h acc k (case c ss cs) (At p (Sign marks.Case) ∷ ts) rest
-unfolding clause_turn after_mark need
-clauses_case h acc k p q c ss cs ts body mid rest rc r rs =
-    let i : ℕ = comm_height c in
-    let j : ℕ = body_height ss in
-    let again : Turn (Found Clauses) → Reads Clauses = turned (loop (clause_turn h (statement_at h))) in
-    let f : Found Statements → Result (Turn (Found Clauses)) Fault = λ ss. Ok (reading.Go (with_case acc c ss.0, max k (max i ss.1), ss.2)) in
-    let g : Found Comm → Result (Turn (Found Clauses)) Fault = λ c. need marks.Colon c.2 >>= λ r. list_at (statement_at h) r.1 >>= λ ss. Ok (reading.Go (with_case acc c.0 ss.0, max k (max c.1 ss.1), ss.2)) in
-    let high : max (max k (max i j)) (clauses_height cs) ≡ max k (max (max i j) (clauses_height cs)) = omega arith in
-    clause_step h (acc, k, At p (Sign marks.Case) ∷ ts)
-    ∙ ap (λ r. (r >>= g) >>= again) rc
-    ∙ ap (λ r. r >>= again) (bound_bind h i (Ok (c, i, At q (Sign marks.Colon) ∷ body)) g)
-    ∙ ap (λ r. bound h i (r >>= f) >>= again) r
-    ∙ ap (λ r. bound h i r >>= again) (bound_bind h j (Ok (ss, j, mid)) f)
-    ∙ bound_bind h i (bound h j (f (ss, j, mid))) again
-    ∙ ap (bound h i) (bound_bind h j (f (ss, j, mid)) again)
-    ∙ bound_max h i j _
-    ∙ ap (bound h (max i j)) rs ∙ bound_max h (max i j) (clauses_height cs) _
-    ∙ rw (high, case_joined acc c ss cs) refl
-
--- where a list of statements stops
-clauses_stop : {cs : Clauses} {ts : List Tok} {q : Place} {rest : List Tok} → SpellsClauses cs ts (At q (Sign marks.RightBrace) ∷ rest) → stops_at ts ≡ true
-unfolding stops_at
-clauses_stop grammar.no_clause = refl
-clauses_stop (grammar.default_clause d ds) = refl
-clauses_stop (grammar.case_clause c d ds) = refl
 
 select_tier : (h : ℕ) (p q r : Place) (cs : Clauses) (ts rest : List Tok) → ClausesTo h closed 0 cs ts (At r (Sign marks.RightBrace) ∷ rest) → Tier h (Select p cs) (At p (Sign marks.Select) ∷ At q (Sign marks.LeftBrace) ∷ ts) rest
 unfolding tier_at place_at keyword_of keyed_at select_at clauses_at need after_mark

@@ -15,7 +15,7 @@ use Rattle.gr_syntax.specs.declared.opening.Joint.TheVariants as joints
 use Rattle.gr_syntax.specs.Grammar.{SpellsExpr, alone, name, after_mark}
 use Rattle.gr_syntax.specs.StatementGrammar.{update_mark}
 use Rattle.gr_syntax.specs.Reading.{Fault, High, Found, match_after, operator_at}
-use Rattle.gr_syntax.specs.StatementReading.{up_to, keyword_of, joint_of, define_at, place_at, bare, first_name, done_at, ends_mark, stops_at, stops_mark}
+use Rattle.gr_syntax.specs.SimpleReading.{up_to, keyword_of, joint_of, define_at, place_at, bare, first_name, done_at, ends_mark, stops_at, stops_mark}
 use Rattle.gr_syntax.proofs.Cases.{ok_inj, some_inj, on_look, on_test, Opens, after_is}
 
 -- what was let through is low enough

@@ -18,8 +18,14 @@ pub mod SoundHeads
 pub mod SoundStatements
 pub mod StatementSizes
 pub mod CompleteSimple
+pub mod CompleteActs
 pub mod CompleteHeads
+pub mod CompleteReceives
+pub mod StatementStarts
+pub mod StatementLists
+pub mod CompleteClauses
 pub mod CompleteStatements
+pub mod HeadsLong
 pub mod StatementsLong
 pub mod Rows
 pub mod StatementTurns

@@ -12,7 +12,8 @@ use Rattle.gr_syntax.specs.Grammar.{SpellsUnary, SpellsExpr, SpellsNames, alone,
 use Rattle.gr_syntax.specs.StatementGrammar as grammar
 use Rattle.gr_syntax.specs.StatementGrammar.{SpellsHeading, SpellsPart, missing, there, SpellsIfHead, SpellsPost, SpellsForHead, SpellsReceive, SpellsComm, defines}
 use Rattle.gr_syntax.specs.Reading.{Fault, Found, Reads, ◌>>=◌, match_after, name_at, need, expr_at, operand_at}
-use Rattle.gr_syntax.specs.StatementReading.{place_at, bare, heading_after, tested, if_after, if_head_at, ranged, condition_at, post_at, parts_at, target_at, for_init, for_named, for_after, for_head_at, is_receive, receive_at, received_at, comm_names, comm_alone, comm_after, comm_at}
+use Rattle.gr_syntax.specs.SimpleReading.{place_at, bare}
+use Rattle.gr_syntax.specs.StatementReading.{heading_after, tested, if_after, if_head_at, ranged, condition_at, post_at, parts_at, target_at, for_init, for_named, for_after, for_head_at, is_receive, receive_at, received_at, comm_names, comm_alone, comm_after, comm_at}
 use Rattle.gr_syntax.proofs.Cases.{ok_inj, some_inj, on_ok, on_look, on_test, Opens, after_is, name_is, need_is}
 use Rattle.gr_syntax.proofs.Chains.{IsExpr}
 use Rattle.gr_syntax.proofs.SoundExprs.{expr_sound, unary_sound}

@@ -15,7 +15,8 @@ use Rattle.gr_syntax.specs.Grammar.{SpellsExpr, SpellsNames, comma_name, last_na
 use Rattle.gr_syntax.specs.StatementGrammar as grammar
 use Rattle.gr_syntax.specs.StatementGrammar.{SpellsSimple, SpellsAct, SpellsHeading, defines, heads}
 use Rattle.gr_syntax.specs.Reading.{Fault, Found, Reads, ◌>>=◌, match_after, operator_at, name_at, need, names_at, type_at, expr_at, exprs_at, arguments_at}
-use Rattle.gr_syntax.specs.StatementReading.{up_to, joint_of, done_at, first_name, bare, valued, define_at, values_at, names_from, update_at, joined_at, alone_at, simple_named, sent_at, simple_after, var_typed, var_after, var_at, go_at, return_at, jump_at, heading_after}
+use Rattle.gr_syntax.specs.SimpleReading.{up_to, joint_of, done_at, first_name, bare, valued, define_at, values_at, names_from, update_at, joined_at, alone_at, simple_named, sent_at, simple_after, var_typed, var_after, var_at, go_at, return_at, jump_at}
+use Rattle.gr_syntax.specs.StatementReading.{heading_after}
 use Rattle.gr_syntax.proofs.Cases.{ok_inj, some_inj, on_ok, on_look, on_test, Opens, after_is, name_is, need_is}
 use Rattle.gr_syntax.proofs.Names.{names_sound}
 use Rattle.gr_syntax.proofs.WrittenTypes.{type_sound}

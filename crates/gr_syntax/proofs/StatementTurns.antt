@@ -7,11 +7,12 @@ use Rattle.gr_scan.specs.Tokens.{Tok, tokens_of}
 use Rattle.gr_tree.specs.Statements.{Statement, Statements}
 use Rattle.gr_syntax.specs.Grammar.{after_mark}
 use Rattle.gr_syntax.specs.Reading.{Fault, Found, ◌>>=◌, turned, loop}
-use Rattle.gr_syntax.specs.StatementReading.{past_semicolon, added, stops_at, list_turn, statement_at}
+use Rattle.gr_syntax.specs.SimpleReading.{stops_at}
+use Rattle.gr_syntax.specs.StatementReading.{past_semicolon, added, list_turn, statement_at}
 use Rattle.gr_syntax.proofs.Turns.{tokens_length}
 use Rattle.gr_syntax.proofs.SoundStatements.{statement_sound}
 use Rattle.gr_syntax.proofs.StatementSizes.{statement_shrunk}
-use Rattle.gr_syntax.proofs.CompleteStatements.{turn_statement}
+use Rattle.gr_syntax.proofs.StatementLists.{turn_statement}
 
 pub statement_shorter : (h : ℕ) (ts rest : List Token) (s : Statement) (k : ℕ) → statement_at h (tokens_of ts) ≡ Ok (s, k, tokens_of rest) → length rest < length ts
 statement_shorter h ts rest s k q = omega (arith, tokens_length ts, tokens_length rest, statement_shrunk (statement_sound h (tokens_of ts) (s, k, tokens_of rest) q).spelled)

@@ -2,6 +2,7 @@ pub mod Grammar
 pub mod StatementGrammar
 pub mod FileGrammar
 pub mod Reading
+pub mod SimpleReading
 pub mod StatementReading
 pub mod StatementViews
 pub mod CodeViews

@@ -4,7 +4,7 @@ ghost use Rattle.std.specs.Prelude.{◌≡◌, ◌+◌, ◌<◌, ◌≤◌, IfOk
 ghost use Rattle.gr_scan.specs.Tokens.{tokens_of};
 ghost use Rattle.gr_tree.specs.Exprs.{names_of, type_of};
 ghost use Rattle.gr_tree.specs.Statements.{Break, Continue, act_of};
-ghost use Rattle.gr_syntax.specs.StatementReading.{var_typed, var_after, var_at, go_at, return_at, jump_at};
+ghost use Rattle.gr_syntax.specs.SimpleReading.{var_typed, var_after, var_at, go_at, return_at, jump_at};
 ghost use Rattle.gr_syntax.specs.Views.{Gives, found_of};
 
 use crate::expression::{arguments, expr, exprs};
@@ -16,7 +16,7 @@ use gr_tree::{Action, TypeTree};
 use std::alloc::Global;
 
 /// What follows the names and the type of a declaration.
-#[tactic(auto, unfolding(crate::specs::StatementReading::var_typed))]
+#[tactic(auto, unfolding(crate::specs::SimpleReading::var_typed))]
 fn typed<'a>(
     alloc: Global,
     limit: u32,
@@ -54,7 +54,7 @@ fn typed<'a>(
 }
 
 /// What follows the names of a declaration.
-#[tactic(auto, unfolding(crate::specs::StatementReading::var_after))]
+#[tactic(auto, unfolding(crate::specs::SimpleReading::var_after))]
 fn declared<'a>(
     alloc: Global,
     limit: u32,
@@ -82,7 +82,7 @@ fn declared<'a>(
 }
 
 /// A declaration, after `var`.
-#[tactic(auto, unfolding(crate::specs::StatementReading::var_at))]
+#[tactic(auto, unfolding(crate::specs::SimpleReading::var_at))]
 pub(crate) fn var(alloc: Global, limit: u32, tokens: &[Token]) -> Result<Found<'_, Action>, Fault>
     requires { limit < 2 ^ 30 }
     ensures gives { Gives (found_of act_of) result (var_at limit (tokens_of tokens.now)) }
@@ -94,7 +94,7 @@ pub(crate) fn var(alloc: Global, limit: u32, tokens: &[Token]) -> Result<Found<'
 }
 
 /// A call for a new goroutine, after `go`.
-#[tactic(auto, unfolding(crate::specs::StatementReading::go_at))]
+#[tactic(auto, unfolding(crate::specs::SimpleReading::go_at))]
 pub(crate) fn go(alloc: Global, limit: u32, tokens: &[Token]) -> Result<Found<'_, Action>, Fault>
     requires { limit < 2 ^ 30 }
     ensures gives { Gives (found_of act_of) result (go_at limit (tokens_of tokens.now)) }
@@ -118,7 +118,7 @@ pub(crate) fn go(alloc: Global, limit: u32, tokens: &[Token]) -> Result<Found<'_
 }
 
 /// What follows `return`.
-#[tactic(auto, unfolding(crate::specs::StatementReading::return_at))]
+#[tactic(auto, unfolding(crate::specs::SimpleReading::return_at))]
 pub(crate) fn returned(
     alloc: Global,
     limit: u32,
@@ -149,7 +149,7 @@ pub(crate) fn returned(
 }
 
 /// A break, after its keyword.
-#[tactic(auto, unfolding(crate::specs::StatementReading::jump_at))]
+#[tactic(auto, unfolding(crate::specs::SimpleReading::jump_at))]
 pub(crate) fn break_from(tokens: &[Token]) -> Result<Found<'_, Action>, Fault>
     ensures gives { Gives (found_of act_of) result (jump_at Break (tokens_of tokens.now)) }
     ensures high { IfOk result (λ f. f.height ≡ 1) }
@@ -170,7 +170,7 @@ pub(crate) fn break_from(tokens: &[Token]) -> Result<Found<'_, Action>, Fault>
 }
 
 /// A continue, after its keyword.
-#[tactic(auto, unfolding(crate::specs::StatementReading::jump_at))]
+#[tactic(auto, unfolding(crate::specs::SimpleReading::jump_at))]
 pub(crate) fn continue_from(tokens: &[Token]) -> Result<Found<'_, Action>, Fault>
     ensures gives { Gives (found_of act_of) result (jump_at Continue (tokens_of tokens.now)) }
     ensures high { IfOk result (λ f. f.height ≡ 1) }

@@ -136,7 +136,7 @@ fn send<'a>(
 }
 
 /// What a clause of a select waits for, after `case`.
-#[tactic(auto, unfolding(crate::specs::StatementReading::comm_at, crate::specs::StatementReading::comm_after, crate::specs::StatementReading::bare))]
+#[tactic(auto, unfolding(crate::specs::StatementReading::comm_at, crate::specs::StatementReading::comm_after, crate::specs::SimpleReading::bare))]
 pub(crate) fn communication(
     alloc: Global,
     limit: u32,

@@ -4,7 +4,8 @@ ghost use Rattle.std.specs.Prelude.{◌≡◌, ◌<◌, ◌≤◌, List, ℕ, If
 ghost use Rattle.gr_scan.specs.Tokens.{tokens_of};
 ghost use Rattle.gr_tree.specs.Exprs.{Name, tree_of};
 ghost use Rattle.gr_tree.specs.Statements.{heading_of, if_of, for_of, target_of, optional};
-ghost use Rattle.gr_syntax.specs.StatementReading.{place_at, heading_after, tested, if_after, if_head_at, ranged, condition_at, post_at, parts_at, target_at, for_init, for_named, for_after, for_head_at};
+ghost use Rattle.gr_syntax.specs.SimpleReading.{place_at};
+ghost use Rattle.gr_syntax.specs.StatementReading.{heading_after, tested, if_after, if_head_at, ranged, condition_at, post_at, parts_at, target_at, for_init, for_named, for_after, for_head_at};
 ghost use Rattle.gr_syntax.specs.Views.{Gives, found_of};
 ghost use Rattle.gr_syntax.specs.StatementViews.{SeesRange};
 
@@ -16,7 +17,7 @@ use gr_tree::{Expr, ForHead, Header, IfHead, RangeTarget};
 use std::alloc::Global;
 
 /// The place of the first token.
-#[tactic(auto, unfolding(crate::specs::StatementReading::place_at))]
+#[tactic(auto, unfolding(crate::specs::SimpleReading::place_at))]
 pub(crate) fn place(tokens: &[Token]) -> Result<Place, Fault>
     ensures { Gives (λ p. p) result (place_at (tokens_of tokens.now)) }
 {
@@ -287,7 +288,7 @@ fn for_name<'a>(
 }
 
 /// What stands between `for` and its block, and begins with this expression.
-#[tactic(auto, unfolding(crate::specs::StatementReading::for_after, crate::specs::StatementReading::bare))]
+#[tactic(auto, unfolding(crate::specs::StatementReading::for_after, crate::specs::SimpleReading::bare))]
 fn for_from<'a>(
     alloc: Global,
     limit: u32,

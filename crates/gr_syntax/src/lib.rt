@@ -2,6 +2,7 @@
 #![tactic(auto)]
 
 mod action;
+mod assembly;
 mod communication;
 mod expression;
 mod function;

@@ -1,13 +1,14 @@
 //! Looking at the token that says what a statement is, or how it goes on.
 
-ghost use Rattle.std.specs.Prelude.{◌≡◌, ◌<◌, IfSome, length};
+ghost use Rattle.std.specs.Prelude.{◌≡◌, ◌<◌, ◌≤◌, IfOk, IfSome, length};
 ghost use Rattle.gr_scan.specs.Tokens.{tokens_of};
 ghost use Rattle.gr_syntax.specs.Reading.{operator_at};
-ghost use Rattle.gr_syntax.specs.StatementReading.{keyword_of, joint_of, done_at, stops_at, first_name};
+ghost use Rattle.gr_syntax.specs.SimpleReading.{keyword_of, joint_of, done_at, stops_at, first_name};
+ghost use Rattle.gr_syntax.specs.StatementReading.{past_semicolon};
 ghost use Rattle.gr_syntax.specs.StatementViews.{SeesName};
-ghost use Rattle.gr_syntax.specs.Views.{SeesOperator};
+ghost use Rattle.gr_syntax.specs.Views.{Gives, SeesOperator};
 
-use crate::look::next;
+use crate::look::{Fault, after, needed, next};
 use gr_scan::token::{Kind, Mark, Token};
 use gr_tree::BinaryOp;
 
@@ -40,7 +41,7 @@ pub(crate) enum Joint {
     Decrement,
 }
 
-#[tactic(auto, unfolding(crate::specs::StatementReading::keyword_of))]
+#[tactic(auto, unfolding(crate::specs::SimpleReading::keyword_of))]
 fn keyword_of(mark: Mark) -> Option<Keyword>
     ensures { result ≡ keyword_of mark }
 {
@@ -73,7 +74,7 @@ pub(crate) fn first_keyword(tokens: &[Token]) -> Option<(Keyword, &[Token])>
     }
 }
 
-#[tactic(auto, unfolding(crate::specs::StatementReading::joint_of))]
+#[tactic(auto, unfolding(crate::specs::SimpleReading::joint_of))]
 fn joint_of(mark: Mark) -> Option<Joint>
     ensures { result ≡ joint_of mark }
 {
@@ -113,7 +114,7 @@ pub(crate) fn first_joint(tokens: &[Token]) -> Option<(Joint, &[Token])>
 }
 
 /// Whether a `;` or a `}` comes first, so that nothing more belongs to a statement.
-#[tactic(auto, unfolding(crate::specs::StatementReading::done_at))]
+#[tactic(auto, unfolding(crate::specs::SimpleReading::done_at))]
 pub(crate) fn ends(tokens: &[Token]) -> bool
     ensures { result ≡ done_at (tokens_of tokens.now) }
 {
@@ -127,7 +128,7 @@ pub(crate) fn ends(tokens: &[Token]) -> bool
 }
 
 /// Whether a list of statements ends here: at a `}` or before the next clause of a select.
-#[tactic(auto, unfolding(crate::specs::StatementReading::stops_at))]
+#[tactic(auto, unfolding(crate::specs::SimpleReading::stops_at))]
 pub(crate) fn stops(tokens: &[Token]) -> bool
     ensures { result ≡ stops_at (tokens_of tokens.now) }
 {
@@ -141,7 +142,7 @@ pub(crate) fn stops(tokens: &[Token]) -> bool
 }
 
 /// The name that comes first and the tokens after it, if one does.
-#[tactic(auto, unfolding(crate::specs::StatementReading::first_name))]
+#[tactic(auto, unfolding(crate::specs::SimpleReading::first_name))]
 pub(crate) fn first_name(tokens: &[Token]) -> Option<(&Vec<u8>, &[Token])>
     ensures value { SeesName result (first_name (tokens_of tokens.now)) }
     ensures shorter { IfSome result (λ p. length p.1.now < length tokens.now) }
@@ -151,4 +152,17 @@ pub(crate) fn first_name(tokens: &[Token]) -> Option<(&Vec<u8>, &[Token])>
         Kind::Name(name) => Some((name, rest)),
         Kind::Number(_) | Kind::Text(_) | Kind::Mark(_) => None,
     }
+}
+
+/// The tokens after the semicolon that ends a statement; none is needed before a `}`.
+#[tactic(auto, unfolding(crate::specs::StatementReading::past_semicolon))]
+pub(crate) fn past_semicolon(tokens: &[Token]) -> Result<&[Token], Fault>
+    ensures gives { Gives (λ rest. tokens_of rest.now) result (past_semicolon (tokens_of tokens.now)) }
+    ensures rest { IfOk result (λ rest. length rest.now ≤ length tokens.now) }
+{
+    if after(Mark::RightBrace, tokens).is_some() {
+        return Ok(tokens);
+    }
+    let (_, rest) = needed(Mark::Semicolon, tokens)?;
+    Ok(rest)
 }

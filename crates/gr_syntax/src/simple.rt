@@ -4,7 +4,7 @@ ghost use Rattle.std.specs.Prelude.{◌≡◌, [], ◌∷◌, ◌+◌, ◌<◌, 
 ghost use Rattle.gr_scan.specs.Tokens.{tokens_of};
 ghost use Rattle.gr_tree.specs.Exprs.{Name, tree_of, names_of};
 ghost use Rattle.gr_tree.specs.Statements.{simple_of};
-ghost use Rattle.gr_syntax.specs.StatementReading.{up_to, define_at, values_at, names_from, update_at, alone_at, sent_at, joined_at, simple_named, simple_after};
+ghost use Rattle.gr_syntax.specs.SimpleReading.{up_to, define_at, values_at, names_from, update_at, alone_at, sent_at, joined_at, simple_named, simple_after};
 ghost use Rattle.gr_syntax.specs.Views.{Gives, found_of, Sees};
 
 use crate::expression::{expr, exprs};
@@ -15,7 +15,7 @@ use gr_tree::{BinaryOp, Expr, Simple};
 use std::alloc::Global;
 
 /// The tokens after a `:=`, where one may stand and comes first.
-#[tactic(auto, unfolding(crate::specs::StatementReading::define_at))]
+#[tactic(auto, unfolding(crate::specs::SimpleReading::define_at))]
 fn define(may_define: bool, tokens: &[Token]) -> Option<&[Token]>
     ensures value { Sees result (define_at may_define (tokens_of tokens.now)) }
     ensures shorter { IfSome result (λ rest. length rest.now < length tokens.now) }
@@ -28,7 +28,7 @@ fn define(may_define: bool, tokens: &[Token]) -> Option<&[Token]>
 }
 
 /// What follows the names of an assignment or, where it may be one, of a definition.
-#[tactic(auto, unfolding(crate::specs::StatementReading::values_at))]
+#[tactic(auto, unfolding(crate::specs::SimpleReading::values_at))]
 fn values<'a>(
     alloc: Global,
     limit: u32,
@@ -65,7 +65,7 @@ fn values<'a>(
 }
 
 /// More names after this one, after the comma between them; they count nothing for the height.
-#[tactic(auto, unfolding(crate::specs::StatementReading::names_from))]
+#[tactic(auto, unfolding(crate::specs::SimpleReading::names_from))]
 fn names_from<'a>(
     alloc: Global,
     first: Vec<u8>,
@@ -85,7 +85,7 @@ fn names_from<'a>(
 }
 
 /// A value after the operator of an update.
-#[tactic(auto, unfolding(crate::specs::StatementReading::update_at))]
+#[tactic(auto, unfolding(crate::specs::SimpleReading::update_at))]
 fn update<'a>(
     alloc: Global,
     limit: u32,
@@ -172,7 +172,7 @@ fn leaf(limit: u32, value: Simple, tokens: &[Token]) -> Result<Found<'_, Simple>
 }
 
 /// What follows a name and this joint in a simple statement; the tokens from the joint on are `from`.
-#[tactic(auto, unfolding(crate::specs::StatementReading::joined_at))]
+#[tactic(auto, unfolding(crate::specs::SimpleReading::joined_at))]
 fn joined<'a>(
     alloc: Global,
     limit: u32,
@@ -201,7 +201,7 @@ fn joined<'a>(
 }
 
 /// A simple statement that begins with this name, before the tokens after it.
-#[tactic(auto, unfolding(crate::specs::StatementReading::simple_named))]
+#[tactic(auto, unfolding(crate::specs::SimpleReading::simple_named))]
 fn named<'a>(
     alloc: Global,
     limit: u32,
@@ -230,7 +230,7 @@ fn named<'a>(
 }
 
 /// A simple statement that begins with this expression.
-#[tactic(auto, unfolding(crate::specs::StatementReading::simple_after, crate::specs::StatementReading::bare))]
+#[tactic(auto, unfolding(crate::specs::SimpleReading::simple_after, crate::specs::SimpleReading::bare))]
 pub(crate) fn simple<'a>(
     alloc: Global,
     limit: u32,

@@ -1,111 +1,26 @@
 //! Reading statements, their lists and blocks, and the clauses of a select.
 
-ghost use Rattle.std.specs.Prelude.{◌≡◌, ◌+◌, ◌<◌, ◌≤◌, IfOk, ◌^◌, length};
+ghost use Rattle.std.specs.Prelude.{◌+◌, ◌<◌, ◌≤◌, IfOk, ◌^◌};
 ghost use Rattle.gr_scan.specs.Tokens.{tokens_of};
-ghost use Rattle.gr_tree.specs.Exprs.{Name, tree_of};
-ghost use Rattle.gr_tree.specs.Statements.{Block, If, IfElse, IfElseIf, For, Select, act_of, if_of, for_of, statement_of, statements_of};
-ghost use Rattle.gr_syntax.specs.StatementReading.{plain_after, name_open, labelled_at, past_semicolon, placed, list_at, block_at, else_at, if_at, for_at, clauses_at, select_at, braced_at, open_at, keyed_at, statement_at};
+ghost use Rattle.gr_tree.specs.Exprs.{Name};
+ghost use Rattle.gr_tree.specs.Statements.{if_of, statement_of, statements_of};
+ghost use Rattle.gr_syntax.specs.StatementReading.{name_open, labelled_at, list_at, block_at, else_at, if_at, for_at, clauses_at, select_at, braced_at, open_at, keyed_at, statement_at};
 ghost use Rattle.gr_syntax.specs.CodeViews.{clauses_of};
 ghost use Rattle.gr_syntax.specs.StatementViews.{closed_of};
 ghost use Rattle.gr_syntax.specs.Views.{Gives, found_of};
 
 use crate::action::{break_from, continue_from, go, returned, var};
+use crate::assembly::{
+    acts, block_stmt, for_stmt, if_else, if_else_if, if_stmt, plain, select_stmt,
+};
 use crate::communication::communication;
 use crate::expression::expr;
 use crate::heading::{for_head, if_head, place};
 use crate::look::{Fault, Found, after, needed};
-use crate::opening::{Keyword, ends, first_keyword, stops};
-use crate::simple::simple;
+use crate::opening::{Keyword, ends, first_keyword, past_semicolon, stops};
 use gr_scan::token::{Mark, Place, Token};
-use gr_tree::{Action, Clause, Expr, ForHead, IfHead, Stmt};
+use gr_tree::{Clause, Expr, IfHead, Stmt};
 use std::alloc::Global;
-
-/// The tokens after the semicolon that ends a statement; none is needed before a `}`.
-#[tactic(auto, unfolding(crate::specs::StatementReading::past_semicolon))]
-fn past_semicolon(tokens: &[Token]) -> Result<&[Token], Fault>
-    ensures gives { Gives (λ rest. tokens_of rest.now) result (past_semicolon (tokens_of tokens.now)) }
-    ensures rest { IfOk result (λ rest. length rest.now ≤ length tokens.now) }
-{
-    if after(Mark::RightBrace, tokens).is_some() {
-        return Ok(tokens);
-    }
-    let (_, rest) = needed(Mark::Semicolon, tokens)?;
-    Ok(rest)
-}
-
-/// This action as a statement that stands here.
-fn acts(place: Place, action: Found<'_, Action>) -> Found<'_, Stmt>
-    ensures gives { found_of statement_of result ≡ placed place (found_of act_of action.entry) }
-{
-    Found {
-        value: Stmt::Act(place, action.value),
-        height: action.height,
-        rest: action.rest,
-    }
-}
-
-/// The block of a statement of its own.
-fn block_stmt(place: Place, body: Vec<Stmt>) -> Stmt
-    ensures { statement_of result ≡ Block place (statements_of body.items) }
-{
-    Stmt::Block(place, body)
-}
-
-/// An if without else.
-fn if_stmt(place: Place, head: IfHead, body: Vec<Stmt>) -> Stmt
-    ensures { statement_of result ≡ If place (if_of head) (statements_of body.items) }
-{
-    Stmt::If(place, head, body)
-}
-
-/// An if with the block of its else.
-fn if_else(place: Place, head: IfHead, body: Vec<Stmt>, otherwise: Vec<Stmt>) -> Stmt
-    ensures { statement_of result ≡ IfElse place (if_of head) (statements_of body.items) (statements_of otherwise.items) }
-{
-    Stmt::IfElse(place, head, body, otherwise)
-}
-
-/// An if with the if after its else.
-fn if_else_if(place: Place, head: IfHead, body: Vec<Stmt>, otherwise: Box<Stmt>) -> Stmt
-    ensures { statement_of result ≡ IfElseIf place (if_of head) (statements_of body.items) (statement_of otherwise.value) }
-{
-    Stmt::IfElseIf(place, head, body, otherwise)
-}
-
-/// A for.
-fn for_stmt(place: Place, head: ForHead, body: Vec<Stmt>) -> Stmt
-    ensures { statement_of result ≡ For place (for_of head) (statements_of body.items) }
-{
-    Stmt::For(place, head, body)
-}
-
-/// A select.
-fn select_stmt(place: Place, clauses: Vec<Clause>) -> Stmt
-    ensures { statement_of result ≡ Select place (clauses_of clauses.items) }
-{
-    Stmt::Select(place, clauses)
-}
-
-/// A simple statement that begins with this expression, as a statement that stands here.
-#[tactic(auto, unfolding(crate::specs::StatementReading::plain_after))]
-fn plain<'a>(
-    alloc: Global,
-    limit: u32,
-    place: Place,
-    first: Found<'a, Expr>,
-) -> Result<Found<'a, Stmt>, Fault>
-    requires limit { limit < 2 ^ 30 }
-    requires fits { first.height ≤ limit }
-    ensures gives { Gives (found_of statement_of) result (plain_after limit place (found_of tree_of first.entry)) }
-    ensures fits { IfOk result (λ f. f.height ≤ limit) }
-{
-    let found = simple(alloc, limit, true, first)?;
-    Ok(Found {
-        value: Stmt::Act(place, Action::Simple(found.value)),
-        height: found.height,
-        rest: found.rest,
-    })
-}
 
 /// The statement after a label and its colon; it is of at most this height.
 #[cycle(statement)]
@@ -169,7 +84,7 @@ fn named<'a>(
 
 /// A statement that begins with no keyword; its parts are of at most this height.
 #[cycle(statement)]
-#[tactic(auto, unfolding(crate::specs::StatementReading::open_at, crate::specs::StatementReading::open_after, crate::specs::StatementReading::bare))]
+#[tactic(auto, unfolding(crate::specs::StatementReading::open_at, crate::specs::StatementReading::open_after, crate::specs::SimpleReading::bare))]
 fn opened(
     alloc: Global,
     below: u32,

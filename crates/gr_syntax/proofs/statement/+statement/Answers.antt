@@ -3,11 +3,11 @@ use Rattle.std.proofs.lemmas.Result.{err_from_is_err_and}
 use Rattle.gr_scan.specs.Tokens.{tokens_of}
 use Rattle.gr_tree.specs.Statements.{Statements, Clauses, statement_of, comm_of, statements_of}
 use Rattle.gr_syntax.specs.Reading.{Found}
-use Rattle.gr_syntax.specs.StatementReading.{stops_at}
+use Rattle.gr_syntax.specs.SimpleReading.{stops_at}
 use Rattle.gr_syntax.specs.CodeViews.{clauses_of}
 use Rattle.gr_syntax.specs.Views.{found_of}
 use Rattle.gr_syntax.proofs.Turns.{fails_on}
-use Rattle.gr_syntax.proofs.CompleteStatements.{turn_close, turn_empty}
+use Rattle.gr_syntax.proofs.StatementLists.{turn_close, turn_empty}
 use Rattle.gr_syntax.proofs.StatementTurns.{list_err, list_bad, statement_shorter}
 use Rattle.gr_syntax.proofs.ClauseTurns.{clauses_end, case_err, case_colon, case_bad, default_colon, default_bad, case_pushed, default_pushed, list_pushed, list_shorter, comm_shorter}
 use Rattle.gr_syntax.proofs.statement.+statement.Goals as goal
