@@ -1,6 +1,6 @@
-# Rewind. `rt` is the command of the Rattle kit; nothing else is needed.
+# Rewind. `rt` is the command of the Rattle kit; `make bench` and `make gate-times` need python3 too.
 
-.PHONY: all demo test bench clean
+.PHONY: all demo test edits bench gate-times clean
 
 # Proves the program and what it stands on, and installs it as bin/rewind.
 all: bin/rewind
@@ -18,6 +18,11 @@ demo:
 test:
 	rt ci
 
+# The must-fail edits that the gate leaves out (crates/NAME/edits), of every crate, or of one: make edits CRATE=gr_scan.
+# As committed, in a fresh clone.
+edits:
+	bench/edits.sh $(CRATE)
+
 bin/channel_bench: FORCE
 	cd crates/channel_bench && rt run >/dev/null
 	mkdir -p bin
@@ -34,6 +39,11 @@ bench: bin/rewind bin/channel_bench bin/front_bench
 	bench/steps.py bin/rewind
 	bench/channels.py bin/channel_bench
 	bench/front.py bin/front_bench
+
+# The gate in a fresh clone of what is committed, with the processor minutes of each crate (bin/gate.md, bin/gate.log).
+gate-times:
+	mkdir -p bin
+	bench/gate.py --table bin/gate.md --log bin/gate.log
 
 clean:
 	rm -rf bin crates/*/out

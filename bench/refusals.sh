@@ -1,10 +1,10 @@
 #!/usr/bin/env bash
-# Refuses each growth in the tests of channels that go on after a refusal (crates/gr_channels/src/tests/refusals.rt):
+# Refuses each growth in the tests of channels that go on after a refusal (crates/tests/src/channels/refusals.rt):
 # run K refuses the K-th growth of each of these tests, and each is to pass. It proves nothing.
 #
 #     bench/refusals.sh [FIRST [LAST]]      (1 and the number of growths of the longest test)
 set -eu
-crate=$(cd "$(dirname "${BASH_SOURCE[0]}")/../crates/gr_channels" && pwd)
+crate=$(cd "$(dirname "${BASH_SOURCE[0]}")/../crates/tests" && pwd)
 first=${1:-1}
 last=${2:-15}
 log=$(mktemp)
@@ -13,7 +13,7 @@ cd "$crate"
 for growth in $(seq "$first" "$last"); do
   # The other tests give up at a refusal, so the status tells nothing.
   rt try --test --fail-alloc "$growth" >"$log" 2>&1 || true
-  passed=$(grep -c '^test tests::refusals::.* \.\.\. ok$' "$log" || true)
+  passed=$(grep -c '^test channels::refusals::.* \.\.\. ok$' "$log" || true)
   if [ "$passed" -ne 4 ]; then
     cat "$log"
     echo "growth $growth refused: $passed of 4 tests passed"

@@ -1,16 +1,11 @@
 -- Numbers read digit by digit.
-use Rattle.std.proofs.Common.{◌≡◌, ℕ, ◌+◌, ◌-◌, ◌*◌, ◌/◌, ◌%◌, ◌^◌, ◌<◌, ◌≤◌, Bool, true, false, cond, ◌&&◌, nat_lt, ◌==◌, zero, suc, List, [], ◌∷◌, ◌++◌, Option, Some, None, decimal, refl, sym, ◌∙◌, ap, ap₂, append_assoc, lt_of_lt_of_le, append-nil, arith, inl, inr, ◌⊎◌}
+use Rattle.std.proofs.Common.{◌≡◌, ℕ, ◌+◌, ◌-◌, ◌*◌, ◌/◌, ◌%◌, ◌^◌, ◌<◌, ◌≤◌, Bool, true, false, cond, ◌&&◌, nat_lt, ◌==◌, zero, suc, List, [], ◌∷◌, ◌++◌, Option, Some, None, decimal, refl, sym, ◌∙◌, ap, ap₂, append_assoc, lt_of_lt_of_le, append-nil, arith}
 use Rattle.std.specs.Char.{is_ascii_digit}
 use Rattle.std.proofs.lemmas.Bool.{and_parts}
 use Rattle.std.proofs.lemmas.Bool.Decides.{nat_tests}
 use Rattle.std.proofs.lemmas.Fmt.{decimal_digit, decimal_step, decimal_by_steps}
 use Rattle.std.proofs.lemmas.Option.{option_and_then_some}
 use Rattle.gr_base.specs.Names.{with_digit, read_count, count_from}
-
--- a test answers one or the other
-pub true_or_false : (b : Bool) → (b ≡ true) ⊎ (b ≡ false)
-true_or_false true = inl refl
-true_or_false false = inr refl
 
 -- a chosen `Some` was chosen
 pub cond_some : {A : Type 0} (b : Bool) (v m : A) → cond b (Some v) None ≡ Some m → (b ≡ true) × (v ≡ m)

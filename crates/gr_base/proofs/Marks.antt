@@ -1,5 +1,6 @@
 -- The first place at which a text has a mark.
 use Rattle.std.proofs.Common.{◌≡◌, ℕ, ◌+◌, ◌%◌, ◌^◌, ◌<◌, ◌≤◌, ◌==◌, Bool, true, false, cond, ltb, List, [], ◌∷◌, ◌++◌, length, drop, get_or, Some, None, position, codes, decimal, sym, ap, ◌∙◌, refl, inl, inr, arith, ltb-true, ltb-false, eqb-true, drop_of_length-le, lt_of_lt_of_le, lit≤, flat_map}
+use Rattle.std.proofs.lemmas.Bool.{cases_Bool}
 use Rattle.std.specs.List.{position_or_len, before_first, after_first}
 use Rattle.std.proofs.Math.Seq.{take-append_seam, drop-append-add}
 use Rattle.std.proofs.lemmas.Bool.Decides.{nat_tests}
@@ -8,7 +9,7 @@ use Rattle.std.proofs.lemmas.List.Elements.{All-head, All-tail}
 use Rattle.std.proofs.lemmas.List.Sums.{split_at_first, passes_at_first}
 use Rattle.gr_base.specs.Counts.{IsCount, IsGoName}
 use Rattle.gr_base.specs.Names.{go_text}
-use Rattle.gr_base.proofs.Digits.{cond_some, true_or_false}
+use Rattle.gr_base.proofs.Digits.{cond_some}
 
 -- a choice of `None` was made
 cond_other : {A : Type 0} (b : Bool) (v : A) → cond b (Some v) None ≡ None → b ≡ false
@@ -75,7 +76,7 @@ after_mark mark xs ys none = rw (first_mark mark xs ys none) (drop_past xs ys ma
 pub parts_of : (mark : ℕ) (text : List ℕ) → (after_first (λ b. b == mark) text ≡ [] → ⊥) → text ≡ before_first (λ b. b == mark) text ++ mark ∷ after_first (λ b. b == mark) text
 parts_of mark text more =
     let first : ℕ = position_or_len (λ b. b == mark) text in
-    elim (true_or_false (ltb first (length text))) [
+    elim (cases_Bool (ltb first (length text))) [
       | inl within ↦
           let low = ltb-true first (length text) within in
           split_at_first (λ b. b == mark) text 0 low

@@ -1,5 +1,6 @@
 -- What was printed is read back, and no other text is read.
 use Rattle.std.proofs.Common.{◌≡◌, ℕ, ◌^◌, ◌<◌, ◌==◌, Bool, true, false, List, [], ◌∷◌, ◌++◌, drop, Option, Some, None, codes, decimal, flat_map, nat_eq, option_map, option_and_then, refl, sym, ◌∙◌, ap, ap₂, arith, inl, inr, eqb-true, append_assoc, lt_of_lt_of_le, lit≤, lit<}
+use Rattle.std.proofs.lemmas.Bool.{cases_Bool}
 use Rattle.std.proofs.lemmas.Bool.Decides.{nat_tests, Decides-eqb}
 use Rattle.std.proofs.lemmas.Slice.Eq.{starts_is}
 use Rattle.std.proofs.lemmas.List.Elements.{All-cons, All-head, All-tail, All-nil}
@@ -10,7 +11,7 @@ use Rattle.gr_base.specs.declared.names.ChName.{ChName}
 use Rattle.gr_base.specs.declared.names.StepId.{StepId}
 use Rattle.gr_base.specs.Names.{with_digit, read_count, count_from, counts_from, counts_after, go_named, go_text, ch_count, ch_named, ch_text, IsChName, step_named, step_text, IsStepId, Reads}
 use Rattle.gr_base.proofs.Marks.{Lacks-go_text, before_mark, after_mark, parts_of}
-use Rattle.gr_base.proofs.Digits.{count_from_sound, count_from_decimal, TakesDigits, digit_taken, decimal_read, digits_read, digits_read-positive, digits_read_more, read_count_some, read_count_of, cond_read, true_or_false}
+use Rattle.gr_base.proofs.Digits.{count_from_sound, count_from_decimal, TakesDigits, digit_taken, decimal_read, digits_read, digits_read-positive, digits_read_more, read_count_some, read_count_of, cond_read}
 
 -- where a map gives a value
 pub option_map_some : {A B P : Type 0} (f : A → B) (o : Option A) (y : B) → option_map f o ≡ Some y → ((x : A) → o ≡ Some x → f x ≡ y → P) → P
@@ -68,7 +69,7 @@ counts_sound n [] go small h =
       printed = ap (λ s. s ++ []) (digits_read-positive n facts.0);
     })
 counts_sound n (byte ∷ bytes) go small h =
-    elim (true_or_false (byte == 46)) [
+    elim (cases_Bool (byte == 46)) [
       | inl dot ↦ at_dot n byte bytes go small dot (counts_sound 0 bytes) (rw dot at h)
       | inr other ↦
           option_and_then_some (λ k. counts_from k bytes) (with_digit (2 ^ 32) n byte) go (rw other at h)
@@ -115,7 +116,7 @@ go_complete (count ∷ counts) valid =
 pub after_sound : (text go : List ℕ) → counts_after text ≡ Some go → (text ≡ dotted go) × IsGoName go
 after_sound [] go h = let e : [] ≡ go = cc in rw (← e) (refl, All-nil IsCount)
 after_sound (byte ∷ bytes) go h =
-    elim (true_or_false (byte == 46)) [
+    elim (cases_Bool (byte == 46)) [
       | inl dot ↦
           let more = counts_sound 0 bytes go (lit< tt) (rw dot at h) in (
             ap₂ (λ b s. b ∷ s) (eqb-true byte 46 dot) more.printed ∙ ap dotted (sym more.is),

@@ -9,8 +9,6 @@ pub mod names;
 pub mod objects;
 pub mod print;
 pub mod read;
-#[cfg(test)]
-mod tests;
 pub mod values;
 
 pub use events::{Choice, Event};

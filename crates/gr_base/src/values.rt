@@ -1,6 +1,7 @@
 //! Values of programs.
 
-ghost use Rattle.std.specs.Prelude.{◌≡◌, IfOk};
+ghost use Rattle.std.specs.Prelude.{◌≡◌, IfOk, OnErr};
+ghost use Rattle.gr_base.specs.Values.{IsNamed};
 
 use crate::memory::NoMemory;
 use crate::names::ChName;
@@ -19,9 +20,10 @@ pub enum Value {
 }
 
 impl Value {
-    /// The same value once more.
+    /// The same value once more. Only a channel's name takes memory.
     pub fn copy(&self, alloc: Global) -> Result<Value, NoMemory>
-        ensures { IfOk result (λ value. value ≡ self.now) }
+        ensures ok { IfOk result (λ value. value ≡ self.now) }
+        ensures needed { OnErr result (IsNamed self.now) }
     {
         match self {
             Value::Int(n) => Ok(Value::Int(*n)),

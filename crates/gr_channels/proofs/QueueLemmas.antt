@@ -1,14 +1,11 @@
 -- How withdrawn waiters go back, one at a time.
-use Rattle.std.proofs.Common.{◌≡◌, ◌⊎◌, inl, inr, ℕ, ◌+◌, ◌-◌, ◌<◌, ◌≤◌, List, [], ◌∷◌, ◌++◌, length, refl, ap, sym, ◌∙◌, subst, arith, add-zero, length-append, append_assoc, append-nil, if◌then◌else◌}
-use Rattle.std.specs.Prelude.{insert, not, true, false, filter, Bool, suc, count_by}
+use Rattle.std.proofs.Common.{◌≡◌, inl, inr, ℕ, ◌+◌, ◌-◌, ◌<◌, ◌≤◌, List, [], ◌∷◌, ◌++◌, length, refl, ap, sym, ◌∙◌, subst, arith, add-zero, length-append, append_assoc, append-nil, if◌then◌else◌}
+use Rattle.std.proofs.lemmas.Bool.{cases_Bool}
+use Rattle.std.specs.Prelude.{insert, not, true, false, filter, suc, count_by}
 use Rattle.std.proofs.lemmas.List.Filters.{length-filter_both}
 use Rattle.std.proofs.lemmas.List.Sums.{length-filter}
 use Rattle.gr_channels.specs.declared.waiter.Waiter.{Waiter}
 use Rattle.gr_channels.specs.Queues.{is_of, others, restored, PlacesFit}
-
-true_or_false : (b : Bool) → (b ≡ true) ⊎ (b ≡ false)
-true_or_false true = inl refl
-true_or_false false = inr refl
 
 -- the one that was removed last goes back first
 pub restored-last : {X : Type 0} → (rs : List (ℕ × Waiter X)) (r : ℕ × Waiter X) (ws : List (Waiter X)) → restored (rs ++ r ∷ []) ws ≡ restored rs (insert ws r.0 r.1)
@@ -47,7 +44,7 @@ gathered-append : {X : Type 0} → (name : List ℕ) (at : ℕ) (xs ys : List (W
 unfolding gathered
 gathered-append name at [] ys = rw add-zero refl
 gathered-append name at (x ∷ xs) ys =
-    elim (true_or_false (is_of name x)) [
+    elim (cases_Bool (is_of name x)) [
       | inl is ↦ rw is (ap (λ l. (at, x) ∷ l) (gathered-append name at xs ys))
       | inr other ↦
           let shift : at + 1 + length (others name xs) ≡ at + suc (length (others name xs)) = omega arith in
@@ -57,7 +54,7 @@ gathered-append name at (x ∷ xs) ys =
 length-gathered : {X : Type 0} → (name : List ℕ) (at : ℕ) (ws : List (Waiter X)) → length (gathered name at ws) ≡ length (filter (is_of name) ws)
 unfolding gathered
 length-gathered name at [] = refl
-length-gathered name at (w ∷ ws) = elim (true_or_false (is_of name w)) [
+length-gathered name at (w ∷ ws) = elim (cases_Bool (is_of name w)) [
   | inl is ↦ rw is (ap suc (length-gathered name at ws))
   | inr other ↦ rw other (length-gathered name (at + 1) ws)
 ]
@@ -71,7 +68,7 @@ insert-middle (z ∷ zs) ys x = ap (λ l. z ∷ l) (insert-middle zs ys x)
 
 others-append : {X : Type 0} → (name : List ℕ) (xs ys : List (Waiter X)) → others name (xs ++ ys) ≡ others name xs ++ others name ys
 others-append name [] ys = refl
-others-append name (x ∷ xs) ys = elim (true_or_false (is_of name x)) [
+others-append name (x ∷ xs) ys = elim (cases_Bool (is_of name x)) [
   | inl is ↦ rw is (others-append name xs ys)
   | inr other ↦ rw other (ap (λ l. x ∷ l) (others-append name xs ys))
 ]
@@ -80,7 +77,7 @@ others-append name (x ∷ xs) ys = elim (true_or_false (is_of name x)) [
 gathered_back : {X : Type 0} → (name : List ℕ) (pre ws : List (Waiter X)) → restored (gathered name (length pre) ws) (pre ++ others name ws) ≡ pre ++ ws
 unfolding gathered
 gathered_back name pre [] = refl
-gathered_back name pre (w ∷ ws) = elim (true_or_false (is_of name w)) [
+gathered_back name pre (w ∷ ws) = elim (cases_Bool (is_of name w)) [
   | inl is ↦
       let rest : restored (gathered name (length pre) ws) (pre ++ others name ws) ≡ pre ++ ws = gathered_back name pre ws in
       rw is (ap (λ l. insert l (length pre) w) rest ∙ insert-middle pre ws w)
@@ -96,7 +93,7 @@ gathered_back name pre (w ∷ ws) = elim (true_or_false (is_of name w)) [
 gathered_fit : {X : Type 0} → (name : List ℕ) (pre ws : List (Waiter X)) → PlacesFit (gathered name (length pre) ws) (pre ++ others name ws)
 unfolding gathered
 gathered_fit name pre [] = tt
-gathered_fit name pre (w ∷ ws) = elim (true_or_false (is_of name w)) [
+gathered_fit name pre (w ∷ ws) = elim (cases_Bool (is_of name w)) [
   | inl is ↦
       let within : length pre ≤ length (restored (gathered name (length pre) ws) (pre ++ others name ws)) =
       rw (gathered_back name pre ws) (omega (arith, length-append pre ws)) in

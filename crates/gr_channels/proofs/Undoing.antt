@@ -1,5 +1,6 @@
 -- A change is taken back wherever what it wrote stands.
 use Rattle.std.proofs.Common.{◌≡◌, ◌⊎◌, ℕ, suc, ◌+◌, ◌-◌, ◌%◌, ◌<◌, ◌≤◌, ◌==◌, Bool, true, false, ◌&&◌, ◌||◌, List, [], ◌∷◌, length, Option, Some, None, refl, ap, sym, ◌∙◌, subst, arith, inl, inr, eqb-true, eq-eqb, lt_of_le_of_lt}
+use Rattle.std.proofs.Math.Bool.{or-true, and-true, and-false}
 use Rattle.std.proofs.lemmas.Bool.{eqb-false}
 use Rattle.std.specs.Prelude.{slice_get, ◌^◌}
 use Rattle.std.specs.Global.{Vec}
@@ -28,18 +29,6 @@ same_self Gate c = refl
 same_self Tail c = refl
 same_self Head c = refl
 same_self (Slot i) c = refl
-
-or_true : (b : Bool) → (b || true) ≡ true
-or_true true = refl
-or_true false = refl
-
-and_true : (b : Bool) → (b && true) ≡ b
-and_true true = refl
-and_true false = refl
-
-and_false : (b : Bool) → (b && false) ≡ false
-and_false true = refl
-and_false false = refl
 
 gate_written : (u : ChanUndo) (f : GateContent → GateContent) (b c : Content)
     → ((x : Content) → undone u x ≡ put_gate x (f (gate_of x))) → ((p : Part) → is_written u (undone u b) p ≡ is_gate p) → gate_of c ≡ gate_of b
@@ -92,13 +81,13 @@ somebody_back s r b c fits valid some same =
     let gate : gate_of c ≡ gate_of b = same Gate some in
     let P : GateContent → Type 0 = λ g. PlacesFit s.items g.senders × PlacesFit r.items g.receivers in
     gate_taken_back (Withdrawn s r) (λ g. record g { senders = restored s.items g.senders; receivers = restored r.items g.receivers }) b c (λ x. refl) (λ g. refl)
-    (λ p. ap (λ x. is_gate p && x) some ∙ and_true (is_gate p)) valid (subst P (sym gate) fits) gate
+    (λ p. ap (λ x. is_gate p && x) some ∙ and-true (is_gate p)) valid (subst P (sym gate) fits) gate
 
 nobody_back : (s : Vec (ℕ × Waiter Value)) (r : Vec (ℕ × Waiter (Unit {0}))) (b c : Content) → IsChannel c → s.items ≡ [] → r.items ≡ [] → TakesBack (Withdrawn s r) (undone (Withdrawn s r) b) c
 nobody_back s r b c valid es er =
     let none : (has_any s.items || has_any r.items) ≡ false = rw (es, er) refl in
     none_taken_back (Withdrawn s r) b c (λ x. λ i. record x { senders = restored (es i) x.senders; receivers = restored (er i) x.receivers })
-    (λ p. ap (λ x. is_gate p && x) none ∙ and_false (is_gate p)) valid
+    (λ p. ap (λ x. is_gate p && x) none ∙ and-false (is_gate p)) valid
     (subst (λ xs. PlacesFit xs c.senders) (sym es) tt, subst (λ xs. PlacesFit xs c.receivers) (sym er) tt)
 
 -- the undo of a withdrawal
@@ -108,7 +97,7 @@ withdrawn_back s r b c fits valid same =
     elim (none_or_some s.items) [
       | inr h ↦ somebody_back s r b c fits valid (ap (λ x. x || has_any r.items) h) same
       | inl es ↦ elim (none_or_some r.items) [
-        | inr h ↦ somebody_back s r b c fits valid (ap (λ x. has_any s.items || x) h ∙ or_true (has_any s.items)) same
+        | inr h ↦ somebody_back s r b c fits valid (ap (λ x. has_any s.items || x) h ∙ or-true (has_any s.items)) same
         | inl er ↦ nobody_back s r b c valid es er
       ]
     ]
@@ -280,7 +269,7 @@ moved_back item go case b c0 fits vb vc same =
     let own : s ≡ (b.head + (length b.items - 1)) % n =
     let number : b.head - 1 + suc (length (front b.items)) ≡ b.head + (length b.items - 1) = omega (arith, length_front b.items some) in
     ap (λ k. k % n) number in
-    let slots : slot_from n s c0.head c0.items ≡ slot_from n s b.head b.items = same (Slot s) (rw (eq-eqb s s refl) (or_true ((b.head - 1) % n == s))) in
+    let slots : slot_from n s c0.head c0.items ≡ slot_from n s b.head b.items = same (Slot s) (rw (eq-eqb s s refl) (or-true ((b.head - 1) % n == s))) in
     let stands = entered_stands n b.head c0.head b.items c0.items some (vb.within) tails (subst (λ k. slot_from n k c0.head c0.items ≡ slot_from n k b.head b.items) own slots) in
     let there : 0 < length c0.items = stands.0 in
     let shorter : length (front c0.items) ≡ length c0.items - 1 = length_front c0.items there in

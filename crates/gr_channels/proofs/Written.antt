@@ -1,5 +1,6 @@
 -- What a change wrote it changed.
-use Rattle.std.proofs.Common.{◌≡◌, ◌⊎◌, ℕ, suc, ◌+◌, ◌-◌, ◌%◌, ◌<◌, Bool, true, false, ◌&&◌, ◌||◌, List, [], ◌∷◌, length, Option, Some, None, refl, ap, sym, ◌∙◌, subst, arith, inl, inr, eqb-true}
+use Rattle.std.proofs.Common.{◌≡◌, ℕ, suc, ◌+◌, ◌-◌, ◌%◌, ◌<◌, Bool, true, false, ◌||◌, List, [], ◌∷◌, length, Option, Some, None, ap, sym, ◌∙◌, subst, arith, inl, inr, eqb-true}
+use Rattle.std.proofs.lemmas.Bool.{cases_Bool, and_parts}
 use Rattle.std.specs.Global.{Vec}
 use Rattle.std.proofs.lemmas.List.Edits.{length-insert}
 use Rattle.std.proofs.lemmas.Bool.Decides.{eqb_tells}
@@ -25,18 +26,6 @@ length_restored (r ∷ rs) ws fits = let rest = length_restored rs ws (fits.1) i
 has_any_long : {X : Type 0} → (xs : List X) → has_any xs ≡ true → 0 < length xs
 has_any_long [] e = cc
 has_any_long (x ∷ xs) e = omega arith
-
-and_parts : (a b : Bool) → (a && b) ≡ true → b ≡ true
-and_parts true b e = e
-and_parts false b e = cc
-
-and_first : (a b : Bool) → (a && b) ≡ true → a ≡ true
-and_first true b e = refl
-and_first false b e = cc
-
-true_or_false : (b : Bool) → (b ≡ true) ⊎ (b ≡ false)
-true_or_false true = inl refl
-true_or_false false = inr refl
 
 or_parts : (a b : Bool) → (a || b) ≡ true → (a ≡ false) → b ≡ true
 or_parts true b e f = cc
@@ -102,7 +91,7 @@ moved_changed item go case b valid fits (Slot i) e same =
 
 withdrawn_changed : (s : Vec (ℕ × Waiter Value)) (r : Vec (ℕ × Waiter (Unit {0}))) (b : Content) → Fits (Withdrawn s r) b → (has_any s.items || has_any r.items) ≡ true → gate_of (undone (Withdrawn s r) b) ≡ gate_of b → ⊥
 withdrawn_changed s r b fits some same =
-    elim (true_or_false (has_any s.items)) [
+    elim (cases_Bool (has_any s.items)) [
       | inl h ↦ more_senders (undone (Withdrawn s r) b) b (omega (arith, length_restored s.items b.senders (fits.0), has_any_long s.items h)) same
       | inr h ↦ more_receivers (undone (Withdrawn s r) b) b (omega (arith, length_restored r.items b.receivers (fits.1), has_any_long r.items (or_parts _ _ some h))) same
     ]
@@ -127,7 +116,7 @@ written_changed ParkedSender b valid fits p e same =
 written_changed ParkedReceiver b valid fits p e same =
     the_gate ParkedReceiver b (λ q h. h) (fewer_receivers (undone ParkedReceiver b) b (omega (arith, fits, length_front b.receivers fits))) p e same
 written_changed (Withdrawn s r) b valid fits p e same =
-    the_gate (Withdrawn s r) b (λ q h. and_first _ _ h) (λ g. withdrawn_changed s r b fits (and_parts _ _ e) g) p e same
+    the_gate (Withdrawn s r) b (λ q h. (and_parts _ _ h).0) (λ g. withdrawn_changed s r b fits ((and_parts _ _ e).1) g) p e same
 written_changed (Closed s r) b valid fits p e same =
     the_gate (Closed s r) b (λ q h. h) (λ g. let no : false ≡ true = ap (λ (x : GateContent). x.closed) g ∙ fits.0 in cc) p e same
 

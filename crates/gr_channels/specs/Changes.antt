@@ -1,5 +1,5 @@
 -- What each change does to a channel, and what taking it back gives.
-use Rattle.std.specs.Prelude.{◌≡◌, ◌+◌, ◌-◌, ◌<◌, ◌≤◌, true, false, List, [], ◌∷◌, ◌++◌, length, take, vec_len, slice_index_or}
+use Rattle.std.specs.Prelude.{◌≡◌, ◌+◌, ◌-◌, ◌<◌, ◌≤◌, true, false, List, [], ◌∷◌, ◌++◌, length, take, vec_len, slice_index_or, count_by, ℕ, Option, Some, None}
 use Rattle.gr_base.specs.declared.values.Value.{Value}
 use Rattle.gr_channels.specs.declared.waiter.Waiter.{Waiter}
 use Rattle.gr_channels.specs.declared.changes.ChanUndo.{ChanUndo}
@@ -8,7 +8,8 @@ use Rattle.gr_channels.specs.declared.changes.Offered.{Offered}
 use Rattle.gr_channels.specs.declared.changes.Offered.TheVariants as offered
 use Rattle.gr_channels.specs.declared.changes.Taken.{Taken}
 use Rattle.gr_channels.specs.declared.changes.Taken.TheVariants as taken
-use Rattle.gr_channels.specs.Queues.{restored, PlacesFit}
+use Rattle.gr_base.specs.Values.{IsNamed}
+use Rattle.gr_channels.specs.Queues.{is_of, restored, PlacesFit}
 use Rattle.gr_channels.specs.Channels.{Content, Room, Seen, Within, plus}
 
 -- without its last element
@@ -96,6 +97,13 @@ OfferUndone (offered.Handed w u) old new = Undoes u old new
 OfferUndone (offered.Buffered u) old new = Undoes u old new
 OfferUndone (offered.Full w) old new = new.room ≡ old.room
 
+-- why an offered value may find no memory: it would enter the buffer, where there is no more room
+pub record OfferNeedsMemory (old : Seen) : Type 0 where
+  pub not_closed : old.content.closed ≡ false
+  pub unmet : old.content.receivers ≡ []
+  pub short : length old.content.items < old.content.capacity
+  pub no_room : old.room.items ≡ 0
+
 -- what receiving does (Go specification, "Receive operator"): the front item is taken, and the first waiting sender's
 -- value moves up; else the first waiting sender's value; else nothing, and it is told whether the channel is closed
 abbrev pub TakeRule : Content → Taken → Content → Type 0
@@ -116,6 +124,24 @@ TakeUndone (taken.Moved v u) old new = Undoes u old new
 TakeUndone (taken.Met v u) old new = Undoes u old new
 TakeUndone taken.Closed old new = new.room ≡ old.room
 TakeUndone taken.Empty old new = new.room ≡ old.room
+
+-- the value that is taken next: the front item, or else the first waiting sender's
+abbrev pub next_value : List Value → List (Waiter Value) → Option Value
+next_value (v ∷ vs) senders = Some v
+next_value [] (w ∷ ws) = Some w.value
+next_value [] [] = None
+
+-- why taking a value may find no memory: there is one, and it is a channel, whose name is copied
+abbrev pub TakeNeedsMemory : Content → Type 0
+TakeNeedsMemory c = (v : Value) × (next_value c.items c.senders ≡ Some v) × IsNamed v
+
+-- why withdrawing a goroutine may find no memory: it waits here
+abbrev pub WithdrawNeedsMemory : List ℕ → Content → Type 0
+WithdrawNeedsMemory name c = 0 < count_by (is_of name) c.senders + count_by (is_of name) c.receivers
+
+-- why closing may find no memory: somebody waits here
+abbrev pub CloseNeedsMemory : Content → Type 0
+CloseNeedsMemory c = 0 < length c.senders + length c.receivers
 
 -- what left is a goroutine's waiters, taken out by its name
 abbrev pub IsWithdrawn : ChanUndo → Type 0
@@ -140,3 +166,20 @@ IsClosed (Met w) = ⊥
 IsClosed ParkedSender = ⊥
 IsClosed ParkedReceiver = ⊥
 IsClosed (Withdrawn s r) = ⊥
+
+-- what taking a change back gives
+pub record TookBack (u : ChanUndo) (old new : Seen) : Type 0 where
+  pub content : new.content ≡ undone u old.content
+  pub spends : Within (plus old.room (entered u)) (plus new.room (need u))
+
+-- a change from a to b is taken back from any c with the content of b and no less room: it fits, and needs no memory; and
+-- what that gives has the content of a and no less room. So changes made one after the other are taken back in the
+-- reverse order, the last one first
+pub record GoesBack (u : ChanUndo) (a c : Seen) : Type 0 where
+  pub fits : Fits u c.content
+  pub room : Within (need u) c.room
+  pub content : (d : Seen) → TookBack u c d → d.content ≡ a.content
+  pub no_less : (d : Seen) → TookBack u c d → Within a.room d.room
+
+abbrev pub TakenBackInOrder : Type 0
+TakenBackInOrder = (u : ChanUndo) (a b c : Seen) → Undoes u a b → c.content ≡ b.content → Within b.room c.room → GoesBack u a c

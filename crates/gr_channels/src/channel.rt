@@ -3,7 +3,8 @@
 ghost use Rattle.std.specs.Prelude.{◌≡◌, ◌+◌, ◌-◌, ◌^◌, ◌↔◌, ◌∷◌, ◌++◌, [], true, false, length, slice_get, option_copied, IsTrue, IfOk, IfErr, OnOk, OnErr, IsOk};
 ghost use Rattle.gr_channels.specs.Queues.{others};
 ghost use Rattle.gr_channels.specs.Channels.{IsChannel, CanEnter, tail_of, Within, plus, each};
-ghost use Rattle.gr_channels.specs.Changes.{undone, need, entered, Fits, Undoes, IsWithdrawn, IsClosed, OfferRule, OfferUndone, TakeRule, TakeUndone};
+ghost use Rattle.gr_channels.specs.Changes.{OfferRule, OfferUndone, OfferNeedsMemory, TakeRule, TakeUndone, TakeNeedsMemory, WithdrawNeedsMemory, CloseNeedsMemory};
+ghost use Rattle.gr_channels.specs.Changes.{undone, need, entered, Fits, Undoes, IsWithdrawn, IsClosed};
 
 use crate::changes::{ChanUndo, Offered, Taken, need_of};
 use crate::queue::{empty_out, put_back, withdraw_from};
@@ -128,7 +129,7 @@ impl Channel {
         ensures rule { IfOk result (λ r. OfferRule self.old.content value r self.new.content) }
         ensures undone { IfOk result (λ r. OfferUndone r self.old self.new) }
         ensures err { OnErr result (self.new.content ≡ self.old.content) }
-        ensures refused_without_room { OnErr result (self.old.room.items ≡ 0) }
+        ensures needed { OnErr result (OfferNeedsMemory self.old) }
     {
         if self.closed {
             return Ok(Offered::Closed(value));
@@ -150,6 +151,7 @@ impl Channel {
         ensures rule { IfOk result (λ r. TakeRule self.old.content r self.new.content) }
         ensures undone { IfOk result (λ r. TakeUndone r self.old self.new) }
         ensures err { OnErr result (self.new ≡ self.old) }
+        ensures needed { OnErr result (TakeNeedsMemory self.old.content) }
     {
         if let Some(front) = self.items.front() {
             let value = front.copy(self.alloc)?;
@@ -218,6 +220,7 @@ impl Channel {
         ensures undone { IfOk result (λ undo. Undoes undo self.old self.new) }
         ensures err { OnErr result (self.new.content ≡ self.old.content) }
         ensures err_room { OnErr result (Within self.old.room self.new.room) }
+        ensures needed { OnErr result (WithdrawNeedsMemory name.now self.old.content) }
     {
         let senders = withdraw_from(self.alloc, &mut self.senders, name)?;
         match withdraw_from(self.alloc, &mut self.receivers, name) {
@@ -237,6 +240,7 @@ impl Channel {
         ensures undone { IfOk result (λ undo. Undoes undo self.old self.new) }
         ensures err { OnErr result (self.new.content ≡ self.old.content) }
         ensures err_room { OnErr result (Within self.old.room self.new.room) }
+        ensures needed { OnErr result (CloseNeedsMemory self.old.content) }
     {
         let senders = empty_out(self.alloc, &mut self.senders)?;
         match empty_out(self.alloc, &mut self.receivers) {

@@ -1,5 +1,6 @@
 //! Laws of a channel's objects, each the contract of a function that does nothing.
 
+ghost use Rattle.gr_channels.specs.Changes.{TakenBackInOrder};
 ghost use Rattle.gr_channels.specs.Objects.{SlotsHoldItems, ObjectsMakeTheContent, EmptySlotMeansRoom, EmptySlotMeansNoItem, OnlyWrittenChanges, WrittenChanges, TakenBackAnywhere};
 
 /// Number k stands in slot k mod capacity, and a slot holds nothing else.
@@ -28,4 +29,10 @@ pub fn law_of_changes()
 /// before it and the rest stays.
 pub fn law_of_undoing()
     ensures { TakenBackAnywhere }
+{}
+
+/// Changes made one after the other are taken back in the reverse order, with no memory: so a goroutine that is withdrawn
+/// after one of its waiters was met comes back first, and then the waiter.
+pub fn law_of_order()
+    ensures { TakenBackInOrder }
 {}

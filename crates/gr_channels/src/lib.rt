@@ -4,8 +4,6 @@
 pub mod changes;
 pub mod channel;
 mod queue;
-#[cfg(test)]
-mod tests;
 pub mod waiter;
 
 pub use changes::{ChanUndo, Offered, Taken, need_of};

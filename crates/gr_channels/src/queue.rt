@@ -40,6 +40,7 @@ pub fn withdraw_from<T: Drop>(
     ensures len { IfOk result (λ gone. deque_len queue.new + vec_len gone ≡ deque_len queue.old) }
     ensures room { deque_capacity queue.new ≡ deque_capacity queue.old }
     ensures err { OnErr result (queue.new ≡ queue.old) }
+    ensures needed { OnErr result (0 < count_by (is_of name.now) queue.old.items) }
 {
     let mut gone = Vec::with_capacity(alloc, count_of(queue, name))?;
     for turn in 0..queue.len() {
@@ -79,6 +80,7 @@ pub fn empty_out<T: Drop>(
     ensures len { IfOk result (λ gone. deque_len queue.new + vec_len gone ≡ deque_len queue.old) }
     ensures room { deque_capacity queue.new ≡ deque_capacity queue.old }
     ensures err { OnErr result (queue.new ≡ queue.old) }
+    ensures needed { OnErr result (0 < deque_len queue.old) }
 {
     let mut gone = Vec::with_capacity(alloc, queue.len())?;
     while let Some(waiter) = queue.pop_front() {

@@ -1,6 +1,7 @@
 -- Shifts by few and by many bits.
-use Rattle.std.proofs.Common.{ℕ, zero, suc, ◌≡◌, refl, sym, ap, ◌∙◌, ◌<◌, ◌≤◌, ◌≢◌, ◌⊎◌, inl, inr, arith, to_z, of_z}
-use Rattle.std.specs.Prelude.{ℤ, pos, negsuc, neg_ℤ, ◌*ℤ◌, ◌*◌, ◌/◌, ◌^◌, min, nat_le, nat_lt, Bool, true, false, Err, ◌%◌}
+use Rattle.std.proofs.Common.{ℕ, zero, suc, ◌≡◌, refl, sym, ap, ◌∙◌, ◌<◌, ◌≤◌, ◌≢◌, inl, inr, arith, to_z, of_z}
+use Rattle.std.proofs.lemmas.Bool.{cases_Bool}
+use Rattle.std.specs.Prelude.{ℤ, pos, negsuc, neg_ℤ, ◌*ℤ◌, ◌*◌, ◌/◌, ◌^◌, min, nat_le, nat_lt, true, false, Err, ◌%◌}
 use Rattle.std.specs.Int.{w128, int_min}
 use mir.Val.{SFits}
 use lib.Signed.{lt_z, le_z, shr_z, mag_shr}
@@ -13,10 +14,6 @@ use Rattle.gr_const.specs.declared.constant.ConstError.TheVariants.{Range}
 use Rattle.gr_const.specs.Bits.{shift_left, shift_right}
 use Rattle.std.proofs.Math.Pow.{pow_mono}
 use Rattle.std.proofs.Math.Nat.{div-eq_of_lt, suc-mul, lt_of_le_of_lt}
-
-true_or_false : (b : Bool) → (b ≡ true) ⊎ (b ≡ false)
-true_or_false true = inl refl
-true_or_false false = inr refl
 
 over : (c v : ℕ) → c < v → nat_le v c ≡ false
 over c v h = grind arith
@@ -48,7 +45,7 @@ clamped_far : (a n : ℕ) → a < 2 ^ 127 → 127 ≤ n → a / 2 ^ (min n 127) 
 clamped_far a n p h = let e : min n 127 ≡ 127 = omega arith in ap (λ m. a / 2 ^ m) e ∙ gone a 127 p (omega arith) ∙ sym (gone a n p h)
 
 clamped : (a n : ℕ) → a < 2 ^ 127 → a / 2 ^ (min n 127) ≡ a / 2 ^ n
-clamped a n p = elim (true_or_false (nat_le 127 n)) as (λ _. a / 2 ^ (min n 127) ≡ a / 2 ^ n) [ inl t ↦ clamped_far a n p (grind arith) | inr f ↦ ap (λ m. a / 2 ^ m) (grind arith) ]
+clamped a n p = elim (cases_Bool (nat_le 127 n)) as (λ _. a / 2 ^ (min n 127) ≡ a / 2 ^ n) [ inl t ↦ clamped_far a n p (grind arith) | inr f ↦ ap (λ m. a / 2 ^ m) (grind arith) ]
 
 -- shifted so far to the right a number of the machine has nothing left but its sign
 pub far_right : (x : ℤ) (n : ℕ) → SFits w128 x → shift_right x (min n 127) ≡ shift_right x n

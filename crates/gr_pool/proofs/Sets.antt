@@ -1,5 +1,6 @@
 -- Ready names as a list in order, and the places that stand for them.
-use Rattle.std.proofs.Common.{◌≡◌, ◌⊎◌, inl, inr, ℕ, zero, suc, ◌+◌, ◌<◌, ◌≤◌, Bool, true, false, List, [], ◌∷◌, ◌++◌, length, take, drop, filter, refl, ap, sym, ◌∙◌, subst, arith, eqb, eqb-true, add-one, Some, None, take-append-drop, length-drop, length-append}
+use Rattle.std.proofs.Common.{◌≡◌, inl, inr, ℕ, zero, suc, ◌+◌, ◌<◌, ◌≤◌, Bool, true, false, List, [], ◌∷◌, ◌++◌, length, take, drop, filter, refl, ap, sym, ◌∙◌, subst, arith, eqb, eqb-true, add-one, Some, None, take-append-drop, length-drop, length-append}
+use Rattle.std.proofs.lemmas.Bool.{cases_Bool}
 use Rattle.std.specs.Prelude.{slice_index_or, slice_get, nat_eq, insert, remove, All}
 use Rattle.std.specs.List.{list_any, position, AllByRecursion, IsDistinct}
 use Rattle.std.specs.Ordering.{is_lt, is_gt}
@@ -44,18 +45,14 @@ from_chain (x ∷ xs) h i zero d l w = absurd (omega arith)
 from_chain (x ∷ xs) h zero (suc j) d l w = less_each x xs (h.0) j d (omega arith)
 from_chain (x ∷ xs) h (suc i) (suc j) d l w = from_chain xs (h.1) i j d (omega arith) (omega arith)
 
-true_or_false : (b : Bool) → (b ≡ true) ⊎ (b ≡ false)
-true_or_false true = inl refl
-true_or_false false = inr refl
-
 filter_each : (P : List ℕ → Type 0) (p : List ℕ → Bool) (xs : List (List ℕ)) → AllByRecursion P xs → AllByRecursion P (filter p xs)
 filter_each P p [] h = tt
-filter_each P p (x ∷ xs) h = elim (true_or_false (p x)) [ inl e ↦ rw e (h.0, filter_each P p xs (h.1)) | inr e ↦ rw e (filter_each P p xs (h.1)) ]
+filter_each P p (x ∷ xs) h = elim (cases_Bool (p x)) [ inl e ↦ rw e (h.0, filter_each P p xs (h.1)) | inr e ↦ rw e (filter_each P p xs (h.1)) ]
 
 filter_chain : (p : List ℕ → Bool) (xs : List (List ℕ)) → Chain xs → Chain (filter p xs)
 unfolding Chain
 filter_chain p [] h = tt
-filter_chain p (x ∷ xs) h = elim (true_or_false (p x)) [
+filter_chain p (x ∷ xs) h = elim (cases_Bool (p x)) [
   | inl e ↦ rw e (filter_each (λ y. go_cmp x y ≡ Less) p xs (h.0), filter_chain p xs (h.1))
   | inr e ↦ rw e (filter_chain p xs (h.1))
 ]
@@ -72,14 +69,14 @@ gt_is Greater e = refl
 
 lesser_less : (n : List ℕ) (xs : List (List ℕ)) → AllByRecursion (λ x. go_cmp x n ≡ Less) (lesser n xs)
 lesser_less n [] = tt
-lesser_less n (x ∷ xs) = elim (true_or_false (is_lt (go_cmp x n))) [
+lesser_less n (x ∷ xs) = elim (cases_Bool (is_lt (go_cmp x n))) [
   | inl e ↦ rw e (lt_is (go_cmp x n) e, lesser_less n xs)
   | inr e ↦ rw e (lesser_less n xs)
 ]
 
 greater_more : (n : List ℕ) (xs : List (List ℕ)) → AllByRecursion (λ x. go_cmp n x ≡ Less) (greater n xs)
 greater_more n [] = tt
-greater_more n (x ∷ xs) = elim (true_or_false (is_gt (go_cmp x n))) [
+greater_more n (x ∷ xs) = elim (cases_Bool (is_gt (go_cmp x n))) [
   | inl e ↦ rw e (greater_back x n (gt_is (go_cmp x n) e), greater_more n xs)
   | inr e ↦ rw e (greater_more n xs)
 ]
@@ -120,7 +117,7 @@ no_tie x e = let more : go_cmp x x ≡ Greater = less_back x x e in let no : Les
 different : (known : List (List ℕ)) (i : ℕ) (is : List ℕ) → AllByRecursion (λ y. go_cmp (slice_index_or known i []) y ≡ Less) (names_at known is) → AllByRecursion (λ j. eqb i j ≡ false) is
 different known i [] h = tt
 different known i (j ∷ js) h = (
-  elim (true_or_false (eqb i j)) [
+  elim (cases_Bool (eqb i j)) [
     | inl e ↦ absurd (no_tie (slice_index_or known i []) (subst (λ k. go_cmp (slice_index_or known i []) (slice_index_or known k []) ≡ Less) (sym (eqb-true i j e)) (h.0)))
     | inr e ↦ e
   ],
@@ -134,7 +131,7 @@ distinct known (i ∷ is) h = (different known i is (h.0), distinct known is (h.
 
 among_below : (n : ℕ) (is : List ℕ) → All (λ i. i < n) is → (q : ℕ) → list_any (eqb q) is ≡ true → q < n
 among_below n [] h q e = cc
-among_below n (i ∷ is) h q e = elim (true_or_false (eqb q i)) [
+among_below n (i ∷ is) h q e = elim (cases_Bool (eqb q i)) [
   | inl t ↦ subst (λ k. k < n) (sym (eqb-true q i t)) (h 0 0 (omega arith))
   | inr f ↦ among_below n is (λ k d w. h (suc k) d (omega arith)) q (rw f at e)
 ]
@@ -147,7 +144,7 @@ same_name : (a b : List ℕ) → pointwise nat_eq a b ≡ true → a ≡ b
 same_name [] [] e = refl
 same_name [] (y ∷ ys) e = cc
 same_name (x ∷ xs) [] e = cc
-same_name (x ∷ xs) (y ∷ ys) e = elim (true_or_false (eqb x y)) [
+same_name (x ∷ xs) (y ∷ ys) e = elim (cases_Bool (eqb x y)) [
   | inl t ↦ let heads : x ≡ y = eqb-true x y t in let tails : xs ≡ ys = same_name xs ys (rw t at e) in cc
   | inr f ↦ let no : false ≡ true = rw f at e in cc
 ]
@@ -159,15 +156,15 @@ own_name a = nat_list_eq_equiv.refl a
 any_there : (p : List ℕ → Bool) (xs : List (List ℕ)) (k : ℕ) (d : List ℕ) → k < length xs → p (slice_index_or xs k d) ≡ true → list_any p xs ≡ true
 any_there p [] k d w e = absurd (omega arith)
 any_there p (x ∷ xs) zero d w e = rw e refl
-any_there p (x ∷ xs) (suc k) d w e = elim (true_or_false (p x)) [ inl t ↦ rw t refl | inr f ↦ rw f (any_there p xs k d (omega arith) e) ]
+any_there p (x ∷ xs) (suc k) d w e = elim (cases_Bool (p x)) [ inl t ↦ rw t refl | inr f ↦ rw f (any_there p xs k d (omega arith) e) ]
 
 pub among_standing : (name : List ℕ) (names : List (List ℕ)) (p : ℕ) → StandsAt name names p → is_among name names ≡ true
 among_standing name names p s = any_there (pointwise nat_eq name) names p [] (s.within) (rw (s.here []) (own_name name))
 
 not_lesser : (name : List ℕ) (xs : List (List ℕ)) → is_among name (lesser name xs) ≡ false
 not_lesser name [] = refl
-not_lesser name (x ∷ xs) = elim (true_or_false (is_lt (go_cmp x name))) [
-  | inl t ↦ rw t (elim (true_or_false (pointwise nat_eq name x)) [
+not_lesser name (x ∷ xs) = elim (cases_Bool (is_lt (go_cmp x name))) [
+  | inl t ↦ rw t (elim (cases_Bool (pointwise nat_eq name x)) [
     | inl e ↦ absurd (no_tie name (subst (λ y. go_cmp y name ≡ Less) (sym (same_name name x e)) (lt_is (go_cmp x name) t)))
     | inr f ↦ rw f (not_lesser name xs)
   ])
@@ -176,8 +173,8 @@ not_lesser name (x ∷ xs) = elim (true_or_false (is_lt (go_cmp x name))) [
 
 not_greater : (name : List ℕ) (xs : List (List ℕ)) → is_among name (greater name xs) ≡ false
 not_greater name [] = refl
-not_greater name (x ∷ xs) = elim (true_or_false (is_gt (go_cmp x name))) [
-  | inl t ↦ rw t (elim (true_or_false (pointwise nat_eq name x)) [
+not_greater name (x ∷ xs) = elim (cases_Bool (is_gt (go_cmp x name))) [
+  | inl t ↦ rw t (elim (cases_Bool (pointwise nat_eq name x)) [
     | inl e ↦ absurd (no_tie name (subst (λ y. go_cmp name y ≡ Less) (sym (same_name name x e)) (greater_back x name (gt_is (go_cmp x name) t))))
     | inr f ↦ rw f (not_greater name xs)
   ])
@@ -311,12 +308,12 @@ next_past name names p after w =
 
 -- the names at places when one more name is known
 pub known_names : (known : List (List ℕ)) (name : List ℕ) (is : List ℕ) → All (λ i. i < length known) is → names_at (insert_key (pointwise nat_eq) known name) is ≡ names_at known is
-known_names known name is h = elim (true_or_false (is_among name known)) [ inl t ↦ rw t refl | inr f ↦ rw f (names_more known name is h) ]
+known_names known name is h = elim (cases_Bool (is_among name known)) [ inl t ↦ rw t refl | inr f ↦ rw f (names_more known name is h) ]
 
 pub known_long : (known : List (List ℕ)) (name : List ℕ) → (length known ≤ length (insert_key (pointwise nat_eq) known name)) × (length (insert_key (pointwise nat_eq) known name) ≤ length known + 1)
 known_long known name =
     let more = length-append known (name ∷ []) in
-    elim (true_or_false (is_among name known)) [ inl t ↦ rw t (omega arith, omega arith) | inr f ↦ rw f (omega (arith, more), omega (arith, more)) ]
+    elim (cases_Bool (is_among name known)) [ inl t ↦ rw t (omega arith, omega arith) | inr f ↦ rw f (omega (arith, more), omega (arith, more)) ]
 
 pub known_order : (known : List (List ℕ)) (name : List ℕ) (is : List ℕ) → All (λ i. i < length known) is → IsInOrder (names_at known is) → IsInOrder (names_at (insert_key (pointwise nat_eq) known name) is)
 known_order known name is h ordered = subst IsInOrder (sym (known_names known name is h)) ordered

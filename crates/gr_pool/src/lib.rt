@@ -3,7 +3,5 @@
 
 mod places;
 pub mod pool;
-#[cfg(test)]
-mod tests;
 
 pub use pool::Pool;

@@ -5,8 +5,5 @@ use Rattle.std.specs.Prelude.{Some, None}
 pub not_here : {Z : Type 0} → false ≡ true → Z
 not_here e = absurd (true≢false (sym e))
 
-pub some_inj : {A : Type 0} {x y : A} → Some x ≡ Some y → x ≡ y
-some_inj e = cc
-
 pub no_value : {A Z : Type 0} {x : A} → None ≡ Some x → Z
 no_value e = absurd (cc)

@@ -3,6 +3,7 @@ use Rattle.std.proofs.Common.{◌≡◌, ℕ, ◌<◌, Bool, true, false, cond, 
 use Rattle.std.specs.Prelude.{◌&&◌, ◌||◌, ◌==◌, not, nat_le, Some}
 use Rattle.std.specs.List.{list_all}
 use Rattle.std.proofs.lemmas.Bool.Decides.{nat_tests}
+use Rattle.std.proofs.lemmas.Bool.{and_parts, or_cases}
 use Rattle.gr_scan.specs.declared.token.Mark.{Mark}
 use Rattle.gr_scan.specs.declared.token.Mark.TheVariants as marks
 use Rattle.gr_scan.specs.declared.piece.Piece.{Piece}
@@ -12,7 +13,6 @@ use Rattle.gr_scan.specs.declared.piece.Class.TheVariants.{Letter, Digit, Space,
 use Rattle.gr_scan.specs.Marks.{operators, mark_in}
 use Rattle.gr_scan.specs.Pieces.{is_digit, is_letter, is_space, Spells}
 use Rattle.gr_scan.specs.Scanning.{class_of}
-use Rattle.gr_scan.proofs.Bools.{and_true, or_cases}
 use Rattle.gr_scan.proofs.Tables.{found}
 use Rattle.gr_scan.proofs.Literals.{text_front}
 
@@ -107,7 +107,7 @@ follows_all = refl
 
 pub operator_start : (m : Mark) (s : List ℕ) → mark_in operators s ≡ Some m → (0 < length s) × (may (pieces.Operator m) (class_of (get_or s 0 0)) ≡ true)
 operator_start m s e =
-    let w = and_true (not (length s == 0)) (may (pieces.Operator m) (class_of (get_or s 0 0))) (found starts_so operators s m starts_all e) in
+    let w = and_parts (not (length s == 0)) (may (pieces.Operator m) (class_of (get_or s 0 0))) (found starts_so operators s m starts_all e) in
     (not_empty s w.0, w.1)
 
 pub operator_follows : (m : Mark) (s : List ℕ) → mark_in operators s ≡ Some m → follows_so s ≡ true

@@ -1,6 +1,7 @@
 -- What a scan has done, and what is left.
 use Rattle.std.proofs.Common.{◌≡◌, ℕ, ◌<◌, ◌+◌, Bool, false, List, [], ◌∷◌, ◌++◌, length, length-take, take, drop, refl, ap, sym, ◌∙◌, subst, arith, append_assoc, append-nil, true≢false}
 use Rattle.std.specs.Prelude.{Option, Some, None, Ok, Err, ◌==◌}
+use Rattle.std.proofs.lemmas.Option.{same_Some}
 use Rattle.gr_scan.specs.declared.token.Token.{Token}
 use Rattle.gr_scan.specs.declared.piece.Piece.{Piece}
 use Rattle.gr_scan.specs.declared.scan.ScanError.{ScanError}
@@ -9,7 +10,6 @@ use Rattle.gr_scan.specs.Tokens.{Tok, token_of, tokens_of}
 use Rattle.gr_scan.specs.Pieces.{IsPiece, NoPiece, Cut, end, piece}
 use Rattle.gr_scan.specs.Scan.{Item, LineEnd, It, items_of, line_after, both_items, all_items, ends, semicolon, with_semicolons, mark_size, IsScan, HasNoTokens}
 use Rattle.gr_scan.specs.Scanning.{emitted, wanted_after, Tells, Puts}
-use Rattle.gr_scan.proofs.Basics.{some_inj}
 use Rattle.gr_scan.proofs.Classes.{spells_length}
 use Rattle.gr_scan.proofs.Unique.{one_piece}
 
@@ -42,7 +42,7 @@ both_some a b is js e f = rw (e, f) refl
 
 both_parts : (b : Option (List Item)) (is ks : List Item) → both_items (Some is) b ≡ Some ks → (js : List Item) × (b ≡ Some js) × (ks ≡ is ++ js)
 both_parts None is ks e = absurd (cc)
-both_parts (Some js) is ks e = (js, refl, sym (some_inj e))
+both_parts (Some js) is ks e = (js, refl, sym (same_Some (is ++ js) ks e))
 
 rejoined : (done : List Tok) (wanted : Bool) (is js : List Item) → done ++ with_semicolons wanted (is ++ js) ≡ (done ++ emitted wanted is) ++ with_semicolons (wanted_after wanted is) js
 rejoined done wanted is js = ap (λ r. done ++ r) (semicolons_append wanted is js) ∙ sym (append_assoc done (emitted wanted is) (with_semicolons (wanted_after wanted is) js))
@@ -137,7 +137,7 @@ cut_unique (piece {p = p} {n = n} {text = text} a c) d =
 pub one_list : (text : List ℕ) (ts us : List Tok) → IsScan text ts → IsScan text us → ts ≡ us
 one_list text ts us a b =
     let p : a.pieces ≡ b.pieces = cut_unique a.cut b.cut in
-    let e : a.items ≡ b.items = some_inj (sym a.are ∙ ap (all_items (mark_size text) 1) p ∙ b.are) in
+    let e : a.items ≡ b.items = same_Some _ _ (sym a.are ∙ ap (all_items (mark_size text) 1) p ∙ b.are) in
     a.tokens ∙ ap (with_semicolons false) e ∙ sym b.tokens
 
 pub filled : (text : List ℕ) → false ≡ (length text == 0) → 0 < length text

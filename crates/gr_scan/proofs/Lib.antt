@@ -15,3 +15,4 @@ pub mod TextPieces
 pub mod Unique
 pub mod Values
 pub mod Goes
+pub mod FirstFaults

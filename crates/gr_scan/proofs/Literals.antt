@@ -1,11 +1,12 @@
 -- String literals, byte by byte.
 use Rattle.std.proofs.Common.{◌≡◌, ℕ, zero, suc, ◌<◌, ◌≤◌, ◌+◌, Bool, true, false, cond, List, [], ◌∷◌, ◌++◌, length, take, get_or, refl, ap, sym, ◌∙◌, subst, arith, length-take, eqb-true}
 use Rattle.std.specs.Prelude.{◌==◌, Option, Some, None}
+use Rattle.std.proofs.lemmas.Option.{same_Some}
 use Rattle.gr_scan.specs.declared.quoted.Part.{Part}
 use Rattle.gr_scan.specs.declared.quoted.Part.TheVariants.{Byte, Backslash, Close, LeftOut, Malformed}
-use Rattle.gr_scan.specs.Strings.{is_plain, escaped, with_byte, body_of, text_of}
-use Rattle.gr_scan.specs.Scanning.{is_left_out, escape_part, part_of, end_by, end_after, text_end}
-use Rattle.gr_scan.proofs.Basics.{some_inj, no_value}
+use Rattle.gr_scan.specs.Strings.{is_plain, escaped, with_byte, body_of, text_of, is_left_out_escape, escape_part, part_of}
+use Rattle.gr_scan.specs.Scanning.{end_by, end_after, text_end}
+use Rattle.gr_scan.proofs.Basics.{no_value}
 
 abbrev Value : Type 0
 Value = Option (List ℕ)
@@ -24,7 +25,7 @@ no_byte false last other escape = refl
 
 by_escape : (o : Option ℕ) (b : ℕ) (last : Bool) (other escape : Value) → with_byte o other ≡ body_by (escape_part o b) last other escape
 by_escape (Some v) b last other escape = refl
-by_escape None b last other escape = no_byte (is_left_out b) last other escape
+by_escape None b last other escape = no_byte (is_left_out_escape b) last other escape
 
 by_byte : (quote backslash plain newline last : Bool) (b : ℕ) (other escape : Value) → cond quote (cond last (Some []) None) (cond backslash escape (cond plain (with_byte (Some b) other) None)) ≡ body_by (cond quote Close (cond backslash Backslash (cond plain (Byte b) (cond newline Malformed LeftOut)))) last other escape
 by_byte true k p n last b other escape = refl
@@ -60,7 +61,7 @@ found_by i n f b s Backslash e next h =
     let w = next true h in
     (suc w.0, omega (arith, w.1), omega (arith, w.2), w.3, by_this f b (take w.0 s) Backslash e ∙ w.4)
 found_by i n f b s Close e next h =
-    let same : i + 1 ≡ n = some_inj h in
+    let same : i + 1 ≡ n = same_Some _ _ h in
     (1, sym same, omega arith, [], by_this f b [] Close e)
 found_by i n f b s LeftOut e next h = no_value h
 found_by i n f b s Malformed e next h = no_value h

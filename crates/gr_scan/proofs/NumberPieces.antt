@@ -1,13 +1,13 @@
 -- Numbers that begin with a digit, the longest that stand there.
 use Rattle.std.proofs.Common.{◌≡◌, ℕ, ◌<◌, ◌≤◌, ◌+◌, ◌-◌, true, false, List, length, take, get_or, ap, sym, ◌∙◌, arith, inl, ⊎_elim}
-use Rattle.std.proofs.lemmas.Bool.{cases_lt}
+use Rattle.std.proofs.lemmas.Bool.{cases_lt, or_right}
 use Rattle.gr_scan.specs.declared.piece.Piece.{Piece}
 use Rattle.gr_scan.specs.declared.piece.Piece.TheVariants as pieces
 use Rattle.gr_scan.specs.declared.piece.Class.TheVariants.{Digit}
 use Rattle.gr_scan.specs.Pieces.{is_digit, is_letter, is_word, Spells, IsPiece}
 use Rattle.gr_scan.specs.Scanning.{class_of}
 use Rattle.gr_scan.proofs.Basics.{not_here}
-use Rattle.gr_scan.proofs.Bools.{both, or_right}
+use Rattle.gr_scan.proofs.Bools.{both}
 use Rattle.gr_scan.proofs.Classes.{may, holds_at}
 use Rattle.gr_scan.proofs.Fronts.{size, byte, at, run_within, run_front}
 

@@ -1,6 +1,7 @@
 -- Operators, the longest that stand there.
 use Rattle.std.proofs.Common.{◌≡◌, ℕ, ◌≤◌, Bool, true, false, List, length, take, get_or, refl, sym, subst, arith, inl, inr, ⊎_elim, true≢false}
 use Rattle.std.specs.Prelude.{Some, None, ◌==◌, ◌&&◌, ◌||◌, not, nat_le}
+use Rattle.std.proofs.lemmas.Bool.{and_parts, or_cases, cases_Bool}
 use Rattle.gr_scan.specs.declared.token.Mark.{Mark}
 use Rattle.gr_scan.specs.declared.piece.Piece.{Piece}
 use Rattle.gr_scan.specs.declared.piece.Piece.TheVariants as pieces
@@ -9,7 +10,6 @@ use Rattle.gr_scan.specs.Marks.{operators}
 use Rattle.gr_scan.specs.Pieces.{is_digit, Spells, IsPiece, NoPiece}
 use Rattle.gr_scan.specs.Scanning.{first_prefix, class_of, OnlyMarks}
 use Rattle.gr_scan.proofs.Basics.{not_here}
-use Rattle.gr_scan.proofs.Bools.{and_true, or_cases, true_or_false}
 use Rattle.gr_scan.proofs.Tables.{operators_descend, prefix_none, prefix_longest, prefix_some}
 use Rattle.gr_scan.proofs.Classes.{may, follows_so}
 use Rattle.gr_scan.proofs.Fronts.{at}
@@ -44,12 +44,12 @@ not_is false e = refl
 -- what follows in an operator that begins with a slash or a point
 pub slash_facts : (s : List ℕ) → follows_so s ≡ true → get_or s 0 0 ≡ 47 → (length s ≤ 2) × ((get_or s 1 0 == 47) ≡ false) × ((get_or s 1 0 == 42) ≡ false)
 slash_facts s f e =
-    let w = and_true (not (get_or s 0 0 == 47) || (nat_le (length s) 2 && not (get_or s 1 0 == 47) && not (get_or s 1 0 == 42))) (not (get_or s 0 0 == 46) || not (is_digit (get_or s 1 0))) f in
+    let w = and_parts (not (get_or s 0 0 == 47) || (nat_le (length s) 2 && not (get_or s 1 0 == 47) && not (get_or s 1 0 == 42))) (not (get_or s 0 0 == 46) || not (is_digit (get_or s 1 0))) f in
     ⊎_elim
     (λ a. absurd (not_true (get_or s 0 0 == 47) a (rw e refl)))
     (λ a.
-    let b = and_true (nat_le (length s) 2 && not (get_or s 1 0 == 47)) (not (get_or s 1 0 == 42)) a in
-    let d = and_true (nat_le (length s) 2) (not (get_or s 1 0 == 47)) b.0 in
+    let b = and_parts (nat_le (length s) 2 && not (get_or s 1 0 == 47)) (not (get_or s 1 0 == 42)) a in
+    let d = and_parts (nat_le (length s) 2) (not (get_or s 1 0 == 47)) b.0 in
     (le_two (length s) d.0, not_is (get_or s 1 0 == 47) d.1, not_is (get_or s 1 0 == 42) b.1))
     (or_cases (not (get_or s 0 0 == 47)) (nat_le (length s) 2 && not (get_or s 1 0 == 47) && not (get_or s 1 0 == 42)) w.0)
 
@@ -58,14 +58,14 @@ slash_second s f e = let w = slash_facts s f e in (w.1, w.2)
 
 pub point_follow : (s : List ℕ) → follows_so s ≡ true → get_or s 0 0 ≡ 46 → is_digit (get_or s 1 0) ≡ true → ⊥
 point_follow s f e d =
-    let w = and_true (not (get_or s 0 0 == 47) || (nat_le (length s) 2 && not (get_or s 1 0 == 47) && not (get_or s 1 0 == 42))) (not (get_or s 0 0 == 46) || not (is_digit (get_or s 1 0))) f in
+    let w = and_parts (not (get_or s 0 0 == 47) || (nat_le (length s) 2 && not (get_or s 1 0 == 47) && not (get_or s 1 0 == 42))) (not (get_or s 0 0 == 46) || not (is_digit (get_or s 1 0))) f in
     ⊎_elim
     (λ a. not_true (get_or s 0 0 == 46) a (rw e refl))
     (λ a. not_true (is_digit (get_or s 1 0)) a d)
     (or_cases (not (get_or s 0 0 == 46)) (not (is_digit (get_or s 1 0))) w.1)
 
 pub point_second : (s : List ℕ) → follows_so s ≡ true → get_or s 0 0 ≡ 46 → is_digit (get_or s 1 0) ≡ false
-point_second s f e = elim (true_or_false (is_digit (get_or s 1 0))) [ inl t ↦ absurd (point_follow s f e t) | inr t ↦ t ]
+point_second s f e = elim (cases_Bool (is_digit (get_or s 1 0))) [ inl t ↦ absurd (point_follow s f e t) | inr t ↦ t ]
 
 -- any other byte
 other_only_at : (q : Piece) → may q Other ≡ true → (mark : Mark) × (q ≡ pieces.Operator mark)

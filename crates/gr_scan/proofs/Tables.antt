@@ -3,24 +3,25 @@ use Rattle.std.proofs.Common.{◌≡◌, ℕ, ◌≤◌, Bool, true, List, [], �
 use Rattle.std.specs.Prelude.{◌&&◌, nat_le, Some, None}
 use Rattle.std.specs.Cmp.Lexicographic.{pointwise, same_text}
 use Rattle.std.specs.List.{list_all, starts_with}
+use Rattle.std.proofs.lemmas.Bool.{cases_Bool, and_parts}
+use Rattle.std.proofs.lemmas.Option.{same_Some}
 use Rattle.gr_scan.specs.declared.token.Mark.{Mark}
 use Rattle.gr_scan.specs.Marks.{Spelling, mark_in, operators}
 use Rattle.gr_scan.specs.Scanning.{first_prefix}
-use Rattle.gr_scan.proofs.Basics.{some_inj}
-use Rattle.gr_scan.proofs.Bools.{true_or_false, and_true, both, equal_texts}
+use Rattle.gr_scan.proofs.Bools.{both, equal_texts}
 
 -- what a test says of every entry holds of what is found
 pub found : (P : List ℕ → Bool) (t : List Spelling) (s : List ℕ) (m : Mark) → list_all (λ entry. P entry.0) t ≡ true → mark_in t s ≡ Some m → P s ≡ true
 found P [] s m all e = absurd (cc)
-found P (entry ∷ t) s m all e = elim (true_or_false (pointwise nat_eq entry.0 s)) [
-  | inl w ↦ subst (λ x. P x ≡ true) (same_text entry.0 s (sym w)) ((and_true (P entry.0) (list_all (λ entry. P entry.0) t) all).0)
-  | inr w ↦ found P t s m ((and_true (P entry.0) (list_all (λ entry. P entry.0) t) all).1) (rw w at e)
+found P (entry ∷ t) s m all e = elim (cases_Bool (pointwise nat_eq entry.0 s)) [
+  | inl w ↦ subst (λ x. P x ≡ true) (same_text entry.0 s (sym w)) ((and_parts (P entry.0) (list_all (λ entry. P entry.0) t) all).0)
+  | inr w ↦ found P t s m ((and_parts (P entry.0) (list_all (λ entry. P entry.0) t) all).1) (rw w at e)
 ]
 
 -- what is answered where the first entry is a prefix
 taken : (entry : Spelling) (t : List Spelling) (text : List ℕ) (m : Mark) (n : ℕ) → starts_with nat_eq text entry.0 ≡ true → first_prefix (entry ∷ t) text ≡ Some (m, n) → (entry.1 ≡ m) × (length entry.0 ≡ n)
 taken entry t text m n w e =
-    let pairs : (entry.1, length entry.0) ≡ (m, n) = some_inj (rw w at e) in
+    let pairs : (entry.1, length entry.0) ≡ (m, n) = same_Some _ _ (rw w at e) in
     (ap (λ (p : Mark × ℕ). p.0) pairs, ap (λ (p : Mark × ℕ). p.1) pairs)
 
 prefix_length : (e text : List ℕ) → starts_with nat_eq text e ≡ true → length e ≤ length text
@@ -37,7 +38,7 @@ front_is_prefix e text n le w =
 
 pub prefix_some : (t : List Spelling) (text : List ℕ) (m : Mark) (n : ℕ) → first_prefix t text ≡ Some (m, n) → (n ≤ length text) × (mark_in t (take n text) ≡ Some m)
 prefix_some [] text m n e = absurd (cc)
-prefix_some (entry ∷ t) text m n e = elim (true_or_false (starts_with nat_eq text entry.0)) [
+prefix_some (entry ∷ t) text m n e = elim (cases_Bool (starts_with nat_eq text entry.0)) [
   | inl w ↦
       let q = taken entry t text m n w e in
       let mark = q.0 in
@@ -48,7 +49,7 @@ prefix_some (entry ∷ t) text m n e = elim (true_or_false (starts_with nat_eq t
       let q : first_prefix t text ≡ Some (m, n) = rw w at e in
       let r = prefix_some t text m n q in (
         r.0,
-        elim (true_or_false (pointwise nat_eq entry.0 (take n text))) [
+        elim (cases_Bool (pointwise nat_eq entry.0 (take n text))) [
           | inl v ↦ both (starts_with nat_eq text entry.0) ((front_is_prefix entry.0 text n r.0 v).1) w
           | inr v ↦ rw v r.1
         ],
@@ -66,14 +67,14 @@ le_of a b e = grind arith
 pub prefix_longest : (t : List Spelling) (text : List ℕ) (m k : Mark) (n size : ℕ) → descending t ≡ true → first_prefix t text ≡ Some (m, n) → size ≤ length text → mark_in t (take size text) ≡ Some k → size ≤ n
 prefix_longest [] text m k n size d e le f = absurd (cc)
 prefix_longest (entry ∷ t) text m k n size d e le f =
-    let parts = and_true (list_all (λ other. nat_le (length other.0) (length entry.0)) t) (descending t) d in
-    elim (true_or_false (pointwise nat_eq entry.0 (take size text))) [
+    let parts = and_parts (list_all (λ other. nat_le (length other.0) (length entry.0)) t) (descending t) d in
+    elim (cases_Bool (pointwise nat_eq entry.0 (take size text))) [
       | inl v ↦
           let r = front_is_prefix entry.0 text size le v in
           omega (arith, r.0, (taken entry t text m n r.1 e).1)
       | inr v ↦
           let g : mark_in t (take size text) ≡ Some k = rw v at f in
-          elim (true_or_false (starts_with nat_eq text entry.0)) [
+          elim (cases_Bool (starts_with nat_eq text entry.0)) [
             | inl w ↦
                 let same = (taken entry t text m n w e).1 in
                 let small = le_of (length (take size text)) (length entry.0) (found (λ s. nat_le (length s) (length entry.0)) t (take size text) k parts.0 g) in
@@ -87,9 +88,9 @@ some_none p e = cc
 
 pub prefix_none : (t : List Spelling) (text : List ℕ) (k : Mark) (size : ℕ) → first_prefix t text ≡ None → size ≤ length text → mark_in t (take size text) ≡ Some k → ⊥
 prefix_none [] text k size e le f = cc
-prefix_none (entry ∷ t) text k size e le f = elim (true_or_false (starts_with nat_eq text entry.0)) [
+prefix_none (entry ∷ t) text k size e le f = elim (cases_Bool (starts_with nat_eq text entry.0)) [
   | inl w ↦ some_none (entry.1, length entry.0) (rw w at e)
-  | inr w ↦ elim (true_or_false (pointwise nat_eq entry.0 (take size text))) [
+  | inr w ↦ elim (cases_Bool (pointwise nat_eq entry.0 (take size text))) [
     | inl v ↦ both (starts_with nat_eq text entry.0) ((front_is_prefix entry.0 text size le v).1) w
     | inr v ↦ prefix_none t text k size (rw w at e) le (rw v at f)
   ]

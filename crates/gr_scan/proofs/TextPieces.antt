@@ -1,12 +1,13 @@
 -- String literals, the longest that stand there.
 use Rattle.std.proofs.Common.{◌≡◌, ℕ, ◌≤◌, true, List, length, take, get_or, refl, sym, ◌∙◌, subst, arith}
 use Rattle.std.specs.Prelude.{Some, None}
+use Rattle.std.proofs.lemmas.Option.{same_Some}
 use Rattle.gr_scan.specs.declared.piece.Piece.{Piece}
 use Rattle.gr_scan.specs.declared.piece.Piece.TheVariants as pieces
 use Rattle.gr_scan.specs.declared.piece.Class.TheVariants.{Quote}
 use Rattle.gr_scan.specs.Pieces.{Spells, IsPiece, NoPiece}
 use Rattle.gr_scan.specs.Scanning.{class_of, text_end}
-use Rattle.gr_scan.proofs.Basics.{not_here, some_inj, no_value}
+use Rattle.gr_scan.proofs.Basics.{not_here, no_value}
 use Rattle.gr_scan.proofs.Literals.{text_found, text_ends}
 use Rattle.gr_scan.proofs.Classes.{may, holds_at}
 use Rattle.gr_scan.proofs.Fronts.{at}
@@ -34,7 +35,7 @@ text_piece text n c e =
     record {
       fits = w.0;
       spelled = (w.1, w.2);
-      longest = λ q m lem sp. omega (arith, some_inj (sym e ∙ text_there text c q m lem sp));
+      longest = λ q m lem sp. omega (arith, same_Some _ _ (sym e ∙ text_there text c q m lem sp));
     }
 
 pub no_text : (text : List ℕ) → class_of (get_or text 0 0) ≡ Quote → text_end text ≡ None → NoPiece text

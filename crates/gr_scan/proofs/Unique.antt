@@ -2,6 +2,7 @@
 use Rattle.std.proofs.Common.{◌≡◌, ℕ, ◌≤◌, ◌-◌, true, false, cond, List, length, take, get_or, refl, ap, sym, ◌∙◌, subst, arith, ⊎_elim}
 use Rattle.std.specs.Prelude.{Option, Some, None, ◌==◌}
 use Rattle.std.proofs.lemmas.Bool.Decides.{nat_tests}
+use Rattle.std.proofs.lemmas.Option.{same_Some}
 use Rattle.gr_scan.specs.declared.token.Mark.{Mark}
 use Rattle.gr_scan.specs.declared.piece.Piece.{Piece}
 use Rattle.gr_scan.specs.declared.piece.Piece.TheVariants as pieces
@@ -10,7 +11,7 @@ use Rattle.gr_scan.specs.declared.piece.Class.TheVariants.{Letter, Digit, Space,
 use Rattle.gr_scan.specs.Marks.{operators, mark_in}
 use Rattle.gr_scan.specs.Pieces.{is_digit, is_letter, is_word, Spells, IsPiece}
 use Rattle.gr_scan.specs.Scanning.{class_of}
-use Rattle.gr_scan.proofs.Basics.{not_here, some_inj}
+use Rattle.gr_scan.proofs.Basics.{not_here}
 use Rattle.gr_scan.proofs.Classes.{may, may_begin, holds_at, operator_follows, space_class, digit_class}
 use Rattle.gr_scan.proofs.Literals.{text_front}
 use Rattle.gr_scan.proofs.OperatorPieces.{slash_second, point_second}
@@ -79,4 +80,4 @@ pub one_piece : (text : List ℕ) (p q : Piece) (n m : ℕ) → IsPiece p n text
 one_piece text p q n m a b =
     let e : n ≡ m = le_antisymm n m (b.longest p n a.fits a.spelled) (a.longest q m b.fits b.spelled) in
     let s : Spells p (take m text) = subst (λ k. Spells p (take k text)) e a.spelled in
-    (some_inj (sym (kind_is p (take m text) s) ∙ kind_is q (take m text) b.spelled), e)
+    (same_Some _ _ (sym (kind_is p (take m text) s) ∙ kind_is q (take m text) b.spelled), e)

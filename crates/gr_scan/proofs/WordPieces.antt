@@ -1,12 +1,12 @@
 -- Names and keywords, the longest that stand there.
 use Rattle.std.proofs.Common.{◌≡◌, ℕ, ◌<◌, ◌≤◌, true, false, List, length, take, get_or, ap, ◌∙◌, arith}
+use Rattle.std.proofs.lemmas.Bool.{or_left}
 use Rattle.gr_scan.specs.declared.piece.Piece.{Piece}
 use Rattle.gr_scan.specs.declared.piece.Piece.TheVariants as pieces
 use Rattle.gr_scan.specs.declared.piece.Class.TheVariants.{Letter}
 use Rattle.gr_scan.specs.Pieces.{is_digit, is_letter, is_word, Spells, IsPiece}
 use Rattle.gr_scan.specs.Scanning.{class_of}
 use Rattle.gr_scan.proofs.Basics.{not_here}
-use Rattle.gr_scan.proofs.Bools.{or_left}
 use Rattle.gr_scan.proofs.Classes.{may, holds_at}
 use Rattle.gr_scan.proofs.Fronts.{size, byte, at, run_within, run_front}
 

@@ -4,4 +4,6 @@ pub mod Strings
 pub mod Pieces
 pub mod Numbers
 pub mod Scan
+pub mod Faults
+pub mod Positions
 pub mod Scanning

@@ -1,5 +1,6 @@
 -- Whole numbers in binary, octal, decimal and hexadecimal (Go: Integer literals).
-use Rattle.std.specs.Prelude.{ℕ, ◌+◌, ◌-◌, ◌*◌, ◌^◌, Bool, true, ◌||◌, ◌&&◌, not, List, [], ◌∷◌, length, drop, slice_index, nat_le, nat_lt, ◌==◌, Option, Some, None, if◌then◌else◌}
+use Rattle.std.specs.Prelude.{ℕ, ◌+◌, ◌-◌, ◌*◌, ◌^◌, Bool, true, false, ◌||◌, ◌&&◌, not, List, [], ◌∷◌, length, drop, slice_index, nat_le, nat_lt, ◌==◌, Option, Some, None, if◌then◌else◌}
+use Rattle.std.specs.List.{list_any}
 use Rattle.gr_scan.specs.Pieces.{is_digit}
 
 -- a digit of some base: 0 to 9, a to f, A to F
@@ -36,12 +37,32 @@ prefix_of s =
     (if slice_index s 1 == 111 || slice_index s 1 == 79 then (8, 2) else
     (if slice_index s 1 == 120 || slice_index s 1 == 88 then (16, 2) else (8, 1))))
 
--- what the digits of a number are worth, at most 2^63
-abbrev pub worth : ℕ → List ℕ → Option ℕ
-worth base digits =
-    if not (length digits == 0) && are_digits base digits && nat_le (value_after base 0 digits) (2 ^ 63)
-    then Some (value_after base 0 digits) else None
+-- the digits of a number, after the prefix that tells its base
+abbrev pub digits_of : List ℕ → List ℕ
+digits_of s = drop (prefix_of s).1 s
+
+-- whether a run that begins with a digit is digits of its base
+abbrev pub is_number : List ℕ → Bool
+is_number s = not (length (digits_of s) == 0) && are_digits (prefix_of s).0 (digits_of s)
+
+-- what a number is worth
+abbrev pub worth : List ℕ → ℕ
+worth s = value_after (prefix_of s).0 0 (digits_of s)
 
 -- the number that a run beginning with a digit spells; nothing where it spells none, or one over 2^63
 abbrev pub number_of : List ℕ → Option ℕ
-number_of s = worth (prefix_of s).0 (drop (prefix_of s).1 s)
+number_of s = if is_number s && nat_le (worth s) (2 ^ 63) then Some (worth s) else None
+
+-- whether a number is a hexadecimal, by its prefix
+abbrev pub is_hexadecimal : List ℕ → Bool
+is_hexadecimal s = slice_index s 0 == 48 && (slice_index s 1 == 120 || slice_index s 1 == 88)
+
+-- the letter of an exponent: `p` or `P` in a hexadecimal, else `e` or `E` (Go: Floating-point literals)
+abbrev pub is_exponent : (hexadecimal : Bool) → ℕ → Bool
+is_exponent true b = b == 112 || b == 80
+is_exponent false b = b == 101 || b == 69
+
+-- whether a run that is no number is of a kind that the language leaves out: it has an exponent, or it ends in the `i` of
+-- an imaginary number (Go: Floating-point literals, Imaginary literals)
+abbrev pub is_left_out : List ℕ → Bool
+is_left_out s = slice_index s (length s - 1) == 105 || list_any (is_exponent (is_hexadecimal s)) s

@@ -5,6 +5,7 @@ use Rattle.gr_scan.specs.declared.token.Mark.TheVariants as marks
 use Rattle.gr_scan.specs.declared.token.Place.{Place}
 use Rattle.gr_scan.specs.declared.piece.Piece.{Piece}
 use Rattle.gr_scan.specs.declared.piece.Piece.TheVariants.{Space, Newline, Comment, GeneralComment, OpenComment, Word, Number, Operator, Fraction, Text}
+use Rattle.gr_scan.specs.declared.scan.TheConstants.{TEXT_LIMIT}
 use Rattle.gr_scan.specs.declared.scan.ScanError.{ScanError}
 use Rattle.gr_scan.specs.declared.scan.ScanError.TheVariants as errors
 use Rattle.gr_scan.specs.Tokens as tokens
@@ -107,7 +108,7 @@ mark_size text = if slice_index text 0 == 239 && slice_index text 1 == 187 && sl
 
 -- the tokens of a text
 pub record IsScan (text : List ℕ) (ts : List Tok) : Type 0 where
-  pub short : length text ≤ 1048576
+  pub short : length text ≤ TEXT_LIMIT
   pub pieces : List (Piece × List ℕ)
   pub cut : Cut pieces (drop (mark_size text) text)
   pub items : List Item

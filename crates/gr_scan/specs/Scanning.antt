@@ -1,5 +1,5 @@
 -- What the parts of the scanner answer.
-use Rattle.std.specs.Prelude.{◌≡◌, ◌≤◌, ◌<◌, ℕ, ◌+◌, ◌-◌, Bool, true, false, ◌||◌, ◌&&◌, List, [], ◌∷◌, ◌++◌, Option, Some, None, Result, Ok, Err, if◌then◌else◌, length, take, drop, slice_index, nat_eq, nat_le, ◌==◌}
+use Rattle.std.specs.Prelude.{◌≡◌, ◌≤◌, ◌<◌, ℕ, ◌+◌, ◌-◌, Bool, true, false, ◌||◌, ◌&&◌, List, [], ◌∷◌, ◌++◌, Option, Some, None, Result, Ok, Err, if◌then◌else◌, length, take, drop, slice_index, nat_eq, ◌==◌}
 use Rattle.std.specs.List.{starts_with}
 use Rattle.gr_scan.specs.declared.token.Mark.{Mark}
 use Rattle.gr_scan.specs.declared.piece.Piece.{Piece}
@@ -7,7 +7,7 @@ use Rattle.gr_scan.specs.declared.piece.Piece.TheVariants.{Operator}
 use Rattle.gr_scan.specs.declared.piece.Class.{Class}
 pub use Rattle.gr_scan.specs.declared.piece.Class.TheVariants.{Letter, Digit, Space, Newline, Quote, Slash, Point, Other}
 use Rattle.gr_scan.specs.declared.quoted.Part.{Part}
-use Rattle.gr_scan.specs.declared.quoted.Part.TheVariants.{Byte, Backslash, Close, LeftOut, Malformed}
+use Rattle.gr_scan.specs.declared.quoted.Part.TheVariants.{Byte, Backslash, Close}
 use Rattle.gr_scan.specs.declared.scan.ScanError.{ScanError}
 use Rattle.gr_scan.specs.declared.scan.ScanError.TheVariants as errors
 use Rattle.gr_scan.specs.Tokens.{Tok}
@@ -15,7 +15,7 @@ use Rattle.gr_scan.specs.Marks.{Spelling}
 use Rattle.gr_scan.specs.Scan.{Item, LineEnd, It, semicolon, ends}
 use Rattle.gr_scan.specs.Pieces.{is_letter, is_digit, is_space, Closes, Spells}
 use Rattle.gr_scan.specs.Numbers.{is_digit_of}
-use Rattle.gr_scan.specs.Strings.{is_plain, escaped}
+use Rattle.gr_scan.specs.Strings.{part_of}
 
 -- the first mark of a table that a text begins with, and its length
 abbrev pub first_prefix : List Spelling → List ℕ → Option (Mark × ℕ)
@@ -57,25 +57,6 @@ wanted_after wanted (It t ∷ is) = wanted_after (ends t) is
 abbrev pub is_part : ℕ → List ℕ → ℕ → Bool
 is_part base s i = is_digit_of base (slice_index s i) || (slice_index s i == 95 && is_digit_of base (slice_index s (i + 1)))
 
--- a byte that with a backslash before it is an escape that the language leaves out
-abbrev pub is_left_out : ℕ → Bool
-is_left_out b =
-    b == 97 || b == 98 || b == 102 || b == 110 || b == 114 || b == 118 || b == 120 || b == 117 || b == 85
-    || (nat_le 48 b && nat_le b 55)
-
--- what a byte of a string literal is after its opening quote
-abbrev pub escape_part : Option ℕ → ℕ → Part
-escape_part (Some byte) b = Byte byte
-escape_part None b = if is_left_out b then LeftOut else Malformed
-
-abbrev pub part_of : (escape : Bool) → ℕ → Part
-part_of true b = escape_part (escaped b) b
-part_of false b =
-    if b == 34 then Close else
-    (if b == 92 then Backslash else
-    (if is_plain b then Byte b else
-    (if b == 10 then Malformed else LeftOut)))
-
 -- how many bytes a literal has, by its next byte, from what follows after a byte and after a backslash
 abbrev pub end_by : Part → ℕ → Option ℕ → Option ℕ → Option ℕ
 end_by (Byte b) n other escape = other
@@ -104,3 +85,8 @@ Puts (Ok b) wanted (Some is) old new = (new ≡ old ++ emitted wanted is) × (b 
 Puts (Ok b) wanted None old new = ⊥
 Puts (Err errors.Memory) wanted o old new = Unit {0}
 Puts (Err error) wanted o old new = Tells error (o ≡ None)
+
+-- what a fault says of a piece; want of memory says nothing
+abbrev pub Finds : ScanError → Option ScanError → Type 0
+Finds errors.Memory found = Unit {0}
+Finds error found = found ≡ Some error

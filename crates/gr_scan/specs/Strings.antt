@@ -1,5 +1,7 @@
 -- String literals, in part (Go: String literals).
 use Rattle.std.specs.Prelude.{ℕ, Bool, true, false, ◌||◌, ◌&&◌, List, [], ◌∷◌, length, nat_le, ◌==◌, Option, Some, None, if◌then◌else◌}
+use Rattle.gr_scan.specs.declared.quoted.Part.{Part}
+use Rattle.gr_scan.specs.declared.quoted.Part.TheVariants.{Byte, Backslash, Close, LeftOut, Malformed}
 
 -- a byte that stands for itself: a tab, a printable byte of ASCII, a byte above ASCII
 abbrev pub is_plain : ℕ → Bool
@@ -28,3 +30,23 @@ body_of false (b ∷ s) =
 abbrev pub text_of : List ℕ → Option (List ℕ)
 text_of [] = None
 text_of (b ∷ s) = if b == 34 then body_of false s else None
+
+-- whether a backslash before this byte makes an escape that the language leaves out
+abbrev pub is_left_out_escape : ℕ → Bool
+is_left_out_escape b =
+    b == 97 || b == 98 || b == 102 || b == 110 || b == 114 || b == 118 || b == 120 || b == 117 || b == 85
+    || (nat_le 48 b && nat_le b 55)
+
+-- what a byte after the opening quote is: a byte of the value, the backslash of an escape, the closing quote, one that the
+-- language leaves out, or one that no string literal has there
+abbrev pub escape_part : Option ℕ → ℕ → Part
+escape_part (Some byte) b = Byte byte
+escape_part None b = if is_left_out_escape b then LeftOut else Malformed
+
+abbrev pub part_of : (escape : Bool) → ℕ → Part
+part_of true b = escape_part (escaped b) b
+part_of false b =
+    if b == 34 then Close else
+    (if b == 92 then Backslash else
+    (if is_plain b then Byte b else
+    (if b == 10 then Malformed else LeftOut)))

@@ -4,8 +4,7 @@
 mod marks;
 mod number;
 pub mod piece;
+pub mod position;
 mod quoted;
 pub mod scan;
-#[cfg(test)]
-mod tests;
 pub mod token;

@@ -1,8 +1,10 @@
 //! Whole numbers in binary, octal, decimal and hexadecimal.
 ghost use Rattle.std.specs.Prelude.{◌≡◌, ◌≤◌, ◌<◌, ◌+◌, ◌^◌, drop, length, slice_index, IfOk, IfErr, IfSome, IfNone, Some, None};
-ghost use Rattle.gr_scan.specs.Numbers.{is_hex_digit, digit_value, is_digit_of, are_digits, value_after, prefix_of, number_of};
+ghost use Rattle.std.specs.List.{list_any};
+ghost use Rattle.gr_scan.specs.Numbers.{is_hex_digit, digit_value, is_digit_of, are_digits, value_after, prefix_of, number_of, is_left_out, is_hexadecimal, is_exponent};
 ghost use Rattle.gr_scan.specs.Numbers as spec;
 ghost use Rattle.gr_scan.specs.Scanning.{Tells, is_part};
+ghost use Rattle.gr_scan.specs.Faults.{number_fault};
 
 use crate::piece::{byte, digit};
 use crate::scan::ScanError;
@@ -100,16 +102,37 @@ fn value(base: u64, digits: &[u8]) -> Option<u64>
     Some(value)
 }
 
-// Whether a run that is no number of any base begins a literal of a kind that is left out: a hexadecimal with an exponent,
-// a decimal with one, an imaginary number.
-fn left_out(bytes: &[u8]) -> bool {
-    let hexadecimal = byte(bytes, 0) == b'0' && matches!(byte(bytes, 1), b'x' | b'X');
-    let (small, great) = if hexadecimal {
-        (b'p', b'P')
+// Whether a number is a hexadecimal, by its prefix.
+fn hexadecimal(bytes: &[u8]) -> bool
+    ensures { result ≡ is_hexadecimal bytes.now }
+{
+    byte(bytes, 0) == b'0' && (byte(bytes, 1) == b'x' || byte(bytes, 1) == b'X')
+}
+
+// Whether a byte is the letter of an exponent.
+fn exponent(hexadecimal: bool, b: u8) -> bool
+    ensures { result ≡ is_exponent hexadecimal b }
+{
+    if hexadecimal {
+        b == b'p' || b == b'P'
     } else {
-        (b'e', b'E')
-    };
-    bytes.last() == Some(&b'i') || bytes.iter().any(|b| *b == small || *b == great)
+        b == b'e' || b == b'E'
+    }
+}
+
+fn has_exponent(hexadecimal: bool, bytes: &[u8]) -> bool
+    ensures { result ≡ list_any (is_exponent hexadecimal) bytes.now }
+{
+    bytes.iter().any(|b| exponent(hexadecimal, *b))
+}
+
+// Whether a run that is no number is of a kind that is left out: it has an exponent, or ends in the `i` of an imaginary
+// number.
+fn left_out(bytes: &[u8]) -> bool
+    requires { 0 < length bytes.now }
+    ensures { result ≡ is_left_out bytes.now }
+{
+    byte(bytes, bytes.len() - 1) == b'i' || has_exponent(hexadecimal(bytes), bytes)
 }
 
 /// The number that a run beginning with a digit spells, at most 2^63. A fault gives `at` as its place.
@@ -117,6 +140,7 @@ pub fn read(bytes: &[u8], at: usize) -> Result<u64, ScanError>
     requires { 0 < length bytes.now }
     ensures ok { IfOk result (λ n. number_of bytes.now ≡ Some n) }
     ensures err { IfErr result (λ e. Tells e (number_of bytes.now ≡ None)) }
+    ensures fault { IfErr result (λ e. number_fault at bytes.now ≡ Some e) }
 {
     let (base, size) = prefix(bytes);
     let (_, digits) = bytes.split_at(size);

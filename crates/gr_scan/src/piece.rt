@@ -1,6 +1,7 @@
 //! The pieces that a text is cut into.
-ghost use Rattle.std.specs.Prelude.{◌≡◌, ℕ, ◌+◌, ◌<◌, ◌≤◌, length, slice_index, IfSome, IfNone, IfOk, IfErr, true, false};
+ghost use Rattle.std.specs.Prelude.{◌≡◌, ℕ, ◌+◌, ◌<◌, ◌≤◌, ◌==◌, Some, length, slice_index, IfSome, IfNone, IfOk, IfErr, true, false};
 ghost use Rattle.gr_scan.specs.Pieces.{is_letter, is_word, is_digit, is_space, Closes, IsPiece, NoPiece};
+ghost use Rattle.gr_scan.specs.Faults.{stray_fault};
 ghost use Rattle.gr_scan.specs.Scanning.{class_of, OnlyMarks, IsFirstEnd, Tells, Letter, Digit, Quote, Slash, Point};
 
 use crate::marks::operator;
@@ -161,15 +162,18 @@ fn string(text: &[u8], at: usize) -> Result<(Piece, usize), ScanError>
     requires class { class_of (slice_index text.now 0) ≡ Quote }
     ensures ok { IfOk result (λ p. IsPiece p.0 p.1 text.now) }
     ensures err { IfErr result (λ e. Tells e (NoPiece text.now)) }
+    ensures fault { IfErr result (λ e. stray_fault at text.now ≡ Some e) }
 {
     let size = literal_length(text, at)?;
     Ok((Piece::Text, size))
 }
 
 fn mark(text: &[u8], at: usize) -> Result<(Piece, usize), ScanError>
-    requires { OnlyMarks text.now }
+    requires marks { OnlyMarks text.now }
+    requires no_quote { (slice_index text.now 0 == 34) ≡ false }
     ensures ok { IfOk result (λ p. IsPiece p.0 p.1 text.now) }
     ensures err { IfErr result (λ e. Tells e (NoPiece text.now)) }
+    ensures fault { IfErr result (λ e. stray_fault at text.now ≡ Some e) }
 {
     match operator(text) {
         Some((mark, size)) => Ok((Piece::Operator(mark), size)),
@@ -183,6 +187,7 @@ fn slash(text: &[u8], at: usize) -> Result<(Piece, usize), ScanError>
     requires class { class_of (slice_index text.now 0) ≡ Slash }
     ensures ok { IfOk result (λ p. IsPiece p.0 p.1 text.now) }
     ensures err { IfErr result (λ e. Tells e (NoPiece text.now)) }
+    ensures fault { IfErr result (λ e. stray_fault at text.now ≡ Some e) }
 {
     let second = byte(text, 1);
     if second == b'/' {
@@ -202,6 +207,7 @@ fn point(text: &[u8], at: usize) -> Result<(Piece, usize), ScanError>
     requires class { class_of (slice_index text.now 0) ≡ Point }
     ensures ok { IfOk result (λ p. IsPiece p.0 p.1 text.now) }
     ensures err { IfErr result (λ e. Tells e (NoPiece text.now)) }
+    ensures fault { IfErr result (λ e. stray_fault at text.now ≡ Some e) }
 {
     if digit(byte(text, 1)) {
         return Ok((Piece::Fraction, 2));
@@ -214,6 +220,7 @@ pub fn longest_piece(text: &[u8], at: usize) -> Result<(Piece, usize), ScanError
     requires { 0 < length text.now }
     ensures ok { IfOk result (λ p. IsPiece p.0 p.1 text.now) }
     ensures err { IfErr result (λ e. Tells e (NoPiece text.now)) }
+    ensures fault { IfErr result (λ e. stray_fault at text.now ≡ Some e) }
 {
     match classify(text[0]) {
         Class::Letter => Ok((Piece::Word, run_end(text, 1))),

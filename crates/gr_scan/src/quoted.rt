@@ -1,7 +1,8 @@
 //! String literals.
 ghost use Rattle.std.specs.Prelude.{◌≡◌, true, Some, None, IfOk, IfErr, IfSome};
-ghost use Rattle.gr_scan.specs.Strings.{is_plain, escaped as escape_of, text_of};
-ghost use Rattle.gr_scan.specs.Scanning.{is_left_out, part_of, text_end, Tells};
+ghost use Rattle.gr_scan.specs.Strings.{is_plain, escaped as escape_of, is_left_out_escape, part_of, text_of};
+ghost use Rattle.gr_scan.specs.Scanning.{text_end, Tells};
+ghost use Rattle.gr_scan.specs.Faults.{text_fault};
 
 use crate::scan::ScanError;
 use std::alloc::{AllocError, Global};
@@ -41,7 +42,7 @@ fn escaped(b: u8) -> Option<u8>
 
 // Whether a backslash and this byte are an escape that the language leaves out.
 fn left_out(b: u8) -> bool
-    ensures { result ≡ is_left_out b }
+    ensures { result ≡ is_left_out_escape b }
 {
     matches!(
         b,
@@ -82,6 +83,7 @@ fn read_byte(escape: bool, b: u8) -> Part
 pub fn literal_length(text: &[u8], at: usize) -> Result<usize, ScanError>
     ensures ok { IfOk result (λ n. text_end text.now ≡ Some n) }
     ensures err { IfErr result (λ e. Tells e (text_end text.now ≡ None)) }
+    ensures fault { IfErr result (λ e. text_fault at text.now ≡ Some e) }
 {
     let mut escape = false;
     for i in 1..text.len() {

@@ -5,14 +5,16 @@ ghost use Rattle.gr_scan.specs.Tokens.{Tok, At, token_of, tokens_of};
 ghost use Rattle.gr_scan.specs.Scan.{IsScan, HasNoTokens, items_of, keyword_or_name, line_after, mark_size, semicolon, word_ends};
 ghost use Rattle.gr_scan.specs.Scan as spec;
 ghost use Rattle.gr_scan.specs.Pieces.{Spells};
-ghost use Rattle.gr_scan.specs.Scanning.{Puts};
+ghost use Rattle.gr_scan.specs.Scanning.{Puts, Finds};
+ghost use Rattle.gr_scan.specs.Faults.{piece_fault, HasFault, FirstFault, place_of};
 ghost use Rattle.gr_scan.specs.declared.scan.ScanError.TheVariants.{Memory, TooLong};
 
 use crate::marks::keyword;
 use crate::piece::{Piece, longest_piece};
+use crate::position::newlines;
 use crate::token::{Kind, Mark, Place, Token};
 use crate::{number, quoted};
-use std::alloc::{AllocError, AllocFailed, Global};
+use std::alloc::{AllocError, Global};
 
 /// The most bytes that a text may have.
 pub const TEXT_LIMIT: usize = 1_048_576;
@@ -38,18 +40,27 @@ pub enum ScanError {
     Memory,
 }
 
+impl ScanError {
+    /// How many bytes stand before the fault, where it has a place in the text.
+    pub fn place(self) -> Option<usize>
+        ensures { result ≡ place_of self }
+    {
+        match self {
+            ScanError::Strange(at)
+            | ScanError::Malformed(at)
+            | ScanError::TooGreat(at)
+            | ScanError::MalformedText(at)
+            | ScanError::Unclosed(at)
+            | ScanError::LeftOut(at) => Some(at),
+            ScanError::TooLong | ScanError::Memory => None,
+        }
+    }
+}
+
 impl From<AllocError> for ScanError {
     ghost from_gives = { λ _ e. e ≡ Memory };
 
     fn from(_: AllocError) -> Self {
-        ScanError::Memory
-    }
-}
-
-impl<T: Drop> From<AllocFailed<T>> for ScanError {
-    ghost from_gives = { λ _ e. e ≡ Memory };
-
-    fn from(_: AllocFailed<T>) -> Self {
         ScanError::Memory
     }
 }
@@ -94,13 +105,6 @@ fn end_line(tokens: &mut Vec<Token>, wanted: bool, at: usize, line: usize) -> Re
     Ok(())
 }
 
-fn newlines(bytes: &[u8]) -> usize
-    ensures count { result ≡ spec.newlines bytes.now }
-    ensures few { result ≤ length bytes.now }
-{
-    bytes.iter().filter(|b| **b == b'\n').count()
-}
-
 // Adds a keyword or a name; answers whether a line that ends in it wants a semicolon.
 #[tactic(auto, using(crate::proofs::Goes::tokens_of_push))]
 fn put_word(
@@ -131,7 +135,8 @@ fn put(
 ) -> Result<bool, ScanError>
     requires spelled { Spells piece bytes.now }
     requires place { place.end ≡ place.start + length bytes.now }
-    ensures { Puts result wanted (items_of piece bytes.now place.start place.line) (tokens_of tokens.old.items) (tokens_of tokens.new.items) }
+    ensures added { Puts result wanted (items_of piece bytes.now place.start place.line) (tokens_of tokens.old.items) (tokens_of tokens.new.items) }
+    ensures fault { IfErr result (λ e. Finds e (piece_fault place.start piece bytes.now)) }
 {
     match piece {
         Piece::Space | Piece::Comment => Ok(wanted),
@@ -192,7 +197,9 @@ pub fn scan(alloc: Global, text: &[u8]) -> Result<Vec<Token>, ScanError>
     ensures tokens { IfOk result (λ v. IsScan text.now (tokens_of v.items)) }
     // An error says that it has none.
     ensures none { IfErr result (λ e. HasNoTokens e text.now) }
-    ensures too_long { (result ≡ Err TooLong) ↔ (1048576 < length text.now) }
+    // It is the first fault of the text.
+    ensures fault { IfErr result (λ e. HasFault e text.now) }
+    ensures too_long { (result ≡ Err TooLong) ↔ (TEXT_LIMIT < length text.now) }
 {
     if text.len() > TEXT_LIMIT {
         return Err(ScanError::TooLong);
@@ -219,4 +226,9 @@ pub fn scan(alloc: Global, text: &[u8]) -> Result<Vec<Token>, ScanError>
 /// A text has at most one list of tokens.
 pub fn one_list()
     ensures { (text : List ℕ) (a b : List Tok) → IsScan text a → IsScan text b → a ≡ b }
+{}
+
+/// A text has at most one first fault.
+pub fn one_fault()
+    ensures { (text : List ℕ) (at : ℕ) (a b : ScanError) → FirstFault a at text → FirstFault b at text → a ≡ b }
 {}

@@ -4,8 +4,8 @@ use Rattle.gr_tree.specs.declared.expr.UnaryOp as written_unary
 use Rattle.gr_tree.specs.declared.expr.UnaryOp.TheVariants as unaries
 use Rattle.gr_tree.specs.declared.expr.BinaryOp as written_binary
 use Rattle.gr_tree.specs.declared.expr.BinaryOp.TheVariants as binaries
-use Rattle.gr_types.specs.Types.{IntType}
-use Rattle.gr_types.specs.Terms as checked
+use Rattle.gr_program.specs.Types.{IntType}
+use Rattle.gr_program.specs.Programs as checked
 use Rattle.gr_session.specs.declared.plain.UnaryOp.{UnaryOp}
 use Rattle.gr_session.specs.declared.plain.UnaryOp.TheVariants.{Plus, Negate}
 use Rattle.gr_session.specs.declared.plain.BinaryOp.{BinaryOp}
@@ -38,20 +38,20 @@ abbrev pub joined_by : Option BinaryOp → Option Term → Option Term → Optio
 joined_by (Some op) left right = both (Binary op) left right
 joined_by None left right = None
 
-abbrev pub plain_term : checked.Term → Option Term
+abbrev pub plain_term : checked.Expr → Option Term
 plain_term (checked.Literally value) = plain_literal value
 plain_term (checked.Variable number) = Some (Variable number)
 plain_term (checked.Unary op operand) = both Unary (plain_sign op) (plain_term operand)
 plain_term (checked.Binary op left right) = joined_by (plain_operator op) (plain_term left) (plain_term right)
 plain_term _ = None
 
-abbrev pub plain_terms : checked.Terms → Option Terms
+abbrev pub plain_terms : checked.Exprs → Option Terms
 plain_terms checked.none = Some none
 plain_terms (checked.more t ts) = both more (plain_term t) (plain_terms ts)
 
 -- what is printed: no string
 abbrev pub plain_print : checked.Printed → Option Term
-plain_print (checked.PrintTerm value) = plain_term value
+plain_print (checked.PrintExpr value) = plain_term value
 plain_print (checked.PrintText bytes) = None
 
 abbrev pub plain_prints : List checked.Printed → Option Terms
@@ -63,11 +63,11 @@ plain_act (checked.Assign targets values) = option_map (Assign targets) (plain_t
 plain_act (checked.Print values) = option_map Print (plain_prints values)
 plain_act _ = None
 
-abbrev pub plain_statement : checked.Step → Option Step
-plain_statement (checked.Does line act) = option_map (On line) (plain_act act)
+abbrev pub plain_statement : checked.Stmt → Option Step
+plain_statement (checked.Does place act) = option_map (On place.line) (plain_act act)
 plain_statement _ = None
 
-abbrev pub plain_body : checked.Steps → Option (List Step)
+abbrev pub plain_body : checked.Stmts → Option (List Step)
 plain_body checked.stop = Some []
 plain_body (checked.then s ss) = both ◌∷◌ (plain_statement s) (plain_body ss)
 
@@ -82,8 +82,8 @@ plain_variables (v ∷ vs) = both ◌∷◌ (plain_variable v) (plain_variables 
 
 -- `main` has no parameters
 abbrev pub plain_function : checked.Function → Option Program
-plain_function (checked.FunctionIs name parameters result variables body last) =
-    both (λ names steps. ProgramIs names steps last) (plain_variables variables) (plain_body body)
+plain_function (checked.FunctionIs name parameters result variables body closing) =
+    both (λ names steps. ProgramIs names steps closing.line) (plain_variables variables) (plain_body body)
 
 -- the program of one function, `main`
 abbrev pub plain_of : checked.Program → Option Program

@@ -4,8 +4,8 @@ use Rattle.gr_scan.specs.Tokens.{Tok}
 use Rattle.gr_scan.specs.Scan.{IsScan}
 use Rattle.gr_tree.specs.Files.{FileTree}
 use Rattle.gr_syntax.specs.FileGrammar.{IsTreeOf}
-use Rattle.gr_types.specs.Terms as checked
-use Rattle.gr_types.specs.FileChecks.{ProgramOf}
+use Rattle.gr_program.specs.Programs as checked
+use Rattle.gr_typing.specs.FileChecks.{ProgramOf}
 use Rattle.gr_session.specs.PlainPrograms.{Program}
 use Rattle.gr_session.specs.Narrowing.{plain_of}
 

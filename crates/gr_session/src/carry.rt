@@ -26,7 +26,8 @@ fn keep_step(
     requires live { store.old.run ≡ Run.Live }
     requires main { go.now ≡ [] }
     requires room { length log.old.items < LOG_LIMIT }
-    ensures step { IfOk result (λ r. step_by (program_of program.now) (state_of store.old) (plain_step go.now) ≡ Ok (r.1, state_of store.new)) }
+    ensures step { IfOk result (λ r.
+        step_by (program_of program.now) (state_of store.old) (plain_step go.now) ≡ Ok (r.1, state_of store.new)) }
     ensures name { IfOk result (λ r. r.0 ≡ step_name go.now (state_of store.new)) }
     ensures log { IfOk result (λ _. events_of log.new.items ≡ events_of log.old.items ++ plain_step go.now ∷ []) }
     ensures run { IsRun (program_of program.now) log.new.items (state_of store.new) }
@@ -56,7 +57,8 @@ fn step(
 ) -> (Memory, Reply)
     requires { IsRun (program_of program.now) log.old.items (state_of store.old) }
     ensures run { IsRun (program_of program.now) log.new.items (state_of store.new) }
-    ensures leads { Leads (program_of program.now) (Command.Step go.now) result.0 log.old.items log.new.items (said_of result.1) }
+    ensures leads { Leads (program_of program.now) (Command.Step go.now) result.0
+        log.old.items log.new.items (said_of result.1) }
 {
     if let Some(why) = store.refusal(go) {
         return (Memory::Enough, Reply::Refused(why));
@@ -74,7 +76,8 @@ fn step(
 fn undo(program: &PlainProgram, store: &mut Store, log: &mut Vec<Record>) -> Reply
     requires { IsRun (program_of program.now) log.old.items (state_of store.old) }
     ensures run { IsRun (program_of program.now) log.new.items (state_of store.new) }
-    ensures leads { Leads (program_of program.now) Command.Undo Memory.Enough log.old.items log.new.items (said_of result) }
+    ensures leads { Leads (program_of program.now) Command.Undo Memory.Enough
+        log.old.items log.new.items (said_of result) }
 {
     let Some(record) = log.pop() else {
         return Reply::Refused(Refusal::NothingToUndo);
@@ -115,7 +118,8 @@ pub fn carry_out(
 ) -> Result<(Memory, Reply), NoMemory>
     requires { IsRun (program_of program.now) log.old.items (state_of store.old) }
     ensures run { IsRun (program_of program.now) log.new.items (state_of store.new) }
-    ensures leads { IfOk result (λ r. Leads (program_of program.now) command.now r.0 log.old.items log.new.items (said_of r.1)) }
+    ensures leads { IfOk result (λ r.
+        Leads (program_of program.now) command.now r.0 log.old.items log.new.items (said_of r.1)) }
     ensures err { OnErr result (log.new.items ≡ log.old.items) }
 {
     match command {

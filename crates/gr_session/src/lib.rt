@@ -7,13 +7,15 @@ mod evaluate;
 mod narrow;
 mod open;
 pub mod plain;
+mod plainness;
 mod session;
 mod store;
 
 pub use command::{
     AskRefused, Command, DeskId, EnrolRefused, Entry, Memory, Receipt, Refusal, Reply,
 };
-pub use open::{OpenError, Position};
+pub use gr_scan::position::Position;
+pub use open::OpenError;
 pub use session::Session;
 
 /// The most steps that a log keeps.

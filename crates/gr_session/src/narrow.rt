@@ -1,17 +1,15 @@
 //! From a checked program to its plain one.
 ghost use Rattle.std.specs.Prelude.{◌≡◌};
 ghost use Rattle.gr_tree.specs.Exprs.{names_of};
-ghost use Rattle.gr_types.specs.TypeViews as checked_types;
-ghost use Rattle.gr_types.specs.Programs as checked;
+ghost use Rattle.gr_program.specs.TypeViews as checked_types;
+ghost use Rattle.gr_program.specs.Views as checked;
 ghost use Rattle.gr_session.specs.PlainPrograms.{term_of, terms_of, act_of, step_of, steps_of, program_of};
 ghost use Rattle.gr_session.specs.Narrowing as spec;
 ghost use Rattle.gr_session.specs.Narrowed.{Agrees};
 ghost use Rattle.gr_session.specs.declared.narrow.PlainError.TheVariants as errors;
 
 use crate::plain::{Action, BinaryOp, PlainProgram, Statement, Term, UnaryOp};
-use gr_types::program;
-use gr_types::program::{Act, Function, Literal, Printed, Program, Step, Variable};
-use gr_types::types::Type;
+use gr_program::{Act, Expr, Function, Literal, Printed, Program, Stmt, Type, Variable};
 use std::alloc::{AllocError, AllocFailed, Global};
 
 /// Why there is no plain program.
@@ -68,18 +66,18 @@ fn constant(literal: Literal) -> Result<Term, PlainError>
     }
 }
 
-fn term(alloc: Global, original: &program::Term) -> Result<Term, PlainError>
-    ensures { Agrees term_of result (spec.plain_term (checked.term_of original.now)) }
+fn term(alloc: Global, original: &Expr) -> Result<Term, PlainError>
+    ensures { Agrees term_of result (spec.plain_term (checked.expr_of original.now)) }
 {
     match original {
-        program::Term::Literal(literal) => constant(*literal),
-        program::Term::Variable(number) => Ok(Term::Variable(*number)),
-        program::Term::Unary(op, operand) => {
+        Expr::Literal(literal) => constant(*literal),
+        Expr::Variable(number) => Ok(Term::Variable(*number)),
+        Expr::Unary(op, operand) => {
             let op = sign(*op)?;
             let operand = Box::new(alloc, term(alloc, operand)?)?;
             Ok(Term::Unary(op, operand))
         }
-        program::Term::Binary(op, left, right) => {
+        Expr::Binary(op, left, right) => {
             let op = operator(*op)?;
             let left = Box::new(alloc, term(alloc, left)?)?;
             let right = Box::new(alloc, term(alloc, right)?)?;
@@ -89,8 +87,8 @@ fn term(alloc: Global, original: &program::Term) -> Result<Term, PlainError>
     }
 }
 
-fn terms(alloc: Global, originals: &[program::Term]) -> Result<Vec<Term>, PlainError>
-    ensures { Agrees (λ v. terms_of v.items) result (spec.plain_terms (checked.terms_of originals.now)) }
+fn terms(alloc: Global, originals: &[Expr]) -> Result<Vec<Term>, PlainError>
+    ensures { Agrees (λ v. terms_of v.items) result (spec.plain_terms (checked.exprs_of originals.now)) }
 {
     let mut terms = Vec::new(alloc);
     for original in originals {
@@ -103,7 +101,7 @@ fn printed(alloc: Global, original: &Printed) -> Result<Term, PlainError>
     ensures { Agrees term_of result (spec.plain_print (checked.printed_of original.now)) }
 {
     match original {
-        Printed::Term(value) => term(alloc, value),
+        Printed::Value(value) => term(alloc, value),
         Printed::Text(_) => Err(PlainError::NotPlain),
     }
 }
@@ -131,24 +129,24 @@ fn action(alloc: Global, act: Act) -> Result<Action, PlainError>
     }
 }
 
-fn statement(alloc: Global, step: Step) -> Result<Statement, PlainError>
-    ensures { Agrees step_of result (spec.plain_statement (checked.step_of step)) }
+fn statement(alloc: Global, original: Stmt) -> Result<Statement, PlainError>
+    ensures { Agrees step_of result (spec.plain_statement (checked.stmt_of original)) }
 {
-    match step {
-        Step::Act { line, act } => Ok(Statement {
-            line,
+    match original {
+        Stmt::Act { place, act } => Ok(Statement {
+            line: place.line,
             action: action(alloc, act)?,
         }),
         _ => Err(PlainError::NotPlain),
     }
 }
 
-fn body(alloc: Global, steps: Vec<Step>) -> Result<Vec<Statement>, PlainError>
-    ensures { Agrees (λ v. steps_of v.items) result (spec.plain_body (checked.steps_of steps.items)) }
+fn body(alloc: Global, originals: Vec<Stmt>) -> Result<Vec<Statement>, PlainError>
+    ensures { Agrees (λ v. steps_of v.items) result (spec.plain_body (checked.stmts_of originals.items)) }
 {
     let mut body = Vec::new(alloc);
-    for step in steps {
-        body.push(statement(alloc, step)?)?;
+    for original in originals {
+        body.push(statement(alloc, original)?)?;
     }
     Ok(body)
 }
@@ -180,7 +178,7 @@ fn main_program(alloc: Global, function: Function) -> Result<PlainProgram, Plain
     Ok(PlainProgram {
         variables,
         body,
-        end: function.end,
+        end: function.closing.line,
     })
 }
 

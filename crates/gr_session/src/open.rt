@@ -1,28 +1,25 @@
 //! From a source to a session.
-ghost use Rattle.std.specs.Prelude.{◌≡◌, [], Option, IfOk, IfErr};
-ghost use Rattle.gr_types.specs.Programs as checked;
+ghost use Rattle.std.specs.Prelude.{◌≡◌, ◌<◌, ◌↔◌, [], length, None, IfOk, IfErr, IsErrOf};
+ghost use Rattle.gr_scan.specs.Tokens.{tokens_of};
+ghost use Rattle.gr_program.specs.Views as checked;
 ghost use Rattle.gr_session.specs.PlainPrograms.{program_of};
 ghost use Rattle.gr_session.specs.Source.{IsCheckedOf, IsProgramOf};
 ghost use Rattle.gr_session.specs.Refused.{SaysWhy};
+ghost use Rattle.gr_session.specs.Refused as spec;
 
 use crate::narrow::{PlainError, plain};
 use crate::plain::PlainProgram;
+use crate::plainness::is_plain;
 use crate::session::Session;
 use gr_base::NoMemory;
-use gr_scan::scan::{ScanError, one_list, scan};
+use gr_program::Program;
+use gr_scan::position::Position;
+use gr_scan::scan::{ScanError, TEXT_LIMIT, one_list, scan};
 use gr_scan::token::Token;
 use gr_syntax::parse::{ParseError, one_tree, parse};
 use gr_types::check::check;
 use gr_types::fault::CheckError;
-use gr_types::program::Program;
 use std::alloc::Global;
-
-/// A place in a source. Bytes are counted, both numbers from 1.
-#[derive(Clone, Copy, Debug, PartialEq, Eq)]
-pub struct Position {
-    pub line: usize,
-    pub column: usize,
-}
 
 /// Why a source was not opened. A fault that has a place in the source comes with its position.
 #[derive(Clone, Copy, Debug, PartialEq, Eq)]
@@ -35,65 +32,48 @@ pub enum OpenError {
     Check(CheckError, Option<Position>),
     /// U1: the file's program has a form that no session can run yet.
     NotYet,
-    /// There is no memory for a session.
+    /// There is no memory for a session of the program.
     Memory,
 }
 
-// Where the byte of this number stands, from 0; past the end, where the text ends.
-fn position_at(text: &[u8], offset: usize) -> Option<Position> {
-    let mut line: usize = 1;
-    let mut column: usize = 1;
-    for byte in text.iter().take(offset) {
-        if *byte == b'\n' {
-            line = line.saturating_add(1);
-            column = 1;
-        } else {
-            column = column.saturating_add(1);
-        }
-    }
-    Some(Position { line, column })
-}
-
-fn position_of_token(text: &[u8], tokens: &[Token], number: usize) -> Option<Position> {
-    match tokens.get(number) {
-        Some(token) => position_at(text, token.place.start),
-        None => position_at(text, text.len()),
+// Where the token of this index begins; after the last, where the text ends.
+fn token_position(text: &[u8], tokens: &[Token], index: usize) -> Position
+    ensures { result ≡ spec.token_position text.now (tokens_of tokens.now) index }
+{
+    match tokens.get(index) {
+        Some(token) => Position::of(text, token.place.start),
+        None => Position::of(text, text.len()),
     }
 }
 
 fn scan_error(text: &[u8], error: ScanError) -> OpenError
-    ensures { (at : Option Position) × (result ≡ OpenError.Scan error at) }
+    ensures { result ≡ OpenError.Scan error (spec.scan_position text.now error) }
 {
-    let at = match error {
-        ScanError::TooLong | ScanError::Memory => None,
-        ScanError::Strange(at)
-        | ScanError::Malformed(at)
-        | ScanError::TooGreat(at)
-        | ScanError::MalformedText(at)
-        | ScanError::Unclosed(at)
-        | ScanError::LeftOut(at) => position_at(text, at),
+    let at = match error.place() {
+        Some(before) => Some(Position::of(text, before)),
+        None => None,
     };
     OpenError::Scan(error, at)
 }
 
 fn parse_error(text: &[u8], tokens: &[Token], error: ParseError) -> OpenError
-    ensures { (at : Option Position) × (result ≡ OpenError.Parse error at) }
+    ensures { result ≡ OpenError.Parse error (spec.parse_position text.now (tokens_of tokens.now) error) }
 {
     let at = match error {
         ParseError::Memory => None,
         ParseError::NoFile { token }
         | ParseError::LeftOut { token }
-        | ParseError::TooHigh { token } => position_of_token(text, tokens, token),
+        | ParseError::TooHigh { token } => Some(token_position(text, tokens, token)),
     };
     OpenError::Parse(error, at)
 }
 
 fn check_error(text: &[u8], error: CheckError) -> OpenError
-    ensures { (at : Option Position) × (result ≡ OpenError.Check error at) }
+    ensures { result ≡ OpenError.Check error (spec.check_position text.now error) }
 {
     let at = match error {
         CheckError::Memory => None,
-        CheckError::Refused { code: _, at } => position_at(text, at),
+        CheckError::Refused { code: _, at } => Some(Position::of(text, at)),
     };
     OpenError::Check(error, at)
 }
@@ -102,6 +82,7 @@ fn check_error(text: &[u8], error: CheckError) -> OpenError
 fn read_checked(alloc: Global, text: &[u8]) -> Result<Program, OpenError>
     ensures program { IfOk result (λ p. IsCheckedOf text.now (checked.program_of p)) }
     ensures none { IfErr result (λ e. SaysWhy e text.now) }
+    ensures too_long { IsErrOf result (OpenError.Scan ScanError.TooLong None) ↔ (TEXT_LIMIT < length text.now) }
 {
     one_list();
     one_tree();
@@ -123,8 +104,12 @@ fn read_checked(alloc: Global, text: &[u8]) -> Result<Program, OpenError>
 fn read_program(alloc: Global, text: &[u8]) -> Result<PlainProgram, OpenError>
     ensures program { IfOk result (λ p. IsProgramOf text.now (program_of p)) }
     ensures none { IfErr result (λ e. SaysWhy e text.now) }
+    ensures too_long { IsErrOf result (OpenError.Scan ScanError.TooLong None) ↔ (TEXT_LIMIT < length text.now) }
 {
     let program = read_checked(alloc, text)?;
+    if !is_plain(&program) {
+        return Err(OpenError::NotYet);
+    }
     match plain(alloc, program) {
         Ok(program) => Ok(program),
         Err(PlainError::NotPlain) => Err(OpenError::NotYet),
@@ -139,6 +124,7 @@ impl Session {
         ensures journal { IfOk result (λ s. s.journal ≡ []) }
         ensures askers { IfOk result (λ s. s.askers ≡ 0) }
         ensures none { IfErr result (λ e. SaysWhy e text.now) }
+        ensures too_long { IsErrOf result (OpenError.Scan ScanError.TooLong None) ↔ (TEXT_LIMIT < length text.now) }
     {
         let program = read_program(alloc, text)?;
         match Session::new(alloc, program) {

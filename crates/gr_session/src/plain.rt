@@ -1,4 +1,5 @@
-//! Plain programs, which a session can run: one function that assigns and prints sums, differences and products of whole numbers.
+//! Plain programs, which a session can run: one function that assigns and prints sums, differences and products of
+//! whole numbers.
 
 /// A unary operator.
 #[derive(Clone, Copy, Debug, PartialEq, Eq)]

@@ -60,6 +60,8 @@ impl Session {
     pub fn enrol(&mut self) -> Result<DeskId, EnrolRefused>
         ensures number { IfOk result (λ desk. (desk.number ≡ self.old.askers + 1) × (self.new.askers ≡ desk.number)) }
         ensures full { IsErrOf result EnrolRefused.Full ↔ (self.old.askers ≡ ASKER_LIMIT) }
+        // It takes no memory.
+        ensures memory { IsErrOf result EnrolRefused.NoMemory → ⊥ }
         ensures others { (self.new.program ≡ self.old.program) × (self.new.journal ≡ self.old.journal) }
         ensures err { OnErr result (self.new ≡ self.old) }
     {

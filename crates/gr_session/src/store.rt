@@ -114,7 +114,8 @@ fn drop_last(lines: &mut Vec<Vec<u8>>)
 
 // The statement of this number, from 0.
 fn statement_at(program: &PlainProgram, number: usize) -> Option<&Statement>
-    ensures statement { MatchOption result (slice_get (body (program_of program.now)) number ≡ None) (λ s. slice_get (body (program_of program.now)) number ≡ Some (pure_step s.now)) }
+    ensures statement { MatchOption result (slice_get (body (program_of program.now)) number ≡ None)
+        (λ s. slice_get (body (program_of program.now)) number ≡ Some (pure_step s.now)) }
     ensures below { OnSome result (number < 2 ^ 64 - 1) }
 {
     if number < program.body.len() {
@@ -161,7 +162,8 @@ impl Store {
     ) -> Result<Undo, NoMemory>
         requires at { self.old.at < 2 ^ 64 - 1 }
         requires steps { self.old.steps < 2 ^ 64 - 1 }
-        ensures ok { OnOk result (state_of self.new ≡ done (Assign targets.now (terms_of terms.now)) (state_of self.old)) }
+        ensures ok { OnOk result
+            (state_of self.new ≡ done (Assign targets.now (terms_of terms.now)) (state_of self.old)) }
         ensures back { IfOk result (λ undo. given_back targets.now undo (state_of self.new) ≡ state_of self.old) }
         ensures err { OnErr result (state_of self.new ≡ state_of self.old) }
     {
@@ -202,7 +204,8 @@ impl Store {
         requires at { self.old.at < 2 ^ 64 - 1 }
         requires steps { self.old.steps < 2 ^ 64 - 1 }
         ensures ok { OnOk result (state_of self.new ≡ done (act_of action.now) (state_of self.old)) }
-        ensures back { IfOk result (λ undo. given_back (targets_of (act_of action.now)) undo (state_of self.new) ≡ state_of self.old) }
+        ensures back { IfOk result (λ undo.
+            given_back (targets_of (act_of action.now)) undo (state_of self.new) ≡ state_of self.old) }
         ensures err { OnErr result (state_of self.new ≡ state_of self.old) }
     {
         match action {
@@ -219,8 +222,10 @@ impl Store {
     pub fn step(&mut self, alloc: Global, program: &PlainProgram) -> Result<(Kind, Undo), NoMemory>
         requires live { self.old.run ≡ Run.Live }
         requires room { self.old.steps < 2 ^ 64 - 1 }
-        ensures ok { IfOk result (λ r. (r.0, state_of self.new) ≡ step_at (slice_get (body (program_of program.now)) self.old.at) (state_of self.old)) }
-        ensures back { IfOk result (λ r. taken_back (program_of program.now) r.1 (state_of self.new) ≡ state_of self.old) }
+        ensures ok { IfOk result (λ r. (r.0, state_of self.new)
+            ≡ step_at (slice_get (body (program_of program.now)) self.old.at) (state_of self.old)) }
+        ensures back { IfOk result (λ r.
+            taken_back (program_of program.now) r.1 (state_of self.new) ≡ state_of self.old) }
         ensures err { OnErr result (state_of self.new ≡ state_of self.old) }
     {
         let Some(statement) = statement_at(program, self.at) else {
@@ -233,8 +238,11 @@ impl Store {
 
     // The variables that the statement before the next assigns get their saved values back.
     fn restore_before(&mut self, program: &PlainProgram, saved: &[i64])
-        ensures values { self.new.values.items ≡ restored (targets_at (slice_get (body (program_of program.now)) (self.old.at - 1))) saved.now self.old.values.items }
-        ensures others { (self.new.run ≡ self.old.run) × (self.new.at ≡ self.old.at) × (self.new.steps ≡ self.old.steps) × (self.new.text.items ≡ self.old.text.items) }
+        ensures values { self.new.values.items
+            ≡ restored (targets_at (slice_get (body (program_of program.now)) (self.old.at - 1))) saved.now
+            self.old.values.items }
+        ensures others { (self.new.run ≡ self.old.run) × (self.new.at ≡ self.old.at)
+            × (self.new.steps ≡ self.old.steps) × (self.new.text.items ≡ self.old.text.items) }
     {
         let Some(statement) = statement_at(program, self.at.saturating_sub(1)) else {
             return;

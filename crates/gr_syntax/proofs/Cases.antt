@@ -1,6 +1,7 @@
 -- Goes by cases on what a reading, a look-up or a test gave.
 use Rattle.std.proofs.Common.{◌≡◌, ℕ, Bool, true, false, cond, List, [], ◌∷◌, refl, ap, sym, ◌∙◌, subst}
 use Rattle.std.specs.Prelude.{Option, Some, None, Result, Ok, Err}
+use Rattle.std.proofs.lemmas.Option.{same_Some}
 use Rattle.gr_scan.specs.contracts.token.Mark.{the_type}
 use Rattle.gr_scan.specs.declared.token.Place.{Place}
 use Rattle.gr_scan.specs.declared.token.Mark.{Mark}
@@ -16,9 +17,6 @@ use Rattle.gr_syntax.specs.Reading.{Fault, Wrong, High, Found, Reads, ◌>>=◌,
 pub ok_inj : {A : Type 0} {x y : A} → ◌≡◌ {A = Result A Fault} (Ok x) (Ok y) → x ≡ y
 ok_inj e = cc
 
-pub some_inj : {A : Type 0} {x y : A} → Some x ≡ Some y → x ≡ y
-some_inj e = cc
-
 pub wrong≢ok : {A : Type 0} {Z : Type 0} (x : A) → ◌≡◌ {A = Result A Fault} (Err Wrong) (Ok x) → Z
 wrong≢ok x e = absurd (cc)
 
@@ -26,6 +24,11 @@ wrong≢ok x e = absurd (cc)
 pub on_ok : {A B P : Type 0} (r : Result A Fault) (f : A → Result B Fault) (y : B) → (r >>= f) ≡ Ok y → ((x : A) → r ≡ Ok x → f x ≡ Ok y → P) → P
 on_ok (Ok x) f y e k = k x refl e
 on_ok (Err d) f y e k = absurd (cc)
+
+-- which of two readings failed
+pub on_err : {A B P : Type 0} (r : Result A Fault) (f : A → Result B Fault) (d : Fault) → (r >>= f) ≡ Err d → (r ≡ Err d → P) → ((x : A) → r ≡ Ok x → f x ≡ Err d → P) → P
+on_err (Ok x) f d e k n = n x refl e
+on_err {A = A} (Err g) f d e k n = let same : ◌≡◌ {A = Result A Fault} (Err g) (Err d) = cc in k same
 
 -- where a reading went wrong
 pub on_high : {A B P : Type 0} (r : Result A Fault) (f : A → Result B Fault) → (r >>= f) ≡ Err High → (r ≡ Err High → P) → ((x : A) → r ≡ Ok x → f x ≡ Err High → P) → P
@@ -66,7 +69,7 @@ pub after_is : (m : Mark) (ts rest : List Tok) → after_mark m ts ≡ Some rest
 unfolding after_mark
 after_is m (At p (Sign k) ∷ ts) rest q =
     on_test (sameb the_type k m) (Some ts) None (Some rest) q
-    (λ t e. let same : k ≡ m = same_true the_type tt k m t in let tail : ts ≡ rest = some_inj e in record { place = p; is = cc })
+    (λ t e. let same : k ≡ m = same_true the_type tt k m t in let tail : ts ≡ rest = same_Some _ _ e in record { place = p; is = cc })
     (λ t e. absurd (cc))
 after_is m _ rest q = absurd (cc)
 
@@ -88,41 +91,41 @@ need_is m (At p w ∷ ts) r q =
 
 pub binary_is : (m : Mark) (op : BinaryOp) → binary_of m ≡ Some op → m ≡ binary_mark op
 unfolding binary_of
-binary_is marks.Star op e = ap binary_mark (some_inj e)
-binary_is marks.Slash op e = ap binary_mark (some_inj e)
-binary_is marks.Percent op e = ap binary_mark (some_inj e)
-binary_is marks.ShiftLeft op e = ap binary_mark (some_inj e)
-binary_is marks.ShiftRight op e = ap binary_mark (some_inj e)
-binary_is marks.And op e = ap binary_mark (some_inj e)
-binary_is marks.AndNot op e = ap binary_mark (some_inj e)
-binary_is marks.Plus op e = ap binary_mark (some_inj e)
-binary_is marks.Minus op e = ap binary_mark (some_inj e)
-binary_is marks.Or op e = ap binary_mark (some_inj e)
-binary_is marks.Caret op e = ap binary_mark (some_inj e)
-binary_is marks.Equal op e = ap binary_mark (some_inj e)
-binary_is marks.NotEqual op e = ap binary_mark (some_inj e)
-binary_is marks.Less op e = ap binary_mark (some_inj e)
-binary_is marks.LessEqual op e = ap binary_mark (some_inj e)
-binary_is marks.Greater op e = ap binary_mark (some_inj e)
-binary_is marks.GreaterEqual op e = ap binary_mark (some_inj e)
-binary_is marks.AndAnd op e = ap binary_mark (some_inj e)
-binary_is marks.OrOr op e = ap binary_mark (some_inj e)
+binary_is marks.Star op e = ap binary_mark (same_Some _ _ e)
+binary_is marks.Slash op e = ap binary_mark (same_Some _ _ e)
+binary_is marks.Percent op e = ap binary_mark (same_Some _ _ e)
+binary_is marks.ShiftLeft op e = ap binary_mark (same_Some _ _ e)
+binary_is marks.ShiftRight op e = ap binary_mark (same_Some _ _ e)
+binary_is marks.And op e = ap binary_mark (same_Some _ _ e)
+binary_is marks.AndNot op e = ap binary_mark (same_Some _ _ e)
+binary_is marks.Plus op e = ap binary_mark (same_Some _ _ e)
+binary_is marks.Minus op e = ap binary_mark (same_Some _ _ e)
+binary_is marks.Or op e = ap binary_mark (same_Some _ _ e)
+binary_is marks.Caret op e = ap binary_mark (same_Some _ _ e)
+binary_is marks.Equal op e = ap binary_mark (same_Some _ _ e)
+binary_is marks.NotEqual op e = ap binary_mark (same_Some _ _ e)
+binary_is marks.Less op e = ap binary_mark (same_Some _ _ e)
+binary_is marks.LessEqual op e = ap binary_mark (same_Some _ _ e)
+binary_is marks.Greater op e = ap binary_mark (same_Some _ _ e)
+binary_is marks.GreaterEqual op e = ap binary_mark (same_Some _ _ e)
+binary_is marks.AndAnd op e = ap binary_mark (same_Some _ _ e)
+binary_is marks.OrOr op e = ap binary_mark (same_Some _ _ e)
 binary_is _ op e = absurd (cc)
 
 pub unary_is : (m : Mark) (op : UnaryOp) → unary_of m ≡ Some op → m ≡ unary_mark op
 unfolding unary_of
-unary_is marks.Plus op e = ap unary_mark (some_inj e)
-unary_is marks.Minus op e = ap unary_mark (some_inj e)
-unary_is marks.Not op e = ap unary_mark (some_inj e)
-unary_is marks.Caret op e = ap unary_mark (some_inj e)
-unary_is marks.Arrow op e = ap unary_mark (some_inj e)
+unary_is marks.Plus op e = ap unary_mark (same_Some _ _ e)
+unary_is marks.Minus op e = ap unary_mark (same_Some _ _ e)
+unary_is marks.Not op e = ap unary_mark (same_Some _ _ e)
+unary_is marks.Caret op e = ap unary_mark (same_Some _ _ e)
+unary_is marks.Arrow op e = ap unary_mark (same_Some _ _ e)
 unary_is _ op e = absurd (cc)
 
 -- the operator comes first, and then the rest
 pub operator_is : {O : Type 0} (of : Mark → Option O) (mark : O → Mark) → ((m : Mark) (op : O) → of m ≡ Some op → m ≡ mark op) → (ts : List Tok) (o : O × List Tok) → operator_at of ts ≡ Some o → Opens (mark o.0) ts o.1
 operator_is {O} of mark all (At p (Sign m) ∷ ts) o q =
     on_look (of m) _ _ (Some o) q
-    (λ op e is. subst (λ (o : O × List Tok). Opens (mark o.0) (At p (Sign m) ∷ ts) o.1) (some_inj is) (record { place = p; is = ap (λ k. At p (Sign k) ∷ ts) (all m op e) }))
+    (λ op e is. subst (λ (o : O × List Tok). Opens (mark o.0) (At p (Sign m) ∷ ts) o.1) (same_Some _ _ is) (record { place = p; is = ap (λ k. At p (Sign k) ∷ ts) (all m op e) }))
     (λ e is. absurd (cc))
 operator_is {O} of mark all _ o q = absurd (cc)
 

@@ -7,7 +7,7 @@ use Rattle.gr_scan.specs.Tokens.{Tok, At, Sign}
 use Rattle.gr_scan.specs.Tokens as words
 use Rattle.gr_tree.specs.Exprs.{WrittenType, type_height, Tree, Call, Trees, heights}
 use Rattle.gr_tree.specs.Statements.{Act, Var, VarValues, Go, Return, act_height}
-use Rattle.gr_syntax.specs.Grammar.{SpellsType, type_name, type_unit, type_chan, type_send, type_receive, type_paren, SpellsUnary, SpellsExpr, SpellsExprs, SpellsNames, name, call_none, call, call_comma, after_mark, is_make}
+use Rattle.gr_syntax.specs.Grammar.{SpellsType, type_name, type_unit, type_chan, type_send, type_receive, type_paren, SpellsUnary, SpellsExpr, SpellsExprs, SpellsNames, call_none, call, call_comma, after_mark, is_make}
 use Rattle.gr_syntax.specs.Reading.{Found, Reads, ◌>>=◌, name_at, need, type_at, expr_at, exprs_at, arguments_at}
 use Rattle.gr_syntax.specs.SimpleReading.{up_to, done_at, first_name, var_typed, var_after, var_at, go_at, return_at, jump_at}
 use Rattle.gr_syntax.proofs.Bound.{bound, within}

@@ -1,7 +1,8 @@
 -- A simple statement of the grammar is read, where it is not too high.
-use Rattle.std.proofs.Common.{◌≡◌, ℕ, zero, suc, ◌+◌, ◌<◌, ◌≤◌, max, Bool, true, false, cond, List, [], ◌∷◌, length, refl, ap, sym, ◌∙◌, subst, arith, ⊎_elim}
-use Rattle.std.specs.Prelude.{Option, Some, None, Result, Ok, Err}
+use Rattle.std.proofs.Common.{◌≡◌, ℕ, ◌+◌, ◌<◌, ◌≤◌, max, Bool, true, false, List, [], ◌∷◌, refl, ap, sym, ◌∙◌, subst, arith, ⊎_elim}
+use Rattle.std.specs.Prelude.{Option, Some, None, Result, Ok}
 use Rattle.std.proofs.lemmas.Bool.{cases_lt}
+use Rattle.std.proofs.lemmas.Option.{same_Some}
 use Rattle.gr_scan.specs.declared.token.Place.{Place}
 use Rattle.gr_scan.specs.declared.token.Mark.{Mark}
 use Rattle.gr_scan.specs.declared.token.Mark.TheVariants as marks
@@ -12,19 +13,16 @@ use Rattle.gr_tree.specs.declared.expr.UnaryOp.TheVariants as unaries
 use Rattle.gr_tree.specs.declared.expr.BinaryOp.{BinaryOp}
 use Rattle.gr_tree.specs.declared.expr.BinaryOp.TheVariants as binaries
 use Rattle.gr_tree.specs.Exprs.{Tree, Name, Trees, height, heights}
-use Rattle.gr_tree.specs.Statements.{Simple, Eval, Send, Assign, Define, Update, Increment, Decrement, Heading, Heads, simple_height, heading_height}
-use Rattle.gr_syntax.specs.declared.opening.Joint.TheVariants as joints
+use Rattle.gr_tree.specs.Statements.{Simple, Eval, Send, Assign, Define, Update, Increment, Decrement, Heading, Heads, simple_height}
 use Rattle.gr_syntax.specs.Grammar.{SpellsUnary, SpellsExpr, SpellsExprs, SpellsNames, number, text, name, unit, paren, call_none, call, call_comma, make, make_comma, make_sized, make_sized_comma, unary, alone, binary, last_expr, comma_expr, last_name, comma_name, after_mark, unary_mark}
 use Rattle.gr_syntax.specs.StatementGrammar as grammar
 use Rattle.gr_syntax.specs.StatementGrammar.{update_mark, SpellsSimple, SpellsHeading, heads, defines}
-use Rattle.gr_syntax.specs.Reading.{Fault, High, Found, Reads, ◌>>=◌, match_after, binary_of, operator_at, name_at, need, names_at, expr_at, exprs_at}
+use Rattle.gr_syntax.specs.Reading.{Fault, Found, Reads, ◌>>=◌, match_after, binary_of, operator_at, need, expr_at, exprs_at}
 use Rattle.gr_syntax.specs.SimpleReading.{up_to, keyword_of, joint_of, done_at, stops_at, place_at, bare, define_at, values_at, names_from, update_at, joined_at, alone_at, simple_named, sent_at, simple_after}
 use Rattle.gr_syntax.specs.StatementReading.{heading_after, target_at}
 use Rattle.gr_syntax.proofs.Bound.{bound, within, above, bound_bind}
-use Rattle.gr_syntax.proofs.Cases.{some_inj, after_is}
-use Rattle.gr_syntax.proofs.Chains.{strength, Quiet}
+use Rattle.gr_syntax.proofs.Chains.{Quiet}
 use Rattle.gr_syntax.proofs.Names.{names_whole}
-use Rattle.gr_syntax.proofs.Sizes.{height_pos}
 use Rattle.gr_syntax.proofs.CompleteExprs.{expr_whole, exprs_whole}
 
 -- an outer limit that asks for less
@@ -293,17 +291,17 @@ record Updates (op : BinaryOp) (m : Mark) (x : List ℕ) (p : Place) (ts : List 
 
 updates : (op : BinaryOp) (m : Mark) (x : List ℕ) (p : Place) (ts : List Tok) → update_mark op ≡ Some m → Updates op m x p ts
 unfolding after_mark binary_of target_at bare simple_after simple_named joined_at update_at joint_of
-updates binaries.Multiply m x p ts e = subst (λ m. Updates binaries.Multiply m x p ts) (some_inj e) (record { named = record { quiet = (refl, refl); label = refl; range = λ y. refl; brace = refl }; goes = λ h may. refl })
-updates binaries.Divide m x p ts e = subst (λ m. Updates binaries.Divide m x p ts) (some_inj e) (record { named = record { quiet = (refl, refl); label = refl; range = λ y. refl; brace = refl }; goes = λ h may. refl })
-updates binaries.Remainder m x p ts e = subst (λ m. Updates binaries.Remainder m x p ts) (some_inj e) (record { named = record { quiet = (refl, refl); label = refl; range = λ y. refl; brace = refl }; goes = λ h may. refl })
-updates binaries.ShiftLeft m x p ts e = subst (λ m. Updates binaries.ShiftLeft m x p ts) (some_inj e) (record { named = record { quiet = (refl, refl); label = refl; range = λ y. refl; brace = refl }; goes = λ h may. refl })
-updates binaries.ShiftRight m x p ts e = subst (λ m. Updates binaries.ShiftRight m x p ts) (some_inj e) (record { named = record { quiet = (refl, refl); label = refl; range = λ y. refl; brace = refl }; goes = λ h may. refl })
-updates binaries.BitAnd m x p ts e = subst (λ m. Updates binaries.BitAnd m x p ts) (some_inj e) (record { named = record { quiet = (refl, refl); label = refl; range = λ y. refl; brace = refl }; goes = λ h may. refl })
-updates binaries.AndNot m x p ts e = subst (λ m. Updates binaries.AndNot m x p ts) (some_inj e) (record { named = record { quiet = (refl, refl); label = refl; range = λ y. refl; brace = refl }; goes = λ h may. refl })
-updates binaries.Add m x p ts e = subst (λ m. Updates binaries.Add m x p ts) (some_inj e) (record { named = record { quiet = (refl, refl); label = refl; range = λ y. refl; brace = refl }; goes = λ h may. refl })
-updates binaries.Subtract m x p ts e = subst (λ m. Updates binaries.Subtract m x p ts) (some_inj e) (record { named = record { quiet = (refl, refl); label = refl; range = λ y. refl; brace = refl }; goes = λ h may. refl })
-updates binaries.BitOr m x p ts e = subst (λ m. Updates binaries.BitOr m x p ts) (some_inj e) (record { named = record { quiet = (refl, refl); label = refl; range = λ y. refl; brace = refl }; goes = λ h may. refl })
-updates binaries.BitXor m x p ts e = subst (λ m. Updates binaries.BitXor m x p ts) (some_inj e) (record { named = record { quiet = (refl, refl); label = refl; range = λ y. refl; brace = refl }; goes = λ h may. refl })
+updates binaries.Multiply m x p ts e = subst (λ m. Updates binaries.Multiply m x p ts) (same_Some _ _ e) (record { named = record { quiet = (refl, refl); label = refl; range = λ y. refl; brace = refl }; goes = λ h may. refl })
+updates binaries.Divide m x p ts e = subst (λ m. Updates binaries.Divide m x p ts) (same_Some _ _ e) (record { named = record { quiet = (refl, refl); label = refl; range = λ y. refl; brace = refl }; goes = λ h may. refl })
+updates binaries.Remainder m x p ts e = subst (λ m. Updates binaries.Remainder m x p ts) (same_Some _ _ e) (record { named = record { quiet = (refl, refl); label = refl; range = λ y. refl; brace = refl }; goes = λ h may. refl })
+updates binaries.ShiftLeft m x p ts e = subst (λ m. Updates binaries.ShiftLeft m x p ts) (same_Some _ _ e) (record { named = record { quiet = (refl, refl); label = refl; range = λ y. refl; brace = refl }; goes = λ h may. refl })
+updates binaries.ShiftRight m x p ts e = subst (λ m. Updates binaries.ShiftRight m x p ts) (same_Some _ _ e) (record { named = record { quiet = (refl, refl); label = refl; range = λ y. refl; brace = refl }; goes = λ h may. refl })
+updates binaries.BitAnd m x p ts e = subst (λ m. Updates binaries.BitAnd m x p ts) (same_Some _ _ e) (record { named = record { quiet = (refl, refl); label = refl; range = λ y. refl; brace = refl }; goes = λ h may. refl })
+updates binaries.AndNot m x p ts e = subst (λ m. Updates binaries.AndNot m x p ts) (same_Some _ _ e) (record { named = record { quiet = (refl, refl); label = refl; range = λ y. refl; brace = refl }; goes = λ h may. refl })
+updates binaries.Add m x p ts e = subst (λ m. Updates binaries.Add m x p ts) (same_Some _ _ e) (record { named = record { quiet = (refl, refl); label = refl; range = λ y. refl; brace = refl }; goes = λ h may. refl })
+updates binaries.Subtract m x p ts e = subst (λ m. Updates binaries.Subtract m x p ts) (same_Some _ _ e) (record { named = record { quiet = (refl, refl); label = refl; range = λ y. refl; brace = refl }; goes = λ h may. refl })
+updates binaries.BitOr m x p ts e = subst (λ m. Updates binaries.BitOr m x p ts) (same_Some _ _ e) (record { named = record { quiet = (refl, refl); label = refl; range = λ y. refl; brace = refl }; goes = λ h may. refl })
+updates binaries.BitXor m x p ts e = subst (λ m. Updates binaries.BitXor m x p ts) (same_Some _ _ e) (record { named = record { quiet = (refl, refl); label = refl; range = λ y. refl; brace = refl }; goes = λ h may. refl })
 updates _ m x p ts e = absurd (cc)
 
 step_first : (p q : Place) (x : List ℕ) (rest : List Tok) → First (Increment x) (At p (words.Name x) ∷ At q (Sign marks.PlusPlus) ∷ rest) rest

@@ -1,6 +1,6 @@
 -- Files: what is read is in the grammar, and what is in it is read.
-use Rattle.std.proofs.Common.{◌≡◌, ℕ, zero, suc, ◌+◌, ◌<◌, ◌≤◌, max, false, true, List, [], ◌∷◌, length, refl, ap, sym, ◌∙◌, subst, arith, ltb-true}
-use Rattle.std.specs.Prelude.{Option, Some, None, Result, Ok, Err, nat_lt}
+use Rattle.std.proofs.Common.{◌≡◌, ℕ, zero, suc, ◌+◌, ◌<◌, ◌≤◌, max, List, [], ◌∷◌, length, refl, ap, sym, ◌∙◌, subst, arith, ltb-true}
+use Rattle.std.specs.Prelude.{Some, None, Result, Ok, Err, nat_lt}
 use Rattle.std.specs.List.{slice_get}
 use Rattle.gr_scan.specs.declared.token.Place.{Place}
 use Rattle.gr_scan.specs.declared.token.Mark.TheVariants as marks
@@ -9,8 +9,8 @@ use Rattle.gr_scan.specs.Tokens.{Tok, At, Sign, token_of, tokens_of}
 use Rattle.gr_scan.specs.Tokens as words
 use Rattle.gr_tree.specs.Files.{Function, functions_height, FileTree, FileOf, file_height}
 use Rattle.gr_syntax.specs.Grammar.{after_mark}
-use Rattle.gr_syntax.specs.FileGrammar.{SpellsFunctions, SpellsFile, file, IsTreeOf}
-use Rattle.gr_syntax.specs.Refused.{left_out, IsNoFile, IsTooHigh}
+use Rattle.gr_syntax.specs.FileGrammar.{SpellsFile, file, IsTreeOf}
+use Rattle.gr_syntax.specs.Refused.{IsNoFile, IsTooHigh}
 use Rattle.gr_syntax.specs.Reading.{Fault, Wrong, High, Found, ◌>>=◌, name_at, need}
 use Rattle.gr_syntax.specs.FileReading.{functions_at, file_at}
 use Rattle.gr_syntax.proofs.Bound.{bound, within, bound_bind}

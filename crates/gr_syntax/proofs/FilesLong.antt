@@ -1,11 +1,11 @@
 -- A file that is refused as too high is long.
-use Rattle.std.proofs.Common.{◌≡◌, ℕ, zero, suc, ◌+◌, ◌<◌, ◌≤◌, true, List, [], ◌∷◌, ◌++◌, length, refl, ap, sym, ◌∙◌, subst, arith}
-use Rattle.std.specs.Prelude.{Some, None, Result, Ok, Err}
+use Rattle.std.proofs.Common.{◌≡◌, ℕ, zero, suc, ◌+◌, ◌≤◌, true, List, [], ◌∷◌, ◌++◌, length, refl, ap, sym, subst, arith}
+use Rattle.std.specs.Prelude.{Ok, Err}
 use Rattle.gr_scan.specs.declared.token.Mark.TheVariants as marks
 use Rattle.gr_scan.specs.Tokens.{Tok}
 use Rattle.gr_tree.specs.Files.{GroupOf, Function}
 use Rattle.gr_syntax.specs.Grammar.{after_mark}
-use Rattle.gr_syntax.specs.Reading.{Fault, High, Found, Reads, ◌>>=◌, Turn, Stop, Go, turned, turns, loop, name_at, need, names_at, type_at, ends_at}
+use Rattle.gr_syntax.specs.Reading.{High, Found, Reads, ◌>>=◌, Turn, Go, turned, turns, loop, name_at, need, names_at, type_at, ends_at}
 use Rattle.gr_syntax.specs.StatementReading.{statement_at, block_at}
 use Rattle.gr_syntax.specs.FileReading.{groups_after, groups_turn, groups_at, parameters_at, result_at, function_at, functions_more, functions_turn, functions_at, file_at}
 use Rattle.gr_syntax.proofs.Cases.{ok_inj, on_ok, on_high, stop_low, name_low, need_low, on_look, on_test, after_is, name_is, need_is}

@@ -1,6 +1,7 @@
 -- What the first token of a statement, or of what goes on, says.
-use Rattle.std.proofs.Common.{◌≡◌, ℕ, ◌≤◌, Bool, true, false, cond, List, [], ◌∷◌, refl, ap, subst, arith, ltb-false, sym, ◌∙◌}
-use Rattle.std.specs.Prelude.{Option, Some, None, Result, Ok, Err, nat_lt}
+use Rattle.std.proofs.Common.{◌≡◌, ℕ, ◌≤◌, Bool, true, false, List, [], ◌∷◌, refl, ap, subst, arith, ltb-false}
+use Rattle.std.specs.Prelude.{Option, Some, Ok, Err, nat_lt}
+use Rattle.std.proofs.lemmas.Option.{same_Some}
 use Rattle.gr_scan.specs.declared.token.Place.{Place}
 use Rattle.gr_scan.specs.declared.token.Mark.{Mark}
 use Rattle.gr_scan.specs.declared.token.Mark.TheVariants as marks
@@ -12,11 +13,11 @@ use Rattle.gr_syntax.specs.declared.opening.Keyword.{Keyword}
 use Rattle.gr_syntax.specs.declared.opening.Keyword.TheVariants as keywords
 use Rattle.gr_syntax.specs.declared.opening.Joint.{Joint}
 use Rattle.gr_syntax.specs.declared.opening.Joint.TheVariants as joints
-use Rattle.gr_syntax.specs.Grammar.{SpellsExpr, alone, name, after_mark}
+use Rattle.gr_syntax.specs.Grammar.{SpellsExpr, alone, name}
 use Rattle.gr_syntax.specs.StatementGrammar.{update_mark}
-use Rattle.gr_syntax.specs.Reading.{Fault, High, Found, match_after, operator_at}
-use Rattle.gr_syntax.specs.SimpleReading.{up_to, keyword_of, joint_of, define_at, place_at, bare, first_name, done_at, ends_mark, stops_at, stops_mark}
-use Rattle.gr_syntax.proofs.Cases.{ok_inj, some_inj, on_look, on_test, Opens, after_is}
+use Rattle.gr_syntax.specs.Reading.{High, Found, operator_at}
+use Rattle.gr_syntax.specs.SimpleReading.{up_to, keyword_of, joint_of, define_at, place_at, bare, first_name}
+use Rattle.gr_syntax.proofs.Cases.{ok_inj, on_look, on_test, Opens, after_is}
 
 -- what was let through is low enough
 pub up_is : {A : Type 0} (P : Found A → Type 0) (h : ℕ) (f u : Found A) → up_to h f ≡ Ok u → (f.1 ≤ h → P f) → P u
@@ -36,15 +37,15 @@ keyword_mark keywords.Select = marks.Select
 
 pub keyword_is : (m : Mark) (k : Keyword) → keyword_of m ≡ Some k → m ≡ keyword_mark k
 unfolding keyword_of
-keyword_is marks.Var k e = ap keyword_mark (some_inj e)
-keyword_is marks.Go k e = ap keyword_mark (some_inj e)
-keyword_is marks.Return k e = ap keyword_mark (some_inj e)
-keyword_is marks.Break k e = ap keyword_mark (some_inj e)
-keyword_is marks.Continue k e = ap keyword_mark (some_inj e)
-keyword_is marks.LeftBrace k e = ap keyword_mark (some_inj e)
-keyword_is marks.If k e = ap keyword_mark (some_inj e)
-keyword_is marks.For k e = ap keyword_mark (some_inj e)
-keyword_is marks.Select k e = ap keyword_mark (some_inj e)
+keyword_is marks.Var k e = ap keyword_mark (same_Some _ _ e)
+keyword_is marks.Go k e = ap keyword_mark (same_Some _ _ e)
+keyword_is marks.Return k e = ap keyword_mark (same_Some _ _ e)
+keyword_is marks.Break k e = ap keyword_mark (same_Some _ _ e)
+keyword_is marks.Continue k e = ap keyword_mark (same_Some _ _ e)
+keyword_is marks.LeftBrace k e = ap keyword_mark (same_Some _ _ e)
+keyword_is marks.If k e = ap keyword_mark (same_Some _ _ e)
+keyword_is marks.For k e = ap keyword_mark (same_Some _ _ e)
+keyword_is marks.Select k e = ap keyword_mark (same_Some _ _ e)
 keyword_is _ k e = absurd (cc)
 
 -- which marks stand for a joint
@@ -56,7 +57,7 @@ Joins m joints.Increment = m ≡ marks.PlusPlus
 Joins m joints.Decrement = m ≡ marks.MinusMinus
 
 joins : (m : Mark) (k j : Joint) → Joins m k → Some k ≡ Some j → Joins m j
-joins m k j d e = subst (Joins m) (some_inj e) d
+joins m k j d e = subst (Joins m) (same_Some _ _ e) d
 
 pub joint_is : (m : Mark) (j : Joint) → joint_of m ≡ Some j → Joins m j
 unfolding joint_of
@@ -88,7 +89,7 @@ pub record Marked {O : Type 0} (of : Mark → Option O) (o : O) (ts rest : List 
 pub marked : {O : Type 0} (of : Mark → Option O) (ts : List Tok) (o : O × List Tok) → operator_at of ts ≡ Some o → Marked of o.0 ts o.1
 marked {O} of (At p (Sign m) ∷ ts) o q =
     on_look (of m) _ _ (Some o) q
-    (λ j e is. subst (λ (o : O × List Tok). Marked of o.0 (At p (Sign m) ∷ ts) o.1) (some_inj is) (record { place = p; mark = m; known = e; is = refl }))
+    (λ j e is. subst (λ (o : O × List Tok). Marked of o.0 (At p (Sign m) ∷ ts) o.1) (same_Some _ _ is) (record { place = p; mark = m; known = e; is = refl }))
     (λ e is. absurd (cc))
 marked {O} of _ o q = absurd (cc)
 
@@ -99,12 +100,12 @@ define_is false ts rest q = absurd (cc)
 
 pub first_is : (ts : List Tok) (x : List ℕ × List Tok) → first_name ts ≡ Some x → (p : Place) × (ts ≡ At p (words.Name x.0) ∷ x.1)
 unfolding first_name
-first_is (At p (words.Name y) ∷ ts) x q = let same : (y, ts) ≡ x = some_inj q in (p, cc)
+first_is (At p (words.Name y) ∷ ts) x q = let same : (y, ts) ≡ x = same_Some _ _ q in (p, cc)
 first_is _ x q = absurd (cc)
 
 pub bare_is : (e : Tree) (x : List ℕ) → bare e ≡ Some x → e ≡ Name x
 unfolding bare
-bare_is (Name y) x q = ap Name (some_inj q)
+bare_is (Name y) x q = ap Name (same_Some _ _ q)
 bare_is _ x q = absurd (cc)
 
 pub name_only : {l : ℕ} {x : List ℕ} {ts rest : List Tok} → SpellsExpr l (Name x) ts rest → (p : Place) × (ts ≡ At p (words.Name x) ∷ rest)

@@ -1,6 +1,6 @@
 -- Functions: what is read is in the grammar, and what is in it is read.
-use Rattle.std.proofs.Common.{◌≡◌, ℕ, zero, suc, ◌+◌, ◌<◌, ◌≤◌, max, List, [], ◌∷◌, ◌++◌, length, refl, ap, sym, ◌∙◌, subst, arith, append_assoc, append-nil}
-use Rattle.std.specs.Prelude.{Option, Some, None, Result, Ok}
+use Rattle.std.proofs.Common.{◌≡◌, ℕ, zero, suc, ◌<◌, ◌≤◌, max, List, [], ◌∷◌, ◌++◌, length, refl, ap, sym, ◌∙◌, subst, arith, append_assoc, append-nil}
+use Rattle.std.specs.Prelude.{Option, Some, Result, Ok}
 use Rattle.gr_scan.specs.declared.token.Place.{Place}
 use Rattle.gr_scan.specs.declared.token.Mark.TheVariants as marks
 use Rattle.gr_scan.specs.Tokens.{Tok, At, Sign}
@@ -11,7 +11,7 @@ use Rattle.gr_tree.specs.Files.{Group, groups_height, Function, FunctionOf, func
 use Rattle.gr_syntax.specs.Grammar.{after_mark, SpellsType}
 use Rattle.gr_syntax.specs.StatementGrammar.{SpellsPart, SpellsBlock, braces}
 use Rattle.gr_syntax.specs.FileGrammar.{SpellsParameters, SpellsFunction, function, SpellsFunctions, no_function, one_function}
-use Rattle.gr_syntax.specs.Reading.{Fault, Found, Reads, ◌>>=◌, Turn, Stop, Go, turned, turns, loop, name_at, need}
+use Rattle.gr_syntax.specs.Reading.{Fault, Found, Reads, ◌>>=◌, Turn, Go, turned, turns, loop, name_at, need}
 use Rattle.gr_syntax.specs.StatementReading.{statement_at, block_at}
 use Rattle.gr_syntax.specs.FileReading.{parameters_at, result_at, function_at, functions_more, functions_from, functions_turn, functions_at}
 use Rattle.gr_syntax.proofs.Bound.{bound, within, bound_bind, bound_max}

@@ -1,5 +1,5 @@
 -- Parameters and results: what is read is in the grammar, and what is in it is read.
-use Rattle.std.proofs.Common.{◌≡◌, ℕ, zero, suc, ◌+◌, ◌<◌, ◌≤◌, max, true, false, List, [], ◌∷◌, ◌++◌, length, refl, ap, sym, ◌∙◌, subst, arith, append_assoc}
+use Rattle.std.proofs.Common.{◌≡◌, ℕ, zero, suc, ◌<◌, ◌≤◌, max, true, List, [], ◌∷◌, ◌++◌, length, refl, ap, sym, ◌∙◌, subst, arith, append_assoc}
 use Rattle.std.specs.Prelude.{Option, Some, None, Result, Ok}
 use Rattle.gr_scan.specs.declared.token.Place.{Place}
 use Rattle.gr_scan.specs.declared.token.Mark.TheVariants as marks
@@ -10,7 +10,7 @@ use Rattle.gr_tree.specs.Files.{Group, GroupOf, groups_height}
 use Rattle.gr_syntax.specs.Grammar.{after_mark, SpellsType, type_name, type_unit, type_chan, type_send, type_receive, type_paren, SpellsNames, last_name, comma_name}
 use Rattle.gr_syntax.specs.StatementGrammar.{SpellsPart, missing, there}
 use Rattle.gr_syntax.specs.FileGrammar.{SpellsGroups, last_group, comma_group, SpellsParameters, no_parameters, parameters, parameters_comma}
-use Rattle.gr_syntax.specs.Reading.{Fault, Found, Reads, ◌>>=◌, Turn, Stop, Go, turned, turns, loop, name_at, need, names_at, type_at, ends_at}
+use Rattle.gr_syntax.specs.Reading.{Fault, Found, Reads, ◌>>=◌, Turn, Stop, Go, turned, turns, loop, need, names_at, type_at, ends_at}
 use Rattle.gr_syntax.specs.FileReading.{groups_after, groups_turn, groups_at, parameters_at, result_at}
 use Rattle.gr_syntax.proofs.Bound.{bound, within, bound_bind, bound_max}
 use Rattle.gr_syntax.proofs.Loops.{Shrinks, loop_is}

@@ -2,6 +2,7 @@
 -- least.
 use Rattle.std.proofs.Common.{◌≡◌, ℕ, zero, suc, ◌+◌, ◌<◌, ◌≤◌, max, Bool, true, false, List, [], ◌∷◌, length, ap, arith, ltb-true}
 use Rattle.std.specs.Prelude.{Option, Some, None, Ok, Err, nat_lt}
+use Rattle.std.proofs.lemmas.Option.{same_Some}
 use Rattle.gr_scan.specs.declared.token.Place.{Place}
 use Rattle.gr_scan.specs.declared.token.Mark.TheVariants as marks
 use Rattle.gr_scan.specs.Tokens.{Tok, At}
@@ -13,7 +14,7 @@ use Rattle.gr_syntax.specs.Grammar.{after_mark, is_make}
 use Rattle.gr_syntax.specs.Reading.{High, Found, ◌>>=◌, operator_at, name_at, need, names_at, type_at, expr_at, exprs_at, arguments_at}
 use Rattle.gr_syntax.specs.SimpleReading.{up_to, joint_of, done_at, first_name, place_at, bare, define_at, values_at, names_from, update_at, joined_at, alone_at, simple_named, simple_after, var_typed, var_after, var_at, go_at, return_at, jump_at}
 use Rattle.gr_syntax.specs.StatementReading.{heading_after, tested, if_after, if_head_at, ranged, condition_at, post_at, parts_at, target_at, for_init, for_named, for_after, for_head_at, is_receive, receive_at, received_at, comm_names, comm_after, comm_at}
-use Rattle.gr_syntax.proofs.Cases.{ok_inj, some_inj, on_ok, on_high, on_look, on_test, after_is, name_is, need_is, need_low, name_low}
+use Rattle.gr_syntax.proofs.Cases.{ok_inj, on_ok, on_high, on_look, on_test, after_is, name_is, need_is, need_low, name_low}
 use Rattle.gr_syntax.proofs.Chains.{IsExpr}
 use Rattle.gr_syntax.proofs.Names.{names_sound, names_shrunk, names_low}
 use Rattle.gr_syntax.proofs.WrittenTypes.{type_sound, type_long, type_high}
@@ -204,11 +205,11 @@ unfolding target_at
 target_reads x ts t k =
     on_look (after_mark marks.Assign ts) _ _ (Some t) k
     (λ mid m k. on_look (after_mark marks.Range mid) _ _ (Some t) k
-    (λ rest n k. omega (arith, ap length (after_is marks.Assign ts mid m).is, ap length (after_is marks.Range mid rest n).is, ap (λ (t : Target × List Tok). length t.1) (some_inj k)))
+    (λ rest n k. omega (arith, ap length (after_is marks.Assign ts mid m).is, ap length (after_is marks.Range mid rest n).is, ap (λ (t : Target × List Tok). length t.1) (same_Some _ _ k)))
     (λ n k. absurd (cc)))
     (λ m k. on_look (after_mark marks.Define ts) _ _ (Some t) k
     (λ mid m k. on_look (after_mark marks.Range mid) _ _ (Some t) k
-    (λ rest n k. omega (arith, ap length (after_is marks.Define ts mid m).is, ap length (after_is marks.Range mid rest n).is, ap (λ (t : Target × List Tok). length t.1) (some_inj k)))
+    (λ rest n k. omega (arith, ap length (after_is marks.Define ts mid m).is, ap length (after_is marks.Range mid rest n).is, ap (λ (t : Target × List Tok). length t.1) (same_Some _ _ k)))
     (λ n k. absurd (cc)))
     (λ m k. absurd (cc)))
 

@@ -7,7 +7,7 @@ use Rattle.gr_tree.specs.declared.stmt.Clause.TheBlock.{hidden-the_row-Stmt-0}
 use Rattle.gr_tree.specs.declared.stmt.Stmt.TheVariants as stmts
 use Rattle.gr_tree.specs.declared.stmt.IfHead as code_if
 use Rattle.gr_tree.specs.declared.stmt.ForHead as code_for
-use Rattle.gr_tree.specs.Statements.{Statements, Block, If, IfElse, IfElseIf, For, then, if_of, for_of, statement_of, statements_of, row_statements}
+use Rattle.gr_tree.specs.Statements.{Block, If, IfElse, For, then, if_of, for_of, statement_of, statements_of, row_statements}
 use Rattle.gr_syntax.specs.StatementReading.{added}
 
 list_is : {n : _} (k : rows.Row_of-Stmt n) → row_statements k ≡ statements_of (rows.items-the_row-Stmt n k)

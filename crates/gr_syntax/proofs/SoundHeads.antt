@@ -1,20 +1,21 @@
 -- What stands before the block of an if or a for, and what a clause of a select waits for: what is read is in the grammar.
-use Rattle.std.proofs.Common.{◌≡◌, ℕ, zero, suc, ◌+◌, ◌≤◌, max, Bool, true, false, cond, List, [], ◌∷◌, length, refl, ap, sym, ◌∙◌, subst, arith}
-use Rattle.std.specs.Prelude.{Option, Some, None, Result, Ok, Err}
+use Rattle.std.proofs.Common.{◌≡◌, ℕ, zero, suc, ◌+◌, ◌≤◌, true, false, List, [], ◌∷◌, length, refl, ap, sym, ◌∙◌, subst, arith}
+use Rattle.std.specs.Prelude.{Option, Some, None, Ok}
+use Rattle.std.proofs.lemmas.Option.{same_Some}
 use Rattle.gr_scan.specs.declared.token.Place.{Place}
 use Rattle.gr_scan.specs.declared.token.Mark.TheVariants as marks
 use Rattle.gr_scan.specs.Tokens.{Tok, At, Sign}
 use Rattle.gr_scan.specs.Tokens as words
 use Rattle.gr_tree.specs.declared.expr.UnaryOp.TheVariants as unaries
-use Rattle.gr_tree.specs.Exprs.{Tree, Paren, Unary, height}
-use Rattle.gr_tree.specs.Statements.{Heading, IfHead, Test, Target, Nothing, Old, New, ForHead, Loop, Range, Comm, SendTo, Receive, AssignTo, DefineAs, heading_height, if_height, for_height, comm_height, part_height}
+use Rattle.gr_tree.specs.Exprs.{Tree, Paren, height}
+use Rattle.gr_tree.specs.Statements.{Heading, IfHead, Target, Nothing, Old, New, ForHead, Range, Comm, heading_height, if_height, for_height, comm_height, part_height}
 use Rattle.gr_syntax.specs.Grammar.{SpellsUnary, SpellsExpr, SpellsNames, alone, paren, unary, comma_name, last_name, after_mark}
 use Rattle.gr_syntax.specs.StatementGrammar as grammar
 use Rattle.gr_syntax.specs.StatementGrammar.{SpellsHeading, SpellsPart, missing, there, SpellsIfHead, SpellsPost, SpellsForHead, SpellsReceive, SpellsComm, defines}
-use Rattle.gr_syntax.specs.Reading.{Fault, Found, Reads, ◌>>=◌, match_after, name_at, need, expr_at, operand_at}
+use Rattle.gr_syntax.specs.Reading.{Found, name_at, need, expr_at}
 use Rattle.gr_syntax.specs.SimpleReading.{place_at, bare}
-use Rattle.gr_syntax.specs.StatementReading.{heading_after, tested, if_after, if_head_at, ranged, condition_at, post_at, parts_at, target_at, for_init, for_named, for_after, for_head_at, is_receive, receive_at, received_at, comm_names, comm_alone, comm_after, comm_at}
-use Rattle.gr_syntax.proofs.Cases.{ok_inj, some_inj, on_ok, on_look, on_test, Opens, after_is, name_is, need_is}
+use Rattle.gr_syntax.specs.StatementReading.{heading_after, tested, if_after, if_head_at, ranged, condition_at, post_at, parts_at, target_at, for_init, for_named, for_after, for_head_at, is_receive, receive_at, received_at, comm_names, comm_after, comm_at}
+use Rattle.gr_syntax.proofs.Cases.{ok_inj, on_ok, on_look, on_test, after_is, name_is, need_is}
 use Rattle.gr_syntax.proofs.Chains.{IsExpr}
 use Rattle.gr_syntax.proofs.SoundExprs.{expr_sound, unary_sound}
 use Rattle.gr_syntax.proofs.FirstTokens.{bare_tokens, Begins, place_is}
@@ -98,7 +99,7 @@ target_sound h p x ts t u k q =
     let all : ts ≡ At a.place (Sign marks.Assign) ∷ At b.place (Sign marks.Range) ∷ rest = a.is ∙ ap (λ r. At a.place (Sign marks.Assign) ∷ r) b.is in
     subst (λ ts. IsForHead h (At p (words.Name x) ∷ ts) u) (sym all)
     (ranged_sound h (Old x) (At p (words.Name x) ∷ At a.place (Sign marks.Assign) ∷ At b.place (Sign marks.Range) ∷ rest) rest u (λ e rest d. grammar.range_old d)
-    (subst (λ (t : Target × List Tok). ranged h t.0 t.1 ≡ Ok u) (sym (some_inj k)) q)))
+    (subst (λ (t : Target × List Tok). ranged h t.0 t.1 ≡ Ok u) (sym (same_Some _ _ k)) q)))
     (λ n k. absurd (cc)))
     (λ m k. on_look (after_mark marks.Define ts) _ _ (Some t) k
     (λ mid m k. on_look (after_mark marks.Range mid) _ _ (Some t) k
@@ -108,7 +109,7 @@ target_sound h p x ts t u k q =
     let all : ts ≡ At a.place (Sign marks.Define) ∷ At b.place (Sign marks.Range) ∷ rest = a.is ∙ ap (λ r. At a.place (Sign marks.Define) ∷ r) b.is in
     subst (λ ts. IsForHead h (At p (words.Name x) ∷ ts) u) (sym all)
     (ranged_sound h (New x) (At p (words.Name x) ∷ At a.place (Sign marks.Define) ∷ At b.place (Sign marks.Range) ∷ rest) rest u (λ e rest d. grammar.range_new d)
-    (subst (λ (t : Target × List Tok). ranged h t.0 t.1 ≡ Ok u) (sym (some_inj k)) q)))
+    (subst (λ (t : Target × List Tok). ranged h t.0 t.1 ≡ Ok u) (sym (same_Some _ _ k)) q)))
     (λ n k. absurd (cc)))
     (λ m k. absurd (cc)))
 

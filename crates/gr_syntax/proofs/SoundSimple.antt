@@ -1,28 +1,27 @@
 -- Simple statements and what else has no statements in it: what is read is in the grammar.
-use Rattle.std.proofs.Common.{◌≡◌, ℕ, suc, ◌+◌, ◌≤◌, max, Bool, true, false, cond, List, [], ◌∷◌, refl, ap, sym, ◌∙◌, subst, arith}
-use Rattle.std.specs.Prelude.{Option, Some, None, Result, Ok, Err}
+use Rattle.std.proofs.Common.{◌≡◌, ℕ, ◌+◌, ◌≤◌, max, Bool, false, List, [], ◌∷◌, refl, sym, subst, arith}
+use Rattle.std.specs.Prelude.{Option, Some, None, Ok}
 use Rattle.gr_scan.specs.declared.token.Place.{Place}
 use Rattle.gr_scan.specs.declared.token.Mark.{Mark}
 use Rattle.gr_scan.specs.declared.token.Mark.TheVariants as marks
 use Rattle.gr_scan.specs.Tokens.{Tok, At, Sign}
 use Rattle.gr_scan.specs.Tokens as words
-use Rattle.gr_tree.specs.declared.expr.BinaryOp.{BinaryOp}
 use Rattle.gr_tree.specs.Exprs.{Tree, Trees, height, heights}
-use Rattle.gr_tree.specs.Statements.{Simple, Eval, Send, Assign, Define, Update, Increment, Decrement, Act, Plain, Var, VarValues, Go, Return, Break, Continue, Heading, Heads, simple_height, act_height, heading_height}
+use Rattle.gr_tree.specs.Statements.{Simple, Eval, Send, Assign, Define, Update, Increment, Decrement, Act, Var, VarValues, Go, Return, Break, Continue, Heading, Heads, simple_height, act_height, heading_height}
 use Rattle.gr_syntax.specs.declared.opening.Joint.{Joint}
 use Rattle.gr_syntax.specs.declared.opening.Joint.TheVariants as joints
 use Rattle.gr_syntax.specs.Grammar.{SpellsExpr, SpellsNames, comma_name, last_name, after_mark, is_make}
 use Rattle.gr_syntax.specs.StatementGrammar as grammar
 use Rattle.gr_syntax.specs.StatementGrammar.{SpellsSimple, SpellsAct, SpellsHeading, defines, heads}
-use Rattle.gr_syntax.specs.Reading.{Fault, Found, Reads, ◌>>=◌, match_after, operator_at, name_at, need, names_at, type_at, expr_at, exprs_at, arguments_at}
-use Rattle.gr_syntax.specs.SimpleReading.{up_to, joint_of, done_at, first_name, bare, valued, define_at, values_at, names_from, update_at, joined_at, alone_at, simple_named, sent_at, simple_after, var_typed, var_after, var_at, go_at, return_at, jump_at}
+use Rattle.gr_syntax.specs.Reading.{Found, operator_at, name_at, need, names_at, type_at, expr_at, exprs_at, arguments_at}
+use Rattle.gr_syntax.specs.SimpleReading.{joint_of, done_at, first_name, bare, valued, define_at, values_at, names_from, update_at, joined_at, alone_at, simple_named, sent_at, simple_after, var_typed, var_after, var_at, go_at, return_at, jump_at}
 use Rattle.gr_syntax.specs.StatementReading.{heading_after}
-use Rattle.gr_syntax.proofs.Cases.{ok_inj, some_inj, on_ok, on_look, on_test, Opens, after_is, name_is, need_is}
+use Rattle.gr_syntax.proofs.Cases.{ok_inj, on_ok, on_look, on_test, Opens, after_is, name_is, need_is}
 use Rattle.gr_syntax.proofs.Names.{names_sound}
 use Rattle.gr_syntax.proofs.WrittenTypes.{type_sound}
 use Rattle.gr_syntax.proofs.Chains.{IsExpr}
 use Rattle.gr_syntax.proofs.SoundExprs.{expr_sound, exprs_sound, arguments_sound}
-use Rattle.gr_syntax.proofs.FirstTokens.{up_is, Joins, joint_is, Marked, marked, define_is, first_is, bare_tokens, Begins}
+use Rattle.gr_syntax.proofs.FirstTokens.{up_is, Joins, joint_is, marked, define_is, first_is, bare_tokens, Begins}
 
 -- what was read is in the grammar, and its height is right and at most h
 pub record IsRead {A : Type 0} (Spells : A → List Tok → List Tok → Type 0) (of : A → ℕ) (h : ℕ) (ts : List Tok) (u : Found A) : Type 0 where

@@ -1,23 +1,23 @@
 -- Statements, their lists and the clauses of a select: what is read is in the grammar.
-use Rattle.std.proofs.Common.{◌≡◌, ℕ, zero, suc, ◌+◌, ◌≤◌, max, Bool, true, false, cond, List, [], ◌∷◌, length, refl, ap, sym, ◌∙◌, subst, arith}
-use Rattle.std.specs.Prelude.{Option, Some, None, Result, Ok, Err}
+use Rattle.std.proofs.Common.{◌≡◌, ℕ, zero, suc, ◌+◌, ◌≤◌, max, true, cond, List, ◌∷◌, length, refl, ap, sym, ◌∙◌, subst, arith}
+use Rattle.std.specs.Prelude.{Some, None, Ok}
 use Rattle.gr_scan.specs.declared.token.Place.{Place}
 use Rattle.gr_scan.specs.declared.token.Mark.{Mark}
 use Rattle.gr_scan.specs.declared.token.Mark.TheVariants as marks
 use Rattle.gr_scan.specs.Tokens.{Tok, At, Sign, Word}
 use Rattle.gr_scan.specs.Tokens as words
-use Rattle.gr_tree.specs.Exprs.{Tree, height}
-use Rattle.gr_tree.specs.Statements.{Act, Plain, Break, Continue, IfHead, Comm, Statement, Does, Block, If, IfElse, IfElseIf, For, Select, Label, EmptyLabel, Statements, end, then, Clauses, closed, default, case, act_height, if_height, for_height, comm_height, statement_height, body_height, clauses_height}
+use Rattle.gr_tree.specs.Exprs.{Tree}
+use Rattle.gr_tree.specs.Statements.{Act, Plain, Break, Continue, IfHead, Comm, Statement, Select, Statements, end, then, Clauses, closed, default, case, if_height, statement_height, body_height, clauses_height}
 use Rattle.gr_syntax.specs.declared.opening.Keyword.{Keyword}
 use Rattle.gr_syntax.specs.declared.opening.Keyword.TheVariants as keywords
-use Rattle.gr_syntax.specs.Grammar.{SpellsExpr, after_mark}
+use Rattle.gr_syntax.specs.Grammar.{after_mark}
 use Rattle.gr_syntax.specs.StatementGrammar as grammar
 use Rattle.gr_syntax.specs.StatementGrammar.{SpellsSimple, SpellsAct, SpellsIfHead, SpellsForHead, SpellsComm, SpellsStatement, SpellsIf, SpellsList, SpellsBlock, SpellsClauses}
 use Rattle.gr_syntax.specs.Reading.{Fault, Found, Reads, ◌>>=◌, Turn, turned, turns, loop, match_after, operator_at, need, expr_at}
 use Rattle.gr_syntax.specs.Reading as reading
 use Rattle.gr_syntax.specs.SimpleReading.{keyword_of, done_at, stops_at, place_at, bare, simple_after, var_at, go_at, return_at, jump_at}
 use Rattle.gr_syntax.specs.StatementReading.{if_head_at, for_head_at, comm_at, past_semicolon, added, list_more, list_turn, list_at, block_at, else_at, if_at, for_at, with_default, with_case, case_at, default_at, clause_turn, clauses_at, select_at, placed, labelled_at, plain_after, name_open, open_after, open_at, braced_at, keyed_at, tier_at, statement_at}
-use Rattle.gr_syntax.proofs.Cases.{ok_inj, some_inj, on_ok, on_look, on_test, Opens, after_is, need_is, operator_is}
+use Rattle.gr_syntax.proofs.Cases.{ok_inj, on_ok, on_look, on_test, Opens, after_is, need_is, operator_is}
 use Rattle.gr_syntax.proofs.Chains.{IsExpr}
 use Rattle.gr_syntax.proofs.SoundExprs.{expr_sound}
 use Rattle.gr_syntax.proofs.FirstTokens.{keyword_mark, keyword_is, bare_tokens, Begins, place_is, opened, named}

@@ -1,12 +1,12 @@
 -- What the turns of the loops over statements give.
-use Rattle.std.proofs.Common.{◌≡◌, ℕ, ◌<◌, ◌≤◌, max, Bool, true, false, List, length, refl, ap, ◌∙◌, arith}
-use Rattle.std.specs.Prelude.{Option, Some, None, Result, Ok, Err}
+use Rattle.std.proofs.Common.{◌≡◌, ℕ, ◌<◌, max, false, List, length, refl, ◌∙◌, arith}
+use Rattle.std.specs.Prelude.{None, Ok, Err}
 use Rattle.gr_scan.specs.declared.token.Token.{Token}
 use Rattle.gr_scan.specs.declared.token.Mark.TheVariants as marks
 use Rattle.gr_scan.specs.Tokens.{Tok, tokens_of}
 use Rattle.gr_tree.specs.Statements.{Statement, Statements}
 use Rattle.gr_syntax.specs.Grammar.{after_mark}
-use Rattle.gr_syntax.specs.Reading.{Fault, Found, ◌>>=◌, turned, loop}
+use Rattle.gr_syntax.specs.Reading.{Fault, Found, loop}
 use Rattle.gr_syntax.specs.SimpleReading.{stops_at}
 use Rattle.gr_syntax.specs.StatementReading.{past_semicolon, added, list_turn, statement_at}
 use Rattle.gr_syntax.proofs.Turns.{tokens_length}

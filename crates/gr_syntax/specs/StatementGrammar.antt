@@ -1,5 +1,5 @@
 -- Which tokens a statement spells (Go: Blocks, Statements), with one case for each production.
-use Rattle.std.specs.Prelude.{◌≡◌, ℕ, ◌≤◌, Bool, true, false, List, [], ◌∷◌, length, Option, Some, None}
+use Rattle.std.specs.Prelude.{◌≡◌, ℕ, ◌≤◌, Bool, true, false, List, ◌∷◌, length, Option, Some, None}
 use Rattle.gr_scan.specs.declared.token.Place.{Place}
 use Rattle.gr_scan.specs.declared.token.Mark.{Mark}
 use Rattle.gr_scan.specs.declared.token.Mark.TheVariants as marks
@@ -9,7 +9,7 @@ use Rattle.gr_tree.specs.declared.expr.UnaryOp.TheVariants as unaries
 use Rattle.gr_tree.specs.declared.expr.BinaryOp.{BinaryOp}
 use Rattle.gr_tree.specs.declared.expr.BinaryOp.TheVariants as binaries
 use Rattle.gr_tree.specs.Exprs.{WrittenType, Tree, Paren, Call, Unary, Trees}
-use Rattle.gr_tree.specs.Statements.{Simple, Eval, Send, Assign, Define, Update, Increment, Decrement, Act, Plain, Var, VarValues, Go, Return, Break, Continue, Heading, Heads, IfHead, Test, Target, Nothing, Old, New, ForHead, Loop, Range, Comm, SendTo, Receive, AssignTo, DefineAs, Statement, Does, Block, If, IfElse, IfElseIf, For, Select, Label, EmptyLabel, Statements, end, then, Clauses, closed, default, case}
+use Rattle.gr_tree.specs.Statements.{Simple, Eval, Send, Assign, Define, Update, Increment, Decrement, Act, Plain, Var, VarValues, Go, Return, Break, Continue, Heading, Heads, IfHead, Test, Nothing, Old, New, ForHead, Loop, Range, Comm, SendTo, Receive, AssignTo, DefineAs, Statement, Does, Block, If, IfElse, IfElseIf, For, Select, Label, EmptyLabel, Statements, end, then, Clauses, closed, default, case}
 use Rattle.gr_syntax.specs.Grammar.{SpellsType, SpellsUnary, SpellsExpr, SpellsExprs, SpellsNames}
 
 -- how `x op= e` is written (Go: Assignment statements); comparisons and logical operators have no such form

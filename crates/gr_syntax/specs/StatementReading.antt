@@ -178,6 +178,10 @@ with_case closed c ss = case c ss closed
 with_case (default body others) c ss = default body (with_case others c ss)
 with_case (case comm body others) c ss = case comm body (with_case others c ss)
 
+-- what a clause does, from its colon on
+abbrev pub clause_body_at : (List Tok → Reads Statement) → List Tok → Reads Statements
+clause_body_at rec ts = need marks.Colon ts >>= λ r. list_at rec r.1
+
 abbrev pub case_at : ℕ → (List Tok → Reads Statement) → Found Clauses → List Tok → Result (Turn (Found Clauses)) Fault
 case_at h rec cs ts = comm_at h ts >>= λ c. need marks.Colon c.2 >>= λ r. list_at rec r.1 >>= λ ss. Ok (reading.Go (with_case cs.0 c.0 ss.0, max cs.1 (max c.1 ss.1), ss.2))
 

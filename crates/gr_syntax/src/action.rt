@@ -1,14 +1,13 @@
 //! Reading what has no statements in it: declarations, `go`, `return` and jumps.
 
-ghost use Rattle.std.specs.Prelude.{◌≡◌, ◌+◌, ◌<◌, ◌≤◌, IfOk, ◌^◌, length};
-ghost use Rattle.gr_scan.specs.Tokens.{tokens_of};
+ghost use Rattle.std.specs.Prelude.{◌≡◌, ◌<◌, ◌≤◌, IfOk, ◌^◌};
 ghost use Rattle.gr_tree.specs.Exprs.{names_of, type_of};
 ghost use Rattle.gr_tree.specs.Statements.{Break, Continue, act_of};
 ghost use Rattle.gr_syntax.specs.SimpleReading.{var_typed, var_after, var_at, go_at, return_at, jump_at};
-ghost use Rattle.gr_syntax.specs.Views.{Gives, found_of};
+ghost use Rattle.gr_syntax.specs.Views.{Finds, AtMost, NoLonger};
 
 use crate::expression::{arguments, expr, exprs};
-use crate::look::{Fault, Found, after, copy, is_the_make, name, names, needed};
+use crate::look::{Fault, Found, abandon, after, copy, is_the_make, name, names, needed};
 use crate::opening::{ends, first_name};
 use crate::types::type_tree;
 use gr_scan::token::{Mark, Token};
@@ -27,13 +26,13 @@ fn typed<'a>(
 ) -> Result<Found<'a, Action>, Fault>
     requires limit { limit < 2 ^ 30 }
     requires fits { height ≤ limit }
-    ensures gives { Gives (found_of act_of) result (var_typed limit (names_of names.items) (type_of type_tree, height, tokens_of tokens.now)) }
-    ensures fits { IfOk result (λ f. f.height ≤ limit) }
-    ensures rest { IfOk result (λ f. length f.rest.now ≤ length tokens.now) }
+    ensures gives { Finds act_of tokens.now result (λ ts. var_typed limit (names_of names.items) (type_of type_tree, height, ts)) }
+    ensures fits { AtMost limit result }
+    ensures rest { NoLonger tokens.now result }
 {
     let Some(rest) = after(Mark::Assign, tokens) else {
         if height + 1 > limit {
-            return Err(Fault::TooHigh { left: tokens.len() });
+            return abandon(type_tree, Fault::TooHigh { left: tokens.len() });
         }
         return Ok(Found {
             value: Action::Var(names, type_tree),
@@ -41,10 +40,13 @@ fn typed<'a>(
             rest: tokens,
         });
     };
-    let values = exprs(alloc, limit, false, rest)?;
+    let values = match exprs(alloc, limit, false, rest) {
+        Ok(values) => values,
+        Err(fault) => return abandon(type_tree, fault),
+    };
     let height = height.max(values.height) + 1;
     if height > limit {
-        return Err(Fault::TooHigh { left: tokens.len() });
+        return abandon(type_tree, Fault::TooHigh { left: tokens.len() });
     }
     Ok(Found {
         value: Action::VarValues(names, Some(type_tree), values.value),
@@ -62,9 +64,9 @@ fn declared<'a>(
     tokens: &'a [Token],
 ) -> Result<Found<'a, Action>, Fault>
     requires { limit < 2 ^ 30 }
-    ensures gives { Gives (found_of act_of) result (var_after limit (names_of names.items) (tokens_of tokens.now)) }
-    ensures fits { IfOk result (λ f. f.height ≤ limit) }
-    ensures rest { IfOk result (λ f. length f.rest.now ≤ length tokens.now) }
+    ensures gives { Finds act_of tokens.now result (var_after limit (names_of names.items)) }
+    ensures fits { AtMost limit result }
+    ensures rest { NoLonger tokens.now result }
 {
     let Some(rest) = after(Mark::Assign, tokens) else {
         let found = type_tree(alloc, limit, tokens)?;
@@ -85,9 +87,9 @@ fn declared<'a>(
 #[tactic(auto, unfolding(crate::specs::SimpleReading::var_at))]
 pub(crate) fn var(alloc: Global, limit: u32, tokens: &[Token]) -> Result<Found<'_, Action>, Fault>
     requires { limit < 2 ^ 30 }
-    ensures gives { Gives (found_of act_of) result (var_at limit (tokens_of tokens.now)) }
-    ensures fits { IfOk result (λ f. f.height ≤ limit) }
-    ensures rest { IfOk result (λ f. length f.rest.now ≤ length tokens.now) }
+    ensures gives { Finds act_of tokens.now result (var_at limit) }
+    ensures fits { AtMost limit result }
+    ensures rest { NoLonger tokens.now result }
 {
     let names = names(alloc, tokens)?;
     declared(alloc, limit, names.value, names.rest)
@@ -97,9 +99,9 @@ pub(crate) fn var(alloc: Global, limit: u32, tokens: &[Token]) -> Result<Found<'
 #[tactic(auto, unfolding(crate::specs::SimpleReading::go_at))]
 pub(crate) fn go(alloc: Global, limit: u32, tokens: &[Token]) -> Result<Found<'_, Action>, Fault>
     requires { limit < 2 ^ 30 }
-    ensures gives { Gives (found_of act_of) result (go_at limit (tokens_of tokens.now)) }
-    ensures fits { IfOk result (λ f. f.height ≤ limit) }
-    ensures rest { IfOk result (λ f. length f.rest.now ≤ length tokens.now) }
+    ensures gives { Finds act_of tokens.now result (go_at limit) }
+    ensures fits { AtMost limit result }
+    ensures rest { NoLonger tokens.now result }
 {
     let (function, rest) = name(tokens)?;
     if is_the_make(function) {
@@ -126,9 +128,9 @@ pub(crate) fn returned(
 ) -> Result<Found<'_, Action>, Fault>
     requires limit { limit < 2 ^ 30 }
     requires positive { 0 < limit }
-    ensures gives { Gives (found_of act_of) result (return_at limit (tokens_of tokens.now)) }
-    ensures fits { IfOk result (λ f. f.height ≤ limit) }
-    ensures rest { IfOk result (λ f. length f.rest.now ≤ length tokens.now) }
+    ensures gives { Finds act_of tokens.now result (return_at limit) }
+    ensures fits { AtMost limit result }
+    ensures rest { NoLonger tokens.now result }
 {
     if ends(tokens) {
         return Ok(Found {
@@ -139,7 +141,7 @@ pub(crate) fn returned(
     }
     let value = expr(alloc, 1, limit, tokens)?;
     if value.height + 1 > limit {
-        return Err(Fault::TooHigh { left: tokens.len() });
+        return abandon(value, Fault::TooHigh { left: tokens.len() });
     }
     Ok(Found {
         value: Action::Return(Some(value.value)),
@@ -151,9 +153,9 @@ pub(crate) fn returned(
 /// A break, after its keyword.
 #[tactic(auto, unfolding(crate::specs::SimpleReading::jump_at))]
 pub(crate) fn break_from(tokens: &[Token]) -> Result<Found<'_, Action>, Fault>
-    ensures gives { Gives (found_of act_of) result (jump_at Break (tokens_of tokens.now)) }
+    ensures gives { Finds act_of tokens.now result (jump_at Break) }
     ensures high { IfOk result (λ f. f.height ≡ 1) }
-    ensures rest { IfOk result (λ f. length f.rest.now ≤ length tokens.now) }
+    ensures rest { NoLonger tokens.now result }
 {
     let Some((label, rest)) = first_name(tokens) else {
         return Ok(Found {
@@ -172,9 +174,9 @@ pub(crate) fn break_from(tokens: &[Token]) -> Result<Found<'_, Action>, Fault>
 /// A continue, after its keyword.
 #[tactic(auto, unfolding(crate::specs::SimpleReading::jump_at))]
 pub(crate) fn continue_from(tokens: &[Token]) -> Result<Found<'_, Action>, Fault>
-    ensures gives { Gives (found_of act_of) result (jump_at Continue (tokens_of tokens.now)) }
+    ensures gives { Finds act_of tokens.now result (jump_at Continue) }
     ensures high { IfOk result (λ f. f.height ≡ 1) }
-    ensures rest { IfOk result (λ f. length f.rest.now ≤ length tokens.now) }
+    ensures rest { NoLonger tokens.now result }
 {
     let Some((label, rest)) = first_name(tokens) else {
         return Ok(Found {

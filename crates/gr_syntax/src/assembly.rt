@@ -1,11 +1,10 @@
 //! Statements made of their parts.
 
-ghost use Rattle.std.specs.Prelude.{◌≡◌, ◌<◌, ◌≤◌, IfOk, ◌^◌};
-ghost use Rattle.gr_tree.specs.Exprs.{tree_of};
+ghost use Rattle.std.specs.Prelude.{◌≡◌, ◌<◌, ◌≤◌, ◌^◌};
 ghost use Rattle.gr_tree.specs.Statements.{Block, If, IfElse, IfElseIf, For, Select, act_of, if_of, for_of, statement_of, statements_of};
 ghost use Rattle.gr_syntax.specs.StatementReading.{plain_after, placed};
 ghost use Rattle.gr_syntax.specs.CodeViews.{clauses_of};
-ghost use Rattle.gr_syntax.specs.Views.{Gives, found_of};
+ghost use Rattle.gr_syntax.specs.Views.{Continues, found_of, AtMost};
 
 use crate::look::{Fault, Found};
 use crate::simple::simple;
@@ -76,8 +75,8 @@ pub(crate) fn plain<'a>(
 ) -> Result<Found<'a, Stmt>, Fault>
     requires limit { limit < 2 ^ 30 }
     requires fits { first.height ≤ limit }
-    ensures gives { Gives (found_of statement_of) result (plain_after limit place (found_of tree_of first.entry)) }
-    ensures fits { IfOk result (λ f. f.height ≤ limit) }
+    ensures gives { Continues statement_of first.entry result (plain_after limit place) }
+    ensures fits { AtMost limit result }
 {
     let found = simple(alloc, limit, true, first)?;
     Ok(Found {

@@ -1,14 +1,13 @@
 //! Reading what a clause of a select waits for.
 
-ghost use Rattle.std.specs.Prelude.{◌≡◌, [], ◌∷◌, ◌<◌, ◌≤◌, IfOk, ◌^◌};
-ghost use Rattle.gr_scan.specs.Tokens.{tokens_of};
+ghost use Rattle.std.specs.Prelude.{◌≡◌, ◌<◌, ◌≤◌, IfOk, ◌^◌};
 ghost use Rattle.gr_tree.specs.Exprs.{tree_of, names_of};
 ghost use Rattle.gr_tree.specs.Statements.{comm_of};
 ghost use Rattle.gr_syntax.specs.StatementReading.{is_receive, receive_at, received_at, comm_names, comm_alone, comm_sent, comm_at};
-ghost use Rattle.gr_syntax.specs.Views.{Gives, found_of};
+ghost use Rattle.gr_syntax.specs.Views.{Finds, Continues, found_of, AtMost};
 
 use crate::expression::{expr, operand};
-use crate::look::{Fault, Found, after, copy, name, needed};
+use crate::look::{Fault, Found, abandon, after, boxed, copy, name, needed};
 use gr_scan::token::{Mark, Token};
 use gr_tree::{Communication, Expr, UnaryOp};
 use std::alloc::Global;
@@ -28,8 +27,8 @@ fn is_receive(value: &Expr) -> bool
 #[tactic(auto, unfolding(crate::specs::StatementReading::receive_at))]
 fn receive(alloc: Global, limit: u32, tokens: &[Token]) -> Result<Found<'_, Expr>, Fault>
     requires { limit < 2 ^ 30 }
-    ensures gives { Gives (found_of tree_of) result (receive_at limit (tokens_of tokens.now)) }
-    ensures fits { IfOk result (λ f. f.height ≤ limit) }
+    ensures gives { Finds tree_of tokens.now result (receive_at limit) }
+    ensures fits { AtMost limit result }
 {
     if limit == 0 {
         return Err(Fault::TooHigh { left: tokens.len() });
@@ -38,7 +37,7 @@ fn receive(alloc: Global, limit: u32, tokens: &[Token]) -> Result<Found<'_, Expr
         let inner = receive(alloc, limit - 1, rest)?;
         let (_, rest) = needed(Mark::RightParen, inner.rest)?;
         return Ok(Found {
-            value: Expr::Paren(Box::new(alloc, inner.value)?),
+            value: Expr::Paren(boxed(alloc, inner.value)?),
             height: inner.height + 1,
             rest,
         });
@@ -58,8 +57,8 @@ fn received<'a>(
     tokens: &'a [Token],
 ) -> Result<Found<'a, Communication>, Fault>
     requires { limit < 2 ^ 30 }
-    ensures gives { Gives (found_of comm_of) result (received_at limit (names_of names.items) (tokens_of tokens.now)) }
-    ensures fits { IfOk result (λ f. f.height ≤ limit) }
+    ensures gives { Finds comm_of tokens.now result (received_at limit (names_of names.items)) }
+    ensures fits { AtMost limit result }
 {
     if let Some(rest) = after(Mark::Define, tokens) {
         let value = receive(alloc, limit, rest)?;
@@ -87,8 +86,8 @@ fn named<'a>(
     tokens: &'a [Token],
 ) -> Result<Found<'a, Communication>, Fault>
     requires { limit < 2 ^ 30 }
-    ensures gives { Gives (found_of comm_of) result (comm_names limit first.items (tokens_of tokens.now)) }
-    ensures fits { IfOk result (λ f. f.height ≤ limit) }
+    ensures gives { Finds comm_of tokens.now result (comm_names limit first.items) }
+    ensures fits { AtMost limit result }
 {
     let Some(rest) = after(Mark::Comma, tokens) else {
         return received(alloc, limit, vec![in alloc; first]?, tokens);
@@ -100,7 +99,7 @@ fn named<'a>(
 
 /// This expression, which has to be a receive.
 fn alone(value: Found<'_, Expr>) -> Result<Found<'_, Communication>, Fault>
-    ensures gives { Gives (found_of comm_of) result (comm_alone (found_of tree_of value.entry)) }
+    ensures gives { Continues comm_of value.entry result comm_alone }
     ensures fits { IfOk result (λ f. f.height ≡ value.entry.height) }
 {
     if is_receive(&value.value) {
@@ -110,9 +109,8 @@ fn alone(value: Found<'_, Expr>) -> Result<Found<'_, Communication>, Fault>
             rest: value.rest,
         });
     }
-    Err(Fault::Wrong {
-        left: value.rest.len(),
-    })
+    let left = value.rest.len();
+    abandon(value, Fault::Wrong { left })
 }
 
 /// A send on this channel, after its `<-`.
@@ -124,10 +122,13 @@ fn send<'a>(
 ) -> Result<Found<'a, Communication>, Fault>
     requires limit { limit < 2 ^ 30 }
     requires fits { channel.height ≤ limit }
-    ensures gives { Gives (found_of comm_of) result (comm_sent limit (found_of tree_of channel.entry) (tokens_of tokens.now)) }
-    ensures fits { IfOk result (λ f. f.height ≤ limit) }
+    ensures gives { Finds comm_of tokens.now result (comm_sent limit (found_of tree_of channel.entry)) }
+    ensures fits { AtMost limit result }
 {
-    let value = expr(alloc, 1, limit, tokens)?;
+    let value = match expr(alloc, 1, limit, tokens) {
+        Ok(value) => value,
+        Err(fault) => return abandon(channel, fault),
+    };
     Ok(Found {
         value: Communication::Send(channel.value, value.value),
         height: channel.height.max(value.height),
@@ -143,8 +144,8 @@ pub(crate) fn communication(
     tokens: &[Token],
 ) -> Result<Found<'_, Communication>, Fault>
     requires { limit < 2 ^ 30 }
-    ensures gives { Gives (found_of comm_of) result (comm_at limit (tokens_of tokens.now)) }
-    ensures fits { IfOk result (λ f. f.height ≤ limit) }
+    ensures gives { Finds comm_of tokens.now result (comm_at limit) }
+    ensures fits { AtMost limit result }
 {
     let Found {
         value,

@@ -2,16 +2,18 @@
 
 ghost use Rattle.std.specs.Prelude.{◌≡◌, ◌+◌, ◌<◌, ◌≤◌, IfOk, ◌^◌, length};
 ghost use Rattle.gr_scan.specs.Tokens.{tokens_of};
-ghost use Rattle.gr_tree.specs.Exprs.{tree_of, trees_of};
+ghost use Rattle.gr_tree.specs.Exprs.{tree_of, trees_of, type_of};
 ghost use Rattle.gr_syntax.specs.Grammar.{level};
-ghost use Rattle.gr_syntax.specs.Reading.{ends_at, exprs_at, arguments_at, call_at, close_at, make_at, named_at, unit_at, paren_at, word_at, unary_at, type_at, expr_at};
-ghost use Rattle.gr_syntax.specs.Views.{Gives, found_of};
+ghost use Rattle.gr_syntax.specs.Reading.{joined, size_at, ends_at, exprs_at, arguments_at, call_at, close_at, make_at, named_at, unit_at, paren_at, word_at, unary_at, type_at, expr_at};
+ghost use Rattle.gr_syntax.specs.Views.{Gives, Finds, found_of, AtMost, Shorter, NoLonger};
 
-use crate::look::{Fault, Found, after, binary, copy, is_the_make, needed, next, unary};
+use crate::look::{
+    Fault, Found, abandon, after, binary, boxed, copy, is_the_make, needed, next, unary,
+};
 use crate::types::type_tree;
 use gr_scan::token::{Kind, Mark, Token};
-use gr_tree::{BinaryOp, Expr};
-use std::alloc::Global;
+use gr_tree::{BinaryOp, Expr, TypeTree};
+use std::alloc::{AllocError, Global};
 
 /// How strongly an operator binds (Go: Operator precedence).
 fn precedence(op: BinaryOp) -> u32
@@ -44,9 +46,9 @@ const TIGHT: u32 = 6;
 /// `{}{}`, after `struct`.
 #[tactic(auto, unfolding(crate::specs::Reading::unit_at))]
 fn unit(tokens: &[Token]) -> Result<Found<'_, Expr>, Fault>
-    ensures gives { Gives (found_of tree_of) result (unit_at (tokens_of tokens.now)) }
+    ensures gives { Finds tree_of tokens.now result unit_at }
     ensures fits { IfOk result (λ f. f.height ≡ 1) }
-    ensures shorter { IfOk result (λ f. length f.rest.now < length tokens.now) }
+    ensures shorter { Shorter tokens.now result }
 {
     let (_, rest) = needed(Mark::LeftBrace, tokens)?;
     let (_, rest) = needed(Mark::RightBrace, rest)?;
@@ -73,18 +75,55 @@ fn close(tokens: &[Token]) -> Result<&[Token], Fault>
     Ok(rest)
 }
 
+/// The size in a make of this type, after the comma before it; it is of at most this height.
+#[cycle(parser)]
+#[tactic(auto, unfolding(crate::specs::Reading::size_at))]
+fn sized<'a>(
+    alloc: Global,
+    below: u32,
+    made: Found<'a, TypeTree>,
+    tokens: &'a [Token],
+) -> Result<Found<'a, Expr>, Fault>
+    requires limit { below < 2 ^ 31 }
+    requires fits { made.height ≤ below }
+    ensures gives { Finds tree_of tokens.now result (size_at (expr_at below) (found_of type_of made.entry)) }
+    ensures fits { AtMost (below + 1) result }
+    ensures shorter { Shorter tokens.now result }
+{
+    let size = match expr(alloc, 1, below, tokens) {
+        Ok(size) => size,
+        Err(fault) => return abandon(made, fault),
+    };
+    let rest = match close(size.rest) {
+        Ok(rest) => rest,
+        Err(fault) => return abandon((made, size), fault),
+    };
+    let height = made.height.max(size.height) + 1;
+    let Ok(size) = boxed(alloc, size.value) else {
+        return abandon(made, Fault::Memory);
+    };
+    Ok(Found {
+        value: Expr::MakeSized(made.value, size),
+        height,
+        rest,
+    })
+}
+
 /// A make, after its `(`; its type and its size are of at most this height.
 #[cycle(parser)]
-#[tactic(auto, unfolding(crate::specs::Reading::make_at, crate::specs::Reading::make_after, crate::specs::Reading::size_at))]
+#[tactic(auto, unfolding(crate::specs::Reading::make_at, crate::specs::Reading::make_after))]
 fn make(alloc: Global, below: u32, tokens: &[Token]) -> Result<Found<'_, Expr>, Fault>
     requires { below < 2 ^ 31 }
-    ensures gives { Gives (found_of tree_of) result (make_at (type_at below) (expr_at below) (tokens_of tokens.now)) }
-    ensures fits { IfOk result (λ f. f.height ≤ below + 1) }
-    ensures shorter { IfOk result (λ f. length f.rest.now < length tokens.now) }
+    ensures gives { Finds tree_of tokens.now result (make_at (type_at below) (expr_at below)) }
+    ensures fits { AtMost (below + 1) result }
+    ensures shorter { Shorter tokens.now result }
 {
     let made = type_tree(alloc, below, tokens)?;
     let Some(rest) = after(Mark::Comma, made.rest) else {
-        let (_, rest) = needed(Mark::RightParen, made.rest)?;
+        let (_, rest) = match needed(Mark::RightParen, made.rest) {
+            Ok(past) => past,
+            Err(fault) => return abandon(made, fault),
+        };
         return Ok(Found {
             value: Expr::Make(made.value),
             height: made.height + 1,
@@ -98,13 +137,7 @@ fn make(alloc: Global, below: u32, tokens: &[Token]) -> Result<Found<'_, Expr>, 
             rest,
         });
     }
-    let size = expr(alloc, 1, below, rest)?;
-    let rest = close(size.rest)?;
-    Ok(Found {
-        value: Expr::MakeSized(made.value, Box::new(alloc, size.value)?),
-        height: made.height.max(size.height) + 1,
-        rest,
-    })
+    sized(alloc, below, made, rest)
 }
 
 /// What begins with this name: a call, a make, or the name alone; its parts are of at most this height.
@@ -117,9 +150,9 @@ fn named<'a>(
     tokens: &'a [Token],
 ) -> Result<Found<'a, Expr>, Fault>
     requires { below < 2 ^ 31 }
-    ensures gives { Gives (found_of tree_of) result (named_at (type_at below) (expr_at below) name.now.items (tokens_of tokens.now)) }
-    ensures fits { IfOk result (λ f. f.height ≤ below + 1) }
-    ensures shorter { IfOk result (λ f. length f.rest.now ≤ length tokens.now) }
+    ensures gives { Finds tree_of tokens.now result (named_at (type_at below) (expr_at below) name.now.items) }
+    ensures fits { AtMost (below + 1) result }
+    ensures shorter { NoLonger tokens.now result }
 {
     let Some(rest) = after(Mark::LeftParen, tokens) else {
         return Ok(Found {
@@ -144,9 +177,9 @@ fn named<'a>(
 #[tactic(auto, unfolding(crate::specs::Reading::word_at))]
 fn word(alloc: Global, below: u32, tokens: &[Token]) -> Result<Found<'_, Expr>, Fault>
     requires { below < 2 ^ 31 }
-    ensures gives { Gives (found_of tree_of) result (word_at (type_at below) (expr_at below) (tokens_of tokens.now)) }
-    ensures fits { IfOk result (λ f. f.height ≤ below + 1) }
-    ensures shorter { IfOk result (λ f. length f.rest.now < length tokens.now) }
+    ensures gives { Finds tree_of tokens.now result (word_at (type_at below) (expr_at below)) }
+    ensures fits { AtMost (below + 1) result }
+    ensures shorter { Shorter tokens.now result }
 {
     let left = tokens.len();
     let Some((token, rest)) = next(tokens) else {
@@ -170,14 +203,14 @@ fn word(alloc: Global, below: u32, tokens: &[Token]) -> Result<Found<'_, Expr>, 
 #[tactic(auto, unfolding(crate::specs::Reading::paren_at))]
 fn paren(alloc: Global, below: u32, tokens: &[Token]) -> Result<Found<'_, Expr>, Fault>
     requires { below < 2 ^ 31 }
-    ensures gives { Gives (found_of tree_of) result (paren_at (expr_at below) (tokens_of tokens.now)) }
-    ensures fits { IfOk result (λ f. f.height ≤ below + 1) }
-    ensures shorter { IfOk result (λ f. length f.rest.now < length tokens.now) }
+    ensures gives { Finds tree_of tokens.now result (paren_at (expr_at below)) }
+    ensures fits { AtMost (below + 1) result }
+    ensures shorter { Shorter tokens.now result }
 {
     let inner = expr(alloc, 1, below, tokens)?;
     let (_, rest) = needed(Mark::RightParen, inner.rest)?;
     Ok(Found {
-        value: Expr::Paren(Box::new(alloc, inner.value)?),
+        value: Expr::Paren(boxed(alloc, inner.value)?),
         height: inner.height + 1,
         rest,
     })
@@ -188,9 +221,9 @@ fn paren(alloc: Global, below: u32, tokens: &[Token]) -> Result<Found<'_, Expr>,
 #[tactic(auto, unfolding(crate::specs::Reading::unary_at))]
 pub(crate) fn operand(alloc: Global, below: u32, tokens: &[Token]) -> Result<Found<'_, Expr>, Fault>
     requires { below < 2 ^ 31 }
-    ensures gives { Gives (found_of tree_of) result (unary_at (type_at below) (expr_at below) (tokens_of tokens.now)) }
-    ensures fits { IfOk result (λ f. f.height ≤ below + 1) }
-    ensures shorter { IfOk result (λ f. length f.rest.now < length tokens.now) }
+    ensures gives { Finds tree_of tokens.now result (unary_at (type_at below) (expr_at below)) }
+    ensures fits { AtMost (below + 1) result }
+    ensures shorter { Shorter tokens.now result }
 {
     if let Some(rest) = after(Mark::LeftParen, tokens) {
         return paren(alloc, below, rest);
@@ -198,7 +231,7 @@ pub(crate) fn operand(alloc: Global, below: u32, tokens: &[Token]) -> Result<Fou
     if let Some((op, rest)) = unary(tokens) {
         let inner = expr(alloc, TIGHT, below, rest)?;
         return Ok(Found {
-            value: Expr::Unary(op, Box::new(alloc, inner.value)?),
+            value: Expr::Unary(op, boxed(alloc, inner.value)?),
             height: inner.height + 1,
             rest: inner.rest,
         });
@@ -207,6 +240,33 @@ pub(crate) fn operand(alloc: Global, below: u32, tokens: &[Token]) -> Result<Fou
         Some(rest) => unit(rest),
         None => word(alloc, below, tokens),
     }
+}
+
+/// Two operands joined by this operator.
+fn join<'a>(
+    alloc: Global,
+    op: BinaryOp,
+    left: Found<'a, Expr>,
+    right: Found<'a, Expr>,
+) -> Result<Found<'a, Expr>, AllocError>
+    requires left { left.height < 2 ^ 31 }
+    requires right { right.height < 2 ^ 31 }
+    ensures joined { IfOk result (λ f. found_of tree_of f ≡ joined op (found_of tree_of left.entry) (found_of tree_of right.entry)) }
+    ensures rest { IfOk result (λ f. length f.rest.now ≡ length right.entry.rest.now) }
+{
+    let height = left.height.max(right.height) + 1;
+    let rest = right.rest;
+    let Ok(left) = boxed(alloc, left.value) else {
+        return abandon(right, AllocError);
+    };
+    let Ok(right) = boxed(alloc, right.value) else {
+        return abandon(left, AllocError);
+    };
+    Ok(Found {
+        value: Expr::Binary(op, left, right),
+        height,
+        rest,
+    })
 }
 
 /// An expression of at most this height, whose operators bind at least as strongly as `level`, by precedence climbing.
@@ -220,9 +280,9 @@ pub(crate) fn expr(
 ) -> Result<Found<'_, Expr>, Fault>
     requires limit { limit < 2 ^ 31 }
     requires level { 0 < level }
-    ensures gives { Gives (found_of tree_of) result (expr_at limit level (tokens_of tokens.now)) }
-    ensures fits { IfOk result (λ f. f.height ≤ limit) }
-    ensures shorter { IfOk result (λ f. length f.rest.now < length tokens.now) }
+    ensures gives { Finds tree_of tokens.now result (expr_at limit level) }
+    ensures fits { AtMost limit result }
+    ensures shorter { Shorter tokens.now result }
 {
     if limit == 0 {
         return Err(Fault::TooHigh { left: tokens.len() });
@@ -234,20 +294,11 @@ pub(crate) fn expr(
             break;
         }
         if left.height > below {
-            return Err(Fault::TooHigh { left: tokens.len() });
+            return abandon(left, Fault::TooHigh { left: tokens.len() });
         }
         let right = expr(alloc, precedence(op) + 1, below, rest)?;
-        let height = left.height.max(right.height) + 1;
-        let value = Expr::Binary(
-            op,
-            Box::new(alloc, left.value)?,
-            Box::new(alloc, right.value)?,
-        );
-        left = Found {
-            value,
-            height,
-            rest: right.rest,
-        };
+        let joined = join(alloc, op, left, right)?;
+        left = joined;
     }
     Ok(left)
 }
@@ -274,9 +325,9 @@ pub(crate) fn exprs(
     tokens: &[Token],
 ) -> Result<Found<'_, Vec<Expr>>, Fault>
     requires { limit < 2 ^ 31 }
-    ensures gives { Gives (found_of (λ v. trees_of v.items)) result (exprs_at (expr_at limit) trailing (tokens_of tokens.now)) }
-    ensures fits { IfOk result (λ f. f.height ≤ limit) }
-    ensures shorter { IfOk result (λ f. length f.rest.now < length tokens.now) }
+    ensures gives { Finds (λ v. trees_of v.items) tokens.now result (exprs_at (expr_at limit) trailing) }
+    ensures fits { AtMost limit result }
+    ensures shorter { Shorter tokens.now result }
 {
     let mut value = Vec::new(alloc);
     let mut height = 0u32;
@@ -313,9 +364,9 @@ pub(crate) fn arguments(
     tokens: &[Token],
 ) -> Result<Found<'_, Vec<Expr>>, Fault>
     requires { limit < 2 ^ 31 }
-    ensures gives { Gives (found_of (λ v. trees_of v.items)) result (arguments_at (expr_at limit) (tokens_of tokens.now)) }
-    ensures fits { IfOk result (λ f. f.height ≤ limit) }
-    ensures shorter { IfOk result (λ f. length f.rest.now < length tokens.now) }
+    ensures gives { Finds (λ v. trees_of v.items) tokens.now result (arguments_at (expr_at limit)) }
+    ensures fits { AtMost limit result }
+    ensures shorter { Shorter tokens.now result }
 {
     if let Some(rest) = after(Mark::RightParen, tokens) {
         return Ok(Found {

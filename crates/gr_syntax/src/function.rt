@@ -1,12 +1,12 @@
 //! Reading functions and files.
 
-ghost use Rattle.std.specs.Prelude.{◌≡◌, ◌<◌, ◌≤◌, IfOk, ◌^◌, length};
+ghost use Rattle.std.specs.Prelude.{◌<◌, ◌^◌};
 ghost use Rattle.gr_scan.specs.Tokens.{tokens_of};
 ghost use Rattle.gr_tree.specs.Exprs.{type_of};
 ghost use Rattle.gr_tree.specs.Statements.{optional};
 ghost use Rattle.gr_tree.specs.Files.{groups_of, function_of, functions_of, file_of};
 ghost use Rattle.gr_syntax.specs.FileReading.{groups_at, parameters_at, result_at, function_at, functions_more, functions_at, file_at};
-ghost use Rattle.gr_syntax.specs.Views.{Gives, found_of};
+ghost use Rattle.gr_syntax.specs.Views.{Gives, Finds, Shorter, NoLonger};
 
 use crate::look::{Fault, Found, after, copy, name, names, needed};
 use crate::statement::block;
@@ -24,8 +24,8 @@ const LIMIT: u32 = HEIGHT_LIMIT as u32;
 #[tactic(auto, unfolding(crate::specs::FileReading::groups_at))]
 fn groups(alloc: Global, limit: u32, tokens: &[Token]) -> Result<Found<'_, Vec<Group>>, Fault>
     requires { limit < 2 ^ 29 }
-    ensures gives { Gives (found_of (λ v. groups_of v.items)) result (groups_at limit (tokens_of tokens.now)) }
-    ensures shorter { IfOk result (λ f. length f.rest.now < length tokens.now) }
+    ensures gives { Finds (λ v. groups_of v.items) tokens.now result (groups_at limit) }
+    ensures shorter { Shorter tokens.now result }
 {
     let mut value = Vec::new(alloc);
     let mut rest = tokens;
@@ -59,8 +59,8 @@ fn groups(alloc: Global, limit: u32, tokens: &[Token]) -> Result<Found<'_, Vec<G
 #[tactic(auto, unfolding(crate::specs::FileReading::parameters_at))]
 fn parameters(alloc: Global, limit: u32, tokens: &[Token]) -> Result<Found<'_, Vec<Group>>, Fault>
     requires { limit < 2 ^ 29 }
-    ensures gives { Gives (found_of (λ v. groups_of v.items)) result (parameters_at limit (tokens_of tokens.now)) }
-    ensures shorter { IfOk result (λ f. length f.rest.now < length tokens.now) }
+    ensures gives { Finds (λ v. groups_of v.items) tokens.now result (parameters_at limit) }
+    ensures shorter { Shorter tokens.now result }
 {
     let (_, rest) = needed(Mark::LeftParen, tokens)?;
     if let Some(rest) = after(Mark::RightParen, rest) {
@@ -83,8 +83,8 @@ fn parameters(alloc: Global, limit: u32, tokens: &[Token]) -> Result<Found<'_, V
 #[tactic(auto, unfolding(crate::specs::FileReading::result_at))]
 fn result(alloc: Global, limit: u32, tokens: &[Token]) -> Result<Found<'_, Option<TypeTree>>, Fault>
     requires { limit < 2 ^ 29 }
-    ensures gives { Gives (found_of (optional type_of)) result (result_at limit (tokens_of tokens.now)) }
-    ensures shorter { IfOk result (λ f. length f.rest.now ≤ length tokens.now) }
+    ensures gives { Finds (optional type_of) tokens.now result (result_at limit) }
+    ensures shorter { NoLonger tokens.now result }
 {
     if after(Mark::LeftBrace, tokens).is_some() {
         return Ok(Found {
@@ -105,7 +105,7 @@ fn result(alloc: Global, limit: u32, tokens: &[Token]) -> Result<Found<'_, Optio
 #[tactic(auto, unfolding(crate::specs::FileReading::function_at))]
 fn function(alloc: Global, limit: u32, tokens: &[Token]) -> Result<Found<'_, Func>, Fault>
     requires { limit < 2 ^ 29 }
-    ensures { Gives (found_of function_of) result (function_at limit (tokens_of tokens.now)) }
+    ensures { Finds function_of tokens.now result (function_at limit) }
 {
     let (place, rest) = needed(Mark::Func, tokens)?;
     let (func_name, rest) = name(rest)?;
@@ -132,7 +132,7 @@ fn function(alloc: Global, limit: u32, tokens: &[Token]) -> Result<Found<'_, Fun
 #[tactic(auto, unfolding(crate::specs::FileReading::functions_at))]
 fn functions(alloc: Global, limit: u32, tokens: &[Token]) -> Result<Found<'_, Vec<Func>>, Fault>
     requires { limit < 2 ^ 29 }
-    ensures { Gives (found_of (λ v. functions_of v.items)) result (functions_at limit (tokens_of tokens.now)) }
+    ensures { Finds (λ v. functions_of v.items) tokens.now result (functions_at limit) }
 {
     let mut value = Vec::new(alloc);
     let mut rest = tokens;

@@ -1,16 +1,16 @@
 //! Reading what stands between `if` or `for` and its block.
 
-ghost use Rattle.std.specs.Prelude.{◌≡◌, ◌<◌, ◌≤◌, List, ℕ, IfOk, ◌^◌, length};
+ghost use Rattle.std.specs.Prelude.{◌<◌, ◌≤◌, List, ℕ, ◌^◌};
 ghost use Rattle.gr_scan.specs.Tokens.{tokens_of};
 ghost use Rattle.gr_tree.specs.Exprs.{Name, tree_of};
 ghost use Rattle.gr_tree.specs.Statements.{heading_of, if_of, for_of, target_of, optional};
 ghost use Rattle.gr_syntax.specs.SimpleReading.{place_at};
 ghost use Rattle.gr_syntax.specs.StatementReading.{heading_after, tested, if_after, if_head_at, ranged, condition_at, post_at, parts_at, target_at, for_init, for_named, for_after, for_head_at};
-ghost use Rattle.gr_syntax.specs.Views.{Gives, found_of};
+ghost use Rattle.gr_syntax.specs.Views.{Gives, Finds, Continues, AtMost};
 ghost use Rattle.gr_syntax.specs.StatementViews.{SeesRange};
 
 use crate::expression::expr;
-use crate::look::{Fault, Found, after, needed, next};
+use crate::look::{Fault, Found, abandon, after, needed, next};
 use crate::simple::simple;
 use gr_scan::token::{Mark, Place, Token};
 use gr_tree::{Expr, ForHead, Header, IfHead, RangeTarget};
@@ -38,8 +38,8 @@ fn heading<'a>(
 ) -> Result<Found<'a, Header>, Fault>
     requires limit { limit < 2 ^ 30 }
     requires fits { first.height ≤ limit }
-    ensures gives { Gives (found_of heading_of) result (heading_after limit may_define place (found_of tree_of first.entry)) }
-    ensures fits { IfOk result (λ f. f.height ≤ limit) }
+    ensures gives { Continues heading_of first.entry result (heading_after limit may_define place) }
+    ensures fits { AtMost limit result }
 {
     let found = simple(alloc, limit, may_define, first)?;
     Ok(Found {
@@ -63,10 +63,13 @@ fn condition_of_if<'a>(
 ) -> Result<Found<'a, IfHead>, Fault>
     requires limit { limit < 2 ^ 30 }
     requires fits { height ≤ limit }
-    ensures gives { Gives (found_of if_of) result (tested limit (optional heading_of init) height (tokens_of tokens.now)) }
-    ensures fits { IfOk result (λ f. f.height ≤ limit) }
+    ensures gives { Finds if_of tokens.now result (tested limit (optional heading_of init) height) }
+    ensures fits { AtMost limit result }
 {
-    let condition = expr(alloc, 1, limit, tokens)?;
+    let condition = match expr(alloc, 1, limit, tokens) {
+        Ok(condition) => condition,
+        Err(fault) => return abandon(init, fault),
+    };
     Ok(Found {
         value: IfHead {
             init,
@@ -87,8 +90,8 @@ fn if_from<'a>(
 ) -> Result<Found<'a, IfHead>, Fault>
     requires limit { limit < 2 ^ 30 }
     requires fits { first.height ≤ limit }
-    ensures gives { Gives (found_of if_of) result (if_after limit place (found_of tree_of first.entry)) }
-    ensures fits { IfOk result (λ f. f.height ≤ limit) }
+    ensures gives { Continues if_of first.entry result (if_after limit place) }
+    ensures fits { AtMost limit result }
 {
     if let Some(_) = after(Mark::LeftBrace, first.rest) {
         return Ok(Found {
@@ -101,7 +104,10 @@ fn if_from<'a>(
         });
     }
     let init = heading(alloc, limit, true, place, first)?;
-    let (_, rest) = needed(Mark::Semicolon, init.rest)?;
+    let (_, rest) = match needed(Mark::Semicolon, init.rest) {
+        Ok(past) => past,
+        Err(fault) => return abandon(init, fault),
+    };
     condition_of_if(alloc, limit, Some(init.value), init.height, rest)
 }
 
@@ -113,8 +119,8 @@ pub(crate) fn if_head(
     tokens: &[Token],
 ) -> Result<Found<'_, IfHead>, Fault>
     requires { limit < 2 ^ 30 }
-    ensures gives { Gives (found_of if_of) result (if_head_at limit (tokens_of tokens.now)) }
-    ensures fits { IfOk result (λ f. f.height ≤ limit) }
+    ensures gives { Finds if_of tokens.now result (if_head_at limit) }
+    ensures fits { AtMost limit result }
 {
     if let Some(rest) = after(Mark::Semicolon, tokens) {
         return condition_of_if(alloc, limit, None, 0, rest);
@@ -133,8 +139,8 @@ fn range<'a>(
     tokens: &'a [Token],
 ) -> Result<Found<'a, ForHead>, Fault>
     requires { limit < 2 ^ 30 }
-    ensures gives { Gives (found_of for_of) result (ranged limit (target_of target) (tokens_of tokens.now)) }
-    ensures fits { IfOk result (λ f. f.height ≤ limit) }
+    ensures gives { Finds for_of tokens.now result (ranged limit (target_of target)) }
+    ensures fits { AtMost limit result }
 {
     let channel = expr(alloc, 1, limit, tokens)?;
     Ok(Found {
@@ -152,8 +158,8 @@ fn condition_of_for(
     tokens: &[Token],
 ) -> Result<Found<'_, Option<Expr>>, Fault>
     requires { limit < 2 ^ 30 }
-    ensures gives { Gives (found_of (optional tree_of)) result (condition_at limit (tokens_of tokens.now)) }
-    ensures fits { IfOk result (λ f. f.height ≤ limit) }
+    ensures gives { Finds (optional tree_of) tokens.now result (condition_at limit) }
+    ensures fits { AtMost limit result }
 {
     if let Some(_) = after(Mark::Semicolon, tokens) {
         return Ok(Found {
@@ -174,8 +180,8 @@ fn condition_of_for(
 #[tactic(auto, unfolding(crate::specs::StatementReading::post_at))]
 fn post(alloc: Global, limit: u32, tokens: &[Token]) -> Result<Found<'_, Option<Header>>, Fault>
     requires { limit < 2 ^ 30 }
-    ensures gives { Gives (found_of (optional heading_of)) result (post_at limit (tokens_of tokens.now)) }
-    ensures fits { IfOk result (λ f. f.height ≤ limit) }
+    ensures gives { Finds (optional heading_of) tokens.now result (post_at limit) }
+    ensures fits { AtMost limit result }
 {
     if let Some(_) = after(Mark::LeftBrace, tokens) {
         return Ok(Found {
@@ -205,12 +211,21 @@ fn parts<'a>(
 ) -> Result<Found<'a, ForHead>, Fault>
     requires limit { limit < 2 ^ 30 }
     requires fits { height ≤ limit }
-    ensures gives { Gives (found_of for_of) result (parts_at limit (optional heading_of init) height (tokens_of tokens.now)) }
-    ensures fits { IfOk result (λ f. f.height ≤ limit) }
+    ensures gives { Finds for_of tokens.now result (parts_at limit (optional heading_of init) height) }
+    ensures fits { AtMost limit result }
 {
-    let condition = condition_of_for(alloc, limit, tokens)?;
-    let (_, rest) = needed(Mark::Semicolon, condition.rest)?;
-    let post = post(alloc, limit, rest)?;
+    let condition = match condition_of_for(alloc, limit, tokens) {
+        Ok(condition) => condition,
+        Err(fault) => return abandon(init, fault),
+    };
+    let (_, rest) = match needed(Mark::Semicolon, condition.rest) {
+        Ok(past) => past,
+        Err(fault) => return abandon((init, condition), fault),
+    };
+    let post = match post(alloc, limit, rest) {
+        Ok(post) => post,
+        Err(fault) => return abandon((init, condition), fault),
+    };
     Ok(Found {
         value: ForHead::Loop(init, condition.value, post.value),
         height: height.max(condition.height.max(post.height)),
@@ -248,11 +263,14 @@ fn for_parts<'a>(
 ) -> Result<Found<'a, ForHead>, Fault>
     requires limit { limit < 2 ^ 30 }
     requires fits { first.height ≤ limit }
-    ensures gives { Gives (found_of for_of) result (for_init limit place (found_of tree_of first.entry)) }
-    ensures fits { IfOk result (λ f. f.height ≤ limit) }
+    ensures gives { Continues for_of first.entry result (for_init limit place) }
+    ensures fits { AtMost limit result }
 {
     let init = heading(alloc, limit, true, place, first)?;
-    let (_, rest) = needed(Mark::Semicolon, init.rest)?;
+    let (_, rest) = match needed(Mark::Semicolon, init.rest) {
+        Ok(past) => past,
+        Err(fault) => return abandon(init, fault),
+    };
     parts(alloc, limit, Some(init.value), init.height, rest)
 }
 
@@ -268,8 +286,8 @@ fn for_name<'a>(
 ) -> Result<Found<'a, ForHead>, Fault>
     requires limit { limit < 2 ^ 30 }
     requires fits { height ≤ limit }
-    ensures gives { Gives (found_of for_of) result (for_named limit place (Name name.items, height, tokens_of tokens.now) name.items) }
-    ensures fits { IfOk result (λ f. f.height ≤ limit) }
+    ensures gives { Finds for_of tokens.now result (λ ts. for_named limit place (Name name.items, height, ts) name.items) }
+    ensures fits { AtMost limit result }
 {
     match range_mark(tokens) {
         Some((true, rest)) => range(alloc, limit, RangeTarget::Define(name), rest),
@@ -297,8 +315,8 @@ fn for_from<'a>(
 ) -> Result<Found<'a, ForHead>, Fault>
     requires limit { limit < 2 ^ 30 }
     requires fits { first.height ≤ limit }
-    ensures gives { Gives (found_of for_of) result (for_after limit place (found_of tree_of first.entry)) }
-    ensures fits { IfOk result (λ f. f.height ≤ limit) }
+    ensures gives { Continues for_of first.entry result (for_after limit place) }
+    ensures fits { AtMost limit result }
 {
     let Found {
         value,
@@ -335,8 +353,8 @@ pub(crate) fn for_head(
     tokens: &[Token],
 ) -> Result<Found<'_, ForHead>, Fault>
     requires { limit < 2 ^ 30 }
-    ensures gives { Gives (found_of for_of) result (for_head_at limit (tokens_of tokens.now)) }
-    ensures fits { IfOk result (λ f. f.height ≤ limit) }
+    ensures gives { Finds for_of tokens.now result (for_head_at limit) }
+    ensures fits { AtMost limit result }
 {
     if let Some(_) = after(Mark::LeftBrace, tokens) {
         return Ok(Found {

@@ -12,6 +12,4 @@ mod opening;
 pub mod parse;
 mod simple;
 mod statement;
-#[cfg(test)]
-mod tests;
 mod types;

@@ -1,11 +1,11 @@
 //! Looking at the first of the tokens that are left.
 
-ghost use Rattle.std.specs.Prelude.{◌≡◌, ◌<◌, IfSome, IfOk, length};
+ghost use Rattle.std.specs.Prelude.{◌≡◌, ◌<◌, ◌++◌, ◌∷◌, [], IfSome, IfOk, Err, length};
 ghost use Rattle.gr_scan.specs.Tokens.{tokens_of};
 ghost use Rattle.gr_tree.specs.Exprs.{names_of};
 ghost use Rattle.gr_syntax.specs.Grammar.{after_mark, is_make};
 ghost use Rattle.gr_syntax.specs.Reading.{binary_of, unary_of, operator_at, need, name_at, names_at};
-ghost use Rattle.gr_syntax.specs.Views.{Gives, found_of, Splits, Sees, SeesOperator};
+ghost use Rattle.gr_syntax.specs.Views.{Gives, Finds, Shorter, Splits, Sees, SeesOperator};
 ghost use Rattle.gr_syntax.specs.declared.look.Fault.TheVariants as faults;
 
 use gr_scan::token::{Kind, Mark, Place, Token};
@@ -44,6 +44,30 @@ pub(crate) struct Found<'a, T> {
     pub(crate) value: T,
     pub(crate) height: u32,
     pub(crate) rest: &'a [Token],
+}
+
+/// This error, after which nothing is done with what was read before it.
+///
+/// A tree that is let go by this call is one thing to a proof; where `?` lets it go, it is taken apart there.
+pub(crate) fn abandon<V: Drop, T, E>(_read: V, error: E) -> Result<T, E>
+    ensures { result ≡ Err error }
+{
+    Err(error)
+}
+
+/// This value on the heap.
+pub(crate) fn boxed<T: Drop>(alloc: Global, value: T) -> Result<Box<T>, AllocError>
+    ensures { IfOk result (λ b. b.value ≡ value) }
+{
+    Ok(Box::new(alloc, value)?)
+}
+
+/// Adds a value to these.
+pub(crate) fn push<T: Drop>(values: &mut Vec<T>, value: T) -> Result<(), AllocError>
+    ensures items { IfOk result (λ _. values.new.items ≡ values.old.items ++ (value ∷ [])) }
+{
+    values.push(value)?;
+    Ok(())
 }
 
 /// The first token, and the others.
@@ -195,8 +219,8 @@ pub(crate) fn is_the_make(name: &Vec<u8>) -> bool
 /// Names with commas between them; they count nothing for the height.
 #[tactic(auto, unfolding(crate::specs::Reading::names_at))]
 pub(crate) fn names(alloc: Global, tokens: &[Token]) -> Result<Found<'_, Vec<Vec<u8>>>, Fault>
-    ensures gives { Gives (found_of (λ v. names_of v.items)) result (names_at (tokens_of tokens.now)) }
-    ensures shorter { IfOk result (λ f. length f.rest.now < length tokens.now) }
+    ensures gives { Finds (λ v. names_of v.items) tokens.now result names_at }
+    ensures shorter { Shorter tokens.now result }
 {
     let mut value = Vec::new(alloc);
     let mut rest = tokens;

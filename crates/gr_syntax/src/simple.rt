@@ -1,14 +1,14 @@
 //! Reading simple statements.
 
-ghost use Rattle.std.specs.Prelude.{◌≡◌, [], ◌∷◌, ◌+◌, ◌<◌, ◌≤◌, IfOk, IfSome, ◌^◌, length};
+ghost use Rattle.std.specs.Prelude.{[], ◌<◌, ◌≤◌, IfSome, ◌^◌, length};
 ghost use Rattle.gr_scan.specs.Tokens.{tokens_of};
 ghost use Rattle.gr_tree.specs.Exprs.{Name, tree_of, names_of};
 ghost use Rattle.gr_tree.specs.Statements.{simple_of};
 ghost use Rattle.gr_syntax.specs.SimpleReading.{up_to, define_at, values_at, names_from, update_at, alone_at, sent_at, joined_at, simple_named, simple_after};
-ghost use Rattle.gr_syntax.specs.Views.{Gives, found_of, Sees};
+ghost use Rattle.gr_syntax.specs.Views.{Finds, Continues, AtMost, Shorter, NoLonger, Sees};
 
 use crate::expression::{expr, exprs};
-use crate::look::{Fault, Found, after, names, needed};
+use crate::look::{Fault, Found, abandon, after, names, needed};
 use crate::opening::{Joint, first_joint};
 use gr_scan::token::{Mark, Token};
 use gr_tree::{BinaryOp, Expr, Simple};
@@ -37,9 +37,9 @@ fn values<'a>(
     tokens: &'a [Token],
 ) -> Result<Found<'a, Simple>, Fault>
     requires { limit < 2 ^ 30 }
-    ensures gives { Gives (found_of simple_of) result (values_at limit may_define (names_of names.items) (tokens_of tokens.now)) }
-    ensures fits { IfOk result (λ f. f.height ≤ limit) }
-    ensures shorter { IfOk result (λ f. length f.rest.now < length tokens.now) }
+    ensures gives { Finds simple_of tokens.now result (values_at limit may_define (names_of names.items)) }
+    ensures fits { AtMost limit result }
+    ensures shorter { Shorter tokens.now result }
 {
     if let Some(rest) = define(may_define, tokens) {
         let values = exprs(alloc, limit, false, rest)?;
@@ -71,8 +71,8 @@ fn names_from<'a>(
     first: Vec<u8>,
     tokens: &'a [Token],
 ) -> Result<Found<'a, Vec<Vec<u8>>>, Fault>
-    ensures gives { Gives (found_of (λ v. names_of v.items)) result (names_from first.items (tokens_of tokens.now)) }
-    ensures shorter { IfOk result (λ f. length f.rest.now < length tokens.now) }
+    ensures gives { Finds (λ v. names_of v.items) tokens.now result (names_from first.items) }
+    ensures shorter { Shorter tokens.now result }
 {
     let others = names(alloc, tokens)?;
     let mut value = others.value;
@@ -94,13 +94,13 @@ fn update<'a>(
     tokens: &'a [Token],
 ) -> Result<Found<'a, Simple>, Fault>
     requires { limit < 2 ^ 30 }
-    ensures gives { Gives (found_of simple_of) result (update_at limit name.items op (tokens_of tokens.now)) }
-    ensures fits { IfOk result (λ f. f.height ≤ limit) }
-    ensures shorter { IfOk result (λ f. length f.rest.now < length tokens.now) }
+    ensures gives { Finds simple_of tokens.now result (update_at limit name.items op) }
+    ensures fits { AtMost limit result }
+    ensures shorter { Shorter tokens.now result }
 {
     let value = expr(alloc, 1, limit, tokens)?;
     if value.height + 1 > limit {
-        return Err(Fault::TooHigh { left: tokens.len() });
+        return abandon(value, Fault::TooHigh { left: tokens.len() });
     }
     Ok(Found {
         value: Simple::Update(name, op, value.value),
@@ -113,14 +113,13 @@ fn update<'a>(
 fn alone(limit: u32, value: Found<'_, Expr>) -> Result<Found<'_, Simple>, Fault>
     requires limit { limit < 2 ^ 30 }
     requires fits { value.height ≤ limit }
-    ensures gives { Gives (found_of simple_of) result (alone_at limit (found_of tree_of value.entry)) }
-    ensures fits { IfOk result (λ f. f.height ≤ limit) }
-    ensures rest { IfOk result (λ f. length f.rest.now ≤ length value.entry.rest.now) }
+    ensures gives { Continues simple_of value.entry result (alone_at limit) }
+    ensures fits { AtMost limit result }
+    ensures rest { NoLonger value.entry.rest.now result }
 {
     if value.height + 1 > limit {
-        return Err(Fault::TooHigh {
-            left: value.rest.len(),
-        });
+        let left = value.rest.len();
+        return abandon(value, Fault::TooHigh { left });
     }
     Ok(Found {
         value: Simple::Eval(value.value),
@@ -139,14 +138,17 @@ fn send<'a>(
 ) -> Result<Found<'a, Simple>, Fault>
     requires limit { limit < 2 ^ 30 }
     requires fits { height ≤ limit }
-    ensures gives { Gives (found_of simple_of) result (sent_at limit (tree_of channel, height, []) (tokens_of tokens.now)) }
-    ensures fits { IfOk result (λ f. f.height ≤ limit) }
-    ensures rest { IfOk result (λ f. length f.rest.now ≤ length tokens.now) }
+    ensures gives { Finds simple_of tokens.now result (sent_at limit (tree_of channel, height, [])) }
+    ensures fits { AtMost limit result }
+    ensures rest { NoLonger tokens.now result }
 {
-    let value = expr(alloc, 1, limit, tokens)?;
+    let value = match expr(alloc, 1, limit, tokens) {
+        Ok(value) => value,
+        Err(fault) => return abandon(channel, fault),
+    };
     let height = height.max(value.height) + 1;
     if height > limit {
-        return Err(Fault::TooHigh { left: tokens.len() });
+        return abandon((channel, value), Fault::TooHigh { left: tokens.len() });
     }
     Ok(Found {
         value: Simple::Send(channel, value.value),
@@ -157,12 +159,12 @@ fn send<'a>(
 
 /// This statement, which has no parts.
 fn leaf(limit: u32, value: Simple, tokens: &[Token]) -> Result<Found<'_, Simple>, Fault>
-    ensures gives { Gives (found_of simple_of) result (up_to limit (simple_of value, 1, tokens_of tokens.now)) }
-    ensures fits { IfOk result (λ f. f.height ≤ limit) }
-    ensures rest { IfOk result (λ f. length f.rest.now ≤ length tokens.now) }
+    ensures gives { Finds simple_of tokens.now result (λ ts. up_to limit (simple_of value, 1, ts)) }
+    ensures fits { AtMost limit result }
+    ensures rest { NoLonger tokens.now result }
 {
     if limit == 0 {
-        return Err(Fault::TooHigh { left: tokens.len() });
+        return abandon(value, Fault::TooHigh { left: tokens.len() });
     }
     Ok(Found {
         value,
@@ -184,9 +186,9 @@ fn joined<'a>(
 ) -> Result<Found<'a, Simple>, Fault>
     requires limit { limit < 2 ^ 30 }
     requires rest { length tokens.now < length from.now }
-    ensures gives { Gives (found_of simple_of) result (joined_at limit may_define name.items joint (tokens_of from.now) (tokens_of tokens.now)) }
-    ensures fits { IfOk result (λ f. f.height ≤ limit) }
-    ensures rest { IfOk result (λ f. length f.rest.now ≤ length from.now) }
+    ensures gives { Finds simple_of tokens.now result (joined_at limit may_define name.items joint (tokens_of from.now)) }
+    ensures fits { AtMost limit result }
+    ensures rest { NoLonger from.now result }
 {
     match joint {
         Joint::Comma => {
@@ -212,9 +214,9 @@ fn named<'a>(
 ) -> Result<Found<'a, Simple>, Fault>
     requires limit { limit < 2 ^ 30 }
     requires fits { height ≤ limit }
-    ensures gives { Gives (found_of simple_of) result (simple_named limit may_define (Name name.items, height, tokens_of tokens.now) name.items) }
-    ensures fits { IfOk result (λ f. f.height ≤ limit) }
-    ensures rest { IfOk result (λ f. length f.rest.now ≤ length tokens.now) }
+    ensures gives { Finds simple_of tokens.now result (λ ts. simple_named limit may_define (Name name.items, height, ts) name.items) }
+    ensures fits { AtMost limit result }
+    ensures rest { NoLonger tokens.now result }
 {
     match first_joint(tokens) {
         Some((joint, rest)) => joined(alloc, limit, may_define, name, joint, tokens, rest),
@@ -239,9 +241,9 @@ pub(crate) fn simple<'a>(
 ) -> Result<Found<'a, Simple>, Fault>
     requires limit { limit < 2 ^ 30 }
     requires fits { first.height ≤ limit }
-    ensures gives { Gives (found_of simple_of) result (simple_after limit may_define (found_of tree_of first.entry)) }
-    ensures fits { IfOk result (λ f. f.height ≤ limit) }
-    ensures rest { IfOk result (λ f. length f.rest.now ≤ length first.entry.rest.now) }
+    ensures gives { Continues simple_of first.entry result (simple_after limit may_define) }
+    ensures fits { AtMost limit result }
+    ensures rest { NoLonger first.entry.rest.now result }
 {
     let Found {
         value,

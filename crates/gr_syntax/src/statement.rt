@@ -1,13 +1,13 @@
 //! Reading statements, their lists and blocks, and the clauses of a select.
 
-ghost use Rattle.std.specs.Prelude.{◌+◌, ◌<◌, ◌≤◌, IfOk, ◌^◌};
+ghost use Rattle.std.specs.Prelude.{◌+◌, ◌<◌, ◌≤◌, ◌^◌};
 ghost use Rattle.gr_scan.specs.Tokens.{tokens_of};
 ghost use Rattle.gr_tree.specs.Exprs.{Name};
 ghost use Rattle.gr_tree.specs.Statements.{if_of, statement_of, statements_of};
-ghost use Rattle.gr_syntax.specs.StatementReading.{name_open, labelled_at, list_at, block_at, else_at, if_at, for_at, clauses_at, select_at, braced_at, open_at, keyed_at, statement_at};
+ghost use Rattle.gr_syntax.specs.StatementReading.{name_open, labelled_at, list_at, block_at, else_at, if_at, for_at, clause_body_at, clauses_at, select_at, braced_at, open_at, keyed_at, statement_at};
 ghost use Rattle.gr_syntax.specs.CodeViews.{clauses_of};
 ghost use Rattle.gr_syntax.specs.StatementViews.{closed_of};
-ghost use Rattle.gr_syntax.specs.Views.{Gives, found_of};
+ghost use Rattle.gr_syntax.specs.Views.{Finds, found_of, AtMost};
 
 use crate::action::{break_from, continue_from, go, returned, var};
 use crate::assembly::{
@@ -16,7 +16,7 @@ use crate::assembly::{
 use crate::communication::communication;
 use crate::expression::expr;
 use crate::heading::{for_head, if_head, place};
-use crate::look::{Fault, Found, after, needed};
+use crate::look::{Fault, Found, abandon, after, boxed, needed, push};
 use crate::opening::{Keyword, ends, first_keyword, past_semicolon, stops};
 use gr_scan::token::{Mark, Place, Token};
 use gr_tree::{Clause, Expr, IfHead, Stmt};
@@ -33,8 +33,8 @@ fn labelled<'a>(
     tokens: &'a [Token],
 ) -> Result<Found<'a, Stmt>, Fault>
     requires { below < 2 ^ 29 }
-    ensures gives { Gives (found_of statement_of) result (labelled_at (statement_at below) place name.items (tokens_of tokens.now)) }
-    ensures fits { IfOk result (λ f. f.height ≤ below + 1) }
+    ensures gives { Finds statement_of tokens.now result (labelled_at (statement_at below) place name.items) }
+    ensures fits { AtMost (below + 1) result }
 {
     if ends(tokens) {
         return Ok(Found {
@@ -45,7 +45,7 @@ fn labelled<'a>(
     }
     let inner = statement(alloc, below, tokens)?;
     Ok(Found {
-        value: Stmt::Label(place, name, Box::new(alloc, inner.value)?),
+        value: Stmt::Label(place, name, boxed(alloc, inner.value)?),
         height: inner.height + 1,
         rest: inner.rest,
     })
@@ -64,8 +64,8 @@ fn named<'a>(
 ) -> Result<Found<'a, Stmt>, Fault>
     requires limit { below < 2 ^ 29 }
     requires fits { height ≤ below + 1 }
-    ensures gives { Gives (found_of statement_of) result (name_open (below + 1) (statement_at below) place (Name name.items, height, tokens_of tokens.now) name.items) }
-    ensures fits { IfOk result (λ f. f.height ≤ below + 1) }
+    ensures gives { Finds statement_of tokens.now result (λ ts. name_open (below + 1) (statement_at below) place (Name name.items, height, ts) name.items) }
+    ensures fits { AtMost (below + 1) result }
 {
     match after(Mark::Colon, tokens) {
         Some(rest) => labelled(alloc, below, place, name, rest),
@@ -92,8 +92,8 @@ fn opened(
     tokens: &[Token],
 ) -> Result<Found<'_, Stmt>, Fault>
     requires { below < 2 ^ 29 }
-    ensures gives { Gives (found_of statement_of) result (open_at (below + 1) (statement_at below) place (tokens_of tokens.now)) }
-    ensures fits { IfOk result (λ f. f.height ≤ below + 1) }
+    ensures gives { Finds statement_of tokens.now result (open_at (below + 1) (statement_at below) place) }
+    ensures fits { AtMost (below + 1) result }
 {
     let Found {
         value,
@@ -120,8 +120,8 @@ fn opened(
 #[tactic(auto, unfolding(crate::specs::StatementReading::list_at))]
 fn list(alloc: Global, limit: u32, tokens: &[Token]) -> Result<Found<'_, Vec<Stmt>>, Fault>
     requires { limit < 2 ^ 29 }
-    ensures gives { Gives (found_of (λ v. statements_of v.items)) result (list_at (statement_at limit) (tokens_of tokens.now)) }
-    ensures fits { IfOk result (λ f. f.height ≤ limit) }
+    ensures gives { Finds (λ v. statements_of v.items) tokens.now result (list_at (statement_at limit)) }
+    ensures fits { AtMost limit result }
 {
     let mut value = Vec::new(alloc);
     let mut height = 0u32;
@@ -132,7 +132,7 @@ fn list(alloc: Global, limit: u32, tokens: &[Token]) -> Result<Found<'_, Vec<Stm
             continue;
         }
         let next = statement(alloc, limit, rest)?;
-        value.push(next.value)?;
+        push(&mut value, next.value)?;
         height = height.max(next.height);
         rest = past_semicolon(next.rest)?;
     }
@@ -152,12 +152,15 @@ pub(crate) fn block(
     tokens: &[Token],
 ) -> Result<Found<'_, (Vec<Stmt>, Place)>, Fault>
     requires { limit < 2 ^ 29 }
-    ensures gives { Gives (found_of closed_of) result (block_at (statement_at limit) (tokens_of tokens.now)) }
-    ensures fits { IfOk result (λ f. f.height ≤ limit) }
+    ensures gives { Finds closed_of tokens.now result (block_at (statement_at limit)) }
+    ensures fits { AtMost limit result }
 {
     let (_, rest) = needed(Mark::LeftBrace, tokens)?;
     let body = list(alloc, limit, rest)?;
-    let (end, rest) = needed(Mark::RightBrace, body.rest)?;
+    let (end, rest) = match needed(Mark::RightBrace, body.rest) {
+        Ok(past) => past,
+        Err(fault) => return abandon(body, fault),
+    };
     Ok(Found {
         value: (body.value, end),
         height: body.height,
@@ -175,8 +178,8 @@ fn braced(
     tokens: &[Token],
 ) -> Result<Found<'_, Stmt>, Fault>
     requires { below < 2 ^ 29 }
-    ensures gives { Gives (found_of statement_of) result (braced_at (statement_at below) place (tokens_of tokens.now)) }
-    ensures fits { IfOk result (λ f. f.height ≤ below + 1) }
+    ensures gives { Finds statement_of tokens.now result (braced_at (statement_at below) place) }
+    ensures fits { AtMost (below + 1) result }
 {
     let found = block(alloc, below, tokens)?;
     Ok(Found {
@@ -200,23 +203,27 @@ fn otherwise<'a>(
     requires limit { below < 2 ^ 29 }
     requires head { head.height ≤ below }
     requires body { body.height ≤ below }
-    ensures gives { Gives (found_of statement_of) result (else_at (statement_at below) place (found_of if_of head.entry) (found_of closed_of body.entry) (tokens_of tokens.now)) }
-    ensures fits { IfOk result (λ f. f.height ≤ below + 1) }
+    ensures gives { Finds statement_of tokens.now result (else_at (statement_at below) place (found_of if_of head.entry) (found_of closed_of body.entry)) }
+    ensures fits { AtMost (below + 1) result }
 {
     if after(Mark::If, tokens).is_some() {
-        let inner = statement(alloc, below, tokens)?;
+        let inner = match statement(alloc, below, tokens) {
+            Ok(inner) => inner,
+            Err(fault) => return abandon((head, body), fault),
+        };
+        let Ok(otherwise) = boxed(alloc, inner.value) else {
+            return abandon((head, body), Fault::Memory);
+        };
         return Ok(Found {
-            value: if_else_if(
-                place,
-                head.value,
-                body.value.0,
-                Box::new(alloc, inner.value)?,
-            ),
+            value: if_else_if(place, head.value, body.value.0, otherwise),
             height: head.height.max(body.height.max(inner.height)) + 1,
             rest: inner.rest,
         });
     }
-    let inner = block(alloc, below, tokens)?;
+    let inner = match block(alloc, below, tokens) {
+        Ok(inner) => inner,
+        Err(fault) => return abandon((head, body), fault),
+    };
     Ok(Found {
         value: if_else(place, head.value, body.value.0, inner.value.0),
         height: head.height.max(body.height.max(inner.height)) + 1,
@@ -234,11 +241,14 @@ fn branch(
     tokens: &[Token],
 ) -> Result<Found<'_, Stmt>, Fault>
     requires { below < 2 ^ 29 }
-    ensures gives { Gives (found_of statement_of) result (if_at below (statement_at below) place (tokens_of tokens.now)) }
-    ensures fits { IfOk result (λ f. f.height ≤ below + 1) }
+    ensures gives { Finds statement_of tokens.now result (if_at below (statement_at below) place) }
+    ensures fits { AtMost (below + 1) result }
 {
     let head = if_head(alloc, below, tokens)?;
-    let body = block(alloc, below, head.rest)?;
+    let body = match block(alloc, below, head.rest) {
+        Ok(body) => body,
+        Err(fault) => return abandon(head, fault),
+    };
     let Some(rest) = after(Mark::Else, body.rest) else {
         return Ok(Found {
             value: if_stmt(place, head.value, body.value.0),
@@ -259,11 +269,14 @@ fn looped(
     tokens: &[Token],
 ) -> Result<Found<'_, Stmt>, Fault>
     requires { below < 2 ^ 29 }
-    ensures gives { Gives (found_of statement_of) result (for_at below (statement_at below) place (tokens_of tokens.now)) }
-    ensures fits { IfOk result (λ f. f.height ≤ below + 1) }
+    ensures gives { Finds statement_of tokens.now result (for_at below (statement_at below) place) }
+    ensures fits { AtMost (below + 1) result }
 {
     let head = for_head(alloc, below, tokens)?;
-    let body = block(alloc, below, head.rest)?;
+    let body = match block(alloc, below, head.rest) {
+        Ok(body) => body,
+        Err(fault) => return abandon(head, fault),
+    };
     Ok(Found {
         value: for_stmt(place, head.value, body.value.0),
         height: head.height.max(body.height) + 1,
@@ -271,13 +284,24 @@ fn looped(
     })
 }
 
+/// What a clause of a select does, from its colon on; its statements are of at most this height.
+#[cycle(statement)]
+fn clause_body(alloc: Global, limit: u32, tokens: &[Token]) -> Result<Found<'_, Vec<Stmt>>, Fault>
+    requires { limit < 2 ^ 29 }
+    ensures gives { Finds (λ v. statements_of v.items) tokens.now result (clause_body_at (statement_at limit)) }
+    ensures fits { AtMost limit result }
+{
+    let (_, rest) = needed(Mark::Colon, tokens)?;
+    list(alloc, limit, rest)
+}
+
 /// The clauses of a select; what they wait for and their statements are of at most this height.
 #[cycle(statement)]
 #[tactic(auto, unfolding(crate::specs::StatementReading::clauses_at))]
 fn clauses(alloc: Global, limit: u32, tokens: &[Token]) -> Result<Found<'_, Vec<Clause>>, Fault>
     requires { limit < 2 ^ 29 }
-    ensures gives { Gives (found_of (λ v. clauses_of v.items)) result (clauses_at limit (statement_at limit) (tokens_of tokens.now)) }
-    ensures fits { IfOk result (λ f. f.height ≤ limit) }
+    ensures gives { Finds (λ v. clauses_of v.items) tokens.now result (clauses_at limit (statement_at limit)) }
+    ensures fits { AtMost limit result }
 {
     let mut value = Vec::new(alloc);
     let mut height = 0u32;
@@ -285,9 +309,11 @@ fn clauses(alloc: Global, limit: u32, tokens: &[Token]) -> Result<Found<'_, Vec<
     loop {
         if let Some(more) = after(Mark::Case, rest) {
             let awaited = communication(alloc, limit, more)?;
-            let (_, more) = needed(Mark::Colon, awaited.rest)?;
-            let body = list(alloc, limit, more)?;
-            value.push(Clause::Case(awaited.value, body.value))?;
+            let body = match clause_body(alloc, limit, awaited.rest) {
+                Ok(body) => body,
+                Err(fault) => return abandon(awaited, fault),
+            };
+            push(&mut value, Clause::Case(awaited.value, body.value))?;
             height = height.max(awaited.height.max(body.height));
             rest = body.rest;
             continue;
@@ -299,9 +325,8 @@ fn clauses(alloc: Global, limit: u32, tokens: &[Token]) -> Result<Found<'_, Vec<
                 rest,
             });
         };
-        let (_, more) = needed(Mark::Colon, more)?;
-        let body = list(alloc, limit, more)?;
-        value.push(Clause::Default(body.value))?;
+        let body = clause_body(alloc, limit, more)?;
+        push(&mut value, Clause::Default(body.value))?;
         height = height.max(body.height);
         rest = body.rest;
     }
@@ -317,12 +342,15 @@ fn select(
     tokens: &[Token],
 ) -> Result<Found<'_, Stmt>, Fault>
     requires { below < 2 ^ 29 }
-    ensures gives { Gives (found_of statement_of) result (select_at below (statement_at below) place (tokens_of tokens.now)) }
-    ensures fits { IfOk result (λ f. f.height ≤ below + 1) }
+    ensures gives { Finds statement_of tokens.now result (select_at below (statement_at below) place) }
+    ensures fits { AtMost (below + 1) result }
 {
     let (_, rest) = needed(Mark::LeftBrace, tokens)?;
     let found = clauses(alloc, below, rest)?;
-    let (_, rest) = needed(Mark::RightBrace, found.rest)?;
+    let (_, rest) = match needed(Mark::RightBrace, found.rest) {
+        Ok(past) => past,
+        Err(fault) => return abandon(found, fault),
+    };
     Ok(Found {
         value: select_stmt(place, found.value),
         height: found.height + 1,
@@ -342,8 +370,8 @@ fn keyed<'a>(
     tokens: &'a [Token],
 ) -> Result<Found<'a, Stmt>, Fault>
     requires { below < 2 ^ 29 }
-    ensures gives { Gives (found_of statement_of) result (keyed_at below (statement_at below) place keyword (tokens_of from.now) (tokens_of tokens.now)) }
-    ensures fits { IfOk result (λ f. f.height ≤ below + 1) }
+    ensures gives { Finds statement_of tokens.now result (keyed_at below (statement_at below) place keyword (tokens_of from.now)) }
+    ensures fits { AtMost (below + 1) result }
 {
     match keyword {
         Keyword::Var => Ok(acts(place, var(alloc, below + 1, tokens)?)),
@@ -367,8 +395,8 @@ pub(crate) fn statement(
     tokens: &[Token],
 ) -> Result<Found<'_, Stmt>, Fault>
     requires { limit < 2 ^ 29 }
-    ensures gives { Gives (found_of statement_of) result (statement_at limit (tokens_of tokens.now)) }
-    ensures fits { IfOk result (λ f. f.height ≤ limit) }
+    ensures gives { Finds statement_of tokens.now result (statement_at limit) }
+    ensures fits { AtMost limit result }
 {
     if limit == 0 {
         return Err(Fault::TooHigh { left: tokens.len() });

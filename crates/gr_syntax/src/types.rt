@@ -1,12 +1,11 @@
 //! Reading types.
 
-ghost use Rattle.std.specs.Prelude.{◌≡◌, ◌+◌, ◌<◌, ◌≤◌, IfOk, ◌^◌, length};
-ghost use Rattle.gr_scan.specs.Tokens.{tokens_of};
+ghost use Rattle.std.specs.Prelude.{◌≡◌, ◌+◌, ◌<◌, IfOk, ◌^◌};
 ghost use Rattle.gr_tree.specs.Exprs.{type_of};
 ghost use Rattle.gr_syntax.specs.Reading.{channel_at, both_at, paren_type_at, plain_type_at, type_at};
-ghost use Rattle.gr_syntax.specs.Views.{Gives, found_of};
+ghost use Rattle.gr_syntax.specs.Views.{Finds, AtMost, Shorter};
 
-use crate::look::{Fault, Found, after, copy, name, needed};
+use crate::look::{Fault, Found, after, boxed, copy, name, needed};
 use gr_scan::token::{Mark, Token};
 use gr_tree::{Direction, TypeTree};
 use std::alloc::Global;
@@ -14,9 +13,9 @@ use std::alloc::Global;
 /// A name, or `struct{}`.
 #[tactic(auto, unfolding(crate::specs::Reading::plain_type_at))]
 fn plain_type(tokens: &[Token]) -> Result<Found<'_, TypeTree>, Fault>
-    ensures gives { Gives (found_of type_of) result (plain_type_at (tokens_of tokens.now)) }
+    ensures gives { Finds type_of tokens.now result plain_type_at }
     ensures fits { IfOk result (λ f. f.height ≡ 1) }
-    ensures shorter { IfOk result (λ f. length f.rest.now < length tokens.now) }
+    ensures shorter { Shorter tokens.now result }
 {
     if let Some(rest) = after(Mark::Struct, tokens) {
         let (_, rest) = needed(Mark::LeftBrace, rest)?;
@@ -45,13 +44,13 @@ fn channel(
     tokens: &[Token],
 ) -> Result<Found<'_, TypeTree>, Fault>
     requires { below < 2 ^ 31 }
-    ensures gives { Gives (found_of type_of) result (channel_at (type_at below) direction (tokens_of tokens.now)) }
-    ensures fits { IfOk result (λ f. f.height ≤ below + 1) }
-    ensures shorter { IfOk result (λ f. length f.rest.now < length tokens.now) }
+    ensures gives { Finds type_of tokens.now result (channel_at (type_at below) direction) }
+    ensures fits { AtMost (below + 1) result }
+    ensures shorter { Shorter tokens.now result }
 {
     let element = type_tree(alloc, below, tokens)?;
     Ok(Found {
-        value: TypeTree::Chan(direction, Box::new(alloc, element.value)?),
+        value: TypeTree::Chan(direction, boxed(alloc, element.value)?),
         height: element.height + 1,
         rest: element.rest,
     })
@@ -62,14 +61,14 @@ fn channel(
 #[tactic(auto, unfolding(crate::specs::Reading::paren_type_at))]
 fn paren_type(alloc: Global, below: u32, tokens: &[Token]) -> Result<Found<'_, TypeTree>, Fault>
     requires { below < 2 ^ 31 }
-    ensures gives { Gives (found_of type_of) result (paren_type_at (type_at below) (tokens_of tokens.now)) }
-    ensures fits { IfOk result (λ f. f.height ≤ below + 1) }
-    ensures shorter { IfOk result (λ f. length f.rest.now < length tokens.now) }
+    ensures gives { Finds type_of tokens.now result (paren_type_at (type_at below)) }
+    ensures fits { AtMost (below + 1) result }
+    ensures shorter { Shorter tokens.now result }
 {
     let inner = type_tree(alloc, below, tokens)?;
     let (_, rest) = needed(Mark::RightParen, inner.rest)?;
     Ok(Found {
-        value: TypeTree::Paren(Box::new(alloc, inner.value)?),
+        value: TypeTree::Paren(boxed(alloc, inner.value)?),
         height: inner.height + 1,
         rest,
     })
@@ -84,9 +83,9 @@ pub(crate) fn type_tree(
     tokens: &[Token],
 ) -> Result<Found<'_, TypeTree>, Fault>
     requires { limit < 2 ^ 31 }
-    ensures gives { Gives (found_of type_of) result (type_at limit (tokens_of tokens.now)) }
-    ensures fits { IfOk result (λ f. f.height ≤ limit) }
-    ensures shorter { IfOk result (λ f. length f.rest.now < length tokens.now) }
+    ensures gives { Finds type_of tokens.now result (type_at limit) }
+    ensures fits { AtMost limit result }
+    ensures shorter { Shorter tokens.now result }
 {
     if limit == 0 {
         return Err(Fault::TooHigh { left: tokens.len() });

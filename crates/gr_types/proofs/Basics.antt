@@ -1,14 +1,10 @@
 -- Small lemmas that several files use.
-use Rattle.std.proofs.Common.{◌≡◌, ℕ, Bool, true, false, List, [], ◌∷◌, ◌++◌, refl, ap, sym, ◌∙◌, inl, inr, ◌⊎◌, nat_eq}
+use Rattle.std.proofs.Common.{◌≡◌, ℕ, true, List, [], ◌∷◌, ◌++◌, refl, ap, sym, ◌∙◌, nat_eq}
 use Rattle.std.specs.Prelude.{Option, Some, None, ◌||◌}
 use Rattle.std.specs.Cmp.Lexicographic.{pointwise, bytes_decides}
 use Rattle.std.proofs.Math.Bool.{or-false, or_assoc}
-use Rattle.gr_types.specs.Names.{among}
+use Rattle.gr_typing.specs.Names.{among}
 use Rattle.gr_types.specs.Finding.{◌>>=◌}
-
-pub true_or_false : (b : Bool) → (b ≡ true) ⊎ (b ≡ false)
-true_or_false true = inl refl
-true_or_false false = inr refl
 
 pub then_none : {A B : Type 0} (o : Option A) → ◌>>=◌ {B = B} o (λ a. None) ≡ None
 then_none (Some a) = refl

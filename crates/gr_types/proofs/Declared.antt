@@ -3,25 +3,25 @@ use Rattle.std.proofs.Common.{◌≡◌, ℕ, true, false, List, [], ◌∷◌, 
 use Rattle.std.specs.Prelude.{not, ◌&&◌}
 use Rattle.std.specs.Cmp.Lexicographic.{pointwise, same_text}
 use Rattle.std.specs.List.{list_all}
-use Rattle.std.proofs.lemmas.Bool.{and_from, and_parts, not-true}
-use Rattle.gr_types.specs.Types.{Ty}
-use Rattle.gr_types.specs.Names.{among, is_blank, are_distinct, predeclared}
-use Rattle.gr_types.specs.Scopes.{Block, Scope, In, in_block, is_free, declare}
-use Rattle.gr_types.specs.StatementChecks.{may_declare}
+use Rattle.std.proofs.lemmas.Bool.{and_from, and_parts, not-true, cases_Bool}
+use Rattle.gr_program.specs.Types.{Ty}
+use Rattle.gr_typing.specs.Names.{among, is_blank, are_distinct, predeclared}
+use Rattle.gr_typing.specs.Scopes.{Block, Scope, In, in_block, is_free, declare}
+use Rattle.gr_typing.specs.Assignments.{may_declare}
 use Rattle.gr_types.specs.Declaring.{Declarable}
-use Rattle.gr_types.proofs.Basics.{true_or_false, same_name}
+use Rattle.gr_types.proofs.Basics.{same_name}
 
 among_last : (names : List (List ℕ)) (x : List ℕ) → among (names ++ (x ∷ [])) x ≡ true
 among_last [] x = rw (same_name x) refl
-among_last (z ∷ names) x = elim (true_or_false (pointwise nat_eq x z)) [ inl t ↦ rw t refl | inr f ↦ rw f (among_last names x) ]
+among_last (z ∷ names) x = elim (cases_Bool (pointwise nat_eq x z)) [ inl t ↦ rw t refl | inr f ↦ rw f (among_last names x) ]
 
 among_kept : (names : List (List ℕ)) (x y : List ℕ) → among names x ≡ true → among (names ++ (y ∷ [])) x ≡ true
 among_kept [] x y e = absurd (true≢false (sym e))
-among_kept (z ∷ names) x y e = elim (true_or_false (pointwise nat_eq x z)) [ inl t ↦ rw t refl | inr f ↦ rw f (among_kept names x y (rw f at e)) ]
+among_kept (z ∷ names) x y e = elim (cases_Bool (pointwise nat_eq x z)) [ inl t ↦ rw t refl | inr f ↦ rw f (among_kept names x y (rw f at e)) ]
 
 -- another name than one of these
 other_name : (names : List (List ℕ)) (x y : List ℕ) → among names x ≡ true → among names y ≡ false → pointwise nat_eq y x ≡ false
-other_name names x y e f = elim (true_or_false (pointwise nat_eq y x)) [
+other_name names x y e f = elim (cases_Bool (pointwise nat_eq y x)) [
   | inl t ↦ absurd (true≢false (sym e ∙ ap (among names) (sym (same_text y x (sym t))) ∙ f))
   | inr g ↦ g
 ]
@@ -29,7 +29,7 @@ other_name names x y e f = elim (true_or_false (pointwise nat_eq y x)) [
 -- a declaration leaves every other name free
 block_free : (b : Block) (x y : List ℕ) (n : ℕ) → pointwise nat_eq y x ≡ false → in_block (b ++ ((x, n) ∷ [])) y ≡ in_block b y
 block_free [] x y n e = rw e refl
-block_free (entry ∷ b) x y n e = elim (true_or_false (pointwise nat_eq y entry.0)) [ inl t ↦ rw t refl | inr f ↦ rw f (block_free b x y n e) ]
+block_free (entry ∷ b) x y n e = elim (cases_Bool (pointwise nat_eq y entry.0)) [ inl t ↦ rw t refl | inr f ↦ rw f (block_free b x y n e) ]
 
 other_free : (s : Scope) (x y : List ℕ) (t : Ty) → pointwise nat_eq y x ≡ false → is_free (declare s x t) y ≡ is_free s y
 other_free (In here around variables) x y t e = rw (block_free here x y _ e) refl
@@ -38,7 +38,7 @@ others_free : (s : Scope) (before : List (List ℕ)) (x : List ℕ) (t : Ty) (ys
 others_free s before x t [] e d f = refl
 others_free s before x t (y ∷ ys) e d f =
     let g = and_parts (is_free s y) (list_all (is_free s) ys) f in
-    elim (true_or_false (is_blank y)) [
+    elim (cases_Bool (is_blank y)) [
       | inl b ↦ and_from (is_free (declare s x t) y) (list_all (is_free (declare s x t)) ys) (rw b refl) (others_free s before x t ys e (rw b at d) g.1)
       | inr b ↦
           let p = and_parts (not (among before y)) (are_distinct (before ++ (y ∷ [])) ys) (rw b at d) in
@@ -51,7 +51,7 @@ all_may s before [] d f = tt
 all_may s before (x ∷ xs) d f =
     let g = and_parts (is_free s x) (list_all (is_free s) xs) f in (
       g.0,
-      λ t. elim (true_or_false (is_blank x)) [
+      λ t. elim (cases_Bool (is_blank x)) [
         | inl b ↦ rw b (all_may s before xs (rw b at d) g.1)
         | inr b ↦
             let p = and_parts (not (among before x)) (are_distinct (before ++ (x ∷ [])) xs) (rw b at d) in

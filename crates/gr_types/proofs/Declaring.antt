@@ -1,32 +1,33 @@
 -- Declarations of variables, name by name.
+use Rattle.std.proofs.lemmas.Bool.{cases_Bool}
 use Rattle.std.proofs.Common.{◌≡◌, ℕ, zero, suc, ◌+◌, List, [], ◌∷◌, ◌++◌, length, get_or, drop, ◌<◌, ◌≤◌, refl, ap, sym, ◌∙◌, subst, arith, inl, inr, add-one, append_assoc, append-nil, Global}
 use Rattle.std.specs.Prelude.{Option, Some, None, Vec}
 use Rattle.std.proofs.lemmas.List.{drop_all}
 use Rattle.gr_tree.specs.declared.expr.Expr as code_expr
 use Rattle.gr_tree.specs.Exprs as tree
 use Rattle.gr_tree.specs.Exprs.{Tree, Trees, tree_of, trees_of, names_of}
-use Rattle.gr_types.specs.declared.program.Term as code_term
-use Rattle.gr_types.specs.declared.values.Value as code_value
-use Rattle.gr_types.specs.Types.{Ty, BoolType, assignable}
-use Rattle.gr_types.specs.Terms.{Terms, none, more, Literally, zero_of}
-use Rattle.gr_types.specs.Programs.{term_of, terms_of}
-use Rattle.gr_types.specs.Scopes.{Scope, Signature, declared, number_of}
-use Rattle.gr_types.specs.Values.{Value}
-use Rattle.gr_types.specs.StatementChecks.{zeros}
+use Rattle.gr_program.specs.declared.program.Expr as checked_expr
+use Rattle.gr_types.specs.declared.operands.Operand as code_operand
+use Rattle.gr_program.specs.Types.{Ty, BoolType}
+use Rattle.gr_typing.specs.Types.{assignable}
+use Rattle.gr_program.specs.Programs.{Exprs, none, more, Literally, zero_of}
+use Rattle.gr_program.specs.Views.{expr_of, exprs_of}
+use Rattle.gr_typing.specs.Scopes.{Scope, Signature, declared, number_of}
+use Rattle.gr_typing.specs.Values.{Value}
+use Rattle.gr_typing.specs.Assignments.{zeros}
 use Rattle.gr_types.specs.Finding.{◌>>=◌, Typed, value_in}
 use Rattle.gr_types.specs.Calling.{values_in}
 use Rattle.gr_types.specs.FindingStatements.{Given, Defined, Done, with_defined, declared_as, all_declared_as, receive_in, pair_of, var_by, var_pair, assigned}
 use Rattle.gr_types.specs.Declaring.{Declarable, placed, all_placed, by_values, type_for, by_receive, both_received, both_declared}
 use Rattle.gr_types.specs.Checking.{meaning_of, meanings_of}
 use Rattle.gr_types.proofs.Arguments.{terms_before, before_push, before_none}
-use Rattle.gr_types.proofs.Basics.{true_or_false}
 use Rattle.gr_types.proofs.Counts.{no_pair}
 use Rattle.gr_types.proofs.Finds.{some_inj}
 use Rattle.gr_types.proofs.NameLists.{front_names}
 
 -- the values for names, each before those after it
 abbrev Placed : Type 0
-Placed = (List (Option ℕ) × Terms) × Scope
+Placed = (List (Option ℕ) × Exprs) × Scope
 
 then_nothing : {A B : Type 0} (o : Option A) (f : A → Option B) → ((a : A) → f a ≡ None) → (o >>= f) ≡ None
 then_nothing (Some a) f e = e a
@@ -98,8 +99,8 @@ received_as s x y t w = type_for t w.0 >>= λ a. type_for t BoolType >>= λ b. b
 
 both_is : (s : Scope) (x y : List ℕ) (e : Tree) (t : Option Ty) (w : Typed) → var_pair s (x, (y, e)) t w ≡ received_as s x y t w
 both_is s x y e None w = refl
-both_is s x y e (Some u) w = elim (true_or_false (assignable w.0 u)) [
-  | inl a ↦ elim (true_or_false (assignable BoolType u)) [ inl b ↦ rw (a, b) refl | inr b ↦ rw (a, b) refl ]
+both_is s x y e (Some u) w = elim (cases_Bool (assignable w.0 u)) [
+  | inl a ↦ elim (cases_Bool (assignable BoolType u)) [ inl b ↦ rw (a, b) refl | inr b ↦ rw (a, b) refl ]
   | inr a ↦ rw a refl
 ]
 
@@ -131,19 +132,19 @@ zeros_on [] i t lt = absurd (omega arith)
 zeros_on (n ∷ names) zero t lt = refl
 zeros_on (n ∷ names) (suc i) t lt = zeros_on names i t (omega arith)
 
-pub one_zero : (names : List (Vec ℕ Global)) (i : ℕ) (t : Ty) (ts new : List code_term.Term) (p : code_term.Term) (o : Terms) → i < length names → terms_before ts (zeros (names_of (drop i names)) t) ≡ o → term_of p ≡ Literally (zero_of t) → new ≡ ts ++ (p ∷ []) → terms_before new (zeros (names_of (drop (i + 1) names)) t) ≡ o
+pub one_zero : (names : List (Vec ℕ Global)) (i : ℕ) (t : Ty) (ts new : List checked_expr.Expr) (p : checked_expr.Expr) (o : Exprs) → i < length names → terms_before ts (zeros (names_of (drop i names)) t) ≡ o → expr_of p ≡ Literally (zero_of t) → new ≡ ts ++ (p ∷ []) → terms_before new (zeros (names_of (drop (i + 1) names)) t) ≡ o
 one_zero names i t ts new p o lt so_far is pushed =
     let rest = zeros (names_of (drop (suc i) names)) t in
     rw add-one (ap (λ l. terms_before l rest) pushed ∙ before_push ts p rest ∙ ap (λ q. terms_before ts (more q rest)) is ∙ sym (ap (terms_before ts) (zeros_on names i t lt)) ∙ so_far)
 
-pub all_zeros : (names : List (Vec ℕ Global)) (i : ℕ) (t : Ty) (ts : List code_term.Term) (o : Terms) → length names ≤ i → terms_before ts (zeros (names_of (drop i names)) t) ≡ o → terms_of ts ≡ o
+pub all_zeros : (names : List (Vec ℕ Global)) (i : ℕ) (t : Ty) (ts : List checked_expr.Expr) (o : Exprs) → length names ≤ i → terms_before ts (zeros (names_of (drop i names)) t) ≡ o → exprs_of ts ≡ o
 all_zeros names i t ts o le so_far = sym (before_none ts) ∙ sym (ap (λ l. terms_before ts (zeros (names_of l) t)) (drop_all i names le)) ∙ so_far
 
 -- the loop over names and their values
-abbrev pub after_placed : List (Option ℕ) → List code_term.Term → Placed → Option Placed
+abbrev pub after_placed : List (Option ℕ) → List checked_expr.Expr → Placed → Option Placed
 after_placed ks ts g = Some ((ks ++ g.0.0, terms_before ts g.0.1), g.1)
 
-after_one : (r : Option Placed) (ks : List (Option ℕ)) (k : Option ℕ) (ts : List code_term.Term) (p : code_term.Term) → (r >>= after_placed (ks ++ (k ∷ [])) (ts ++ (p ∷ []))) ≡ ((r >>= with_rest (k, term_of p)) >>= after_placed ks ts)
+after_one : (r : Option Placed) (ks : List (Option ℕ)) (k : Option ℕ) (ts : List checked_expr.Expr) (p : checked_expr.Expr) → (r >>= after_placed (ks ++ (k ∷ [])) (ts ++ (p ∷ []))) ≡ ((r >>= with_rest (k, expr_of p)) >>= after_placed ks ts)
 after_one None ks k ts p = refl
 after_one (Some g) ks k ts p =
     ap (λ l. Some ((l, terms_before (ts ++ (p ∷ [])) g.0.1), g.1)) (append_assoc ks (k ∷ []) g.0.0) ∙ ap (λ q. Some ((ks ++ (k ∷ g.0.0), q), g.1)) (before_push ts p g.0.1)
@@ -157,33 +158,33 @@ placed_by x xs m n g (Some w) e free =
     let f : one x m w ≡ (g, n) = some_inj e in
     subst (λ l. Declarable l xs) (ap (λ d. d.1) f) (free.1 w.0)
 
-module _ (names : List (Vec ℕ Global)) (i : ℕ) (t : Option Ty) (vs : List code_value.Value) (m : Scope) (ks : List (Option ℕ)) (ts : List code_term.Term) where
+module _ (names : List (Vec ℕ Global)) (i : ℕ) (t : Option Ty) (vs : List code_operand.Operand) (m : Scope) (ks : List (Option ℕ)) (ts : List checked_expr.Expr) where
   pub free_on : (x : Vec ℕ Global) (y : List ℕ) (v : Value) (g : Given) (n : Scope) → i < length names → x ≡ get_or names i x → y ≡ x.items → placed t y v m ≡ Some (g, n) → Declarable m (names_of (drop i names)) → Declarable n (names_of (drop (i + 1) names))
   free_on x y v g n lt is same gives free =
       let rest = names_of (drop (i + 1) names) in
       placed_by y rest m n g (declared_as t v) gives (subst (λ l. Declarable m l) (front_names names i x lt is ∙ ap (λ z. z ∷ rest) (sym same)) free)
 
   module _ (o : Option Placed) (so_far : (all_placed t (names_of (drop i names)) (meanings_of vs) m >>= after_placed ks ts) ≡ o) where
-    pub place_on : (x : Vec ℕ Global) (y : List ℕ) (v : code_value.Value) (rest : List code_value.Value) (k : Option ℕ) (p : code_term.Term) (n : Scope) (new_ks : List (Option ℕ)) (new_ts : List code_term.Term) → i < length names → x ≡ get_or names i x → y ≡ x.items → vs ≡ v ∷ rest
-        → placed t y (meaning_of v) m ≡ Some ((k, term_of p), n) → new_ks ≡ ks ++ (k ∷ []) → new_ts ≡ ts ++ (p ∷ []) → (all_placed t (names_of (drop (i + 1) names)) (meanings_of rest) n >>= after_placed new_ks new_ts) ≡ o
+    pub place_on : (x : Vec ℕ Global) (y : List ℕ) (v : code_operand.Operand) (rest : List code_operand.Operand) (k : Option ℕ) (p : checked_expr.Expr) (n : Scope) (new_ks : List (Option ℕ)) (new_ts : List checked_expr.Expr) → i < length names → x ≡ get_or names i x → y ≡ x.items → vs ≡ v ∷ rest
+        → placed t y (meaning_of v) m ≡ Some ((k, expr_of p), n) → new_ks ≡ ks ++ (k ∷ []) → new_ts ≡ ts ++ (p ∷ []) → (all_placed t (names_of (drop (i + 1) names)) (meanings_of rest) n >>= after_placed new_ks new_ts) ≡ o
     place_on x y v rest k p n new_ks new_ts lt is same popped gives pushed added =
         let xs = names_of (drop (i + 1) names) in
         let r = all_placed t xs (meanings_of rest) n in
-        let all = λ (l : List (List ℕ)) (ws : List code_value.Value). all_placed t l (meanings_of ws) m >>= after_placed ks ts in
+        let all = λ (l : List (List ℕ)) (ws : List code_operand.Operand). all_placed t l (meanings_of ws) m >>= after_placed ks ts in
         ap (λ l. r >>= after_placed l new_ts) pushed ∙ ap (λ l. r >>= after_placed (ks ++ (k ∷ [])) l) added ∙ after_one r ks k ts p
         ∙ sym (ap (λ d. (d >>= others t xs (meanings_of rest)) >>= after_placed ks ts) gives)
         ∙ sym (ap (λ ws. all (names_of (drop i names)) ws) popped ∙ ap (λ l. all l (v ∷ rest)) (front_names names i x lt is ∙ ap (λ z. z ∷ xs) (sym same))) ∙ so_far
 
-    pub place_end : length names ≤ i → length vs ≡ 0 → o ≡ Some ((ks, terms_of ts), m)
+    pub place_end : length names ≤ i → length vs ≡ 0 → o ≡ Some ((ks, exprs_of ts), m)
     place_end le none_left = sym so_far ∙ ending vs none_left
       where
-        ending : (ws : List code_value.Value) → length ws ≡ 0 → (all_placed t (names_of (drop i names)) (meanings_of ws) m >>= after_placed ks ts) ≡ Some ((ks, terms_of ts), m)
+        ending : (ws : List code_operand.Operand) → length ws ≡ 0 → (all_placed t (names_of (drop i names)) (meanings_of ws) m >>= after_placed ks ts) ≡ Some ((ks, exprs_of ts), m)
         ending [] e = ap (λ l. all_placed t (names_of l) [] m >>= after_placed ks ts) (drop_all i names le) ∙ ap (λ l. Some ((l, terms_before ts none), m)) (append-nil ks) ∙ ap (λ q. Some ((ks, q), m)) (before_none ts)
         ending (w ∷ ws) e = absurd (omega (arith, e))
 
     pub place_over : length names ≤ i → (length vs ≡ 0 → ⊥) → o ≡ None
     place_over le some_left = sym so_far ∙ over vs some_left
       where
-        over : (ws : List code_value.Value) → (length ws ≡ 0 → ⊥) → (all_placed t (names_of (drop i names)) (meanings_of ws) m >>= after_placed ks ts) ≡ None
+        over : (ws : List code_operand.Operand) → (length ws ≡ 0 → ⊥) → (all_placed t (names_of (drop i names)) (meanings_of ws) m >>= after_placed ks ts) ≡ None
         over [] e = absurd (e refl)
         over (w ∷ ws) e = ap (λ l. all_placed t (names_of l) (meanings_of (w ∷ ws)) m >>= after_placed ks ts) (drop_all i names le)

@@ -1,4 +1,5 @@
 -- What the checker finds of an expression is what the judgement says, and all of it.
+use Rattle.std.proofs.lemmas.Bool.{cases_Bool}
 use Rattle.std.proofs.Common.{◌≡◌, ℕ, Bool, true, false, List, [], ◌∷◌, refl, ap, sym, ◌∙◌, subst, true≢false, inl, inr, cond}
 use Rattle.std.specs.Prelude.{ℤ, Option, Some, None, codes}
 use Rattle.std.specs.Cmp.Lexicographic.{same_text}
@@ -11,13 +12,13 @@ use Rattle.gr_tree.specs.Exprs.{WrittenType, Tree, Trees}
 use Rattle.gr_const.specs.declared.constant.Constant.{Constant}
 use Rattle.gr_const.specs.declared.constant.Constant.TheVariants as constants
 use Rattle.gr_const.specs.Constants as constant
-use Rattle.gr_types.specs.Types.{Ty, IntType, BoolType, UnitType, ChanType, type_written, assignable, may_receive}
-use Rattle.gr_types.specs.Terms.{Number, Nil, zero_of, Term, Literally, Variable, Unary, Binary, Receive, Call, Len, Cap, Make, MakeSized, Terms, more}
-use Rattle.gr_types.specs.Scopes.{Scope, variable_named, type_of_variable, Signature, Sign, function_in, signature}
-use Rattle.gr_types.specs.Values as rules
-use Rattle.gr_types.specs.Values.{Value, Known, NilValue, Made, HasType, Fits, unary_type, binary_type, is_comparison, may_stand_right, may_be_size, both_known, IsPredeclared, IsValue, IsCall, AreArguments}
+use Rattle.gr_program.specs.Types.{Ty, IntType, BoolType, UnitType, ChanType}
+use Rattle.gr_typing.specs.Types.{type_written, assignable, may_receive}
+use Rattle.gr_program.specs.Programs.{Number, Nil, zero_of, Expr, Literally, Variable, Unary, Binary, Receive, Call, Len, Cap, Make, MakeSized, Exprs, more}
+use Rattle.gr_typing.specs.Scopes.{Scope, variable_named, type_of_variable, Signature, Sign, function_in, signature}
+use Rattle.gr_typing.specs.Values as rules
+use Rattle.gr_typing.specs.Values.{Value, Known, NilValue, Made, HasType, Fits, unary_type, binary_type, is_comparison, may_stand_right, may_be_size, both_known, IsPredeclared, IsValue, IsCall, AreArguments}
 use Rattle.gr_types.specs.Finding.{◌>>=◌, where_true, has_text, Typed, int_typed, typed_constant, typed, given_typed, given, if_same, of_kind, as_channel, named_constant, if_unknown, name_by, name_value, unary_value, received, receive_value, on_operand, nil_compared, binary_typed, binary_made, binary_value, made_channel, size_of, measured, measure, result_value, call_of, called_function, call_in, call_value, called_by, called, value_in, arguments_in, only_in}
-use Rattle.gr_types.proofs.Basics.{true_or_false}
 
 -- looking at what is there
 pub some_inj : {A : Type 0} {x y : A} → Some x ≡ Some y → x ≡ y
@@ -54,18 +55,18 @@ whole_number : (c : Constant) (n : ℤ) → constant.whole c ≡ Some n → type
 whole_number (constants.Whole m) n e = then_some (constant.whole (constants.Whole m)) n (λ m. Some (int_typed m)) e
 whole_number (constants.Truth b) n e = none_some e
 
-pub typed_complete : {v : Value} {t : Ty} {p : Term} → HasType v t p → typed v ≡ Some (t, p)
+pub typed_complete : {v : Value} {t : Ty} {p : Expr} → HasType v t p → typed v ≡ Some (t, p)
 unfolding typed
 typed_complete (rules.has_int {c = c} {n = n} is) = whole_number c n is
 typed_complete rules.has_truth = refl
 typed_complete rules.has_made = refl
 
 -- values given to a place
-given_by_type : (v : Value) (u : Ty) (p : Term) → (typed v >>= given_typed u) ≡ Some p → Fits v u p
+given_by_type : (v : Value) (u : Ty) (p : Expr) → (typed v >>= given_typed u) ≡ Some p → Fits v u p
 given_by_type v u p e = on_some (typed v) (given_typed u) p e (λ w is e. on_true (assignable w.0 u) w.1 p e
     (λ may same. rules.of_type (subst (λ p. HasType v w.0 p) same (typed_sound v w is)) may))
 
-pub given_sound : (u : Ty) (v : Value) (p : Term) → given u v ≡ Some p → Fits v u p
+pub given_sound : (u : Ty) (v : Value) (p : Expr) → given u v ≡ Some p → Fits v u p
 unfolding given
 given_sound (ChanType d t) NilValue p e = subst (λ p. Fits NilValue (ChanType d t) p) (some_inj e) rules.nil_channel
 given_sound IntType NilValue p e = none_some e
@@ -74,10 +75,10 @@ given_sound UnitType NilValue p e = none_some e
 given_sound u (Known c) p e = given_by_type (Known c) u p e
 given_sound u (Made t q) p e = given_by_type (Made t q) u p e
 
-typed_given : (v : Value) (t u : Ty) (p : Term) → HasType v t p → assignable t u ≡ true → (typed v >>= given_typed u) ≡ Some p
+typed_given : (v : Value) (t u : Ty) (p : Expr) → HasType v t p → assignable t u ≡ true → (typed v >>= given_typed u) ≡ Some p
 typed_given v t u p h may = then_some (typed v) (t, p) (given_typed u) (typed_complete h) ∙ if_true (assignable t u) p may
 
-pub given_complete : {v : Value} {u : Ty} {p : Term} → Fits v u p → given u v ≡ Some p
+pub given_complete : {v : Value} {u : Ty} {p : Expr} → Fits v u p → given u v ≡ Some p
 unfolding given typed
 given_complete (rules.of_type {v = Known c} {t = t} {u = u} {p = p} h may) = typed_given (Known c) t u p h may
 given_complete (rules.of_type {v = Made w q} {t = t} {u = u} {p = p} h may) = typed_given (Made w q) t u p h may
@@ -85,32 +86,32 @@ given_complete (rules.of_type {v = NilValue} h may) = none_some (typed_complete 
 given_complete rules.nil_channel = refl
 
 -- kinds
-int_case : (v : Value) (w : Typed) (p : Term) → typed v ≡ Some w → if_same IntType w.0 w.1 ≡ Some p → HasType v IntType p
+int_case : (v : Value) (w : Typed) (p : Expr) → typed v ≡ Some w → if_same IntType w.0 w.1 ≡ Some p → HasType v IntType p
 int_case v (IntType, q) p is e = subst (λ p. HasType v IntType p) (some_inj e) (typed_sound v (IntType, q) is)
 int_case v (BoolType, q) p is e = none_some e
 int_case v (UnitType, q) p is e = none_some e
 int_case v (ChanType d t, q) p is e = none_some e
 
-pub int_sound : (v : Value) (p : Term) → of_kind IntType v ≡ Some p → HasType v IntType p
+pub int_sound : (v : Value) (p : Expr) → of_kind IntType v ≡ Some p → HasType v IntType p
 int_sound v p e = on_some (typed v) (λ w. if_same IntType w.0 w.1) p e (λ w is e. int_case v w p is e)
 
-truth_case : (v : Value) (w : Typed) (p : Term) → typed v ≡ Some w → if_same BoolType w.0 w.1 ≡ Some p → HasType v BoolType p
+truth_case : (v : Value) (w : Typed) (p : Expr) → typed v ≡ Some w → if_same BoolType w.0 w.1 ≡ Some p → HasType v BoolType p
 truth_case v (BoolType, q) p is e = subst (λ p. HasType v BoolType p) (some_inj e) (typed_sound v (BoolType, q) is)
 truth_case v (IntType, q) p is e = none_some e
 truth_case v (UnitType, q) p is e = none_some e
 truth_case v (ChanType d t, q) p is e = none_some e
 
-pub truth_sound : (v : Value) (p : Term) → of_kind BoolType v ≡ Some p → HasType v BoolType p
+pub truth_sound : (v : Value) (p : Expr) → of_kind BoolType v ≡ Some p → HasType v BoolType p
 truth_sound v p e = on_some (typed v) (λ w. if_same BoolType w.0 w.1) p e (λ w is e. truth_case v w p is e)
 
-pub int_complete : {v : Value} {p : Term} → HasType v IntType p → of_kind IntType v ≡ Some p
+pub int_complete : {v : Value} {p : Expr} → HasType v IntType p → of_kind IntType v ≡ Some p
 int_complete {v} {p} h = then_some (typed v) (IntType, p) (λ w. if_same IntType w.0 w.1) (typed_complete h)
 
-pub truth_complete : {v : Value} {p : Term} → HasType v BoolType p → of_kind BoolType v ≡ Some p
+pub truth_complete : {v : Value} {p : Expr} → HasType v BoolType p → of_kind BoolType v ≡ Some p
 truth_complete {v} {p} h = then_some (typed v) (BoolType, p) (λ w. if_same BoolType w.0 w.1) (typed_complete h)
 
 -- channels
-pub channel_is : (v : Value) (c : Direction × (Ty × Term)) → as_channel v ≡ Some c → v ≡ Made (ChanType c.0 c.1.0) c.1.1
+pub channel_is : (v : Value) (c : Direction × (Ty × Expr)) → as_channel v ≡ Some c → v ≡ Made (ChanType c.0 c.1.0) c.1.1
 channel_is (Made (ChanType d t) p) c e = ap (λ c. Made (ChanType c.0 c.1.0) c.1.1) (some_inj e)
 channel_is (Made IntType p) c e = none_some e
 channel_is (Made BoolType p) c e = none_some e
@@ -124,7 +125,7 @@ Finds fs s e = (v : Value) → value_in fs s e ≡ Some v → IsValue fs s e v
 
 -- a test of a name
 pub on_text : {A P : Type 0} (x y : List ℕ) (a b : A) (z : A) → cond (has_text x y) a b ≡ z → (x ≡ y → a ≡ z → P) → (has_text x y ≡ false → b ≡ z → P) → P
-on_text x y a b z e k n = elim (true_or_false (has_text x y)) [
+on_text x y a b z e k n = elim (cases_Bool (has_text x y)) [
   | inl t ↦ k (same_text x y (sym t)) (rw t at e)
   | inr f ↦ n f (rw f at e)
 ]
@@ -179,13 +180,13 @@ joined_sound fs s op a b u v r other da db q =
     on_true (may_stand_right op v) (Made t (Binary op x.1 y.1)) r q (λ may same.
     subst (λ r. IsJoined fs s op a b r) same (rules.binary_made da db other (typed_sound u x ix) (typed_sound v y iy) it may)))))
 
-left_nil_sound : (fs : List Signature) (s : Scope) (op : BinaryOp) (a b : Tree) (v r : Value) → IsValue fs s a NilValue → IsValue fs s b v → (o : Option (Direction × (Ty × Term))) → as_channel v ≡ o → nil_compared op o (λ q. Binary op (Literally Nil) q) ≡ Some r → IsJoined fs s op a b r
+left_nil_sound : (fs : List Signature) (s : Scope) (op : BinaryOp) (a b : Tree) (v r : Value) → IsValue fs s a NilValue → IsValue fs s b v → (o : Option (Direction × (Ty × Expr))) → as_channel v ≡ o → nil_compared op o (λ q. Binary op (Literally Nil) q) ≡ Some r → IsJoined fs s op a b r
 left_nil_sound fs s op a b v r da db None is q = none_some q
 left_nil_sound fs s op a b v r da db (Some c) is q =
     on_true (is_comparison op) (Made BoolType (Binary op (Literally Nil) c.1.1)) r q (λ may same.
     subst (λ r. IsJoined fs s op a b r) same (rules.left_nil may da (subst (λ u. IsValue fs s b u) (channel_is v c is) db)))
 
-right_nil_sound : (fs : List Signature) (s : Scope) (op : BinaryOp) (a b : Tree) (u r : Value) → IsValue fs s a u → IsValue fs s b NilValue → (o : Option (Direction × (Ty × Term))) → as_channel u ≡ o → nil_compared op o (λ q. Binary op q (Literally Nil)) ≡ Some r → IsJoined fs s op a b r
+right_nil_sound : (fs : List Signature) (s : Scope) (op : BinaryOp) (a b : Tree) (u r : Value) → IsValue fs s a u → IsValue fs s b NilValue → (o : Option (Direction × (Ty × Expr))) → as_channel u ≡ o → nil_compared op o (λ q. Binary op q (Literally Nil)) ≡ Some r → IsJoined fs s op a b r
 right_nil_sound fs s op a b u r da db None is q = none_some q
 right_nil_sound fs s op a b u r da db (Some c) is q =
     on_true (is_comparison op) (Made BoolType (Binary op c.1.1 (Literally Nil))) r q (λ may same.
@@ -203,7 +204,7 @@ binary_sound fs s op a b (Made t p) (Known d) r da db q = joined_sound fs s op a
 binary_sound fs s op a b (Made t p) (Made w z) r da db q = joined_sound fs s op a b (Made t p) (Made w z) r refl da db q
 
 -- channels that are made
-made_is : (o : Option Ty) (p : Term) (v : Value) → made_channel o p ≡ Some v → (d : Direction) × ((t : Ty) × ((o ≡ Some (ChanType d t)) × (Made (ChanType d t) p ≡ v)))
+made_is : (o : Option Ty) (p : Expr) (v : Value) → made_channel o p ≡ Some v → (d : Direction) × ((t : Ty) × ((o ≡ Some (ChanType d t)) × (Made (ChanType d t) p ≡ v)))
 made_is (Some (ChanType d t)) p v e = (d, (t, (refl, some_inj e)))
 made_is (Some IntType) p v e = none_some e
 made_is (Some BoolType) p v e = none_some e
@@ -223,7 +224,7 @@ sized_sound fs s w e u v d q =
 
 -- calls
 unfoldable pub Arguments : List Signature → Scope → Trees → Type 0
-Arguments fs s es = (ts : List Ty) (ps : Terms) → arguments_in fs s es ts ≡ Some ps → AreArguments fs s es ts ps
+Arguments fs s es = (ts : List Ty) (ps : Exprs) → arguments_in fs s es ts ≡ Some ps → AreArguments fs s es ts ps
 
 unfoldable pub OnlyIs : List Signature → Scope → Trees → Type 0
 OnlyIs fs s es = (v : Value) → only_in fs s es ≡ Some v → (e : Tree) × ((es ≡ tree.more e tree.none) × IsValue fs s e v)
@@ -232,26 +233,26 @@ pub unhidden : {A B P : Type 0} (o : Option A) (x : Option B) (y : B) → if_unk
 unhidden None x y e k = k refl e
 unhidden (Some a) x y e k = none_some e
 
-signature_found : (fs : List Signature) (s : Scope) (x : List ℕ) (es : Trees) (k : ℕ) → Arguments fs s es → variable_named s x ≡ None → function_in fs x ≡ Some k → (o : Option Signature) → signature fs k ≡ o → (c : Option Ty × Term) → call_of (arguments_in fs s es) k o ≡ Some c → IsCall fs s x es c.0 c.1
+signature_found : (fs : List Signature) (s : Scope) (x : List ℕ) (es : Trees) (k : ℕ) → Arguments fs s es → variable_named s x ≡ None → function_in fs x ≡ Some k → (o : Option Signature) → signature fs k ≡ o → (c : Option Ty × Expr) → call_of (arguments_in fs s es) k o ≡ Some c → IsCall fs s x es c.0 c.1
 unfolding Arguments
 signature_found fs s x es k ih free is None has c q = none_some q
 signature_found fs s x es k ih free is (Some (Sign y parameters result)) has c q =
     on_some (arguments_in fs s es parameters) (λ ps. Some (result, Call k ps)) c q (λ ps are q.
     subst (λ c. IsCall fs s x es c.0 c.1) (some_inj q) (rules.calls free is has (ih parameters ps are)))
 
-function_found : (fs : List Signature) (s : Scope) (x : List ℕ) (es : Trees) → Arguments fs s es → variable_named s x ≡ None → (o : Option ℕ) → function_in fs x ≡ o → (c : Option Ty × Term) → called_function fs (arguments_in fs s es) o ≡ Some c → IsCall fs s x es c.0 c.1
+function_found : (fs : List Signature) (s : Scope) (x : List ℕ) (es : Trees) → Arguments fs s es → variable_named s x ≡ None → (o : Option ℕ) → function_in fs x ≡ o → (c : Option Ty × Expr) → called_function fs (arguments_in fs s es) o ≡ Some c → IsCall fs s x es c.0 c.1
 function_found fs s x es ih free None is c q = none_some q
 function_found fs s x es ih free (Some k) is c q = signature_found fs s x es k ih free is (signature fs k) refl c q
 
-pub call_found : (fs : List Signature) (s : Scope) (x : List ℕ) (es : Trees) → Arguments fs s es → (c : Option Ty × Term) → call_in fs s x (arguments_in fs s es) ≡ Some c → IsCall fs s x es c.0 c.1
+pub call_found : (fs : List Signature) (s : Scope) (x : List ℕ) (es : Trees) → Arguments fs s es → (c : Option Ty × Expr) → call_in fs s x (arguments_in fs s es) ≡ Some c → IsCall fs s x es c.0 c.1
 unfolding call_in
 call_found fs s x es ih c q = unhidden (variable_named s x) _ c q (λ free q. function_found fs s x es ih free (function_in fs x) refl c q)
 
-result_is : (fs : List Signature) (s : Scope) (x : List ℕ) (es : Trees) (result : Option Ty) (p : Term) (v : Value) → IsCall fs s x es result p → result_value result p ≡ Some v → IsValue fs s (tree.Call x es) v
+result_is : (fs : List Signature) (s : Scope) (x : List ℕ) (es : Trees) (result : Option Ty) (p : Expr) (v : Value) → IsCall fs s x es result p → result_value result p ≡ Some v → IsValue fs s (tree.Call x es) v
 result_is fs s x es (Some t) p v d q = subst (λ v. IsValue fs s (tree.Call x es) v) (some_inj q) (rules.call d)
 result_is fs s x es None p v d q = none_some q
 
-measured_is : (by : Term → Term) (u v : Value) → measured by u ≡ Some v → (c : Direction × (Ty × Term)) × ((u ≡ Made (ChanType c.0 c.1.0) c.1.1) × (Made IntType (by c.1.1) ≡ v))
+measured_is : (by : Expr → Expr) (u v : Value) → measured by u ≡ Some v → (c : Direction × (Ty × Expr)) × ((u ≡ Made (ChanType c.0 c.1.0) c.1.1) × (Made IntType (by c.1.1) ≡ v))
 measured_is by u v q = on_some (as_channel u) (λ c. Some (Made IntType (by c.1.1))) v q (λ c is q. (c, (channel_is u c is, some_inj q)))
 
 measure_sound : (fs : List Signature) (s : Scope) (x : List ℕ) (e : Tree) (u v : Value) → IsPredeclared fs s x → IsValue fs s e u → measure x u ≡ Some v → IsValue fs s (tree.Call x (tree.more e tree.none)) v

@@ -7,15 +7,19 @@ use Rattle.gr_tree.specs.Exprs.{WrittenType}
 use Rattle.gr_tree.specs.Statements.{Statements}
 use Rattle.gr_tree.specs.Files as files
 use Rattle.gr_tree.specs.Files.{Group, GroupOf, FileTree, FileOf}
-use Rattle.gr_types.specs.Types.{Ty, type_written}
-use Rattle.gr_types.specs.Terms.{Function, Program, ProgramIs}
-use Rattle.gr_types.specs.Scopes.{Block, Scope, In, Signature, Sign, function_in, signature, may_name}
+use Rattle.gr_program.specs.Types.{Ty}
+use Rattle.gr_typing.specs.Types.{type_written}
+use Rattle.gr_program.specs.Programs.{Function, Program, ProgramIs}
+use Rattle.gr_program.specs.Order.{stands_in_order}
+use Rattle.gr_typing.specs.Scopes.{Block, Scope, In, Signature, Sign, function_in, signature, may_name}
 use Rattle.gr_types.specs.Finding.{◌>>=◌, where_true, has_text}
-use Rattle.gr_types.specs.StatementChecks.{Within, IsWritten, IsBody}
-use Rattle.gr_types.specs.FindingStatements.{Stepped, written_of, body_in}
-use Rattle.gr_types.specs.Endings.{labels_fit}
-use Rattle.gr_types.specs.FileChecks as rules
-use Rattle.gr_types.specs.FileChecks.{parameter_names, each, AreTypes, scope_with, parameters_with, empty_scope, AreSignatures, ends_well, AreFunctions, may_be_functions, ProgramOf}
+use Rattle.gr_typing.specs.Contexts.{Within}
+use Rattle.gr_typing.specs.Assignments.{IsWritten}
+use Rattle.gr_typing.specs.Statements.{IsBody}
+use Rattle.gr_types.specs.FindingStatements.{Checked, written_of, body_in}
+use Rattle.gr_typing.specs.Labels.{labels_fit}
+use Rattle.gr_typing.specs.FileChecks as rules
+use Rattle.gr_typing.specs.FileChecks.{parameter_names, each, AreTypes, scope_with, parameters_with, empty_scope, AreSignatures, ends_well, AreFunctions, may_be_functions, ProgramOf}
 use Rattle.gr_types.specs.FindingFiles.{types_in, signature_in, signatures_in, variables_of, checked_function, function_checked, functions_in, is_bare, main_in, program_of, checked_signatures, program_in}
 use Rattle.gr_types.proofs.Finds.{some_inj, none_some, on_some, on_true, if_true, then_some}
 use Rattle.gr_types.proofs.FindsStatements.{written_sound, body_sound}
@@ -89,26 +93,29 @@ functions_sound fs (files.FunctionOf place name groups w body closing ∷ others
     on_true (labels_fit body) b d id (λ fit same.
     on_some (where_true (ends_well result body) d) _ c ic (λ e ie ic.
     on_true (ends_well result body) d e ie (λ well again.
+    on_some (where_true (stands_in_order place.start e.0 closing.start) e) _ c ic (λ g ig ic.
+    on_true (stands_in_order place.start e.0 closing.start) e g ig (λ ordered last.
     let z = scope_is b.1 in
     let done : IsBody (Within fs result []) (scope_with empty_scope (parameter_names groups) ts) body b.0 (In z.0 z.1.0 (variables_of b.1)) = subst (λ n. IsBody (Within fs result []) (scope_with empty_scope (parameter_names groups) ts) body b.0 n) z.1.1 (body_sound (Within fs result []) (scope_with empty_scope (parameter_names groups) ts) body b ib) in
     subst (λ cs. AreFunctions fs (files.FunctionOf place name groups w body closing ∷ others) (Sign y ts result ∷ own) cs)
-    (ap (λ b. checked_function name (parameters_with empty_scope (parameter_names groups) ts) result closing.line b ∷ rest) (same ∙ again) ∙ ap (λ c. c ∷ rest) (some_inj ic) ∙ some_inj q)
-    (rules.one_function done fit well (functions_sound fs others own rest ir)))))))))
+    (ap (λ b. checked_function name (parameters_with empty_scope (parameter_names groups) ts) result closing b ∷ rest) (same ∙ again ∙ last) ∙ ap (λ c. c ∷ rest) (some_inj ic) ∙ some_inj q)
+    (rules.one_function done fit well (subst (λ b. stands_in_order place.start b.0 closing.start ≡ true) (sym (same ∙ again)) ordered) (functions_sound fs others own rest ir)))))))))))
 
-function_complete : (fs : List Signature) (place closing : Place) (name y : List ℕ) (groups : List Group) (w : Option WrittenType) (body : Statements) (ts : List Ty) (result : Option Ty) (b : Stepped) → body_in (Within fs result []) (scope_with empty_scope (parameter_names groups) ts) body ≡ Some b → labels_fit body ≡ true → ends_well result body ≡ true → function_checked fs (files.FunctionOf place name groups w body closing) (Sign y ts result) ≡ Some (checked_function name (parameters_with empty_scope (parameter_names groups) ts) result closing.line b)
+function_complete : (fs : List Signature) (place closing : Place) (name y : List ℕ) (groups : List Group) (w : Option WrittenType) (body : Statements) (ts : List Ty) (result : Option Ty) (b : Checked) → body_in (Within fs result []) (scope_with empty_scope (parameter_names groups) ts) body ≡ Some b → labels_fit body ≡ true → ends_well result body ≡ true → stands_in_order place.start b.0 closing.start ≡ true → function_checked fs (files.FunctionOf place name groups w body closing) (Sign y ts result) ≡ Some (checked_function name (parameters_with empty_scope (parameter_names groups) ts) result closing b)
 unfolding function_checked
-function_complete fs place closing name y groups w body ts result b ib fit well =
+function_complete fs place closing name y groups w body ts result b ib fit well ordered =
     then_some (body_in (Within fs result []) (scope_with empty_scope (parameter_names groups) ts) body) b _ ib
     ∙ then_some (where_true (labels_fit body) b) b _ (if_true (labels_fit body) b fit)
     ∙ then_some (where_true (ends_well result body) b) b _ (if_true (ends_well result body) b well)
+    ∙ then_some (where_true (stands_in_order place.start b.0 closing.start) b) b _ (if_true (stands_in_order place.start b.0 closing.start) b ordered)
 
 functions_complete : {fs : List Signature} {functions : List files.Function} {own : List Signature} {cs : List Function} → AreFunctions fs functions own cs → functions_in fs functions own ≡ Some cs
 unfolding functions_in
 functions_complete rules.no_function = refl
-functions_complete {fs} (rules.one_function {place = place} {closing = closing} {name = name} {y = y} {groups = groups} {w = w} {body = body} {ts = ts} {result = r} {steps = steps} {here = here} {around = around} {variables = variables} {others = others} {own = own} {checked = cs} d fit well rest) =
-    then_some (function_checked fs (files.FunctionOf place name groups w body closing) (Sign y ts r)) (checked_function name (parameters_with empty_scope (parameter_names groups) ts) r closing.line (steps, In here around variables)) (λ c. functions_in fs others own >>= λ cs. Some (c ∷ cs))
-    (function_complete fs place closing name y groups w body ts r (steps, In here around variables) (body_complete d) fit well)
-    ∙ then_some (functions_in fs others own) cs (λ cs. Some (checked_function name (parameters_with empty_scope (parameter_names groups) ts) r closing.line (steps, In here around variables) ∷ cs)) (functions_complete rest)
+functions_complete {fs} (rules.one_function {place = place} {closing = closing} {name = name} {y = y} {groups = groups} {w = w} {body = body} {ts = ts} {result = r} {stmts = steps} {here = here} {around = around} {variables = variables} {others = others} {own = own} {checked = cs} d fit well ordered rest) =
+    then_some (function_checked fs (files.FunctionOf place name groups w body closing) (Sign y ts r)) (checked_function name (parameters_with empty_scope (parameter_names groups) ts) r closing (steps, In here around variables)) (λ c. functions_in fs others own >>= λ cs. Some (c ∷ cs))
+    (function_complete fs place closing name y groups w body ts r (steps, In here around variables) (body_complete d) fit well ordered)
+    ∙ then_some (functions_in fs others own) cs (λ cs. Some (checked_function name (parameters_with empty_scope (parameter_names groups) ts) r closing (steps, In here around variables) ∷ cs)) (functions_complete rest)
 
 -- the function main
 record IsMain (fs : List Signature) (k : ℕ) : Type 0 where

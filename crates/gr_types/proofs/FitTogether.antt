@@ -1,17 +1,18 @@
 -- Functions whose headings fit one after the other: their names are distinct, and their `main` is bare.
+use Rattle.std.proofs.lemmas.Bool.{cases_Bool}
 use Rattle.std.proofs.Common.{◌≡◌, ℕ, suc, ◌+◌, Bool, true, false, List, [], ◌∷◌, ◌++◌, length, refl, ap, sym, ◌∙◌, subst, arith, inl, inr, nat_eq, cond, true≢false}
 use Rattle.std.specs.Prelude.{Option, Some, None, not, ◌&&◌, ◌||◌, is_some, is_none, if◌then◌else◌, codes}
 use Rattle.std.specs.List.{list_all}
 use Rattle.std.specs.Cmp.Lexicographic.{pointwise, bytes_decides}
 use Rattle.std.proofs.Math.Bool.{and-false, and-true, or-false, or-true}
-use Rattle.gr_types.specs.Types.{Ty}
-use Rattle.gr_types.specs.Names.{among, predeclared, is_blank, are_distinct}
-use Rattle.gr_types.specs.Scopes.{first_of, next_number, has_name, Signature, Sign, function_in, signature}
-use Rattle.gr_types.specs.FileChecks.{names_of, may_be_functions}
+use Rattle.gr_program.specs.Types.{Ty}
+use Rattle.gr_typing.specs.Names.{among, predeclared, is_blank, are_distinct}
+use Rattle.gr_typing.specs.Scopes.{first_of, next_number, has_name, Signature, Sign, function_in, signature}
+use Rattle.gr_typing.specs.FileChecks.{names_of, may_be_functions}
 use Rattle.gr_types.specs.Finding.{◌>>=◌, where_true, has_text}
 use Rattle.gr_types.specs.FindingFiles.{is_bare, main_in}
 use Rattle.gr_types.specs.Outlines.{fits_main}
-use Rattle.gr_types.proofs.Basics.{true_or_false, among_push}
+use Rattle.gr_types.proofs.Basics.{among_push}
 use Rattle.gr_types.proofs.Finds.{none_some, some_inj}
 use Rattle.gr_types.proofs.FunctionNumbers.{name_of, function_push, has_blank, has_other}
 use Rattle.gr_types.proofs.Headed.{all_fit}
@@ -29,9 +30,9 @@ some_more : (known : List Signature) (g : Signature) (x : List ℕ) → is_some 
 some_more known g x = ap is_some (function_push known g x) ∙ found_or (function_in known x) (has_name g x) (length known)
 
 turned : (x y : List ℕ) → pointwise nat_eq y x ≡ pointwise nat_eq x y
-turned x y = elim (true_or_false (pointwise nat_eq x y)) [
+turned x y = elim (cases_Bool (pointwise nat_eq x y)) [
   | inl t ↦ (bytes_decides y x).1 (sym ((bytes_decides x y).0 t)) ∙ sym t
-  | inr f ↦ elim (true_or_false (pointwise nat_eq y x)) [
+  | inr f ↦ elim (cases_Bool (pointwise nat_eq y x)) [
     | inl t ↦ absurd (true≢false (sym ((bytes_decides x y).1 (sym ((bytes_decides y x).0 t))) ∙ f))
     | inr g ↦ g ∙ sym f
   ]
@@ -50,7 +51,7 @@ known_still before known x ts r blank same y other =
     same y other ∙ sym (some_more known (Sign x ts r) y ∙ ap (λ b. is_some (function_in known y) || b) no_name ∙ or-false (is_some (function_in known y)))
   where
     no_name : has_name (Sign x ts r) y ≡ false
-    no_name = elim (true_or_false (pointwise nat_eq x y)) [
+    no_name = elim (cases_Bool (pointwise nat_eq x y)) [
       | inl t ↦ absurd (true≢false (sym (ap is_blank (sym ((bytes_decides x y).0 t)) ∙ blank) ∙ other))
       | inr f ↦ has_other (Sign x ts r) y f
     ]
@@ -87,7 +88,7 @@ blank_fits : (g : Signature) → is_blank (name_of g) ≡ true → fits_main g �
 blank_fits (Sign x ts r) e = ap (λ b. cond b (is_bare (Sign x ts r)) true) (ap (λ x. has_text x (codes "main")) ((bytes_decides x (codes "_")).0 e))
 
 main_counts : (known : List Signature) (g : Signature) → is_some (function_in known (name_of g)) ≡ false → (is_some (function_in known (codes "main")) || fits_main g) ≡ fits_main g
-main_counts known (Sign x ts r) e = elim (true_or_false (has_text x (codes "main"))) [
+main_counts known (Sign x ts r) e = elim (cases_Bool (has_text x (codes "main"))) [
   | inl t ↦ ap (λ b. b || fits_main (Sign x ts r)) (ap (λ y. is_some (function_in known y)) (sym ((bytes_decides x (codes "main")).0 t)) ∙ e)
   | inr f ↦
       let free : fits_main (Sign x ts r) ≡ true = ap (λ b. cond b (is_bare (Sign x ts r)) true) f in
@@ -123,7 +124,7 @@ all_apart before known (Sign x ts r ∷ fs) same =
     let others = list_all (λ x. not (pointwise nat_eq x (codes "init"))) (names_of fs) in
     let rest = mains_fit (known ++ (g ∷ [])) fs in
     let main = is_some (function_in known (codes "main")) in
-    elim (true_or_false (is_blank x)) [
+    elim (cases_Bool (is_blank x)) [
       | inl blank ↦
           let distinct = are_distinct before (names_of fs) in
           ap (λ o. ((new && (free && is_none o)) && fits_main g) && all_fit (known ++ (g ∷ [])) fs) (blank_unknown known x blank)
@@ -164,7 +165,7 @@ first_main known [] e = refl
 first_main known (g ∷ fs) e =
     let more = some_more known g (codes "main") ∙ ap (λ b. b || has_name g (codes "main")) e in
     ap (λ b. (b || fits_main g) && mains_fit (known ++ (g ∷ [])) fs) e
-    ∙ elim (true_or_false (has_name g (codes "main"))) [
+    ∙ elim (cases_Bool (has_name g (codes "main"))) [
       | inl t ↦
           ap (λ b. b && mains_fit (known ++ (g ∷ [])) fs) (fits_named g true t) ∙ ap (λ b. is_bare g && b) (later_mains (known ++ (g ∷ [])) fs (more ∙ t)) ∙ and-true (is_bare g)
           ∙ sym (ap (λ b. cond b (is_bare g) (first_bare fs)) t)
@@ -181,7 +182,7 @@ fit_is fs = all_apart [] [] fs nothing_known ∙ ap (λ b. may_be_functions fs &
 
 bare_at : (fs : List Signature) (k n : ℕ) → function_in fs (codes "main") ≡ Some k → (signature fs k >>= λ g. where_true (is_bare g) n) ≡ where_true (first_bare fs) n
 bare_at [] k n e = none_some e
-bare_at (g ∷ fs) k n e = elim (true_or_false (has_name g (codes "main"))) [
+bare_at (g ∷ fs) k n e = elim (cases_Bool (has_name g (codes "main"))) [
   | inl t ↦
       let first : Some 0 ≡ Some k = sym (ap (λ b. cond b (Some 0) (next_number (function_in fs (codes "main")))) t) ∙ e in
       subst (λ k. (signature (g ∷ fs) k >>= λ g. where_true (is_bare g) n) ≡ where_true (first_bare (g ∷ fs)) n) (some_inj first) (sym (ap (λ b. where_true (cond b (is_bare g) (first_bare fs)) n) t))

@@ -1,4 +1,5 @@
 -- The table of functions finds the first one with a name.
+use Rattle.std.proofs.lemmas.Bool.{cases_Bool}
 use Rattle.std.proofs.Common.{◌≡◌, ℕ, zero, suc, ◌+◌, true, false, List, [], ◌∷◌, ◌++◌, length, get_or, ◌<◌, ◌≤◌, refl, ap, sym, ◌∙◌, subst, true≢false, arith, inl, inr, nat_eq}
 use Rattle.std.specs.Prelude.{Option, Some, None, if◌then◌else◌}
 use Rattle.std.specs.Slice.{IsItemAt}
@@ -6,12 +7,11 @@ use Rattle.std.proofs.Common.{Bor}
 use Rattle.gr_tree.specs.Statements.{optional}
 use Rattle.std.specs.Cmp.Lexicographic.{pointwise, bytes_decides}
 use Rattle.gr_types.specs.declared.types.Signature as code
-use Rattle.gr_types.specs.Names.{is_blank}
-use Rattle.gr_types.specs.Scopes.{Block, in_block, first_of, Signature, Sign, has_name, next_number, function_in, signature}
-use Rattle.gr_types.specs.TypeViews.{sign_of, signs_of}
+use Rattle.gr_typing.specs.Names.{is_blank}
+use Rattle.gr_typing.specs.Scopes.{Block, in_block, first_of, Signature, Sign, has_name, next_number, function_in, signature}
+use Rattle.gr_types.specs.Signatures.{sign_of, signs_of}
 use Rattle.gr_types.specs.Tables.{Finds}
 use Rattle.gr_types.specs.FunctionNumbers.{if_new, with_function}
-use Rattle.gr_types.proofs.Basics.{true_or_false}
 use Rattle.gr_types.proofs.Scopes.{first_none}
 
 abbrev pub name_of : Signature → List ℕ
@@ -24,14 +24,14 @@ pub has_own : (f : Signature) → is_blank (name_of f) ≡ false → has_name f 
 has_own (Sign name parameters result) e = rw ((bytes_decides name name).1 refl, e) refl
 
 pub has_blank : (f : Signature) (x : List ℕ) → is_blank x ≡ true → has_name f x ≡ false
-has_blank (Sign name parameters result) x e = elim (true_or_false (pointwise nat_eq name x)) [ inl t ↦ rw (t, e) refl | inr f ↦ rw f refl ]
+has_blank (Sign name parameters result) x e = elim (cases_Bool (pointwise nat_eq name x)) [ inl t ↦ rw (t, e) refl | inr f ↦ rw f refl ]
 
 pub block_push : (b : Block) (y : List ℕ) (n : ℕ) (x : List ℕ) → in_block (b ++ ((y, n) ∷ [])) x ≡ first_of (in_block b x) (in_block ((y, n) ∷ []) x)
 block_push [] y n x = refl
-block_push (e ∷ b) y n x = elim (true_or_false (pointwise nat_eq x e.0)) [ inl t ↦ rw t refl | inr f ↦ rw f (block_push b y n x) ]
+block_push (e ∷ b) y n x = elim (cases_Bool (pointwise nat_eq x e.0)) [ inl t ↦ rw t refl | inr f ↦ rw f (block_push b y n x) ]
 
 pub other_way : (x y : List ℕ) → pointwise nat_eq y x ≡ false → pointwise nat_eq x y ≡ false
-other_way x y e = elim (true_or_false (pointwise nat_eq x y)) [
+other_way x y e = elim (cases_Bool (pointwise nat_eq x y)) [
   | inl t ↦ absurd (true≢false (sym ((bytes_decides y x).1 (sym ((bytes_decides x y).0 t))) ∙ e))
   | inr f ↦ f
 ]
@@ -39,14 +39,14 @@ other_way x y e = elim (true_or_false (pointwise nat_eq x y)) [
 -- a function after others
 last_found : (n : ℕ) (o : Option ℕ) (f : Signature) (x : List ℕ) → next_number (first_of o (if has_name f x then Some n else None)) ≡ first_of (next_number o) (if has_name f x then Some (suc n) else None)
 last_found n (Some k) f x = refl
-last_found n None f x = elim (true_or_false (has_name f x)) [
+last_found n None f x = elim (cases_Bool (has_name f x)) [
   | inl t ↦ let one : n + 1 ≡ suc n = omega arith in rw t (ap Some one)
   | inr f ↦ rw f refl
 ]
 
 pub function_push : (fs : List Signature) (f : Signature) (x : List ℕ) → function_in (fs ++ (f ∷ [])) x ≡ first_of (function_in fs x) (if has_name f x then Some (length fs) else None)
 function_push [] f x = refl
-function_push (g ∷ fs) f x = elim (true_or_false (has_name g x)) [
+function_push (g ∷ fs) f x = elim (cases_Bool (has_name g x)) [
   | inl t ↦ rw t refl
   | inr e ↦ rw e (ap next_number (function_push fs f x) ∙ last_found (length fs) (function_in fs x) f x)
 ]
@@ -72,19 +72,19 @@ found_there : (b : Block) (fs : List Signature) (f : Signature) (x : List ℕ) �
 found_there b fs f x e finds = finds x ∙ sym (function_push fs f x ∙ rw e (first_none (function_in fs x)))
 
 blank_found : (b : Block) (fs : List Signature) (f : Signature) (x : List ℕ) → is_blank (name_of f) ≡ true → Finds b fs → in_block b x ≡ function_in (fs ++ (f ∷ [])) x
-blank_found b fs f x e finds = elim (true_or_false (pointwise nat_eq (name_of f) x)) [
+blank_found b fs f x e finds = elim (cases_Bool (pointwise nat_eq (name_of f) x)) [
   | inl t ↦ found_there b fs f x (has_blank f x (ap is_blank (sym ((bytes_decides (name_of f) x).0 t)) ∙ e)) finds
   | inr o ↦ found_there b fs f x (has_other f x o) finds
 ]
 
 named_found : (b : Block) (fs : List Signature) (f : Signature) (x : List ℕ) → is_blank (name_of f) ≡ false → Finds b fs → in_block (if_new b (name_of f) (length fs) (in_block b (name_of f))) x ≡ function_in (fs ++ (f ∷ [])) x
-named_found b fs f x e finds = elim (true_or_false (pointwise nat_eq (name_of f) x)) [
+named_found b fs f x e finds = elim (cases_Bool (pointwise nat_eq (name_of f) x)) [
   | inl t ↦ subst (λ x. in_block (if_new b (name_of f) (length fs) (in_block b (name_of f))) x ≡ function_in (fs ++ (f ∷ [])) x) ((bytes_decides (name_of f) x).0 t) (found_here b fs f e finds)
   | inr o ↦ other_found b (name_of f) x (length fs) (in_block b (name_of f)) o ∙ found_there b fs f x (has_other f x o) finds
 ]
 
 finds_with : (b : Block) (fs : List Signature) (f : Signature) → Finds b fs → Finds (with_function b (name_of f) (length fs)) (fs ++ (f ∷ []))
-finds_with b fs f finds x = elim (true_or_false (is_blank (name_of f))) [
+finds_with b fs f finds x = elim (cases_Bool (is_blank (name_of f))) [
   | inl t ↦ rw t (blank_found b fs f x t finds)
   | inr e ↦ rw e (named_found b fs f x e finds)
 ]

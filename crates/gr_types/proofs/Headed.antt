@@ -1,4 +1,5 @@
 -- Headings that fit one after the other are those of functions that may stand together.
+use Rattle.std.proofs.lemmas.Bool.{cases_Bool}
 use Rattle.std.proofs.Common.{◌≡◌, ℕ, Bool, true, false, List, [], ◌∷◌, ◌++◌, refl, ap, sym, ◌∙◌, inl, inr, append_assoc, append-nil}
 use Rattle.std.specs.Prelude.{Option, Some, None, ◌&&◌}
 use Rattle.gr_scan.specs.declared.token.Place.{Place}
@@ -6,14 +7,13 @@ use Rattle.gr_tree.specs.Exprs.{WrittenType}
 use Rattle.gr_tree.specs.Statements.{Statements}
 use Rattle.gr_tree.specs.Files as files
 use Rattle.gr_tree.specs.Files.{Group}
-use Rattle.gr_types.specs.Types.{Ty}
-use Rattle.gr_types.specs.Scopes.{Signature, Sign, may_name}
-use Rattle.gr_types.specs.FileChecks.{parameter_names}
+use Rattle.gr_program.specs.Types.{Ty}
+use Rattle.gr_typing.specs.Scopes.{Signature, Sign, may_name}
+use Rattle.gr_typing.specs.FileChecks.{parameter_names}
 use Rattle.gr_types.specs.Finding.{◌>>=◌, where_true}
 use Rattle.gr_types.specs.FindingStatements.{written_of}
 use Rattle.gr_types.specs.FindingFiles.{types_in, signature_in, signatures_in}
 use Rattle.gr_types.specs.Outlines.{none_taken, take_groups, Outline, OutlineOf, name_fits, fits_main, Headed, headed, heading_in, headings_in}
-use Rattle.gr_types.proofs.Basics.{true_or_false}
 use Rattle.gr_types.proofs.TakenGroups.{groups_are, made}
 
 -- one heading
@@ -52,7 +52,7 @@ heading_is known (files.FunctionOf place name groups w body closing) =
     let f = files.FunctionOf place name groups w body closing in
     let v = written_of w in
     let may = may_name (parameter_names groups) in
-    elim (true_or_false (name_fits known name)) [
+    elim (cases_Bool (name_fits known name)) [
       | inl t ↦
           ap (λ b. where_true b groups >>= λ gs. take_groups none_taken gs >>= λ p. v >>= headed f name p) t
           ∙ ap (λ o. o >>= λ p. v >>= headed f name p) (groups_are groups) ∙ named known place closing groups name w body (types_in groups) v may t

@@ -1,4 +1,5 @@
 -- Tables of labels.
+use Rattle.std.proofs.lemmas.Bool.{cases_Bool}
 use Rattle.std.proofs.Common.{◌≡◌, ℕ, Bool, true, false, List, [], ◌∷◌, ◌++◌, map, refl, ap, sym, ◌∙◌, nat_eq, Bor, inl, inr, append_assoc, append-nil}
 use Rattle.std.specs.Prelude.{Option, Some, None, is_some, is_none, not, ◌&&◌, ◌||◌, if◌then◌else◌}
 use Rattle.indexmap.specs.IndexSet.{insert_key}
@@ -7,11 +8,11 @@ use Rattle.std.specs.List.{list_any, list_all}
 use Rattle.std.proofs.Math.Bool.{and_assoc, or-false, or-true, or_assoc}
 use Rattle.gr_tree.specs.declared.stmt.Clause as code_clause
 use Rattle.gr_tree.specs.declared.stmt.Clause.TheVariants as clauses
-use Rattle.gr_types.specs.Endings.{uses_in, uses_among, labels_in, labels_among}
+use Rattle.gr_typing.specs.Labels.{uses_in, uses_among, labels_in, labels_among}
 use Rattle.gr_types.specs.StatementViews.{clause_body, clauses_of}
-use Rattle.gr_types.specs.Names.{among, is_blank, are_distinct}
+use Rattle.gr_typing.specs.Names.{among, is_blank, are_distinct}
 use Rattle.gr_types.specs.LabelTables.{with_name, with_names, fit_after}
-use Rattle.gr_types.proofs.Basics.{true_or_false, among_push}
+use Rattle.gr_types.proofs.Basics.{among_push}
 
 pub among_keys : (ks : List (Bor (List ℕ))) (x : List ℕ) → list_any (λ k. pointwise nat_eq x k.now) ks ≡ among (map (λ k. k.now) ks) x
 among_keys [] x = refl
@@ -89,13 +90,13 @@ none_true None e = refl
 none_true (Some a) e = sym e
 
 known : (names : List (List ℕ)) (y x : List ℕ) → among names y ≡ true → among names x ≡ (among names x || pointwise nat_eq x y)
-known names y x e = elim (true_or_false (pointwise nat_eq x y)) [
+known names y x e = elim (cases_Bool (pointwise nat_eq x y)) [
   | inl t ↦ ap (among names) (same_text x y (sym t)) ∙ e ∙ sym (ap (λ b. among names x || b) t ∙ or-true (among names x))
   | inr f ↦ sym (ap (λ b. among names x || b) f ∙ or-false (among names x))
 ]
 
 among_one : (names : List (List ℕ)) (y x : List ℕ) → among (with_name names y) x ≡ (among names x || pointwise nat_eq x y)
-among_one names y x = elim (true_or_false (among names y)) [
+among_one names y x = elim (cases_Bool (among names y)) [
   | inl t ↦ rw t (known names y x t)
   | inr f ↦ rw f (among_push names y x)
 ]

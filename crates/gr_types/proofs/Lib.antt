@@ -20,9 +20,7 @@ pub mod NewNames
 pub mod Outlining
 pub mod ParameterScopes
 pub mod Reading
-pub mod Rows
 pub mod Running
-pub mod SameLists
 pub mod Scopes
 pub mod Settling
 pub mod Stepping

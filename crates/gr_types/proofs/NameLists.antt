@@ -4,7 +4,7 @@ use Rattle.std.specs.Prelude.{Vec, if◌then◌else◌}
 use Rattle.std.specs.Cmp.Lexicographic.{pointwise}
 use Rattle.indexmap.specs.IndexSet.{insert_key}
 use Rattle.gr_tree.specs.Exprs.{names_of}
-use Rattle.gr_types.specs.Names.{among, is_blank, are_distinct}
+use Rattle.gr_typing.specs.Names.{among, is_blank, are_distinct}
 use Rattle.gr_types.proofs.LabelNames.{inserted}
 
 pub front_names : (names : List (Vec ℕ Global)) (i : ℕ) (x : Vec ℕ Global) → i < length names → x ≡ get_or names i x → names_of (drop i names) ≡ x.items ∷ names_of (drop (i + 1) names)

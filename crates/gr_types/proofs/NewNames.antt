@@ -1,17 +1,18 @@
 -- Names that are declared one after another.
+use Rattle.std.proofs.lemmas.Bool.{cases_Bool}
 use Rattle.std.proofs.Common.{◌≡◌, ℕ, true, false, List, [], ◌∷◌, ◌++◌, length, refl, sym, true≢false, inl, inr, nat_eq}
 use Rattle.std.specs.Prelude.{Option, Some, None, is_some}
 use Rattle.std.specs.Cmp.Lexicographic.{pointwise}
-use Rattle.gr_types.specs.Types.{Ty}
-use Rattle.gr_types.specs.Names.{is_blank}
-use Rattle.gr_types.specs.Scopes.{Block, Scope, In, in_block, in_blocks, first_of, variable_named, declare, declared, number_of}
+use Rattle.gr_program.specs.Types.{Ty}
+use Rattle.gr_typing.specs.Names.{is_blank}
+use Rattle.gr_typing.specs.Scopes.{Block, Scope, In, in_block, in_blocks, first_of, variable_named, declare, declared, number_of}
 use Rattle.gr_types.specs.Finding.{◌>>=◌}
-use Rattle.gr_types.proofs.Basics.{true_or_false, same_name}
+use Rattle.gr_types.proofs.Basics.{same_name}
 
 -- a name that was declared stands for a variable
 in_pushed : (here : Block) (x : List ℕ) (n : ℕ) → is_some (in_block (here ++ ((x, n) ∷ [])) x) ≡ true
 in_pushed [] x n = rw (same_name x) refl
-in_pushed (e ∷ here) x n = elim (true_or_false (pointwise nat_eq x e.0)) [
+in_pushed (e ∷ here) x n = elim (cases_Bool (pointwise nat_eq x e.0)) [
   | inl t ↦ rw t refl
   | inr f ↦ rw f (in_pushed here x n)
 ]

@@ -9,11 +9,11 @@ use Rattle.gr_types.specs.declared.fault.Fault.TheVariants as faults
 use Rattle.gr_types.specs.declared.fault.CheckError.{CheckError}
 use Rattle.gr_types.specs.declared.fault.CheckError.TheVariants as errors
 use Rattle.gr_types.specs.declared.outlines.Outline as code_outline
-use Rattle.gr_types.specs.declared.program.Function as code_function
+use Rattle.gr_program.specs.declared.program.Function as code_function
 use Rattle.gr_scan.specs.declared.token.Place.{Place}
-use Rattle.gr_types.specs.Scopes.{Signature}
-use Rattle.gr_types.specs.Terms.{Function}
-use Rattle.gr_types.specs.Programs.{function_of, functions_of}
+use Rattle.gr_typing.specs.Scopes.{Signature}
+use Rattle.gr_program.specs.Programs.{Function}
+use Rattle.gr_program.specs.Views.{function_of, functions_of}
 use Rattle.gr_types.specs.Finding.{◌>>=◌}
 use Rattle.gr_types.specs.Checking.{Rejects, Denies, refused_at}
 use Rattle.gr_types.specs.Outlines.{Outline, Headed, heading_in, headings_in, finished, finished_all}

@@ -2,13 +2,13 @@
 use Rattle.std.proofs.Common.{◌≡◌, ℕ, true, List, [], ◌∷◌, ◌++◌, length, refl, ap, ◌∙◌, eqb}
 use Rattle.std.specs.Prelude.{Option, Some, None}
 use Rattle.std.proofs.Math.Dec.{eqb-suc-zero}
-use Rattle.gr_types.specs.declared.types.Type as code_type
-use Rattle.gr_types.specs.declared.program.Parameter.{Parameter}
+use Rattle.gr_program.specs.declared.types.Type as code_type
+use Rattle.gr_program.specs.declared.program.Parameter.{Parameter}
 use Rattle.gr_tree.specs.Statements.{optional}
-use Rattle.gr_types.specs.Scopes.{Scope, Sign, declared, number_of}
+use Rattle.gr_typing.specs.Scopes.{Scope, Sign, declared, number_of}
 use Rattle.gr_types.specs.FindingFiles.{is_bare}
-use Rattle.gr_types.specs.TypeViews.{ty_of, types_of}
-use Rattle.gr_types.specs.Programs.{parameter_of, parameters_of}
+use Rattle.gr_program.specs.TypeViews.{ty_of, types_of}
+use Rattle.gr_program.specs.Views.{parameter_of, parameters_of}
 use Rattle.gr_types.specs.Outlines.{Taken, may_take, taken_with, take}
 use Rattle.gr_types.proofs.Finds.{if_true}
 

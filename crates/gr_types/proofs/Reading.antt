@@ -3,16 +3,17 @@ use Rattle.std.proofs.Common.{◌≡◌, ℕ, Bool, true, false, List, [], ◌�
 use Rattle.std.specs.Prelude.{Option, Some, None, ◌&&◌, codes, Result, Ok, Err, IfOk, IfErr}
 use Rattle.gr_tree.specs.Files as files
 use Rattle.gr_tree.specs.Files.{FileTree, FileOf, Group}
-use Rattle.gr_types.specs.declared.program.Program as code_program
+use Rattle.gr_program.specs.declared.program.Program as code_program
 use Rattle.gr_types.specs.declared.fault.CheckError.{CheckError}
 use Rattle.gr_types.specs.declared.fault.CheckError.TheVariants as errors
-use Rattle.gr_types.specs.Terms.{ProgramIs}
-use Rattle.gr_types.specs.Programs as views
-use Rattle.gr_types.specs.Scopes.{Signature, Sign, function_in}
-use Rattle.gr_types.specs.Endings.{labels_fit}
-use Rattle.gr_types.specs.FileChecks.{ends_well, may_be_functions, ProgramOf}
+use Rattle.gr_program.specs.Programs.{ProgramIs}
+use Rattle.gr_program.specs.Views as views
+use Rattle.gr_program.specs.Order.{stands_in_order}
+use Rattle.gr_typing.specs.Scopes.{Signature, Sign, function_in}
+use Rattle.gr_typing.specs.Labels.{labels_fit}
+use Rattle.gr_typing.specs.FileChecks.{ends_well, may_be_functions, ProgramOf}
 use Rattle.gr_types.specs.Finding.{◌>>=◌, where_true, has_text}
-use Rattle.gr_types.specs.StatementChecks.{Within}
+use Rattle.gr_typing.specs.Contexts.{Within}
 use Rattle.gr_types.specs.FindingStatements.{body_in}
 use Rattle.gr_types.specs.FindingFiles.{signature_in, signatures_in, function_checked, functions_in, checked_function, main_in, program_of, checked_signatures, program_in}
 use Rattle.gr_types.specs.Refusals.{HasNoProgram}
@@ -33,7 +34,7 @@ by_tests (Some a) true well f = refl
 finished_is : (all : List Signature) (f : files.Function) (g : Signature) → finished all (outlined f g) ≡ function_checked all f g
 unfolding finished function_checked
 finished_is all (files.FunctionOf place name groups w body closing) (Sign y ts r) =
-    by_tests (body_in (Within all r []) (made groups ts).1 body) (labels_fit body) (ends_well r body) (λ b. Some (checked_function name (made groups ts).0 r closing.line b))
+    by_tests (body_in (Within all r []) (made groups ts).1 body) (labels_fit body) (ends_well r body) (λ b. where_true (stands_in_order place.start b.0 closing.start) b >>= λ b. Some (checked_function name (made groups ts).0 r closing b))
 
 bodies_are : (all : List Signature) (fs : List files.Function) (own : List Signature) → signatures_in fs ≡ Some own → finished_all all (outlined_all fs own) ≡ functions_in all fs own
 unfolding signatures_in finished_all functions_in

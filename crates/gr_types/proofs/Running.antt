@@ -5,10 +5,10 @@ use Rattle.std.proofs.lemmas.List.{drop_all}
 use Rattle.gr_tree.specs.Exprs.{tree_of, trees_of}
 use Rattle.gr_tree.specs.declared.expr.Expr as code_expr
 use Rattle.gr_tree.specs.declared.expr.Expr.TheVariants as exprs
-use Rattle.gr_types.specs.declared.program.Printed as code_printed
-use Rattle.gr_types.specs.Terms.{Printed}
-use Rattle.gr_types.specs.Scopes.{Scope, Signature}
-use Rattle.gr_types.specs.Programs.{printed_of, prints_of}
+use Rattle.gr_program.specs.declared.program.Printed as code_printed
+use Rattle.gr_program.specs.Programs.{Printed}
+use Rattle.gr_typing.specs.Scopes.{Scope, Signature}
+use Rattle.gr_program.specs.Views.{printed_of, prints_of}
 use Rattle.gr_types.specs.Finding.{◌>>=◌, only_in}
 use Rattle.gr_types.specs.FindingStatements.{printed_in, run_call, runs_in}
 use Rattle.gr_types.specs.Evaluating.{printed_one}

@@ -1,21 +1,21 @@
 -- Look-ups in tables are look-ups in a scope.
+use Rattle.std.proofs.lemmas.Bool.{cases_Bool}
 use Rattle.std.proofs.Common.{◌≡◌, ℕ, zero, suc, true, false, List, [], ◌∷◌, ◌++◌, length, get_or, ◌<◌, ◌≤◌, refl, ap, sym, ◌∙◌, true≢false, arith, inl, inr, nat_eq, Global}
 use Rattle.std.specs.Prelude.{Option, Some, None, is_some, Vec}
 use Rattle.std.specs.Cmp.Lexicographic.{pointwise}
 use Rattle.std.specs.Map.{lookup}
 use Rattle.indexmap.specs.IndexMap.{insert_entry}
 use Rattle.gr_types.specs.declared.names.NameTable.{NameTable}
-use Rattle.gr_types.specs.declared.program.Variable.{Variable}
-use Rattle.gr_types.specs.Terms.{Declared, Named}
-use Rattle.gr_types.specs.Names.{is_blank}
-use Rattle.gr_types.specs.Scopes.{Block, In, in_block, in_blocks, first_of, numbered, type_of, declared, last_block, but_last}
-use Rattle.gr_types.specs.TypeViews.{ty_of, variable_of, declared_of}
+use Rattle.gr_program.specs.declared.program.Variable.{Variable}
+use Rattle.gr_program.specs.Programs.{Declared, Named}
+use Rattle.gr_typing.specs.Names.{is_blank}
+use Rattle.gr_typing.specs.Scopes.{Block, In, in_block, in_blocks, first_of, numbered, type_of, declared, last_block, but_last}
+use Rattle.gr_program.specs.TypeViews.{ty_of, variable_of, declared_of}
 use Rattle.gr_types.specs.Tables.{entries_of, block_of, blocks_of}
-use Rattle.gr_types.proofs.Basics.{true_or_false}
 
 pub looked_up : (es : List (Vec ℕ Global × ℕ)) (x : List ℕ) → lookup (λ k. pointwise nat_eq x k.items) es ≡ in_block (entries_of es) x
 looked_up [] x = refl
-looked_up (e ∷ es) x = elim (true_or_false (pointwise nat_eq x e.0.items)) [
+looked_up (e ∷ es) x = elim (cases_Bool (pointwise nat_eq x e.0.items)) [
   | inl t ↦ rw t refl
   | inr f ↦ rw f (looked_up es x)
 ]
@@ -25,7 +25,7 @@ some_none n e = cc
 
 pub entry_inserted : (es : List (Vec ℕ Global × ℕ)) (k : Vec ℕ Global) (v : ℕ) → in_block (entries_of es) k.items ≡ None → entries_of (insert_entry (λ a b. pointwise nat_eq a.items b.items) es k v) ≡ entries_of es ++ ((k.items, v) ∷ [])
 entry_inserted [] k v h = refl
-entry_inserted (e ∷ es) k v h = elim (true_or_false (pointwise nat_eq k.items e.0.items)) [
+entry_inserted (e ∷ es) k v h = elim (cases_Bool (pointwise nat_eq k.items e.0.items)) [
   | inl t ↦ absurd (some_none e.1 (rw t at h))
   | inr f ↦ rw f (ap (λ r. (e.0.items, e.1) ∷ r) (entry_inserted es k v (rw f at h)))
 ]

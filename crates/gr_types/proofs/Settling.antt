@@ -3,16 +3,15 @@ use Rattle.std.proofs.Common.{◌≡◌, ℕ, Bool, true, false, List, [], ◌�
 use Rattle.std.specs.Prelude.{Some, is_some, not, ◌&&◌, ◌||◌}
 use Rattle.std.specs.Cmp.Lexicographic.{pointwise}
 use Rattle.std.specs.List.{list_all}
-use Rattle.std.proofs.lemmas.Bool.{not-true}
-use Rattle.gr_types.specs.Types.{Ty}
-use Rattle.gr_types.specs.Terms.{Term, Terms}
-use Rattle.gr_types.specs.Names.{among, predeclared, is_blank, are_distinct}
-use Rattle.gr_types.specs.Scopes.{Block, Scope, In, in_block, is_here, is_old, is_free, declared}
-use Rattle.gr_types.specs.Values.{Value}
-use Rattle.gr_types.specs.StatementChecks.{may_define}
+use Rattle.std.proofs.lemmas.Bool.{not-true, cases_Bool}
+use Rattle.gr_program.specs.Types.{Ty}
+use Rattle.gr_program.specs.Programs.{Expr, Exprs}
+use Rattle.gr_typing.specs.Names.{among, predeclared, is_blank, are_distinct}
+use Rattle.gr_typing.specs.Scopes.{Block, Scope, In, in_block, is_here, is_old, is_free, declared}
+use Rattle.gr_typing.specs.Values.{Value}
+use Rattle.gr_typing.specs.Assignments.{may_define}
 use Rattle.gr_types.specs.Finding.{◌>>=◌, where_true, typed}
 use Rattle.gr_types.specs.Taking.{target, fit, accepts, Taker, Old, New, old_taker, taker, takers, old_share, new_share, share, with_share, shares, settled, may_settle, may_settle_all}
-use Rattle.gr_types.proofs.Basics.{true_or_false}
 use Rattle.gr_types.proofs.Finds.{some_inj, none_some, on_some, on_true}
 use Rattle.gr_types.proofs.FindsSimple.{on_cond}
 
@@ -58,13 +57,13 @@ takers_suit s (x ∷ xs) (t ∷ ts) ks q = on_some (taker s x t) (λ k. takers s
     on_some (takers s xs ts) (λ ks. Some (k ∷ ks)) ks q (λ js ijs q.
     subst (λ ks. all_suit s (x ∷ xs) ks ≡ true) (some_inj q) (both (suits s x k) (all_suit s xs js) (taker_suits s x t k ik) (takers_suit s xs ts js ijs))))
 
-share_suits : (s : Scope) (x : List ℕ) (v : Value) (p : Taker × Term) → share s x v ≡ Some p → suits s x p.0 ≡ true
+share_suits : (s : Scope) (x : List ℕ) (v : Value) (p : Taker × Expr) → share s x v ≡ Some p → suits s x p.0 ≡ true
 share_suits s x v p q = on_cond (is_old s x) (old_share s x v) (typed v >>= new_share) p q
     (λ old q. on_some (target s x) (λ k. fit s k v >>= λ r. Some (Old k, r)) p q (λ k ik q.
     on_some (fit s k v) (λ r. Some (Old k, r)) p q (λ r ir q. subst (λ p. suits s x p.0 ≡ true) (some_inj q) refl)))
     (λ new q. on_some (typed v) new_share p q (λ w iw q. subst (λ p. suits s x p.0 ≡ true) (some_inj q) (new_suits s x w.0 new)))
 
-pub shares_suit : (s : Scope) (xs : List (List ℕ)) (vs : List Value) (p : List Taker × Terms) → shares s xs vs ≡ Some p → all_suit s xs p.0 ≡ true
+pub shares_suit : (s : Scope) (xs : List (List ℕ)) (vs : List Value) (p : List Taker × Exprs) → shares s xs vs ≡ Some p → all_suit s xs p.0 ≡ true
 shares_suit s [] vs p q = refl
 shares_suit s (x ∷ xs) [] p q = none_some q
 shares_suit s (x ∷ xs) (v ∷ vs) p q = on_some (share s x v) (λ a. shares s xs vs >>= λ rest. Some (with_share a rest)) p q (λ a ia q.
@@ -81,7 +80,7 @@ among_pushed (z ∷ before) x y e =
 
 still_absent : (here : Block) (x y : List ℕ) (n : ℕ) → is_some (in_block here y) ≡ false → pointwise nat_eq y x ≡ false → is_some (in_block (here ++ ((x, n) ∷ [])) y) ≡ false
 still_absent [] x y n e f = rw f refl
-still_absent (entry ∷ here) x y n e f = elim (true_or_false (pointwise nat_eq y entry.0)) [
+still_absent (entry ∷ here) x y n e f = elim (cases_Bool (pointwise nat_eq y entry.0)) [
   | inl t ↦ absurd (true≢false (rw t at e))
   | inr g ↦ rw g (still_absent here x y n (rw g at e) f)
 ]
@@ -105,7 +104,7 @@ new_free : (m : Scope) (x : List ℕ) → is_blank x ≡ false → is_here m x �
 new_free m x b h = rw (b, h) refl
 
 not_old : (s : Scope) (x : List ℕ) → not (is_old s x) ≡ true → (is_blank x ≡ false) × (is_here s x ≡ false)
-not_old s x e = elim (true_or_false (is_blank x)) [
+not_old s x e = elim (cases_Bool (is_blank x)) [
   | inl b ↦ absurd (true≢false (sym (rw b at e)))
   | inr b ↦ (b, not-true (is_here s x) (rw b at e))
 ]
@@ -121,7 +120,7 @@ distinct_blank before xs x b d = rw b at d
 settles : (s m : Scope) (before xs : List (List ℕ)) (ks : List Taker) → are_distinct before xs ≡ true → Follows s m before → all_suit s xs ks ≡ true → may_settle_all xs ks m ≡ true
 settles s m before [] ks d f q = refl
 settles s m before (x ∷ xs) [] d f q = refl
-settles s m before (x ∷ xs) (Old k ∷ ks) d f q = elim (true_or_false (is_blank x)) [
+settles s m before (x ∷ xs) (Old k ∷ ks) d f q = elim (cases_Bool (is_blank x)) [
   | inl b ↦ settles s m before xs ks (distinct_blank before xs x b d) f q
   | inr b ↦ settles s m (before ++ (x ∷ [])) xs ks (distinct_named before xs x b d).1 (follows_on s m before x f) q
 ]
@@ -142,7 +141,7 @@ settles_all s xs ks e q = settles s s [] xs ks (distinct_of s xs e) (λ y n h. h
 pub settles_by : (s : Scope) (xs : List (List ℕ)) (ts : List Ty) (ks : List Taker) → may_define s xs ≡ true → takers s xs ts ≡ Some ks → may_settle_all xs ks s ≡ true
 settles_by s xs ts ks e q = settles_all s xs ks e (takers_suit s xs ts ks q)
 
-pub settles_values : (s : Scope) (xs : List (List ℕ)) (vs : List Value) (p : List Taker × Terms) → may_define s xs ≡ true → shares s xs vs ≡ Some p → may_settle_all xs p.0 s ≡ true
+pub settles_values : (s : Scope) (xs : List (List ℕ)) (vs : List Value) (p : List Taker × Exprs) → may_define s xs ≡ true → shares s xs vs ≡ Some p → may_settle_all xs p.0 s ≡ true
 settles_values s xs vs p e q = settles_all s xs p.0 e (shares_suit s xs vs p q)
 
 -- two names

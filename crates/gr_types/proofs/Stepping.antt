@@ -2,7 +2,6 @@
 use Rattle.std.proofs.Common.{◌≡◌, ℕ, suc, ◌+◌, ◌<◌, ◌≤◌, Bool, true, false, List, [], ◌∷◌, ◌++◌, length, get_or, drop, refl, ap, sym, ◌∙◌, Global}
 use Rattle.std.specs.Prelude.{Option, Some, None, Vec, Box}
 use Rattle.std.proofs.lemmas.List.{drop_all}
-use Rattle.std.proofs.Math.Path.{fun_ext}
 use Rattle.gr_tree.specs.declared.stmt.Stmt.{Stmt}
 use Rattle.gr_tree.specs.declared.stmt.Clause.{Clause}
 use Rattle.gr_tree.specs.declared.stmt.Clause.TheVariants as clauses
@@ -13,57 +12,47 @@ use Rattle.gr_tree.specs.declared.stmt.Communication.{Communication}
 use Rattle.gr_scan.specs.declared.token.Place.{Place}
 use Rattle.gr_tree.specs.Statements as statements
 use Rattle.gr_tree.specs.Statements.{Statement, Statements, Clauses, comm_of, for_of, if_of, row_statements, statement_of, statements_of}
-use Rattle.gr_types.specs.declared.program.Literal.{Literal}
-use Rattle.gr_types.specs.declared.program.Term as code_term
-use Rattle.gr_types.specs.declared.program.Step as code_step
-use Rattle.gr_types.specs.declared.program.Case as code_case
-use Rattle.gr_types.specs.declared.program.Case.TheVariants as cases
+use Rattle.gr_program.specs.declared.program.Stmt as checked_stmt
+use Rattle.gr_program.specs.declared.program.Case as code_case
 use Rattle.gr_types.specs.declared.fault.CheckError.{CheckError}
 use Rattle.gr_types.specs.declared.fault.CheckError.TheVariants as errors
-use Rattle.gr_types.specs.Terms as pure
-use Rattle.gr_types.specs.Terms.{Term, Opening, Steps, stop, then, joined, Cases, no_case}
-use Rattle.gr_types.specs.TypeViews.{literal_of}
-use Rattle.gr_types.specs.Programs.{term_of, step_of, steps_of, case_on, cases_of}
-use Rattle.gr_types.specs.Scopes.{Scope, entered, left}
+use Rattle.gr_program.specs.Programs as pure
+use Rattle.gr_program.specs.Programs.{Expr, Opening, Stmts, stop, then, joined, Cases, no_case}
+use Rattle.gr_program.specs.Views.{stmt_of, stmts_of, case_on, cases_of}
+use Rattle.gr_typing.specs.Scopes.{Scope, entered, left}
 use Rattle.gr_types.specs.StatementViews.{clauses_of}
-use Rattle.gr_types.specs.StatementChecks.{Choice, Context, Within, functions, inside, defaults, at_most_one}
+use Rattle.gr_typing.specs.Contexts.{Choice, Context, Within, functions, inside}
+use Rattle.gr_typing.specs.Statements.{defaults, at_most_one}
 use Rattle.gr_types.specs.Checking.{Denies}
 use Rattle.gr_types.specs.Finding.{◌>>=◌, where_true}
-use Rattle.gr_types.specs.FindingStatements.{Stepped, alone, Opened, comm_in, if_head_in, statement_in, body_in, clauses_in}
-use Rattle.gr_types.specs.Stepping.{only_step, block_in, Tested, tested_in, if_in, else_in, else_if_in, for_in, select_in, Cased, default_in, case_in, clause_in, case_before, steps_before, with_cases, cases_before}
+use Rattle.gr_types.specs.FindingStatements.{Checked, alone, Opened, comm_in, if_head_in, statement_in, body_in, clauses_in}
+use Rattle.gr_types.specs.StatementParts.{only_stmt, block_in, Tested, tested_in, if_in, else_in, else_if_in, for_in, select_in, Cased, default_in, case_in, clause_in, case_before, stmts_before, with_cases, cases_before}
 use Rattle.gr_types.proofs.Basics.{bound_twice}
-use Rattle.gr_types.proofs.Rows.{default_is, send_is, receive_is, steps_push}
 use Rattle.gr_types.proofs.TreeRows.{drop_first, drop_clause, held, block_is, if_is, else_is, else_if_is, for_is, select_is}
 
--- the cases that hold steps
-pub default_made : (v : Vec code_step.Step Global) → case_on (cases.Default v) ≡ pure.default_case (steps_of v.items)
-default_made v = fun_ext (default_is v)
-
-pub send_made : (channel value : code_term.Term) (v : Vec code_step.Step Global) → case_on (cases.Send channel value v) ≡ pure.send_case (term_of channel) (term_of value) (steps_of v.items)
-send_made channel value v = fun_ext (send_is channel value v)
-
-pub receive_made : (targets : Vec (Option ℕ) Global) (channel : code_term.Term) (literal : Literal) (v : Vec code_step.Step Global) → case_on (cases.Receive targets channel literal v) ≡ pure.receive_case targets.items (term_of channel) (literal_of literal) (steps_of v.items)
-receive_made targets channel literal v = fun_ext (receive_is targets channel literal v)
-
 -- a body
-after_step : (o : Option Stepped) (ts : List code_step.Step) (t : code_step.Step) → steps_before (ts ++ (t ∷ [])) o ≡ steps_before ts (o >>= λ b. Some (joined (only_step t) b.0, b.1))
-after_step (Some b) ts t = ap (λ ss. Some (ss, b.1)) (steps_push ts t b.0)
+stmts_push : (ss : List checked_stmt.Stmt) (s : checked_stmt.Stmt) (rest : Stmts) → joined (stmts_of (ss ++ (s ∷ []))) rest ≡ joined (stmts_of ss) (then (stmt_of s) rest)
+stmts_push [] s rest = refl
+stmts_push (t ∷ ss) s rest = ap ((then) (stmt_of t)) (stmts_push ss s rest)
+
+after_step : (o : Option Checked) (ts : List checked_stmt.Stmt) (t : checked_stmt.Stmt) → stmts_before (ts ++ (t ∷ [])) o ≡ stmts_before ts (o >>= λ b. Some (joined (only_stmt t) b.0, b.1))
+after_step (Some b) ts t = ap (λ ss. Some (ss, b.1)) (stmts_push ts t b.0)
 after_step None ts t = refl
 
-after_none : (o : Option Stepped) (ts : List code_step.Step) → steps_before ts o ≡ steps_before ts (o >>= λ b. Some (joined stop b.0, b.1))
+after_none : (o : Option Checked) (ts : List checked_stmt.Stmt) → stmts_before ts o ≡ stmts_before ts (o >>= λ b. Some (joined stop b.0, b.1))
 after_none (Some b) ts = refl
 after_none None ts = refl
 
-joined_stop : (ts : List code_step.Step) → joined (steps_of ts) stop ≡ steps_of ts
+joined_stop : (ts : List checked_stmt.Stmt) → joined (stmts_of ts) stop ≡ stmts_of ts
 joined_stop [] = refl
-joined_stop (t ∷ ts) = ap ((then) (step_of t)) (joined_stop ts)
+joined_stop (t ∷ ts) = ap ((then) (stmt_of t)) (joined_stop ts)
 
-nothing_before : (o : Option Stepped) → steps_before [] o ≡ o
+nothing_before : (o : Option Checked) → stmts_before [] o ≡ o
 nothing_before (Some b) = refl
 nothing_before None = refl
 
-pub no_steps : (ts : List code_step.Step) (o : Option Stepped) → ts ≡ [] → steps_before ts o ≡ o
-no_steps ts o e = ap (λ ts. steps_before ts o) e ∙ nothing_before o
+pub no_steps : (ts : List checked_stmt.Stmt) (o : Option Checked) → ts ≡ [] → stmts_before ts o ≡ o
+no_steps ts o e = ap (λ ts. stmts_before ts o) e ∙ nothing_before o
 
 first_in : (c : Context) (s : Scope) (x : Statement) (others : Statements) → body_in c s ((statements.then) x others) ≡ (statement_in c s None x >>= λ a. body_in c a.1 others >>= λ b. Some (joined a.0 b.0, b.1))
 unfolding body_in
@@ -73,30 +62,30 @@ end_in : (c : Context) (s : Scope) → body_in c s statements.end ≡ Some (stop
 unfolding body_in
 end_in c s = refl
 
-module _ (c : Context) (body : List Stmt) (i : ℕ) (x : Stmt) (ts : List code_step.Step) (s : Scope) (whole : Option Stepped) (lt : i < length body) (is : x ≡ get_or body i x) (so_far : steps_before ts (body_in c s (statements_of (drop i body))) ≡ whole) where
-  turn : steps_before ts (statement_in c s None (statement_of x) >>= λ a. body_in c a.1 (statements_of (drop (i + 1) body)) >>= λ b. Some (joined a.0 b.0, b.1)) ≡ whole
+module _ (c : Context) (body : List Stmt) (i : ℕ) (x : Stmt) (ts : List checked_stmt.Stmt) (s : Scope) (whole : Option Checked) (lt : i < length body) (is : x ≡ get_or body i x) (so_far : stmts_before ts (body_in c s (statements_of (drop i body))) ≡ whole) where
+  turn : stmts_before ts (statement_in c s None (statement_of x) >>= λ a. body_in c a.1 (statements_of (drop (i + 1) body)) >>= λ b. Some (joined a.0 b.0, b.1)) ≡ whole
   turn =
       let others = statements_of (drop (i + 1) body) in
-      sym (ap (λ l. steps_before ts (body_in c s l)) (drop_first body i x lt ∙ ap (λ y. (statements.then) (statement_of y) others) (sym is)) ∙ ap (steps_before ts) (first_in c s (statement_of x) others)) ∙ so_far
+      sym (ap (λ l. stmts_before ts (body_in c s l)) (drop_first body i x lt ∙ ap (λ y. (statements.then) (statement_of y) others) (sym is)) ∙ ap (stmts_before ts) (first_in c s (statement_of x) others)) ∙ so_far
 
-  turn_by : (o : Option Stepped) → statement_in c s None (statement_of x) ≡ o → steps_before ts (o >>= λ a. body_in c a.1 (statements_of (drop (i + 1) body)) >>= λ b. Some (joined a.0 b.0, b.1)) ≡ whole
-  turn_by o e = sym (ap (λ o. steps_before ts (o >>= λ a. body_in c a.1 (statements_of (drop (i + 1) body)) >>= λ b. Some (joined a.0 b.0, b.1))) e) ∙ turn
+  turn_by : (o : Option Checked) → statement_in c s None (statement_of x) ≡ o → stmts_before ts (o >>= λ a. body_in c a.1 (statements_of (drop (i + 1) body)) >>= λ b. Some (joined a.0 b.0, b.1)) ≡ whole
+  turn_by o e = sym (ap (λ o. stmts_before ts (o >>= λ a. body_in c a.1 (statements_of (drop (i + 1) body)) >>= λ b. Some (joined a.0 b.0, b.1))) e) ∙ turn
 
-  pub step_on : (t : code_step.Step) (new : List code_step.Step) (u : Scope) → statement_in c s None (statement_of x) ≡ Some (only_step t, u) → new ≡ ts ++ (t ∷ []) → steps_before new (body_in c u (statements_of (drop (i + 1) body))) ≡ whole
+  pub step_on : (t : checked_stmt.Stmt) (new : List checked_stmt.Stmt) (u : Scope) → statement_in c s None (statement_of x) ≡ Some (only_stmt t, u) → new ≡ ts ++ (t ∷ []) → stmts_before new (body_in c u (statements_of (drop (i + 1) body))) ≡ whole
   step_on t new u did n =
       let rest = body_in c u (statements_of (drop (i + 1) body)) in
-      ap (λ l. steps_before l rest) n ∙ after_step rest ts t ∙ turn_by (Some (only_step t, u)) did
+      ap (λ l. stmts_before l rest) n ∙ after_step rest ts t ∙ turn_by (Some (only_stmt t, u)) did
 
-  pub none_on : (u : Scope) → statement_in c s None (statement_of x) ≡ Some (stop, u) → steps_before ts (body_in c u (statements_of (drop (i + 1) body))) ≡ whole
+  pub none_on : (u : Scope) → statement_in c s None (statement_of x) ≡ Some (stop, u) → stmts_before ts (body_in c u (statements_of (drop (i + 1) body))) ≡ whole
   none_on u did = after_none (body_in c u (statements_of (drop (i + 1) body))) ts ∙ turn_by (Some (stop, u)) did
 
   pub stopped : (e : CheckError) → Denies e (statement_in c s None (statement_of x)) → Denies e whole
   stopped (errors.Refused code at) none = sym (turn_by None none)
   stopped errors.Memory none = tt
 
-pub all_steps : (c : Context) (body : List Stmt) (i : ℕ) (ts : List code_step.Step) (s : Scope) (whole : Option Stepped) → length body ≤ i → steps_before ts (body_in c s (statements_of (drop i body))) ≡ whole → whole ≡ Some (steps_of ts, s)
+pub all_steps : (c : Context) (body : List Stmt) (i : ℕ) (ts : List checked_stmt.Stmt) (s : Scope) (whole : Option Checked) → length body ≤ i → stmts_before ts (body_in c s (statements_of (drop i body))) ≡ whole → whole ≡ Some (stmts_of ts, s)
 all_steps c body i ts s whole le so_far =
-    sym so_far ∙ ap (λ l. steps_before ts (body_in c s (statements_of l))) (drop_all i body le) ∙ ap (steps_before ts) (end_in c s) ∙ ap (λ ss. Some (ss, s)) (joined_stop ts)
+    sym so_far ∙ ap (λ l. stmts_before ts (body_in c s (statements_of l))) (drop_all i body le) ∙ ap (stmts_before ts) (end_in c s) ∙ ap (λ ss. Some (ss, s)) (joined_stop ts)
 
 -- clauses
 cases_push : (ks : List code_case.Case) (k : code_case.Case) (rest : Cases) → with_cases (ks ++ (k ∷ [])) rest ≡ with_cases ks (case_on k rest)
@@ -160,7 +149,7 @@ pub case_as : (c : Context) (s : Scope) (x : Clause) (communication : Communicat
 case_as c s x communication v l is same =
     ap (clause_in c s) is ∙ ap (case_in c s (comm_of communication)) (held v) ∙ ap (λ l. case_in c s (comm_of communication) (statements_of l)) (sym same)
 
-pub default_done : (c : Context) (s m u n : Scope) (body : Statements) (ss : Steps) (k : Cases → Cases) → m ≡ entered s → body_in c m body ≡ Some (ss, u) → k ≡ pure.default_case ss → n ≡ left u → default_in c s body ≡ Some (k, n)
+pub default_done : (c : Context) (s m u n : Scope) (body : Statements) (ss : Stmts) (k : Cases → Cases) → m ≡ entered s → body_in c m body ≡ Some (ss, u) → k ≡ pure.default_case ss → n ≡ left u → default_in c s body ≡ Some (k, n)
 default_done c s m u n body ss k inner gives made outer =
     sym (ap (λ m. body_in c m body >>= λ b. Some (pure.default_case b.0, left b.1)) inner) ∙ ap (λ o. o >>= λ b. Some (pure.default_case b.0, left b.1)) gives ∙ ap (λ k. Some (k, left u)) (sym made) ∙ ap (λ n. Some (k, n)) (sym outer)
 
@@ -170,7 +159,7 @@ counted true n = suc n
 counted false n = n
 
 -- what follows an if's block
-tested_twice : {A : Type 0} (c : Context) (body : Statements) (o : Option ((Option Opening × Term) × Scope)) (g : Tested × Scope → Option A) → ((o >>= λ h. body_in c (entered h.1) body >>= λ b. Some ((h.0, b.0), left b.1)) >>= g) ≡ (o >>= λ h. body_in c (entered h.1) body >>= λ b. g ((h.0, b.0), left b.1))
+tested_twice : {A : Type 0} (c : Context) (body : Statements) (o : Option ((Option Opening × Expr) × Scope)) (g : Tested × Scope → Option A) → ((o >>= λ h. body_in c (entered h.1) body >>= λ b. Some ((h.0, b.0), left b.1)) >>= g) ≡ (o >>= λ h. body_in c (entered h.1) body >>= λ b. g ((h.0, b.0), left b.1))
 tested_twice c body (Some h) g = bound_twice (body_in c (entered h.1) body) (λ b. Some ((h.0, b.0), left b.1)) g
 tested_twice c body None g = refl
 
@@ -195,21 +184,21 @@ module _ (c : Context) (s : Scope) (label : Option (List ℕ)) (x : Stmt) (p : P
   unfolding statement_in
   if_as h v l is same =
       told (stmts.If p h v) (statements.If p (if_of h) (statements_of v.items)) is (if_is p h v) ∙ ap (λ l. statement_in c s label (statements.If p (if_of h) (statements_of l))) (sym same)
-      ∙ sym (after_test c s (if_of h) (statements_of l) (λ t. alone (pure.If p.line t.0.0.0 t.0.0.1 t.0.1 stop) (left t.1)))
+      ∙ sym (after_test c s (if_of h) (statements_of l) (λ t. alone (pure.If p t.0.0.0 t.0.0.1 t.0.1 stop) (left t.1)))
 
-  pub else_as : (h : IfHead) (v w : Vec Stmt Global) (l m : List Stmt) → x ≡ stmts.IfElse p h v w → l ≡ v.items → m ≡ w.items → statement_in c s label (statement_of x) ≡ (tested_in c s (if_of h) (statements_of l) >>= λ t. else_in c p.line (statements_of m) t.0 t.1)
+  pub else_as : (h : IfHead) (v w : Vec Stmt Global) (l m : List Stmt) → x ≡ stmts.IfElse p h v w → l ≡ v.items → m ≡ w.items → statement_in c s label (statement_of x) ≡ (tested_in c s (if_of h) (statements_of l) >>= λ t. else_in c p (statements_of m) t.0 t.1)
   unfolding statement_in
   else_as h v w l m is same other =
       told (stmts.IfElse p h v w) (statements.IfElse p (if_of h) (statements_of v.items) (statements_of w.items)) is (else_is p h v w) ∙ ap (λ l. statement_in c s label (statements.IfElse p (if_of h) (statements_of l) (statements_of w.items))) (sym same)
       ∙ ap (λ m. statement_in c s label (statements.IfElse p (if_of h) (statements_of l) (statements_of m))) (sym other)
-      ∙ sym (after_test c s (if_of h) (statements_of l) (λ t. else_in c p.line (statements_of m) t.0 t.1))
+      ∙ sym (after_test c s (if_of h) (statements_of l) (λ t. else_in c p (statements_of m) t.0 t.1))
 
-  pub else_if_as : (h : IfHead) (v : Vec Stmt Global) (y : Box Stmt Global) (l : List Stmt) (z : Stmt) → x ≡ stmts.IfElseIf p h v y → l ≡ v.items → z ≡ y.value → statement_in c s label (statement_of x) ≡ (tested_in c s (if_of h) (statements_of l) >>= λ t. else_if_in c p.line (statement_of z) t.0 t.1)
+  pub else_if_as : (h : IfHead) (v : Vec Stmt Global) (y : Box Stmt Global) (l : List Stmt) (z : Stmt) → x ≡ stmts.IfElseIf p h v y → l ≡ v.items → z ≡ y.value → statement_in c s label (statement_of x) ≡ (tested_in c s (if_of h) (statements_of l) >>= λ t. else_if_in c p (statement_of z) t.0 t.1)
   unfolding statement_in
   else_if_as h v y l z is same other =
       told (stmts.IfElseIf p h v y) (statements.IfElseIf p (if_of h) (statements_of v.items) (statement_of y.value)) is (else_if_is p h v y) ∙ ap (λ l. statement_in c s label (statements.IfElseIf p (if_of h) (statements_of l) (statement_of y.value))) (sym same)
       ∙ ap (λ z. statement_in c s label (statements.IfElseIf p (if_of h) (statements_of l) (statement_of z))) (sym other)
-      ∙ sym (after_test c s (if_of h) (statements_of l) (λ t. else_if_in c p.line (statement_of z) t.0 t.1))
+      ∙ sym (after_test c s (if_of h) (statements_of l) (λ t. else_if_in c p (statement_of z) t.0 t.1))
 
   pub for_as : (h : ForHead) (v : Vec Stmt Global) (l : List Stmt) → x ≡ stmts.For p h v → l ≡ v.items → statement_in c s label (statement_of x) ≡ for_in c s label p (for_of h) (statements_of l)
   for_as h v l is same =
@@ -241,5 +230,5 @@ instead errors.Memory r o kept none = rw (kept refl) tt
 pub select_refused : (c d : Context) (s : Scope) (label : Option (List ℕ)) (p : Place) (all : Clauses) (e r : CheckError) → at_most_one (defaults all) ≡ true → d ≡ inside (Choice label) c → (e ≡ errors.Memory → r ≡ errors.Memory) → Denies e (clauses_in d s all) → Denies r (select_in c s label p all)
 select_refused c d s label p all e r one within kept none =
     let o = select_in c s label p all in
-    let same = ap (λ b. where_true b s >>= λ s. clauses_in (inside (Choice label) c) s all >>= λ k. alone (pure.Select p.line k.0) k.1) one ∙ sym (ap (λ d. clauses_in d s all >>= λ k. alone (pure.Select p.line k.0) k.1) within) in
-    instead e r o kept (denied_first e o (clauses_in d s all) (λ k. alone (pure.Select p.line k.0) k.1) same none)
+    let same = ap (λ b. where_true b s >>= λ s. clauses_in (inside (Choice label) c) s all >>= λ k. alone (pure.Select p k.0) k.1) one ∙ sym (ap (λ d. clauses_in d s all >>= λ k. alone (pure.Select p k.0) k.1) within) in
+    instead e r o kept (denied_first e o (clauses_in d s all) (λ k. alone (pure.Select p k.0) k.1) same none)

@@ -1,4 +1,5 @@
 -- Parameters that are taken one after the other are those of the judgement.
+use Rattle.std.proofs.lemmas.Bool.{cases_Bool}
 use Rattle.std.proofs.Common.{◌≡◌, ℕ, suc, Bool, true, false, List, [], ◌∷◌, ◌++◌, length, refl, ap, sym, ◌∙◌, arith, inl, inr, nat_eq, append_assoc, append-nil, cond}
 use Rattle.std.specs.Prelude.{Option, Some, None, not, ◌&&◌, ◌||◌, is_some}
 use Rattle.std.specs.List.{list_all}
@@ -6,15 +7,16 @@ use Rattle.std.specs.Cmp.Lexicographic.{pointwise}
 use Rattle.std.proofs.Math.Path.{fun_ext}
 use Rattle.std.proofs.Math.Bool.{and-false}
 use Rattle.gr_tree.specs.Files.{Group, GroupOf}
-use Rattle.gr_types.specs.Types.{Ty, type_written}
-use Rattle.gr_types.specs.Terms.{Declared, Named, Parameter}
-use Rattle.gr_types.specs.Names.{among, predeclared, is_blank, are_distinct}
-use Rattle.gr_types.specs.Scopes.{Block, Scope, In, in_block, first_of, is_here, declared, may_name}
-use Rattle.gr_types.specs.FileChecks.{parameter_names, each, scope_with, parameters_with, empty_scope}
+use Rattle.gr_program.specs.Types.{Ty}
+use Rattle.gr_typing.specs.Types.{type_written}
+use Rattle.gr_program.specs.Programs.{Declared, Named, Parameter}
+use Rattle.gr_typing.specs.Names.{among, predeclared, is_blank, are_distinct}
+use Rattle.gr_typing.specs.Scopes.{Block, Scope, In, in_block, first_of, is_here, declared, may_name}
+use Rattle.gr_typing.specs.FileChecks.{parameter_names, each, scope_with, parameters_with, empty_scope}
 use Rattle.gr_types.specs.Finding.{◌>>=◌, where_true}
 use Rattle.gr_types.specs.FindingFiles.{types_in}
 use Rattle.gr_types.specs.Outlines.{Taken, none_taken, may_take, taken_with, take, take_each, take_groups}
-use Rattle.gr_types.proofs.Basics.{true_or_false, then_none, among_push, bound_twice}
+use Rattle.gr_types.proofs.Basics.{then_none, among_push, bound_twice}
 use Rattle.gr_types.proofs.Finds.{on_some, some_inj}
 use Rattle.gr_types.proofs.FunctionNumbers.{block_push}
 
@@ -63,7 +65,7 @@ list_is : (us : List Ty) (ps : List Parameter) (s : Scope) (xs : List (List ℕ)
 list_is us ps s [] [] e = rw (append-nil us, append-nil ps) refl
 list_is us ps s [] (t ∷ ts) e = absurd (omega (arith, e))
 list_is us ps s (x ∷ xs) [] e = absurd (omega (arith, e))
-list_is us ps s (x ∷ xs) (t ∷ ts) e = elim (true_or_false (may_take s x)) [
+list_is us ps s (x ∷ xs) (t ∷ ts) e = elim (cases_Bool (may_take s x)) [
   | inl may ↦
       let p = taken_with (us, (ps, s)) x t in
       let one : take (us, (ps, s)) x t ≡ Some p = ap (λ b. where_true b p) may in
@@ -111,7 +113,7 @@ taken_fit before (In here around vs) (x ∷ xs) (t ∷ ts) e same =
     let short : length xs ≡ length ts = omega (arith, e) in
     let all = list_all (λ x. not (among predeclared x)) xs in
     let new = not (among predeclared x) in
-    elim (true_or_false (is_blank x)) [
+    elim (cases_Bool (is_blank x)) [
       | inl blank ↦ rw blank (ap (λ b. (new && true) && b) (taken_fit before s xs ts short same) ∙ blank_first new (are_distinct before xs) all)
       | inr named ↦
           let one = ap (λ b. (new && not b) && all_taken (declared s x t) xs ts) (sym (same x named)) in

@@ -3,14 +3,14 @@ use Rattle.std.proofs.Common.{◌≡◌, ℕ, zero, suc, ◌+◌, ◌<◌, ◌�
 use Rattle.std.specs.Prelude.{Option, Some, None, Vec}
 use Rattle.std.proofs.lemmas.List.{drop_all, nil_from_length}
 use Rattle.gr_tree.specs.Exprs.{names_of}
-use Rattle.gr_types.specs.declared.types.Type as code_type
-use Rattle.gr_types.specs.declared.takers.Taker as code_taker
-use Rattle.gr_types.specs.declared.program.Term as code_term
-use Rattle.gr_types.specs.declared.values.Value as code_value
-use Rattle.gr_types.specs.Terms.{Terms, none, more}
-use Rattle.gr_types.specs.TypeViews.{ty_of, types_of}
-use Rattle.gr_types.specs.Programs.{term_of, terms_of}
-use Rattle.gr_types.specs.Scopes.{Scope}
+use Rattle.gr_program.specs.declared.types.Type as code_type
+use Rattle.gr_types.specs.declared.definitions.Taker as code_taker
+use Rattle.gr_program.specs.declared.program.Expr as checked_expr
+use Rattle.gr_types.specs.declared.operands.Operand as code_operand
+use Rattle.gr_program.specs.Programs.{Exprs, none, more}
+use Rattle.gr_program.specs.TypeViews.{ty_of, types_of}
+use Rattle.gr_program.specs.Views.{expr_of, exprs_of}
+use Rattle.gr_typing.specs.Scopes.{Scope}
 use Rattle.gr_types.specs.Finding.{◌>>=◌}
 use Rattle.gr_types.specs.Taking.{fit, fits, Taker, taker, takers, share, with_share, shares, all_accept}
 use Rattle.gr_types.specs.TakerViews.{taker_of, takers_of}
@@ -57,19 +57,19 @@ module _ (s : Scope) (names : List (Vec ℕ Global)) (ts : List code_type.Type) 
       sym so_far ∙ ap (λ l. takers s (names_of l) (types_of (drop i ts)) >>= λ r. Some (takers_of ks ++ r)) (drop_all i names le) ∙ ap Some (append-nil (takers_of ks))
 
 -- what is shared before the rest
-abbrev pub shares_before : List code_taker.Taker → List code_term.Term → List Taker × Terms → List Taker × Terms
+abbrev pub shares_before : List code_taker.Taker → List checked_expr.Expr → List Taker × Exprs → List Taker × Exprs
 shares_before ks ts rest = (takers_of ks ++ rest.0, terms_before ts rest.1)
 
 -- values for what names stand for
-module _ (s : Scope) (ks : List (Option ℕ)) (i : ℕ) (vs : List code_value.Value) (ts : List code_term.Term) (o : Option Terms) (so_far : (fits s (drop i ks) (meanings_of vs) >>= λ ps. Some (terms_before ts ps)) ≡ o) where
-  pub fit_on : (k : Option ℕ) (v : code_value.Value) (rest : List code_value.Value) (t : code_term.Term) (new : List code_term.Term) → i < length ks → vs ≡ v ∷ rest → fit s (get_or ks i k) (meaning_of v) ≡ Some (term_of t) → new ≡ ts ++ (t ∷ []) → (fits s (drop (i + 1) ks) (meanings_of rest) >>= λ ps. Some (terms_before new ps)) ≡ o
+module _ (s : Scope) (ks : List (Option ℕ)) (i : ℕ) (vs : List code_operand.Operand) (ts : List checked_expr.Expr) (o : Option Exprs) (so_far : (fits s (drop i ks) (meanings_of vs) >>= λ ps. Some (terms_before ts ps)) ≡ o) where
+  pub fit_on : (k : Option ℕ) (v : code_operand.Operand) (rest : List code_operand.Operand) (t : checked_expr.Expr) (new : List checked_expr.Expr) → i < length ks → vs ≡ v ∷ rest → fit s (get_or ks i k) (meaning_of v) ≡ Some (expr_of t) → new ≡ ts ++ (t ∷ []) → (fits s (drop (i + 1) ks) (meanings_of rest) >>= λ ps. Some (terms_before new ps)) ≡ o
   fit_on k v rest t new lt popped gives pushed =
       let r = fits s (drop (i + 1) ks) (meanings_of rest) in
       let front : drop i ks ≡ get_or ks i k ∷ drop (i + 1) ks = rw (add-one, drop-cons ks i k) in
       ap (λ l. r >>= λ ps. Some (terms_before l ps)) pushed ∙ after_terms r ts t ∙ sym (ap (λ g. (g >>= λ q. r >>= λ ps. Some (more q ps)) >>= λ ps. Some (terms_before ts ps)) gives)
       ∙ sym (ap (λ l. fits s (drop i ks) (meanings_of l) >>= λ ps. Some (terms_before ts ps)) popped ∙ ap (λ l. fits s l (meanings_of (v ∷ rest)) >>= λ ps. Some (terms_before ts ps)) front) ∙ so_far
 
-  pub fit_end : length ks ≤ i → o ≡ Some (terms_of ts)
+  pub fit_end : length ks ≤ i → o ≡ Some (exprs_of ts)
   fit_end le =
       sym so_far ∙ ap (λ l. fits s l (meanings_of vs) >>= λ ps. Some (terms_before ts ps)) (drop_all i ks le) ∙ ap Some (before_none ts)
 
@@ -83,19 +83,19 @@ module _ (s : Scope) (ks : List (Option ℕ)) (i : ℕ) (vs : List code_value.Va
       no_value (k ∷ js) (suc j) lt = no_value js j (omega arith)
 
 -- values that names are defined by
-after_shares : (o : Option (List Taker × Terms)) (ks : List code_taker.Taker) (ts : List code_term.Term) (k : code_taker.Taker) (t : code_term.Term) → (o >>= λ rest. Some (shares_before (ks ++ (k ∷ [])) (ts ++ (t ∷ [])) rest)) ≡ ((o >>= λ rest. Some (with_share (taker_of k, term_of t) rest)) >>= λ rest. Some (shares_before ks ts rest))
+after_shares : (o : Option (List Taker × Exprs)) (ks : List code_taker.Taker) (ts : List checked_expr.Expr) (k : code_taker.Taker) (t : checked_expr.Expr) → (o >>= λ rest. Some (shares_before (ks ++ (k ∷ [])) (ts ++ (t ∷ [])) rest)) ≡ ((o >>= λ rest. Some (with_share (taker_of k, expr_of t) rest)) >>= λ rest. Some (shares_before ks ts rest))
 after_shares (Some rest) ks ts k t = ap (λ l. Some (l, terms_before (ts ++ (t ∷ [])) rest.1)) (takers_push ks k rest.0) ∙ ap (λ l. Some (takers_of ks ++ (taker_of k ∷ rest.0), l)) (before_push ts t rest.1)
 after_shares None ks ts k t = refl
 
-module _ (s : Scope) (names : List (Vec ℕ Global)) (i : ℕ) (vs : List code_value.Value) (ks : List code_taker.Taker) (ts : List code_term.Term) (o : Option (List Taker × Terms)) (so_far : (shares s (names_of (drop i names)) (meanings_of vs) >>= λ rest. Some (shares_before ks ts rest)) ≡ o) where
-  pub share_on : (x : Vec ℕ Global) (v : code_value.Value) (rest : List code_value.Value) (k : code_taker.Taker) (t : code_term.Term) (takers : List code_taker.Taker) (terms : List code_term.Term) → i < length names → x ≡ get_or names i x → vs ≡ v ∷ rest → share s x.items (meaning_of v) ≡ Some (taker_of k, term_of t) → takers ≡ ks ++ (k ∷ []) → terms ≡ ts ++ (t ∷ []) → (shares s (names_of (drop (i + 1) names)) (meanings_of rest) >>= λ rest. Some (shares_before takers terms rest)) ≡ o
+module _ (s : Scope) (names : List (Vec ℕ Global)) (i : ℕ) (vs : List code_operand.Operand) (ks : List code_taker.Taker) (ts : List checked_expr.Expr) (o : Option (List Taker × Exprs)) (so_far : (shares s (names_of (drop i names)) (meanings_of vs) >>= λ rest. Some (shares_before ks ts rest)) ≡ o) where
+  pub share_on : (x : Vec ℕ Global) (v : code_operand.Operand) (rest : List code_operand.Operand) (k : code_taker.Taker) (t : checked_expr.Expr) (takers : List code_taker.Taker) (terms : List checked_expr.Expr) → i < length names → x ≡ get_or names i x → vs ≡ v ∷ rest → share s x.items (meaning_of v) ≡ Some (taker_of k, expr_of t) → takers ≡ ks ++ (k ∷ []) → terms ≡ ts ++ (t ∷ []) → (shares s (names_of (drop (i + 1) names)) (meanings_of rest) >>= λ rest. Some (shares_before takers terms rest)) ≡ o
   share_on x v rest k t takers terms lt is popped gives pushed added =
       let r = shares s (names_of (drop (i + 1) names)) (meanings_of rest) in
       ap (λ l. r >>= λ rest. Some (shares_before l terms rest)) pushed ∙ ap (λ l. r >>= λ rest. Some (shares_before (ks ++ (k ∷ [])) l rest)) added ∙ after_shares r ks ts k t
       ∙ sym (ap (λ g. (g >>= λ p. r >>= λ rest. Some (with_share p rest)) >>= λ rest. Some (shares_before ks ts rest)) gives)
       ∙ sym (ap (λ l. shares s (names_of (drop i names)) (meanings_of l) >>= λ rest. Some (shares_before ks ts rest)) popped ∙ ap (λ l. shares s l (meanings_of (v ∷ rest)) >>= λ rest. Some (shares_before ks ts rest)) (front_names names i x lt is)) ∙ so_far
 
-  pub share_end : length names ≤ i → o ≡ Some (takers_of ks, terms_of ts)
+  pub share_end : length names ≤ i → o ≡ Some (takers_of ks, exprs_of ts)
   share_end le =
       sym so_far ∙ ap (λ l. shares s (names_of l) (meanings_of vs) >>= λ rest. Some (shares_before ks ts rest)) (drop_all i names le)
       ∙ ap (λ l. Some (l, terms_before ts none)) (append-nil (takers_of ks)) ∙ ap (λ l. Some (takers_of ks, l)) (before_none ts)

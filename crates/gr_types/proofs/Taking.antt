@@ -1,23 +1,24 @@
 -- Names on the left in the order of the code.
+use Rattle.std.proofs.lemmas.Bool.{cases_Bool}
 use Rattle.std.proofs.Common.{◌≡◌, ℕ, Bool, true, false, List, [], ◌∷◌, refl, ap, sym, ◌∙◌, true≢false, inl, inr}
 use Rattle.std.specs.Prelude.{Option, Some, None, ◌&&◌}
 use Rattle.std.proofs.Math.Path.{fun_ext}
 use Rattle.gr_tree.specs.declared.expr.UnaryOp.TheVariants as unaries
 use Rattle.gr_tree.specs.Exprs as tree
 use Rattle.gr_tree.specs.Exprs.{Tree, Trees}
-use Rattle.gr_types.specs.Types.{Ty, BoolType}
-use Rattle.gr_types.specs.Terms.{zero_of, Term, Terms, more, AssignReceive}
-use Rattle.gr_types.specs.Names.{is_blank}
-use Rattle.gr_types.specs.Scopes.{Scope, variable_named, type_of_variable, is_here, Signature}
-use Rattle.gr_types.specs.Values.{Value}
+use Rattle.gr_program.specs.Types.{Ty, BoolType}
+use Rattle.gr_program.specs.Programs.{zero_of, Expr, Exprs, more, AssignReceive}
+use Rattle.gr_typing.specs.Names.{is_blank}
+use Rattle.gr_typing.specs.Scopes.{Scope, variable_named, type_of_variable, is_here, Signature}
+use Rattle.gr_typing.specs.Values.{Value}
 use Rattle.gr_types.specs.Finding.{◌>>=◌, where_true, Typed, typed, given, value_in}
 use Rattle.gr_types.specs.FindingStatements.{variable_in, Given, to_variable, given_to, with_given, all_given, Defined, newly, in_scope, defined_by, with_defined, all_defined, receive_in, taken_by, takes, takes_new, all_take, all_take_new, Done, pair_of, assigned, assign_both, assign_by, define_both, define_by}
 use Rattle.gr_types.specs.Taking.{target, targets, fit, fits, is_wide, accepts, all_accept, Taker, Old, old_taker, taker, takers, new_share, share, with_share, shares, settled, all_settled, same_count, is_receive, values_for, assign_values, assign_received, shared_done, define_values, define_received}
-use Rattle.gr_types.proofs.Basics.{true_or_false, then_none}
+use Rattle.gr_types.proofs.Basics.{then_none}
 use Rattle.gr_types.proofs.NewNames.{named_after}
 
 -- a value that is given to a name
-abbrev no_place : Term → Option Given
+abbrev no_place : Expr → Option Given
 no_place p = Some (None, p)
 
 blank_given : (o : Option Typed) → (o >>= λ w. no_place w.1) ≡ ((o >>= λ w. Some w.1) >>= no_place)
@@ -34,24 +35,24 @@ variable_given s v None = refl
 
 given_to_is : (s : Scope) (x : List ℕ) (v : Value) → given_to s x v ≡ (target s x >>= λ k. fit s k v >>= λ p. Some (k, p))
 unfolding given_to variable_in
-given_to_is s x v = elim (true_or_false (is_blank x)) [
+given_to_is s x v = elim (cases_Bool (is_blank x)) [
   | inl b ↦ rw b (blank_given (typed v))
   | inr b ↦ rw b (variable_given s v (variable_named s x))
 ]
 
 -- the values of as many expressions
 values_more : (fs : List Signature) (s : Scope) (x : List ℕ) (xs : List (List ℕ)) (e : Tree) (es : Trees) → values_for fs s (x ∷ xs) (tree.more e es) ≡ (value_in fs s e >>= λ v. values_for fs s xs es >>= λ vs. Some (v ∷ vs))
-values_more fs s x xs e es = elim (true_or_false (same_count xs es)) [
+values_more fs s x xs e es = elim (cases_Bool (same_count xs es)) [
   | inl c ↦ rw c refl
   | inr c ↦ rw c (sym (then_none (value_in fs s e)))
 ]
 
 -- values given to names, one after another
-given_nothing : (k : Option ℕ) (o : Option Term) → ((o >>= λ p. Some (k, p)) >>= λ g. ◌>>=◌ {A = List (Option ℕ) × Terms} None (λ rest. Some (with_given g rest))) ≡ None
+given_nothing : (k : Option ℕ) (o : Option Expr) → ((o >>= λ p. Some (k, p)) >>= λ g. ◌>>=◌ {A = List (Option ℕ) × Exprs} None (λ rest. Some (with_given g rest))) ≡ None
 given_nothing k (Some p) = refl
 given_nothing k None = refl
 
-given_both : (k : Option ℕ) (ks : List (Option ℕ)) (o : Option Term) (r : Option Terms) → ((o >>= λ p. Some (k, p)) >>= λ g. (r >>= λ ps. Some (ks, ps)) >>= λ rest. Some (with_given g rest)) ≡ ((o >>= λ p. r >>= λ ps. Some (more p ps)) >>= λ ps. Some (k ∷ ks, ps))
+given_both : (k : Option ℕ) (ks : List (Option ℕ)) (o : Option Expr) (r : Option Exprs) → ((o >>= λ p. Some (k, p)) >>= λ g. (r >>= λ ps. Some (ks, ps)) >>= λ rest. Some (with_given g rest)) ≡ ((o >>= λ p. r >>= λ ps. Some (more p ps)) >>= λ ps. Some (k ∷ ks, ps))
 given_both k ks None r = refl
 given_both k ks (Some p) None = refl
 given_both k ks (Some p) (Some ps) = refl
@@ -76,10 +77,10 @@ all_given_is fs s (x ∷ xs) (tree.more e es) =
     ∙ given_more s (value_in fs s e) (target s x) (targets s xs) (values_for fs s xs es)
     ∙ ap (λ w. targets s (x ∷ xs) >>= λ ks. w >>= fits s ks >>= λ ps. Some (ks, ps)) (sym (values_more fs s x xs e es))
 
-abbrev done_in : Scope → List (Option ℕ) × Terms → Option Done
+abbrev done_in : Scope → List (Option ℕ) × Exprs → Option Done
 done_in s g = Some (assigned g, s)
 
-given_done : (s : Scope) (ks : List (Option ℕ)) (o : Option Terms) → ((o >>= λ ps. Some (ks, ps)) >>= done_in s) ≡ (o >>= λ ps. done_in s (ks, ps))
+given_done : (s : Scope) (ks : List (Option ℕ)) (o : Option Exprs) → ((o >>= λ ps. Some (ks, ps)) >>= done_in s) ≡ (o >>= λ ps. done_in s (ks, ps))
 given_done s ks (Some ps) = refl
 given_done s ks None = refl
 
@@ -103,16 +104,16 @@ variable_taken s t None = refl
 
 pub takes_is : (s : Scope) (x : List ℕ) (t : Ty) → takes s x t ≡ (target s x >>= λ k. where_true (accepts s k t) k)
 unfolding takes variable_in
-takes_is s x t = elim (true_or_false (is_blank x)) [
+takes_is s x t = elim (cases_Bool (is_blank x)) [
   | inl b ↦ rw b refl
   | inr b ↦ rw b (variable_taken s t (variable_named s x))
 ]
 
 take_more : (s : Scope) (t : Ty) (ts : List Ty) (k : Option (Option ℕ)) (ks : Option (List (Option ℕ))) → ((k >>= λ k. where_true (accepts s k t) k) >>= λ k. (ks >>= λ ks. where_true (all_accept s ks ts) ks) >>= λ ks. Some (k ∷ ks)) ≡ ((k >>= λ k. ks >>= λ ks. Some (k ∷ ks)) >>= λ ks. where_true (all_accept s ks (t ∷ ts)) ks)
 take_more s t ts None ks = refl
-take_more s t ts (Some k) None = elim (true_or_false (accepts s k t)) [ inl a ↦ rw a refl | inr a ↦ rw a refl ]
-take_more s t ts (Some k) (Some ks) = elim (true_or_false (accepts s k t)) [
-  | inl a ↦ elim (true_or_false (all_accept s ks ts)) [ inl b ↦ rw (a, b) refl | inr b ↦ rw (a, b) refl ]
+take_more s t ts (Some k) None = elim (cases_Bool (accepts s k t)) [ inl a ↦ rw a refl | inr a ↦ rw a refl ]
+take_more s t ts (Some k) (Some ks) = elim (cases_Bool (accepts s k t)) [
+  | inl a ↦ elim (cases_Bool (all_accept s ks ts)) [ inl b ↦ rw (a, b) refl | inr b ↦ rw (a, b) refl ]
   | inr a ↦ rw a refl
 ]
 
@@ -131,20 +132,20 @@ all_take_is s (x ∷ xs) (t ∷ ts) =
     ∙ take_more s t ts (target s x) (targets s xs)
 
 -- definitions
-abbrev settled_share : List ℕ → Scope → Taker × Term → Defined
+abbrev settled_share : List ℕ → Scope → Taker × Expr → Defined
 settled_share x m p = (((settled x p.0 m).0, p.1), (settled x p.0 m).1)
 
-abbrev all_shared : List (List ℕ) → Scope → List Taker × Terms → (List (Option ℕ) × Terms) × Scope
+abbrev all_shared : List (List ℕ) → Scope → List Taker × Exprs → (List (Option ℕ) × Exprs) × Scope
 all_shared xs m p = (((all_settled xs p.0 m).0, p.1), (all_settled xs p.0 m).1)
 
 blank_defined : (x : List ℕ) (m : Scope) (o : Option Typed) → ((o >>= λ w. Some (None, w.1)) >>= in_scope m) ≡ (((o >>= λ w. Some w.1) >>= λ p. Some (Old None, p)) >>= λ p. Some (settled_share x m p))
 blank_defined x m (Some w) = refl
 blank_defined x m None = refl
 
-abbrev with_old : Option ℕ → Term → Option (Taker × Term)
+abbrev with_old : Option ℕ → Expr → Option (Taker × Expr)
 with_old k p = Some (Old k, p)
 
-old_given : (x : List ℕ) (m : Scope) (k : ℕ) (o : Option Term) → ((o >>= λ p. Some (Some k, p)) >>= in_scope m) ≡ ((o >>= λ p. Some (Old (Some k), p)) >>= λ p. Some (settled_share x m p))
+old_given : (x : List ℕ) (m : Scope) (k : ℕ) (o : Option Expr) → ((o >>= λ p. Some (Some k, p)) >>= in_scope m) ≡ ((o >>= λ p. Some (Old (Some k), p)) >>= λ p. Some (settled_share x m p))
 old_given x m k (Some p) = refl
 old_given x m k None = refl
 
@@ -162,19 +163,19 @@ newly_is x m (Some w) b = named_after m x w.0 (λ k n. ((k, w.1), n)) b
 
 defined_by_is : (s : Scope) (x : List ℕ) (v : Value) (m : Scope) → defined_by s x v m ≡ (share s x v >>= λ p. Some (settled_share x m p))
 unfolding defined_by variable_in
-defined_by_is s x v m = elim (true_or_false (is_blank x)) [
+defined_by_is s x v m = elim (cases_Bool (is_blank x)) [
   | inl b ↦ rw b (blank_defined x m (typed v))
-  | inr b ↦ elim (true_or_false (is_here s x)) [
+  | inr b ↦ elim (cases_Bool (is_here s x)) [
     | inl h ↦ rw (b, h) (old_defined s x m v (variable_named s x))
     | inr h ↦ rw (b, h) (newly_is x m (typed v) b)
   ]
 ]
 
-share_nothing : (x : List ℕ) (m : Scope) (o : Option (Taker × Term)) → ((o >>= λ p. Some (settled_share x m p)) >>= λ d. ◌>>=◌ {A = (List (Option ℕ) × Terms) × Scope} None (λ rest. Some (with_defined d.0 rest))) ≡ None
+share_nothing : (x : List ℕ) (m : Scope) (o : Option (Taker × Expr)) → ((o >>= λ p. Some (settled_share x m p)) >>= λ d. ◌>>=◌ {A = (List (Option ℕ) × Exprs) × Scope} None (λ rest. Some (with_defined d.0 rest))) ≡ None
 share_nothing x m (Some p) = refl
 share_nothing x m None = refl
 
-share_both : (x : List ℕ) (xs : List (List ℕ)) (m : Scope) (o : Option (Taker × Term)) (r : Option (List Taker × Terms)) → ((o >>= λ p. Some (settled_share x m p)) >>= λ d. (r >>= λ q. Some (all_shared xs d.1 q)) >>= λ rest. Some (with_defined d.0 rest)) ≡ ((o >>= λ p. r >>= λ rest. Some (with_share p rest)) >>= λ p. Some (all_shared (x ∷ xs) m p))
+share_both : (x : List ℕ) (xs : List (List ℕ)) (m : Scope) (o : Option (Taker × Expr)) (r : Option (List Taker × Exprs)) → ((o >>= λ p. Some (settled_share x m p)) >>= λ d. (r >>= λ q. Some (all_shared xs d.1 q)) >>= λ rest. Some (with_defined d.0 rest)) ≡ ((o >>= λ p. r >>= λ rest. Some (with_share p rest)) >>= λ p. Some (all_shared (x ∷ xs) m p))
 share_both x xs m None r = refl
 share_both x xs m (Some p) None = refl
 share_both x xs m (Some p) (Some q) = refl
@@ -195,7 +196,7 @@ all_defined_is fs s (x ∷ xs) (tree.more e es) m =
     ∙ share_more s x xs m (value_in fs s e) (values_for fs s xs es)
     ∙ ap (λ w. w >>= shares s (x ∷ xs) >>= λ p. Some (all_shared (x ∷ xs) m p)) (sym (values_more fs s x xs e es))
 
-shared_is : (xs : List (List ℕ)) (s : Scope) (o : Option (List Taker × Terms)) → ((o >>= λ p. Some (all_shared xs s p)) >>= λ g. Some (assigned g.0, g.1)) ≡ (o >>= λ p. Some (shared_done xs s p))
+shared_is : (xs : List (List ℕ)) (s : Scope) (o : Option (List Taker × Exprs)) → ((o >>= λ p. Some (all_shared xs s p)) >>= λ g. Some (assigned g.0, g.1)) ≡ (o >>= λ p. Some (shared_done xs s p))
 shared_is xs s (Some p) = refl
 shared_is xs s None = refl
 
@@ -224,9 +225,9 @@ here_defined s x t m b = ap (λ o. o >>= in_scope m) (here_taken s x t b) ∙ ol
 
 pub takes_new_is : (s : Scope) (x : List ℕ) (t : Ty) (m : Scope) → takes_new s x t m ≡ (taker s x t >>= λ k. Some (settled_by x m k))
 unfolding takes_new
-takes_new_is s x t m = elim (true_or_false (is_blank x)) [
+takes_new_is s x t m = elim (cases_Bool (is_blank x)) [
   | inl b ↦ rw b refl
-  | inr b ↦ elim (true_or_false (is_here s x)) [
+  | inr b ↦ elim (cases_Bool (is_here s x)) [
     | inl h ↦ rw (b, h) (rw b at (here_defined s x t m b))
     | inr h ↦ rw (b, h) (named_after m x t (λ k n. (k, n)) b)
   ]
@@ -269,9 +270,9 @@ receiving w k l m = (AssignReceive k l w.1 (zero_of w.0), m)
 
 both_take : (s : Scope) (o r : Option (Option ℕ)) (w : Typed) → (o >>= λ k. r >>= λ l. where_true (accepts s k w.0 && accepts s l BoolType) (receiving w k l s)) ≡ ((o >>= λ k. where_true (accepts s k w.0) k) >>= λ k. (r >>= λ l. where_true (accepts s l BoolType) l) >>= λ l. Some (receiving w k l s))
 both_take s None r w = refl
-both_take s (Some k) None w = elim (true_or_false (accepts s k w.0)) [ inl a ↦ rw a refl | inr a ↦ rw a refl ]
-both_take s (Some k) (Some l) w = elim (true_or_false (accepts s k w.0)) [
-  | inl a ↦ elim (true_or_false (accepts s l BoolType)) [ inl b ↦ rw (a, b) refl | inr b ↦ rw (a, b) refl ]
+both_take s (Some k) None w = elim (cases_Bool (accepts s k w.0)) [ inl a ↦ rw a refl | inr a ↦ rw a refl ]
+both_take s (Some k) (Some l) w = elim (cases_Bool (accepts s k w.0)) [
+  | inl a ↦ elim (cases_Bool (accepts s l BoolType)) [ inl b ↦ rw (a, b) refl | inr b ↦ rw (a, b) refl ]
   | inr a ↦ rw a refl
 ]
 

@@ -1,10 +1,11 @@
 -- Parts of what the checker finds of simple statements. It is a stepping stone of the proofs: no public clause speaks of it.
 use Rattle.std.specs.Prelude.{ℕ, List, Option}
 use Rattle.gr_tree.specs.Exprs.{WrittenType, Trees}
-use Rattle.gr_types.specs.Types.{Ty, type_written}
-use Rattle.gr_types.specs.Scopes.{Scope, Signature}
-use Rattle.gr_types.specs.Values.{Value}
-use Rattle.gr_types.specs.StatementChecks.{may_define, may_declare}
+use Rattle.gr_program.specs.Types.{Ty}
+use Rattle.gr_typing.specs.Types.{type_written}
+use Rattle.gr_typing.specs.Scopes.{Scope, Signature}
+use Rattle.gr_typing.specs.Values.{Value}
+use Rattle.gr_typing.specs.Assignments.{may_define, may_declare}
 use Rattle.gr_types.specs.Finding.{◌>>=◌, where_true, Typed, as_channel}
 use Rattle.gr_types.specs.FindingStatements.{Done, receives, all_take_new, pair_of, define_by, var_zero, written_of, var_by}
 

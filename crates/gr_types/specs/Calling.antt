@@ -4,10 +4,10 @@ use Rattle.gr_tree.specs.Exprs as tree
 use Rattle.gr_tree.specs.Exprs.{Tree, Trees}
 use Rattle.gr_types.specs.declared.calls.Callee.{Callee}
 use Rattle.gr_types.specs.declared.calls.Callee.TheVariants as callees
-use Rattle.gr_types.specs.Types.{Ty}
-use Rattle.gr_types.specs.Terms.{Term, Terms, none, more, Len, Cap, MakeSized}
-use Rattle.gr_types.specs.Scopes.{Scope, variable_named, Signature, function_in, signature}
-use Rattle.gr_types.specs.Values.{Value, Known}
+use Rattle.gr_program.specs.Types.{Ty}
+use Rattle.gr_program.specs.Programs.{Expr, Exprs, none, more, Len, Cap, MakeSized}
+use Rattle.gr_typing.specs.Scopes.{Scope, variable_named, Signature, function_in, signature}
+use Rattle.gr_typing.specs.Values.{Value, Known}
 use Rattle.gr_const.specs.Constants as constant
 use Rattle.gr_types.specs.Finding.{◌>>=◌, size_of, made_channel, has_text, if_unknown, measured, call_of, call_value, given, value_in}
 
@@ -17,7 +17,7 @@ values_in fs s tree.none = Some []
 values_in fs s (tree.more e es) = value_in fs s e >>= λ v. values_in fs s es >>= λ vs. Some (v ∷ vs)
 
 -- values given to parameters of these types
-abbrev pub given_all : List Value → List Ty → Option Terms
+abbrev pub given_all : List Value → List Ty → Option Exprs
 given_all [] [] = Some none
 given_all [] (t ∷ ts) = None
 given_all (v ∷ vs) [] = None
@@ -56,5 +56,5 @@ sized_channel t v = size_of v >>= λ p. made_channel t (MakeSized p)
 abbrev pub function_named : List Signature → Scope → List ℕ → Option ℕ
 function_named fs s x = if_unknown (variable_named s x) (function_in fs x)
 
-abbrev pub call_named : List Signature → Scope → List ℕ → Trees → Option (Option Ty × Term)
+abbrev pub call_named : List Signature → Scope → List ℕ → Trees → Option (Option Ty × Expr)
 call_named fs s x es = function_named fs s x >>= λ k. values_in fs s es >>= λ vs. call_of (given_all vs) k (signature fs k)

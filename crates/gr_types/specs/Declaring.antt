@@ -1,10 +1,11 @@
 -- Declarations of variables in the order of the code. It is a stepping stone of the proofs: no public clause speaks of it.
 use Rattle.std.specs.Prelude.{◌≡◌, ℕ, true, List, [], ◌∷◌, Option, Some, None}
 use Rattle.gr_tree.specs.Exprs.{Tree, Trees}
-use Rattle.gr_types.specs.Types.{Ty, BoolType, assignable}
-use Rattle.gr_types.specs.Terms.{Terms, none, zero_of, AssignReceive}
-use Rattle.gr_types.specs.Scopes.{Scope, Signature, is_free, declared, number_of}
-use Rattle.gr_types.specs.Values.{Value}
+use Rattle.gr_program.specs.Types.{Ty, BoolType}
+use Rattle.gr_typing.specs.Types.{assignable}
+use Rattle.gr_program.specs.Programs.{Exprs, none, zero_of, AssignReceive}
+use Rattle.gr_typing.specs.Scopes.{Scope, Signature, is_free, declared, number_of}
+use Rattle.gr_typing.specs.Values.{Value}
 use Rattle.gr_types.specs.Finding.{◌>>=◌, where_true, Typed}
 use Rattle.gr_types.specs.Calling.{values_in}
 use Rattle.gr_types.specs.FindingStatements.{Done, Defined, with_defined, declared_as, receive_in, assigned}
@@ -18,7 +19,7 @@ Declarable s (x ∷ xs) = (is_free s x ≡ true) × ((t : Ty) → Declarable (de
 abbrev pub placed : Option Ty → List ℕ → Value → Scope → Option Defined
 placed t x v m = declared_as t v >>= λ w. Some ((number_of (declared m x w.0) x, w.1), declared m x w.0)
 
-abbrev pub all_placed : Option Ty → List (List ℕ) → List Value → Scope → Option ((List (Option ℕ) × Terms) × Scope)
+abbrev pub all_placed : Option Ty → List (List ℕ) → List Value → Scope → Option ((List (Option ℕ) × Exprs) × Scope)
 all_placed t [] [] m = Some (([], none), m)
 all_placed t [] (v ∷ vs) m = None
 all_placed t (x ∷ xs) [] m = None

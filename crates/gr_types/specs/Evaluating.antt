@@ -1,9 +1,9 @@
 -- Parts of what an expression does as a statement. It is a stepping stone of the proofs: no public clause speaks of it.
 use Rattle.std.specs.Prelude.{ℕ, List, Option, Some}
 use Rattle.gr_tree.specs.Exprs.{Tree, Trees}
-use Rattle.gr_types.specs.Terms.{Act, Eval, Print, Printed}
-use Rattle.gr_types.specs.Scopes.{Scope, Signature}
-use Rattle.gr_types.specs.Values.{Value}
+use Rattle.gr_program.specs.Programs.{Act, Eval, Print, Printed}
+use Rattle.gr_typing.specs.Scopes.{Scope, Signature}
+use Rattle.gr_typing.specs.Values.{Value}
 use Rattle.gr_types.specs.Finding.{◌>>=◌, typed, as_channel, call_in, value_in, arguments_in, only_in}
 use Rattle.gr_types.specs.FindingStatements.{receive_in, as_text, printable, printed_by, printed_in, closes, evaluated}
 

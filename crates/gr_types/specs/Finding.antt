@@ -10,10 +10,11 @@ use Rattle.gr_tree.specs.Exprs.{WrittenType, Tree, Trees}
 use Rattle.gr_const.specs.declared.constant.Constant.{Constant}
 use Rattle.gr_const.specs.declared.constant.Constant.TheVariants as constants
 use Rattle.gr_const.specs.Constants as constant
-use Rattle.gr_types.specs.Types.{Ty, IntType, BoolType, UnitType, ChanType, type_written, assignable, may_receive}
-use Rattle.gr_types.specs.Terms.{Number, Truth, Empty, Nil, zero_of, Term, Literally, Variable, Unary, Binary, Receive, Call, Len, Cap, Make, MakeSized, Terms, none, more}
-use Rattle.gr_types.specs.Scopes.{Scope, variable_named, type_of_variable, Signature, Sign, function_in, signature}
-use Rattle.gr_types.specs.Values.{Value, Known, NilValue, Made, unary_type, binary_type, is_comparison, may_stand_right, may_be_size}
+use Rattle.gr_program.specs.Types.{Ty, IntType, BoolType, UnitType, ChanType}
+use Rattle.gr_typing.specs.Types.{type_written, assignable, may_receive}
+use Rattle.gr_program.specs.Programs.{Number, Truth, Empty, Nil, zero_of, Expr, Literally, Variable, Unary, Binary, Receive, Call, Len, Cap, Make, MakeSized, Exprs, none, more}
+use Rattle.gr_typing.specs.Scopes.{Scope, variable_named, type_of_variable, Signature, Sign, function_in, signature}
+use Rattle.gr_typing.specs.Values.{Value, Known, NilValue, Made, unary_type, binary_type, is_comparison, may_stand_right, may_be_size}
 
 -- a function of what is there
 infixl 10 ◌>>=◌
@@ -30,7 +31,7 @@ has_text x y = pointwise nat_eq x y
 
 -- a value with its own type
 abbrev pub Typed : Type 0
-Typed = Ty × Term
+Typed = Ty × Expr
 
 abbrev pub int_typed : ℤ → Typed
 int_typed n = (IntType, Literally (Number n))
@@ -44,31 +45,31 @@ typed (Known c) = typed_constant c
 typed NilValue = None
 typed (Made t p) = Some (t, p)
 
-abbrev pub given_nil : Ty → Option Term
+abbrev pub given_nil : Ty → Option Expr
 given_nil (ChanType d t) = Some (Literally Nil)
 given_nil t = None
 
-abbrev pub given_typed : Ty → Typed → Option Term
+abbrev pub given_typed : Ty → Typed → Option Expr
 given_typed u v = where_true (assignable v.0 u) v.1
 
 -- a value given to a place of a type
-unfoldable pub given : Ty → Value → Option Term
+unfoldable pub given : Ty → Value → Option Expr
 given u NilValue = given_nil u
 given u (Known c) = typed (Known c) >>= given_typed u
 given u (Made t p) = typed (Made t p) >>= given_typed u
 
 -- a value of this type of its own
-abbrev pub if_same : Ty → Ty → Term → Option Term
+abbrev pub if_same : Ty → Ty → Expr → Option Expr
 if_same IntType IntType p = Some p
 if_same BoolType BoolType p = Some p
 if_same t u p = None
 
 -- a whole number, or a truth value
-abbrev pub of_kind : Ty → Value → Option Term
+abbrev pub of_kind : Ty → Value → Option Expr
 of_kind t v = typed v >>= λ w. if_same t w.0 w.1
 
 -- a channel: its direction, its elements' type, and the term
-abbrev pub as_channel : Value → Option (Direction × (Ty × Term))
+abbrev pub as_channel : Value → Option (Direction × (Ty × Expr))
 as_channel (Made (ChanType d t) p) = Some (d, (t, p))
 as_channel v = None
 
@@ -92,7 +93,7 @@ name_by fs s x None = if_unknown (function_in fs x) (named_constant x)
 unfoldable pub name_value : List Signature → Scope → List ℕ → Option Value
 name_value fs s x = name_by fs s x (variable_named s x)
 
-abbrev pub unary_made : UnaryOp → Ty → Term → Option Value
+abbrev pub unary_made : UnaryOp → Ty → Expr → Option Value
 unary_made op t p = unary_type op t >>= λ u. Some (Made u (Unary op p))
 
 -- an operator other than `<-` on a value
@@ -101,7 +102,7 @@ unary_value op (Known c) = constant.unary op c >>= λ d. Some (Known d)
 unary_value op NilValue = None
 unary_value op (Made t p) = unary_made op t p
 
-abbrev pub received : Direction × (Ty × Term) → Option Value
+abbrev pub received : Direction × (Ty × Expr) → Option Value
 received c = where_true (may_receive c.0) (Made c.1.0 (Receive c.1.1 (zero_of c.1.0)))
 
 unfoldable pub receive_value : Value → Option Value
@@ -114,7 +115,7 @@ on_operand unaries.Negate v = unary_value unaries.Negate v
 on_operand unaries.Not v = unary_value unaries.Not v
 on_operand unaries.Complement v = unary_value unaries.Complement v
 
-abbrev pub nil_compared : BinaryOp → Option (Direction × (Ty × Term)) → (Term → Term) → Option Value
+abbrev pub nil_compared : BinaryOp → Option (Direction × (Ty × Expr)) → (Expr → Expr) → Option Value
 nil_compared op (Some c) joined = where_true (is_comparison op) (Made BoolType (joined c.1.1))
 nil_compared op None joined = None
 
@@ -133,46 +134,46 @@ binary_value op (Known c) (Made w q) = binary_made op (Known c) (Made w q)
 binary_value op (Made t p) (Known d) = binary_made op (Made t p) (Known d)
 binary_value op (Made t p) (Made w q) = binary_made op (Made t p) (Made w q)
 
-abbrev pub made_channel : Option Ty → Term → Option Value
+abbrev pub made_channel : Option Ty → Expr → Option Value
 made_channel (Some (ChanType d t)) p = Some (Made (ChanType d t) p)
 made_channel _ p = None
 
-abbrev pub size_of : Value → Option Term
+abbrev pub size_of : Value → Option Expr
 size_of v = where_true (may_be_size v) v >>= of_kind IntType
 
-abbrev pub measured : (Term → Term) → Value → Option Value
+abbrev pub measured : (Expr → Expr) → Value → Option Value
 measured by v = as_channel v >>= λ c. Some (Made IntType (by c.1.1))
 
 -- `len` and `cap` of a value
 abbrev pub measure : List ℕ → Value → Option Value
 measure x v = if has_text x (codes "len") then measured Len v else (if has_text x (codes "cap") then measured Cap v else None)
 
-abbrev pub result_value : Option Ty → Term → Option Value
+abbrev pub result_value : Option Ty → Expr → Option Value
 result_value (Some t) p = Some (Made t p)
 result_value None p = None
 
 -- a call of a function, by what its arguments are for its parameters: its result and the term
-abbrev pub call_of : (List Ty → Option Terms) → ℕ → Option Signature → Option (Option Ty × Term)
+abbrev pub call_of : (List Ty → Option Exprs) → ℕ → Option Signature → Option (Option Ty × Expr)
 call_of arguments k None = None
 call_of arguments k (Some (Sign y parameters result)) = arguments parameters >>= λ ps. Some (result, Call k ps)
 
-abbrev pub called_function : List Signature → (List Ty → Option Terms) → Option ℕ → Option (Option Ty × Term)
+abbrev pub called_function : List Signature → (List Ty → Option Exprs) → Option ℕ → Option (Option Ty × Expr)
 called_function fs arguments None = None
 called_function fs arguments (Some k) = call_of arguments k (signature fs k)
 
 -- a call of a function that no variable hides
-unfoldable pub call_in : List Signature → Scope → List ℕ → (List Ty → Option Terms) → Option (Option Ty × Term)
+unfoldable pub call_in : List Signature → Scope → List ℕ → (List Ty → Option Exprs) → Option (Option Ty × Expr)
 call_in fs s x arguments = if_unknown (variable_named s x) (called_function fs arguments (function_in fs x))
 
-abbrev pub call_value : Option Ty × Term → Option Value
+abbrev pub call_value : Option Ty × Expr → Option Value
 call_value c = result_value c.0 c.1
 
 -- a call that has a value: of a function with a result, or `len` or `cap`, whose one argument has the value `only`
-abbrev pub called_by : List Signature → Scope → List ℕ → (List Ty → Option Terms) → Option Value → Option ℕ → Option Value
+abbrev pub called_by : List Signature → Scope → List ℕ → (List Ty → Option Exprs) → Option Value → Option ℕ → Option Value
 called_by fs s x arguments only (Some k) = call_in fs s x arguments >>= call_value
 called_by fs s x arguments only None = if_unknown (variable_named s x) (only >>= measure x)
 
-unfoldable pub called : List Signature → Scope → List ℕ → (List Ty → Option Terms) → Option Value → Option Value
+unfoldable pub called : List Signature → Scope → List ℕ → (List Ty → Option Exprs) → Option Value → Option Value
 called fs s x arguments only = called_by fs s x arguments only (function_in fs x)
 
 -- what an expression is; what arguments are for parameters of these types; the value of the one argument
@@ -189,7 +190,7 @@ unfoldable mutual
   value_in fs s (tree.Unary op e) = value_in fs s e >>= on_operand op
   value_in fs s (tree.Binary op a b) = value_in fs s a >>= λ u. value_in fs s b >>= λ v. binary_value op u v
 
-  pub arguments_in : List Signature → Scope → Trees → List Ty → Option Terms
+  pub arguments_in : List Signature → Scope → Trees → List Ty → Option Exprs
   arguments_in fs s tree.none [] = Some none
   arguments_in fs s tree.none (t ∷ ts) = None
   arguments_in fs s (tree.more e es) [] = None

@@ -1,15 +1,18 @@
 -- What the checker finds of a file, as functions. It is a stepping stone of the proofs: no public clause speaks of it.
 use Rattle.std.specs.Prelude.{ℕ, Bool, true, false, List, [], ◌∷◌, ◌++◌, Option, Some, None, codes}
+use Rattle.gr_scan.specs.declared.token.Place.{Place}
 use Rattle.gr_tree.specs.Files as files
 use Rattle.gr_tree.specs.Files.{Group, GroupOf, FileTree, FileOf}
-use Rattle.gr_types.specs.Types.{Ty, type_written}
-use Rattle.gr_types.specs.Terms.{Declared, Parameter, Function, FunctionIs, Program, ProgramIs}
-use Rattle.gr_types.specs.Scopes.{Scope, In, Signature, Sign, function_in, signature, may_name}
+use Rattle.gr_program.specs.Types.{Ty}
+use Rattle.gr_typing.specs.Types.{type_written}
+use Rattle.gr_program.specs.Programs.{Declared, Parameter, Function, FunctionIs, Program, ProgramIs}
+use Rattle.gr_program.specs.Order.{stands_in_order}
+use Rattle.gr_typing.specs.Scopes.{Scope, In, Signature, Sign, function_in, signature, may_name}
 use Rattle.gr_types.specs.Finding.{◌>>=◌, where_true, has_text}
-use Rattle.gr_types.specs.StatementChecks.{Within}
-use Rattle.gr_types.specs.FindingStatements.{Stepped, written_of, body_in}
-use Rattle.gr_types.specs.Endings.{labels_fit}
-use Rattle.gr_types.specs.FileChecks.{parameter_names, each, scope_with, parameters_with, empty_scope, ends_well, may_be_functions}
+use Rattle.gr_typing.specs.Contexts.{Within}
+use Rattle.gr_types.specs.FindingStatements.{Checked, written_of, body_in}
+use Rattle.gr_typing.specs.Labels.{labels_fit}
+use Rattle.gr_typing.specs.FileChecks.{parameter_names, each, scope_with, parameters_with, empty_scope, ends_well, may_be_functions}
 
 unfoldable pub types_in : List Group → Option (List Ty)
 types_in [] = Some []
@@ -26,14 +29,15 @@ signatures_in (f ∷ others) = signature_in f >>= λ g. signatures_in others >>=
 abbrev pub variables_of : Scope → List Declared
 variables_of (In here around variables) = variables
 
-abbrev pub checked_function : List ℕ → List Parameter → Option Ty → ℕ → Stepped → Function
-checked_function name parameters result last b = FunctionIs name parameters result (variables_of b.1) b.0 last
+abbrev pub checked_function : List ℕ → List Parameter → Option Ty → Place → Checked → Function
+checked_function name parameters result closing b = FunctionIs name parameters result (variables_of b.1) b.0 closing
 
 unfoldable pub function_checked : List Signature → files.Function → Signature → Option Function
 function_checked fs (files.FunctionOf place name groups w body closing) (Sign y ts result) =
     body_in (Within fs result []) (scope_with empty_scope (parameter_names groups) ts) body >>= λ b.
     where_true (labels_fit body) b >>= λ b. where_true (ends_well result body) b >>= λ b.
-    Some (checked_function name (parameters_with empty_scope (parameter_names groups) ts) result closing.line b)
+    where_true (stands_in_order place.start b.0 closing.start) b >>= λ b.
+    Some (checked_function name (parameters_with empty_scope (parameter_names groups) ts) result closing b)
 
 unfoldable pub functions_in : List Signature → List files.Function → List Signature → Option (List Function)
 functions_in fs [] [] = Some []

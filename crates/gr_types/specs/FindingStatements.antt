@@ -10,13 +10,16 @@ use Rattle.gr_tree.specs.Exprs as tree
 use Rattle.gr_tree.specs.Exprs.{WrittenType, Tree, Trees}
 use Rattle.gr_tree.specs.Statements as statements
 use Rattle.gr_tree.specs.Statements.{Simple, Statement, Statements, Clauses}
-use Rattle.gr_types.specs.Types.{Ty, IntType, BoolType, UnitType, ChanType, type_written, assignable, may_send, may_receive}
-use Rattle.gr_types.specs.Terms.{Number, zero_of, Term, Literally, Receive, Call, Terms, none, more, Printed, PrintTerm, PrintText, Act, Assign, AssignReceive, Update, Eval, Close, Print, Send, Go, Return, Break, Continue, Opening, Opens, Step, Does, Block, If, For, Range, Select, Steps, stop, then, joined, Cases, no_case, default_case, send_case, receive_case}
-use Rattle.gr_types.specs.Names.{is_blank}
-use Rattle.gr_types.specs.Scopes.{Scope, variable_named, type_of_variable, is_here, declare, declared, number_of, entered, left, first_where, Signature, function_in}
-use Rattle.gr_types.specs.Values.{Value, binary_type, may_stand_right}
+use Rattle.gr_program.specs.Types.{Ty, IntType, BoolType, UnitType, ChanType}
+use Rattle.gr_typing.specs.Types.{type_written, assignable, may_send, may_receive}
+use Rattle.gr_program.specs.Programs.{Number, zero_of, Expr, Literally, Receive, Call, Exprs, none, more, Printed, PrintExpr, PrintText, Act, Assign, AssignReceive, Update, Eval, Close, Print, Send, Go, Return, Break, Continue, Opening, Opens, Stmt, Does, Block, If, For, Range, Select, Stmts, stop, then, joined, Cases, no_case, default_case, send_case, receive_case}
+use Rattle.gr_typing.specs.Names.{is_blank}
+use Rattle.gr_typing.specs.Scopes.{Scope, variable_named, type_of_variable, is_here, declare, declared, number_of, entered, left, first_where, Signature, function_in}
+use Rattle.gr_typing.specs.Values.{Value, binary_type, may_stand_right}
 use Rattle.gr_types.specs.Finding.{◌>>=◌, where_true, has_text, Typed, typed, given, of_kind, as_channel, if_unknown, call_in, value_in, arguments_in, only_in}
-use Rattle.gr_types.specs.StatementChecks.{Loop, Choice, Context, Within, functions, inside, is_left, is_continued, may_define, may_declare, all_declared, zeros, declares, defaults, at_most_one}
+use Rattle.gr_typing.specs.Contexts.{Loop, Choice, Context, Within, functions, inside, is_left, is_continued}
+use Rattle.gr_typing.specs.Assignments.{may_define, may_declare, all_declared, zeros}
+use Rattle.gr_typing.specs.Statements.{declares, defaults, at_most_one}
 
 -- a number and a type
 abbrev pub Known : Type 0
@@ -31,7 +34,7 @@ variable_in s x = unless_blank x (variable_named s x >>= λ k. type_of_variable 
 
 -- a variable, or none for the blank identifier, and what it is given
 abbrev pub Given : Type 0
-Given = Option ℕ × Term
+Given = Option ℕ × Expr
 
 abbrev pub to_variable : Value → Known → Option Given
 to_variable v k = given k.1 v >>= λ p. Some (Some k.0, p)
@@ -42,10 +45,10 @@ to_blank v = typed v >>= λ w. Some (None, w.1)
 unfoldable pub given_to : Scope → List ℕ → Value → Option Given
 given_to s x v = cond (is_blank x) (to_blank v) (variable_in s x >>= to_variable v)
 
-abbrev pub with_given : Given → List (Option ℕ) × Terms → List (Option ℕ) × Terms
+abbrev pub with_given : Given → List (Option ℕ) × Exprs → List (Option ℕ) × Exprs
 with_given g rest = (g.0 ∷ rest.0, more g.1 rest.1)
 
-unfoldable pub all_given : List Signature → Scope → List (List ℕ) → Trees → Option (List (Option ℕ) × Terms)
+unfoldable pub all_given : List Signature → Scope → List (List ℕ) → Trees → Option (List (Option ℕ) × Exprs)
 all_given fs s [] tree.none = Some ([], none)
 all_given fs s [] (tree.more e es) = None
 all_given fs s (x ∷ xs) tree.none = None
@@ -65,10 +68,10 @@ unfoldable pub defined_by : Scope → List ℕ → Value → Scope → Option De
 defined_by s x v m = cond (is_blank x) (to_blank v >>= in_scope m)
     (cond (is_here s x) (variable_in s x >>= to_variable v >>= in_scope m) (typed v >>= newly x m))
 
-abbrev pub with_defined : Given → (List (Option ℕ) × Terms) × Scope → (List (Option ℕ) × Terms) × Scope
+abbrev pub with_defined : Given → (List (Option ℕ) × Exprs) × Scope → (List (Option ℕ) × Exprs) × Scope
 with_defined g rest = (with_given g rest.0, rest.1)
 
-unfoldable pub all_defined : List Signature → Scope → List (List ℕ) → Trees → Scope → Option ((List (Option ℕ) × Terms) × Scope)
+unfoldable pub all_defined : List Signature → Scope → List (List ℕ) → Trees → Scope → Option ((List (Option ℕ) × Exprs) × Scope)
 all_defined fs s [] tree.none m = Some (([], none), m)
 all_defined fs s [] (tree.more e es) m = None
 all_defined fs s (x ∷ xs) tree.none m = None
@@ -80,7 +83,7 @@ unfoldable pub declared_as : Option Ty → Value → Option Typed
 declared_as (Some t) v = given t v >>= λ p. Some (t, p)
 declared_as None v = typed v
 
-unfoldable pub all_declared_as : List Signature → Scope → Option Ty → List (List ℕ) → Trees → Scope → Option ((List (Option ℕ) × Terms) × Scope)
+unfoldable pub all_declared_as : List Signature → Scope → Option Ty → List (List ℕ) → Trees → Scope → Option ((List (Option ℕ) × Exprs) × Scope)
 all_declared_as fs s t [] tree.none m = Some (([], none), m)
 all_declared_as fs s t [] (tree.more e es) m = None
 all_declared_as fs s t (x ∷ xs) tree.none m = None
@@ -88,7 +91,7 @@ all_declared_as fs s t (x ∷ xs) (tree.more e es) m =
     value_in fs s e >>= declared_as t >>= λ w. all_declared_as fs s t xs es (declared m x w.0) >>= λ rest. Some (with_defined (number_of (declared m x w.0) x, w.1) rest)
 
 -- a channel that values are received from: the type of its elements, and the term
-abbrev pub receives : Direction × (Ty × Term) → Option Typed
+abbrev pub receives : Direction × (Ty × Expr) → Option Typed
 receives c = where_true (may_receive c.0) c.1
 
 abbrev pub receive_by : UnaryOp → Option Value → Option Typed
@@ -129,8 +132,8 @@ as_text (tree.Text bytes) = Some bytes
 as_text _ = None
 
 abbrev pub printable : Typed → Option Printed
-printable (IntType, p) = Some (PrintTerm p)
-printable (BoolType, p) = Some (PrintTerm p)
+printable (IntType, p) = Some (PrintExpr p)
+printable (BoolType, p) = Some (PrintExpr p)
 printable (UnitType, p) = None
 printable (ChanType d t, p) = None
 
@@ -143,7 +146,7 @@ printed_in fs s tree.none = Some []
 printed_in fs s (tree.more e es) = printed_by (as_text e) (value_in fs s e) >>= λ p. printed_in fs s es >>= λ ps. Some (p ∷ ps)
 
 -- an expression as a statement
-abbrev pub closes : Direction × (Ty × Term) → Option Act
+abbrev pub closes : Direction × (Ty × Expr) → Option Act
 closes c = where_true (may_send c.0) (Close c.1.1)
 
 abbrev pub run_built_in : List Signature → Scope → List ℕ → Trees → Option Act
@@ -173,11 +176,11 @@ runs_in fs s (tree.Make w) = None
 runs_in fs s (tree.MakeSized w e) = None
 runs_in fs s (tree.Binary op a b) = None
 
-abbrev pub sent_on : Option Value → Direction × (Ty × Term) → Option (Term × Term)
+abbrev pub sent_on : Option Value → Direction × (Ty × Expr) → Option (Expr × Expr)
 sent_on v c = where_true (may_send c.0) c.1 >>= λ w. v >>= given w.0 >>= λ q. Some (w.1, q)
 
 -- a send: the channel and the value
-unfoldable pub send_in : List Signature → Scope → Tree → Tree → Option (Term × Term)
+unfoldable pub send_in : List Signature → Scope → Tree → Tree → Option (Expr × Expr)
 send_in fs s c e = value_in fs s c >>= as_channel >>= sent_on (value_in fs s e)
 
 -- what an action does, and the scope after it
@@ -189,7 +192,7 @@ abbrev pub pair_of : List (List ℕ) → Trees → Option (List ℕ × (List ℕ
 pair_of (x ∷ (y ∷ [])) (tree.more e tree.none) = Some (x, (y, e))
 pair_of _ _ = None
 
-abbrev pub assigned : List (Option ℕ) × Terms → Act
+abbrev pub assigned : List (Option ℕ) × Exprs → Act
 assigned g = Assign g.0 g.1
 
 abbrev pub assign_both : Scope → List ℕ × (List ℕ × Tree) → Typed → Option Done
@@ -236,7 +239,7 @@ simple_in fs s (statements.Update x op e) = number_variable s x >>= λ k. value_
 simple_in fs s (statements.Increment x) = number_variable s x >>= λ k. in_scope s (by_one binaries.Add k)
 simple_in fs s (statements.Decrement x) = number_variable s x >>= λ k. in_scope s (by_one binaries.Subtract k)
 
-unfoldable pub returned_in : List Signature → Scope → Option Ty → Option Tree → Option (Option Term)
+unfoldable pub returned_in : List Signature → Scope → Option Ty → Option Tree → Option (Option Expr)
 returned_in fs s None None = Some None
 returned_in fs s None (Some e) = None
 returned_in fs s (Some t) None = None
@@ -259,7 +262,7 @@ abbrev pub var_by : List Signature → Scope → List (List ℕ) → Option Ty �
 var_by fs s xs t es (Some pair) = receive_in fs s pair.1.1 >>= var_pair s pair t
 var_by fs s xs t es None = all_declared_as fs s t xs es s >>= λ g. Some (assigned g.0, g.1)
 
-abbrev pub go_with : Option Ty × Term → Option Act
+abbrev pub go_with : Option Ty × Expr → Option Act
 go_with (r, Call k ps) = Some (Go k ps)
 go_with _ = None
 
@@ -277,16 +280,16 @@ act_in (Within fs result around) s (statements.Continue x) = first_where (is_con
 
 unfoldable pub opening_in : List Signature → Scope → Option statements.Heading → Option (Option Opening × Scope)
 opening_in fs s None = Some (None, s)
-opening_in fs s (Some (statements.Heads place a)) = simple_in fs s a >>= λ d. Some (Some (Opens place.line d.0), d.1)
+opening_in fs s (Some (statements.Heads place a)) = simple_in fs s a >>= λ d. Some (Some (Opens place d.0), d.1)
 
 -- the post statement of a for, which may not be a definition
 unfoldable pub post_in : List Signature → Scope → Option statements.Heading → Option (Option Opening × Scope)
 post_in fs s post = cond (declares post) None (opening_in fs s post)
 
-unfoldable pub condition_in : List Signature → Scope → Tree → Option Term
+unfoldable pub condition_in : List Signature → Scope → Tree → Option Expr
 condition_in fs s e = value_in fs s e >>= of_kind BoolType
 
-unfoldable pub loop_condition_in : List Signature → Scope → Option Tree → Option (Option Term)
+unfoldable pub loop_condition_in : List Signature → Scope → Option Tree → Option (Option Expr)
 loop_condition_in fs s None = Some None
 loop_condition_in fs s (Some e) = condition_in fs s e >>= λ p. Some (Some p)
 
@@ -306,29 +309,29 @@ all_take_new s (x ∷ xs) [] m = None
 all_take_new s (x ∷ xs) (t ∷ ts) m = takes_new s x t m >>= λ k. all_take_new s xs ts k.1 >>= λ ks. Some (k.0 ∷ ks.0, ks.1)
 
 -- a statement, and the scope after it
-abbrev pub Stepped : Type 0
-Stepped = Steps × Scope
+abbrev pub Checked : Type 0
+Checked = Stmts × Scope
 
-abbrev pub alone : Step → Scope → Option Stepped
+abbrev pub alone : Stmt → Scope → Option Checked
 alone step n = Some ((then) step stop, n)
 
-unfoldable pub if_head_in : List Signature → Scope → statements.IfHead → Option ((Option Opening × Term) × Scope)
+unfoldable pub if_head_in : List Signature → Scope → statements.IfHead → Option ((Option Opening × Expr) × Scope)
 if_head_in fs s (statements.Test init condition) = opening_in fs s init >>= λ i. condition_in fs i.1 condition >>= λ p. Some ((i.0, p), i.1)
 
 -- the three parts of a for: its init, its condition and its post statement, and the scope after them
 abbrev pub Parts : Type 0
-Parts = (Option Opening × (Option Term × Option Opening)) × Scope
+Parts = (Option Opening × (Option Expr × Option Opening)) × Scope
 
 unfoldable pub for_parts : List Signature → Scope → Option statements.Heading → Option Tree → Option statements.Heading → Option Parts
 for_parts fs s init condition post = opening_in fs s init >>= λ i. loop_condition_in fs i.1 condition >>= λ p. post_in fs i.1 post >>= λ o. Some ((i.0, (p, o.0)), o.1)
 
 -- a range: its channel, the variable, and the scope after it
-unfoldable pub range_parts : List Signature → Scope → statements.Target → Tree → Option ((Term × Option ℕ) × Scope)
+unfoldable pub range_parts : List Signature → Scope → statements.Target → Tree → Option ((Expr × Option ℕ) × Scope)
 range_parts fs s target e = value_in fs s e >>= as_channel >>= receives >>= λ w. target_in (entered s) w.0 target >>= λ k. Some ((w.1, k.0), k.1)
 
 -- what a clause waits for, as a case without its body, and the scope of that body
 abbrev pub Opened : Type 0
-Opened = (Steps → Cases → Cases) × Scope
+Opened = (Stmts → Cases → Cases) × Scope
 
 abbrev pub received_case : List (Option ℕ) → Typed → Scope → Opened
 received_case ks w m = (receive_case ks w.1 (zero_of w.0), m)
@@ -340,25 +343,25 @@ comm_in fs s (statements.AssignTo xs e) = receive_in fs s e >>= λ w. all_take s
 comm_in fs s (statements.DefineAs xs e) = receive_in fs s e >>= λ w. where_true (may_define s xs) xs >>= λ xs. all_take_new s xs (w.0 ∷ (BoolType ∷ [])) s >>= λ ks. Some (received_case ks.0 w ks.1)
 
 unfoldable mutual
-  pub statement_in : Context → Scope → Option (List ℕ) → Statement → Option Stepped
-  statement_in c s label (statements.Does place a) = act_in c s a >>= λ d. alone (Does place.line d.0) d.1
+  pub statement_in : Context → Scope → Option (List ℕ) → Statement → Option Checked
+  statement_in c s label (statements.Does place a) = act_in c s a >>= λ d. alone (Does place d.0) d.1
   statement_in c s label (statements.Block place body) = body_in c (entered s) body >>= λ b. alone (Block b.0) (left b.1)
   statement_in c s label (statements.If place head body) =
-      if_head_in (functions c) (entered s) head >>= λ h. body_in c (entered h.1) body >>= λ b. alone (If place.line h.0.0 h.0.1 b.0 stop) (left (left b.1))
+      if_head_in (functions c) (entered s) head >>= λ h. body_in c (entered h.1) body >>= λ b. alone (If place h.0.0 h.0.1 b.0 stop) (left (left b.1))
   statement_in c s label (statements.IfElse place head body otherwise) =
-      if_head_in (functions c) (entered s) head >>= λ h. body_in c (entered h.1) body >>= λ b. body_in c (entered (left b.1)) otherwise >>= λ o. alone (If place.line h.0.0 h.0.1 b.0 o.0) (left (left o.1))
+      if_head_in (functions c) (entered s) head >>= λ h. body_in c (entered h.1) body >>= λ b. body_in c (entered (left b.1)) otherwise >>= λ o. alone (If place h.0.0 h.0.1 b.0 o.0) (left (left o.1))
   statement_in c s label (statements.IfElseIf place head body otherwise) =
-      if_head_in (functions c) (entered s) head >>= λ h. body_in c (entered h.1) body >>= λ b. statement_in c (left b.1) None otherwise >>= λ o. alone (If place.line h.0.0 h.0.1 b.0 o.0) (left o.1)
+      if_head_in (functions c) (entered s) head >>= λ h. body_in c (entered h.1) body >>= λ b. statement_in c (left b.1) None otherwise >>= λ o. alone (If place h.0.0 h.0.1 b.0 o.0) (left o.1)
   statement_in c s label (statements.For place (statements.Loop init condition post) body) =
-      for_parts (functions c) (entered s) init condition post >>= λ h. body_in (inside (Loop label) c) (entered h.1) body >>= λ b. alone (For place.line h.0.0 h.0.1.0 h.0.1.1 b.0) (left (left b.1))
+      for_parts (functions c) (entered s) init condition post >>= λ h. body_in (inside (Loop label) c) (entered h.1) body >>= λ b. alone (For place h.0.0 h.0.1.0 h.0.1.1 b.0) (left (left b.1))
   statement_in c s label (statements.For place (statements.Range target e) body) =
-      range_parts (functions c) s target e >>= λ h. body_in (inside (Loop label) c) (entered h.1) body >>= λ b. alone (Range place.line h.0.1 h.0.0 b.0) (left (left b.1))
+      range_parts (functions c) s target e >>= λ h. body_in (inside (Loop label) c) (entered h.1) body >>= λ b. alone (Range place h.0.1 h.0.0 b.0) (left (left b.1))
   statement_in c s label (statements.Select place clauses) =
-      where_true (at_most_one (defaults clauses)) s >>= λ s. clauses_in (inside (Choice label) c) s clauses >>= λ k. alone (Select place.line k.0) k.1
+      where_true (at_most_one (defaults clauses)) s >>= λ s. clauses_in (inside (Choice label) c) s clauses >>= λ k. alone (Select place k.0) k.1
   statement_in c s label (statements.Label place x statement) = statement_in c s (Some x) statement
   statement_in c s label (statements.EmptyLabel place x) = Some (stop, s)
 
-  pub body_in : Context → Scope → Statements → Option Stepped
+  pub body_in : Context → Scope → Statements → Option Checked
   body_in c s statements.end = Some (stop, s)
   body_in c s ((statements.then) first others) = statement_in c s None first >>= λ a. body_in c a.1 others >>= λ b. Some (joined a.0 b.0, b.1)
 

@@ -1,7 +1,7 @@
 -- The table of the functions' numbers, by their names.
 use Rattle.std.specs.Prelude.{ℕ, List, [], ◌∷◌, ◌++◌, Option, Some, None, if◌then◌else◌}
-use Rattle.gr_types.specs.Names.{is_blank}
-use Rattle.gr_types.specs.Scopes.{Block, in_block}
+use Rattle.gr_typing.specs.Names.{is_blank}
+use Rattle.gr_typing.specs.Scopes.{Block, in_block}
 
 abbrev pub if_new : Block → List ℕ → ℕ → Option ℕ → Block
 if_new block x n (Some k) = block

@@ -1,7 +1,7 @@
 -- A table of names as the list that it is, and labels that come one after another.
 use Rattle.std.specs.Prelude.{ℕ, Bool, true, not, ◌&&◌, List, [], ◌∷◌, ◌++◌, map, if◌then◌else◌}
 use Rattle.gr_types.specs.declared.labels.NameSet.{NameSet}
-use Rattle.gr_types.specs.Names.{among, is_blank}
+use Rattle.gr_typing.specs.Names.{among, is_blank}
 
 abbrev pub names_of : NameSet → List (List ℕ)
 names_of set = map (λ x. x.now) set.names.keys

@@ -4,9 +4,9 @@ use Rattle.gr_tree.specs.Files.{function_of}
 use Rattle.gr_tree.specs.Statements.{optional}
 use Rattle.gr_types.specs.declared.parameters.Parameters as code_parameters
 use Rattle.gr_types.specs.declared.outlines.Outline as code_outline
-use Rattle.gr_types.specs.TypeViews.{ty_of, types_of}
+use Rattle.gr_program.specs.TypeViews.{ty_of, types_of}
 use Rattle.gr_types.specs.Tables.{scope_of}
-use Rattle.gr_types.specs.Programs.{parameters_of}
+use Rattle.gr_program.specs.Views.{parameters_of}
 use Rattle.gr_types.specs.Outlines.{Taken, Outline, OutlineOf}
 
 abbrev pub taken_of : code_parameters.Parameters → Taken

@@ -3,17 +3,19 @@
 use Rattle.std.specs.Prelude.{ℕ, Bool, true, not, ◌&&◌, List, [], ◌∷◌, ◌++◌, Option, Some, if◌then◌else◌, is_none, codes}
 use Rattle.gr_tree.specs.Files as files
 use Rattle.gr_tree.specs.Files.{Group, GroupOf, FileTree, FileOf}
-use Rattle.gr_types.specs.Types.{Ty, type_written}
-use Rattle.gr_types.specs.Terms.{Parameter, Takes, Function, Program, ProgramIs}
-use Rattle.gr_types.specs.Names.{predeclared, among}
-use Rattle.gr_types.specs.Scopes.{Scope, declared, number_of, is_free, Signature, Sign, function_in}
+use Rattle.gr_program.specs.Types.{Ty}
+use Rattle.gr_typing.specs.Types.{type_written}
+use Rattle.gr_program.specs.Programs.{Parameter, Takes, Function, Program, ProgramIs}
+use Rattle.gr_typing.specs.Names.{predeclared, among}
+use Rattle.gr_program.specs.Order.{stands_in_order}
+use Rattle.gr_typing.specs.Scopes.{Scope, declared, number_of, is_free, Signature, Sign, function_in}
 use Rattle.gr_tree.specs.Statements.{Statements}
 use Rattle.gr_types.specs.Finding.{◌>>=◌, where_true, has_text}
-use Rattle.gr_types.specs.StatementChecks.{Context, Within}
-use Rattle.gr_types.specs.FindingStatements.{Stepped, written_of, body_in}
+use Rattle.gr_typing.specs.Contexts.{Context, Within}
+use Rattle.gr_types.specs.FindingStatements.{Checked, written_of, body_in}
 use Rattle.gr_types.specs.FindingFiles.{checked_function, is_bare}
-use Rattle.gr_types.specs.Endings.{labels_fit}
-use Rattle.gr_types.specs.FileChecks.{empty_scope, ends_well}
+use Rattle.gr_typing.specs.Labels.{labels_fit}
+use Rattle.gr_typing.specs.FileChecks.{empty_scope, ends_well}
 
 -- parameters: their types, themselves, and the scope of the body with them
 abbrev pub Taken : Type 0
@@ -71,14 +73,15 @@ headings_in fs os [] = Some (fs, os)
 headings_in fs os (f ∷ others) = heading_in fs f >>= λ h. headings_in (fs ++ (h.0 ∷ [])) (os ++ (h.1 ∷ [])) others
 
 -- statements among which every label fits
-abbrev pub labeled_in : Context → Scope → Statements → Option Stepped
+abbrev pub labeled_in : Context → Scope → Statements → Option Checked
 labeled_in c s body = body_in c s body >>= where_true (labels_fit body)
 
 -- the function of an outline
 unfoldable pub finished : List Signature → Outline → Option Function
 finished fs (OutlineOf (files.FunctionOf place name groups w body closing) parameters result s) =
     labeled_in (Within fs result []) s body >>= where_true (ends_well result body) >>= λ b.
-    Some (checked_function name parameters result closing.line b)
+    where_true (stands_in_order place.start b.0 closing.start) b >>= λ b.
+    Some (checked_function name parameters result closing b)
 
 unfoldable pub finished_all : List Signature → List Outline → Option (List Function)
 finished_all fs [] = Some []

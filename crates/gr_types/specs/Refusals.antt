@@ -2,8 +2,8 @@
 use Rattle.gr_tree.specs.Files.{FileTree}
 use Rattle.gr_types.specs.declared.fault.CheckError.{CheckError}
 use Rattle.gr_types.specs.declared.fault.CheckError.TheVariants as errors
-use Rattle.gr_types.specs.Terms.{Program}
-use Rattle.gr_types.specs.FileChecks.{ProgramOf}
+use Rattle.gr_program.specs.Programs.{Program}
+use Rattle.gr_typing.specs.FileChecks.{ProgramOf}
 
 -- every fault but want of memory says that the file has no program
 abbrev pub HasNoProgram : CheckError → FileTree → Type 0

@@ -3,8 +3,8 @@ use Rattle.std.specs.Prelude.{◌≡◌, ℕ, List, [], ◌∷◌, map, Vec}
 use Rattle.std.proofs.Common.{Global}
 use Rattle.gr_types.specs.declared.names.NameTable.{NameTable}
 use Rattle.gr_types.specs.declared.scope.Scope as code_scope
-use Rattle.gr_types.specs.Scopes.{Block, Scope, In, in_block, Signature, function_in}
-use Rattle.gr_types.specs.TypeViews.{declared_of}
+use Rattle.gr_typing.specs.Scopes.{Block, Scope, In, in_block, Signature, function_in}
+use Rattle.gr_program.specs.TypeViews.{declared_of}
 
 abbrev pub entries_of : List (Vec ℕ Global × ℕ) → Block
 entries_of entries = map (λ entry. (entry.0.items, entry.1)) entries

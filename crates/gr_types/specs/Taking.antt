@@ -5,12 +5,13 @@ use Rattle.std.proofs.Common.{cond}
 use Rattle.gr_tree.specs.declared.expr.UnaryOp.TheVariants as unaries
 use Rattle.gr_tree.specs.Exprs as tree
 use Rattle.gr_tree.specs.Exprs.{Tree, Trees}
-use Rattle.gr_types.specs.Types.{Ty, BoolType, assignable}
-use Rattle.gr_types.specs.Terms.{zero_of, Term, Terms, none, more, AssignReceive}
-use Rattle.gr_types.specs.Names.{is_blank}
-use Rattle.gr_types.specs.Scopes.{Scope, variable_named, type_of_variable, is_old, is_free, declared, number_of, Signature}
-use Rattle.gr_types.specs.Values.{Value}
-use Rattle.gr_types.specs.StatementChecks.{may_define}
+use Rattle.gr_program.specs.Types.{Ty, BoolType}
+use Rattle.gr_typing.specs.Types.{assignable}
+use Rattle.gr_program.specs.Programs.{zero_of, Expr, Exprs, none, more, AssignReceive}
+use Rattle.gr_typing.specs.Names.{is_blank}
+use Rattle.gr_typing.specs.Scopes.{Scope, variable_named, type_of_variable, is_old, is_free, declared, number_of, Signature}
+use Rattle.gr_typing.specs.Values.{Value}
+use Rattle.gr_typing.specs.Assignments.{may_define}
 use Rattle.gr_types.specs.Finding.{◌>>=◌, where_true, Typed, typed, given}
 use Rattle.gr_types.specs.Calling.{values_in}
 use Rattle.gr_types.specs.FindingStatements.{receive_in, takes_new, Done, assigned}
@@ -24,14 +25,14 @@ targets s [] = Some []
 targets s (x ∷ xs) = target s x >>= λ k. targets s xs >>= λ ks. Some (k ∷ ks)
 
 -- a value that is given to it
-abbrev pub given_variable : Scope → ℕ → Value → Option Term
+abbrev pub given_variable : Scope → ℕ → Value → Option Expr
 given_variable s k v = type_of_variable s k >>= λ t. given t v
 
-abbrev pub fit : Scope → Option ℕ → Value → Option Term
+abbrev pub fit : Scope → Option ℕ → Value → Option Expr
 fit s None v = typed v >>= λ w. Some w.1
 fit s (Some k) v = given_variable s k v
 
-abbrev pub fits : Scope → List (Option ℕ) → List Value → Option Terms
+abbrev pub fits : Scope → List (Option ℕ) → List Value → Option Exprs
 fits s [] vs = Some none
 fits s (k ∷ ks) [] = None
 fits s (k ∷ ks) (v ∷ vs) = fit s k v >>= λ p. fits s ks vs >>= λ ps. Some (more p ps)
@@ -67,19 +68,19 @@ takers s (x ∷ xs) [] = None
 takers s (x ∷ xs) (t ∷ ts) = taker s x t >>= λ k. takers s xs ts >>= λ ks. Some (k ∷ ks)
 
 -- the same with the value's term
-abbrev pub old_share : Scope → List ℕ → Value → Option (Taker × Term)
+abbrev pub old_share : Scope → List ℕ → Value → Option (Taker × Expr)
 old_share s x v = target s x >>= λ k. fit s k v >>= λ p. Some (Old k, p)
 
-abbrev pub new_share : Typed → Option (Taker × Term)
+abbrev pub new_share : Typed → Option (Taker × Expr)
 new_share w = Some (New w.0, w.1)
 
-abbrev pub share : Scope → List ℕ → Value → Option (Taker × Term)
+abbrev pub share : Scope → List ℕ → Value → Option (Taker × Expr)
 share s x v = cond (is_old s x) (old_share s x v) (typed v >>= new_share)
 
-abbrev pub with_share : Taker × Term → List Taker × Terms → List Taker × Terms
+abbrev pub with_share : Taker × Expr → List Taker × Exprs → List Taker × Exprs
 with_share p rest = (p.0 ∷ rest.0, more p.1 rest.1)
 
-abbrev pub shares : Scope → List (List ℕ) → List Value → Option (List Taker × Terms)
+abbrev pub shares : Scope → List (List ℕ) → List Value → Option (List Taker × Exprs)
 shares s [] vs = Some ([], none)
 shares s (x ∷ xs) [] = None
 shares s (x ∷ xs) (v ∷ vs) = share s x v >>= λ p. shares s xs vs >>= λ rest. Some (with_share p rest)
@@ -132,7 +133,7 @@ assign_received fs s pair =
     target s pair.0 >>= λ k. target s pair.1.0 >>= λ l. receive_in fs s pair.1.1 >>= λ w.
     where_true (accepts s k w.0 && accepts s l BoolType) (AssignReceive k l w.1 (zero_of w.0), s)
 
-abbrev pub shared_done : List (List ℕ) → Scope → List Taker × Terms → Done
+abbrev pub shared_done : List (List ℕ) → Scope → List Taker × Exprs → Done
 shared_done xs s p =
     let done = all_settled xs p.0 s in
     (assigned (done.0, p.1), done.1)

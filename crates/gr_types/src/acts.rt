@@ -1,39 +1,44 @@
 //! Statements with no statements in them.
-ghost use Rattle.std.specs.Prelude.{◌≡◌};
+ghost use Rattle.std.specs.Prelude.{◌≡◌, Err, is_some};
+ghost use Rattle.gr_types.specs.declared.fault.Fault.TheVariants as faults;
+ghost use Rattle.gr_types.specs.declared.fault.Code.TheVariants as codes;
 ghost use Rattle.gr_tree.specs.Exprs.{tree_of};
 ghost use Rattle.gr_tree.specs.Statements as trees;
 ghost use Rattle.gr_tree.specs.Statements.{optional};
-ghost use Rattle.gr_types.specs.Scopes.{first_where};
-ghost use Rattle.gr_types.specs.StatementChecks.{is_left, is_continued};
+ghost use Rattle.gr_typing.specs.Scopes.{first_where};
+ghost use Rattle.gr_typing.specs.Contexts.{is_left, is_continued};
 ghost use Rattle.gr_types.specs.Tables.{scope_of};
 ghost use Rattle.gr_types.specs.FunctionTables.{functions_of};
-ghost use Rattle.gr_types.specs.Contexts.{context_of, nest_of};
-ghost use Rattle.gr_types.specs.TypeViews.{ty_of};
-ghost use Rattle.gr_types.specs.Programs.{term_of, act_of};
+ghost use Rattle.gr_types.specs.ContextViews.{context_of, nest_of};
+ghost use Rattle.gr_program.specs.TypeViews.{ty_of};
+ghost use Rattle.gr_program.specs.Views.{expr_of, act_of};
 ghost use Rattle.gr_types.specs.FindingStatements as spec;
 ghost use Rattle.gr_types.specs.Checking.{Agrees, meaning_of};
+ghost use Rattle.gr_types.specs.Codes.{Tells, variable_code};
 
-use crate::assignments::{assign, define};
+use crate::assignments::assign;
 use crate::calls::unusable;
-use crate::communications::sent;
-use crate::context::{Context, Nest, continued_by, left_by};
+use crate::communications::send_of;
+use crate::context::{Context, Nest, break_depth, continue_depth};
 use crate::declarations::{declare, declare_values};
-use crate::evaluations::evaluate;
+use crate::definitions::define;
+use crate::expression_statements::expression_statement;
 use crate::expressions::{call_in, find};
 use crate::fault::{Code, Fault};
 use crate::functions::Functions;
+use crate::operands::{Operand, as_type, of_kind};
 use crate::operators::{binary_type, may_stand_right};
-use crate::program::{Act, Literal, Term};
 use crate::scope::Scope;
-use crate::types::Type;
-use crate::values::{Value, given, of_kind};
+use gr_program as checked;
+use gr_program::{Act, Literal, Type};
 use gr_tree::{Action, BinaryOp, Expr, Simple};
 use std::alloc::Global;
 
 // The variable that a name stands for, which is a whole number.
 #[tactic(auto, unfolding(crate::specs::FindingStatements::number_variable, crate::specs::FindingStatements::variable_in))]
 fn number_variable(functions: &Functions, scope: &Scope, name: &[u8]) -> Result<usize, Fault>
-    ensures { Agrees (λ k. k) result (spec.number_variable (scope_of scope.now) name.now) }
+    ensures value { Agrees (λ k. k) result (spec.number_variable (scope_of scope.now) name.now) }
+    ensures code { Tells result (variable_code (functions_of functions.now) (scope_of scope.now) name.now) }
 {
     let Some(number) = scope.number_of(name) else {
         return Err(Fault::Broken(unusable(functions, scope, name)));
@@ -45,7 +50,7 @@ fn number_variable(functions: &Functions, scope: &Scope, name: &[u8]) -> Result<
 }
 
 // An assignment of a variable's value and this one, joined by an operator that gives a whole number.
-fn updated(op: BinaryOp, variable: usize, value: Value) -> Result<Act, Fault>
+fn update_by(op: BinaryOp, variable: usize, value: Operand) -> Result<Act, Fault>
     ensures { Agrees act_of result (spec.updated op variable (meaning_of value)) }
 {
     let Some(Type::Int) = binary_type(op, &Type::Int, &Type::Int) else {
@@ -76,14 +81,14 @@ fn update(
 {
     let variable = number_variable(functions, scope, name)?;
     let value = find(alloc, functions, scope, expr)?;
-    updated(op, variable, value)
+    update_by(op, variable, value)
 }
 
 // An increment or a decrement.
 fn by_one(op: BinaryOp, variable: usize) -> Act
     ensures { act_of result ≡ spec.by_one op variable }
 {
-    let value = Term::Literal(Literal::Number(1));
+    let value = checked::Expr::Literal(Literal::Number(1));
     Act::Update {
         variable,
         op,
@@ -102,9 +107,9 @@ pub fn simple(
     ensures { Agrees (λ a. (act_of a, scope_of scope.new)) result (spec.simple_in (functions_of functions.now) (scope_of scope.old) (trees.simple_of simple.now)) }
 {
     match simple {
-        Simple::Eval(expr) => evaluate(alloc, functions, scope, expr),
+        Simple::Eval(expr) => expression_statement(alloc, functions, scope, expr),
         Simple::Send(channel, value) => {
-            let (channel, value) = sent(alloc, functions, scope, channel, value)?;
+            let (channel, value) = send_of(alloc, functions, scope, channel, value)?;
             Ok(Act::Send { channel, value })
         }
         Simple::Assign(names, exprs) => assign(alloc, functions, scope, names, exprs),
@@ -123,37 +128,39 @@ pub fn simple(
 
 // The value that a return gives, in a function with this result.
 #[tactic(auto, unfolding(crate::specs::FindingStatements::returned_in))]
-fn returned(
+fn return_value(
     alloc: Global,
     functions: &Functions,
     scope: &Scope,
     result_type: &Option<Type>,
     expr: &Option<Expr>,
-) -> Result<Option<Term>, Fault>
-    ensures { Agrees (optional term_of) result (spec.returned_in (functions_of functions.now) (scope_of scope.now) (optional ty_of result_type.now) (optional tree_of expr.now)) }
+) -> Result<Option<checked::Expr>, Fault>
+    ensures value { Agrees (optional expr_of) result (spec.returned_in (functions_of functions.now) (scope_of scope.now) (optional ty_of result_type.now) (optional tree_of expr.now)) }
+    // A value where none is wanted, or none where one is, is told as a wrong count.
+    ensures count { (is_some result_type.now ≡ is_some expr.now → ⊥) → result ≡ Err (faults.Broken codes.WrongCount) }
 {
     match (result_type, expr) {
         (None, None) => Ok(None),
         (Some(own), Some(expr)) => {
             let value = find(alloc, functions, scope, expr)?;
-            Ok(Some(given(own, value)?))
+            Ok(Some(as_type(own, value)?))
         }
         _ => Err(Fault::Broken(Code::WrongCount)),
     }
 }
 
 // Which of the statements around a place a break leaves.
-fn left(label: &Option<Vec<u8>>, nest: &Nest) -> Result<usize, Fault>
+fn break_of(label: &Option<Vec<u8>>, nest: &Nest) -> Result<usize, Fault>
     ensures { Agrees (λ k. k) result (first_where (is_left (optional trees.name_of label.now)) (nest_of nest.now)) }
 {
-    left_by(label.as_deref(), nest)
+    break_depth(label.as_deref(), nest)
 }
 
 // Which of the statements around a place a continue begins anew.
-fn continued(label: &Option<Vec<u8>>, nest: &Nest) -> Result<usize, Fault>
+fn continue_of(label: &Option<Vec<u8>>, nest: &Nest) -> Result<usize, Fault>
     ensures { Agrees (λ k. k) result (first_where (is_continued (optional trees.name_of label.now)) (nest_of nest.now)) }
 {
-    continued_by(label.as_deref(), nest)
+    continue_depth(label.as_deref(), nest)
 }
 
 /// What a statement with no statements in it does.
@@ -181,9 +188,9 @@ pub fn act(
             })
         }
         Action::Return(expr) => {
-            Ok(Act::Return(returned(alloc, functions, scope, context.result, expr)?))
+            Ok(Act::Return(return_value(alloc, functions, scope, context.result, expr)?))
         }
-        Action::Break(label) => Ok(Act::Break(left(label, context.nest)?)),
-        Action::Continue(label) => Ok(Act::Continue(continued(label, context.nest)?)),
+        Action::Break(label) => Ok(Act::Break(break_of(label, context.nest)?)),
+        Action::Continue(label) => Ok(Act::Continue(continue_of(label, context.nest)?)),
     }
 }

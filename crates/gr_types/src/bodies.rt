@@ -2,29 +2,34 @@
 ghost use Rattle.std.specs.Prelude.{◌≡◌};
 ghost use Rattle.gr_tree.specs.Files as trees;
 ghost use Rattle.gr_tree.specs.Statements.{statements_of};
-ghost use Rattle.gr_types.specs.Programs as programs;
-ghost use Rattle.gr_types.specs.Programs.{steps_of};
+ghost use Rattle.gr_program.specs.Views as programs;
+ghost use Rattle.gr_program.specs.Views.{stmts_of};
 ghost use Rattle.gr_types.specs.Tables.{scope_of};
-ghost use Rattle.gr_types.specs.Contexts.{context_of};
+ghost use Rattle.gr_types.specs.ContextViews.{context_of};
 ghost use Rattle.gr_types.specs.FunctionTables.{functions_of};
 ghost use Rattle.gr_types.specs.Outlines as spec;
 ghost use Rattle.gr_types.specs.OutlineViews.{outline_of, outlines_of};
 ghost use Rattle.gr_types.specs.Checking.{Settles};
+ghost use Rattle.gr_types.specs.Codes as spec_codes;
 
 use crate::context::{Context, Nest};
 use crate::endings::ends;
-use crate::fault::{CheckError, Code};
+use crate::fault::{CheckError, Code, Fault, refused};
 use crate::functions::Functions;
 use crate::labels::{LabelFault, UnfitLabel, unfit_label};
 use crate::names::copy;
 use crate::outlines::Outline;
-use crate::program::{Function, Step};
 use crate::scope::Scope;
 use crate::statements::body;
+use gr_program as checked;
+use gr_program::Function;
+use gr_program::order::is_in_order;
 use gr_tree::Stmt;
 use std::alloc::Global;
 
-fn label_code(fault: LabelFault) -> Code {
+fn label_code(fault: LabelFault) -> Code
+    ensures { result ≡ spec_codes.label_code fault }
+{
     match fault {
         LabelFault::Blank | LabelFault::Unused => Code::WrongLabel,
         LabelFault::DeclaredTwice => Code::DeclaredTwice,
@@ -32,7 +37,9 @@ fn label_code(fault: LabelFault) -> Code {
 }
 
 // The rule that is broken first, and where: that of a statement, or that of a label.
-fn earlier(code: Code, at: usize, unfit: Option<UnfitLabel>) -> (Code, usize) {
+fn earlier(code: Code, at: usize, unfit: Option<UnfitLabel>) -> (Code, usize)
+    ensures { result ≡ spec_codes.earlier_of code at unfit }
+{
     match unfit {
         Some(label) if label.place.start < at => (label_code(label.fault), label.place.start),
         _ => (code, at),
@@ -45,8 +52,8 @@ fn labeled(
     context: &Context,
     scope: &mut Scope,
     stmts: &[Stmt],
-) -> Result<Vec<Step>, CheckError>
-    ensures { Settles (λ v. (steps_of v.items, scope_of scope.new)) result (spec.labeled_in (context_of context.now) (scope_of scope.old) (statements_of stmts.now)) }
+) -> Result<Vec<checked::Stmt>, CheckError>
+    ensures { Settles (λ v. (stmts_of v.items, scope_of scope.new)) result (spec.labeled_in (context_of context.now) (scope_of scope.old) (statements_of stmts.now)) }
 {
     let unfit = unfit_label(alloc, stmts)?;
     let steps = match body(alloc, context, scope, stmts) {
@@ -69,7 +76,9 @@ fn labeled(
 // The function of an outline.
 #[tactic(auto, unfolding(crate::specs::Outlines::finished))]
 fn finish(alloc: Global, functions: &Functions, outline: Outline) -> Result<Function, CheckError>
-    ensures { Settles programs.function_of result (spec.finished (functions_of functions.now) (outline_of outline.entry)) }
+    ensures value { Settles programs.function_of result (spec.finished (functions_of functions.now) (outline_of outline.entry)) }
+    // Where nothing else is wrong, a missing return is told, at the closing brace.
+    ensures missing { spec_codes.TellsMissingReturn (functions_of functions.now) (outline_of outline.entry) result }
 {
     let Outline {
         func,
@@ -89,13 +98,16 @@ fn finish(alloc: Global, functions: &Functions, outline: Outline) -> Result<Func
             at: func.end.start,
         });
     }
+    if !is_in_order(func.place.start, &body, func.end.start) {
+        return Err(refused(Fault::Broken(Code::WrongForm), func.place));
+    }
     Ok(Function {
         name: copy(alloc, &func.name)?,
         parameters,
         result: wanted,
         variables: scope.into_variables(),
         body,
-        end: func.end.line,
+        closing: func.end,
     })
 }
 

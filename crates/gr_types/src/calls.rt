@@ -1,23 +1,28 @@
 //! Calls.
 ghost use Rattle.std.specs.Prelude.{◌≡◌, Some};
 ghost use Rattle.gr_tree.specs.Statements.{optional};
-ghost use Rattle.gr_types.specs.Terms as pure;
-ghost use Rattle.gr_types.specs.Scopes as scopes;
-ghost use Rattle.gr_types.specs.TypeViews.{ty_of, types_of, sign_of};
+ghost use Rattle.gr_program.specs.Programs as pure;
+ghost use Rattle.gr_typing.specs.Scopes as scopes;
+ghost use Rattle.gr_program.specs.TypeViews.{ty_of, types_of};
+ghost use Rattle.gr_types.specs.Signatures.{sign_of};
 ghost use Rattle.gr_types.specs.Tables.{scope_of};
 ghost use Rattle.gr_types.specs.FunctionTables.{functions_of};
-ghost use Rattle.gr_types.specs.Programs.{terms_of};
+ghost use Rattle.gr_program.specs.Views.{exprs_of};
 ghost use Rattle.gr_types.specs.Finding as spec;
 ghost use Rattle.gr_types.specs.Calling as calling;
 ghost use Rattle.gr_types.specs.Checking.{Agrees, meaning_of, meanings_of, called_of};
+ghost use Rattle.gr_types.specs.Codes.{Tells, name_code, callee_code};
+ghost use Rattle.gr_types.specs.declared.fault.Code.TheVariants as codes;
 
 use crate::fault::{Code, Fault};
 use crate::functions::Functions;
 use crate::names::is_predeclared;
-use crate::program::Term;
+use crate::operands::{Operand, as_channel, as_type};
 use crate::scope::Scope;
-use crate::types::{Signature, Type, copy_optional};
-use crate::values::{Value, as_channel, given};
+use crate::types::Signature;
+use gr_program as checked;
+use gr_program::Type;
+use gr_program::types::copy_optional;
 use std::alloc::Global;
 use std::collections::VecDeque;
 
@@ -38,11 +43,13 @@ pub struct Called {
     /// The type of the function's result.
     pub result: Option<Type>,
     pub function: usize,
-    pub arguments: Vec<Term>,
+    pub arguments: Vec<checked::Expr>,
 }
 
 /// The rule that a name breaks which is no type, or no function that may be called.
-pub fn unusable(functions: &Functions, scope: &Scope, name: &[u8]) -> Code {
+pub fn unusable(functions: &Functions, scope: &Scope, name: &[u8]) -> Code
+    ensures { result ≡ name_code (functions_of functions.now) (scope_of scope.now) name.now }
+{
     if is_predeclared(name)
         || scope.variable_named(name).is_some()
         || functions.number(name).is_some()
@@ -54,7 +61,9 @@ pub fn unusable(functions: &Functions, scope: &Scope, name: &[u8]) -> Code {
 }
 
 // The rule that a name breaks as the callee of a call that has a value.
-fn no_callee(functions: &Functions, scope: &Scope, name: &[u8]) -> Code {
+fn no_callee(functions: &Functions, scope: &Scope, name: &[u8]) -> Code
+    ensures { result ≡ callee_code (functions_of functions.now) (scope_of scope.now) name.now }
+{
     let has_no_value = name == b"close".as_slice() || name == b"println".as_slice();
     if has_no_value && scope.variable_named(name).is_none() {
         Code::WrongCount
@@ -89,7 +98,8 @@ fn callee_in(functions: &Functions, scope: &Scope, name: &[u8]) -> Option<Callee
 
 /// What a name stands for in a call that has a value.
 pub fn resolve(functions: &Functions, scope: &Scope, name: &[u8]) -> Result<Callee, Fault>
-    ensures { Agrees (λ c. c) result (calling.callee_in (functions_of functions.now) (scope_of scope.now) name.now) }
+    ensures value { Agrees (λ c. c) result (calling.callee_in (functions_of functions.now) (scope_of scope.now) name.now) }
+    ensures code { Tells result (callee_code (functions_of functions.now) (scope_of scope.now) name.now) }
 {
     match callee_in(functions, scope, name) {
         Some(callee) => Ok(callee),
@@ -101,16 +111,16 @@ pub fn resolve(functions: &Functions, scope: &Scope, name: &[u8]) -> Result<Call
 fn given_all(
     alloc: Global,
     parameters: &[Type],
-    mut values: VecDeque<Value>,
-) -> Result<Vec<Term>, Fault>
-    ensures { Agrees (λ v. terms_of v.items) result (calling.given_all (meanings_of values.items) (types_of parameters.now)) }
+    mut values: VecDeque<Operand>,
+) -> Result<Vec<checked::Expr>, Fault>
+    ensures { Agrees (λ v. exprs_of v.items) result (calling.given_all (meanings_of values.items) (types_of parameters.now)) }
 {
     let mut terms = Vec::new(alloc);
     for parameter in parameters {
         let Some(value) = values.pop_front() else {
             return Err(Fault::Broken(Code::WrongCount));
         };
-        let term = given(parameter, value)?;
+        let term = as_type(parameter, value)?;
         terms.push(term)?;
     }
     if !values.is_empty() {
@@ -123,7 +133,7 @@ fn call_of(
     alloc: Global,
     function: usize,
     signature: &Signature,
-    values: VecDeque<Value>,
+    values: VecDeque<Operand>,
 ) -> Result<Called, Fault>
     ensures { Agrees called_of result (spec.call_of (calling.given_all (meanings_of values.items)) function (Some (sign_of signature.now))) }
 {
@@ -144,7 +154,7 @@ pub fn call_function(
     alloc: Global,
     functions: &Functions,
     function: usize,
-    values: VecDeque<Value>,
+    values: VecDeque<Operand>,
 ) -> Result<Called, Fault>
     ensures { Agrees called_of result (spec.call_of (calling.given_all (meanings_of values.items)) function (scopes.signature (functions_of functions.now) function)) }
 {
@@ -154,8 +164,9 @@ pub fn call_function(
     }
 }
 
-fn with_value(called: Called) -> Result<Value, Fault>
-    ensures { Agrees meaning_of result (spec.call_value (called_of called)) }
+fn with_value(called: Called) -> Result<Operand, Fault>
+    ensures value { Agrees meaning_of result (spec.call_value (called_of called)) }
+    ensures code { Tells result codes.WrongCount }
 {
     let Called {
         result: own,
@@ -163,13 +174,13 @@ fn with_value(called: Called) -> Result<Value, Fault>
         arguments,
     } = called;
     match own {
-        Some(own) => Ok(Value::Made(own, Term::Call(function, arguments))),
+        Some(own) => Ok(Operand::Made(own, checked::forms::call(function, arguments))),
         None => Err(Fault::Broken(Code::WrongCount)),
     }
 }
 
 // The one value among these.
-fn only(mut values: VecDeque<Value>) -> Result<Value, Fault>
+fn only(mut values: VecDeque<Operand>) -> Result<Operand, Fault>
     ensures { Agrees meaning_of result (calling.only_of (meanings_of values.items)) }
 {
     if values.len() != 1 {
@@ -181,18 +192,24 @@ fn only(mut values: VecDeque<Value>) -> Result<Value, Fault>
     }
 }
 
-fn length_of(alloc: Global, value: Value) -> Result<Value, Fault>
+fn length_of(alloc: Global, value: Operand) -> Result<Operand, Fault>
     ensures { Agrees meaning_of result (spec.measured pure.Len (meaning_of value)) }
 {
     let channel = as_channel(value)?;
-    Ok(Value::Made(Type::Int, Term::Len(Box::new(alloc, channel.term)?)))
+    Ok(Operand::Made(
+        Type::Int,
+        checked::Expr::Len(Box::new(alloc, channel.term)?),
+    ))
 }
 
-fn capacity_of(alloc: Global, value: Value) -> Result<Value, Fault>
+fn capacity_of(alloc: Global, value: Operand) -> Result<Operand, Fault>
     ensures { Agrees meaning_of result (spec.measured pure.Cap (meaning_of value)) }
 {
     let channel = as_channel(value)?;
-    Ok(Value::Made(Type::Int, Term::Cap(Box::new(alloc, channel.term)?)))
+    Ok(Operand::Made(
+        Type::Int,
+        checked::Expr::Cap(Box::new(alloc, channel.term)?),
+    ))
 }
 
 /// The value of a call with these arguments.
@@ -200,8 +217,8 @@ pub fn call(
     alloc: Global,
     functions: &Functions,
     callee: Callee,
-    values: VecDeque<Value>,
-) -> Result<Value, Fault>
+    values: VecDeque<Operand>,
+) -> Result<Operand, Fault>
     ensures { Agrees meaning_of result (calling.called_as (functions_of functions.now) callee (meanings_of values.items)) }
 {
     match callee {

@@ -1,8 +1,8 @@
 //! From the tree of a file to its checked program.
 ghost use Rattle.std.specs.Prelude.{IfOk, IfErr};
 ghost use Rattle.gr_tree.specs.Files.{file_of};
-ghost use Rattle.gr_types.specs.Programs.{program_of};
-ghost use Rattle.gr_types.specs.FileChecks.{ProgramOf};
+ghost use Rattle.gr_program.specs.Views.{program_of};
+ghost use Rattle.gr_typing.specs.FileChecks.{ProgramOf};
 ghost use Rattle.gr_types.specs.Refusals.{HasNoProgram};
 ghost use Rattle.gr_types.specs.Outlines.{program_read};
 ghost use Rattle.gr_types.specs.Checking.{Settles};
@@ -10,7 +10,7 @@ ghost use Rattle.gr_types.specs.Checking.{Settles};
 use crate::bodies::bodies;
 use crate::fault::{CheckError, Code};
 use crate::outlines::headings;
-use crate::program::Program;
+use gr_program::Program;
 use gr_tree::File;
 use std::alloc::Global;
 

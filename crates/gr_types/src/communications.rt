@@ -10,14 +10,16 @@ ghost use Rattle.gr_types.specs.FindingStatements as spec;
 ghost use Rattle.gr_types.specs.Checking.{Agrees, meaning_of, typed_of};
 ghost use Rattle.gr_types.specs.ActViews.{awaited_of, sent_of};
 
+use crate::assignments::targets_for;
+use crate::definitions::define_targets;
 use crate::expressions::find;
 use crate::fault::{Code, Fault};
 use crate::functions::Functions;
-use crate::program::{Literal, Term};
+use crate::operands::{Operand, as_channel, as_type};
 use crate::scope::Scope;
-use crate::targets::{all_defined, all_taken};
-use crate::types::{Type, may_receive, may_send, zero};
-use crate::values::{Value, as_channel, given};
+use crate::types::{may_receive, may_send, zero};
+use gr_program as checked;
+use gr_program::{Literal, Type};
 use gr_tree::{Communication, Expr, UnaryOp};
 use std::alloc::Global;
 
@@ -25,19 +27,19 @@ use std::alloc::Global;
 #[derive(Drop)]
 pub enum Awaited {
     Send {
-        channel: Term,
-        value: Term,
+        channel: checked::Expr,
+        value: checked::Expr,
     },
     /// A receive: what its value, and then whether there was one, are given to, as many as are asked for.
     Receive {
         targets: Vec<Option<usize>>,
-        channel: Term,
+        channel: checked::Expr,
         zero: Literal,
     },
 }
 
 /// A value as a channel that values are received from: the type of its elements, and the channel.
-pub fn receives(value: Value) -> Result<(Type, Term), Fault>
+pub fn received_from(value: Operand) -> Result<(Type, checked::Expr), Fault>
     ensures { Agrees typed_of result (received_from (meaning_of value)) }
 {
     let channel = as_channel(value)?;
@@ -49,18 +51,18 @@ pub fn receives(value: Value) -> Result<(Type, Term), Fault>
 
 /// A receive: the type of the channel's elements, and the channel.
 #[tactic(auto, unfolding(crate::specs::FindingStatements::receive_in))]
-pub fn received(
+pub fn receive_of(
     alloc: Global,
     functions: &Functions,
     scope: &Scope,
     expr: &Expr,
-) -> Result<(Type, Term), Fault>
+) -> Result<(Type, checked::Expr), Fault>
     ensures { Agrees typed_of result (spec.receive_in (functions_of functions.now) (scope_of scope.now) (tree_of expr.now)) }
 {
     match expr {
-        Expr::Paren(inner) => received(alloc, functions, scope, inner),
+        Expr::Paren(inner) => receive_of(alloc, functions, scope, inner),
         Expr::Unary(UnaryOp::Receive, operand) => {
-            receives(find(alloc, functions, scope, operand)?)
+            received_from(find(alloc, functions, scope, operand)?)
         }
         _ => Err(Fault::Broken(Code::WrongForm)),
     }
@@ -68,20 +70,20 @@ pub fn received(
 
 /// A send: the channel, and the value.
 #[tactic(auto, unfolding(crate::specs::FindingStatements::send_in))]
-pub fn sent(
+pub fn send_of(
     alloc: Global,
     functions: &Functions,
     scope: &Scope,
     channel: &Expr,
     value: &Expr,
-) -> Result<(Term, Term), Fault>
+) -> Result<(checked::Expr, checked::Expr), Fault>
     ensures { Agrees sent_of result (spec.send_in (functions_of functions.now) (scope_of scope.now) (tree_of channel.now) (tree_of value.now)) }
 {
     let channel = as_channel(find(alloc, functions, scope, channel)?)?;
     if !may_send(channel.direction) {
         return Err(Fault::Broken(Code::WrongDirection));
     }
-    let value = given(&channel.element, find(alloc, functions, scope, value)?)?;
+    let value = as_type(&channel.element, find(alloc, functions, scope, value)?)?;
     Ok((channel.term, value))
 }
 
@@ -96,10 +98,10 @@ fn awaits_assigned(
 ) -> Result<Awaited, Fault>
     ensures { Agrees (λ o. (awaited_of o, scope_of scope.now)) result (spec.comm_in (functions_of functions.now) (scope_of scope.now) (trees.AssignTo (names_of names.now) (tree_of expr.now))) }
 {
-    let (element, channel) = received(alloc, functions, scope, expr)?;
+    let (element, channel) = receive_of(alloc, functions, scope, expr)?;
     let zero = zero(&element);
     let types = [element, Type::Bool];
-    let targets = all_taken(alloc, functions, scope, names, &types)?;
+    let targets = targets_for(alloc, functions, scope, names, &types)?;
     Ok(Awaited::Receive {
         targets,
         channel,
@@ -118,10 +120,10 @@ fn awaits_defined(
 ) -> Result<Awaited, Fault>
     ensures { Agrees (λ o. (awaited_of o, scope_of scope.new)) result (spec.comm_in (functions_of functions.now) (scope_of scope.old) (trees.DefineAs (names_of names.now) (tree_of expr.now))) }
 {
-    let (element, channel) = received(alloc, functions, scope, expr)?;
+    let (element, channel) = receive_of(alloc, functions, scope, expr)?;
     let zero = zero(&element);
     let types = [element, Type::Bool];
-    let targets = all_defined(alloc, functions, scope, names, &types)?;
+    let targets = define_targets(alloc, functions, scope, names, &types)?;
     Ok(Awaited::Receive {
         targets,
         channel,
@@ -141,11 +143,11 @@ pub fn awaits(
 {
     match communication {
         Communication::Send(channel, value) => {
-            let (channel, value) = sent(alloc, functions, scope, channel, value)?;
+            let (channel, value) = send_of(alloc, functions, scope, channel, value)?;
             Ok(Awaited::Send { channel, value })
         }
         Communication::Receive(expr) => {
-            let (element, channel) = received(alloc, functions, scope, expr)?;
+            let (element, channel) = receive_of(alloc, functions, scope, expr)?;
             let targets = Vec::new(alloc);
             Ok(Awaited::Receive {
                 targets,

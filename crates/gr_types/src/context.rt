@@ -1,16 +1,18 @@
 //! What is around a statement.
 ghost use Rattle.std.specs.Prelude.{◌≡◌, Some};
 ghost use Rattle.gr_tree.specs.Statements.{optional};
-ghost use Rattle.gr_types.specs.TypeViews.{ty_of};
-ghost use Rattle.gr_types.specs.StatementChecks as spec;
-ghost use Rattle.gr_types.specs.StatementChecks.{has_label};
-ghost use Rattle.gr_types.specs.Scopes.{first_where, next_number};
+ghost use Rattle.gr_program.specs.TypeViews.{ty_of};
+ghost use Rattle.gr_typing.specs.Contexts as spec;
+ghost use Rattle.gr_typing.specs.Contexts.{has_label};
+ghost use Rattle.gr_typing.specs.Scopes.{first_where, next_number};
 ghost use Rattle.gr_types.specs.Checking.{Agrees};
-ghost use Rattle.gr_types.specs.Contexts.{around_of, nest_of, context_of};
+ghost use Rattle.gr_types.specs.ContextViews.{around_of, nest_of, context_of};
+ghost use Rattle.gr_types.specs.Codes.{Tells};
+ghost use Rattle.gr_types.specs.declared.fault.Code.TheVariants as codes;
 
 use crate::fault::{Code, Fault};
 use crate::functions::Functions;
-use crate::types::Type;
+use gr_program::Type;
 
 /// A for or a select statement, with the label directly before it, if it has one.
 #[derive(Clone, Copy)]
@@ -66,7 +68,8 @@ fn is_continued(label: Option<&[u8]>, around: &Around) -> bool
 
 // One further out. No text is long enough for as many statements around each other as there are numbers.
 fn next(number: usize) -> Result<usize, Fault>
-    ensures { Agrees (λ k. k) result (next_number (Some number)) }
+    ensures value { Agrees (λ k. k) result (next_number (Some number)) }
+    ensures code { Tells result codes.WrongLabel }
 {
     match number.checked_add(1) {
         Some(next) => Ok(next),
@@ -75,24 +78,26 @@ fn next(number: usize) -> Result<usize, Fault>
 }
 
 /// Which of the statements around a place a break leaves, counted outwards from the nearest, which is 0.
-pub fn left_by(label: Option<&[u8]>, nest: &Nest) -> Result<usize, Fault>
-    ensures { Agrees (λ k. k) result (first_where (spec.is_left (optional (λ x. x.now) label.entry)) (nest_of nest.now)) }
+pub fn break_depth(label: Option<&[u8]>, nest: &Nest) -> Result<usize, Fault>
+    ensures value { Agrees (λ k. k) result (first_where (spec.is_left (optional (λ x. x.now) label.entry)) (nest_of nest.now)) }
+    ensures code { Tells result codes.WrongLabel }
 {
     match nest {
         Nest::Outside => Err(Fault::Broken(Code::WrongLabel)),
         Nest::Inside(around, _) if is_left(label, around) => Ok(0),
-        Nest::Inside(_, outer) => next(left_by(label, outer)?),
+        Nest::Inside(_, outer) => next(break_depth(label, outer)?),
     }
 }
 
 /// Which of the statements around a place a continue begins anew, counted outwards from the nearest, which is 0.
-pub fn continued_by(label: Option<&[u8]>, nest: &Nest) -> Result<usize, Fault>
-    ensures { Agrees (λ k. k) result (first_where (spec.is_continued (optional (λ x. x.now) label.entry)) (nest_of nest.now)) }
+pub fn continue_depth(label: Option<&[u8]>, nest: &Nest) -> Result<usize, Fault>
+    ensures value { Agrees (λ k. k) result (first_where (spec.is_continued (optional (λ x. x.now) label.entry)) (nest_of nest.now)) }
+    ensures code { Tells result codes.WrongLabel }
 {
     match nest {
         Nest::Outside => Err(Fault::Broken(Code::WrongLabel)),
         Nest::Inside(around, _) if is_continued(label, around) => Ok(0),
-        Nest::Inside(_, outer) => next(continued_by(label, outer)?),
+        Nest::Inside(_, outer) => next(continue_depth(label, outer)?),
     }
 }
 

@@ -2,27 +2,29 @@
 ghost use Rattle.std.specs.Prelude.{◌≡◌, ◌∷◌, [], true, map, IfOk, OnOk};
 ghost use Rattle.gr_tree.specs.Exprs.{type_of, names_of, tree_of, trees_of};
 ghost use Rattle.gr_tree.specs.Statements.{optional};
-ghost use Rattle.gr_types.specs.TypeViews.{ty_of};
+ghost use Rattle.gr_program.specs.TypeViews.{ty_of};
 ghost use Rattle.gr_types.specs.Tables.{scope_of};
 ghost use Rattle.gr_types.specs.FunctionTables.{functions_of};
-ghost use Rattle.gr_types.specs.Programs.{act_of, term_of, terms_of};
-ghost use Rattle.gr_types.specs.Scopes as scopes;
-ghost use Rattle.gr_types.specs.StatementChecks as statements;
+ghost use Rattle.gr_program.specs.Views.{act_of, expr_of, exprs_of};
+ghost use Rattle.gr_typing.specs.Scopes as scopes;
+ghost use Rattle.gr_typing.specs.Assignments as assignments;
 ghost use Rattle.gr_types.specs.FindingStatements as spec;
 ghost use Rattle.gr_types.specs.Declaring as parts;
 ghost use Rattle.gr_types.specs.Declaring.{Declarable};
 ghost use Rattle.gr_types.specs.Acting.{declaration, declaration_by};
 ghost use Rattle.gr_types.specs.Checking.{Agrees, meaning_of, meanings_of, typed_of};
 
+use crate::declared_names::may_declare;
 use crate::expressions::{find_all, written_type};
 use crate::fault::{Code, Fault};
 use crate::functions::Functions;
-use crate::name_lists::may_declare;
-use crate::program::{Act, Literal, Term};
+use crate::operands::{Operand, as_type, with_type};
+use crate::right_sides::received_pair;
 use crate::scope::Scope;
-use crate::sides::received_pair;
-use crate::types::{Type, copy, is_assignable, zero};
-use crate::values::{Value, given, typed};
+use crate::types::{is_assignable, zero};
+use gr_program as checked;
+use gr_program::types::copy;
+use gr_program::{Act, Literal, Type};
 use gr_tree::{Expr, TypeTree};
 use std::alloc::{AllocError, Global};
 use std::collections::VecDeque;
@@ -34,7 +36,7 @@ fn declare_all(
     own: &Type,
 ) -> Result<(), AllocError>
     requires { Declarable (scope_of scope.old) (names_of names.now) }
-    ensures { OnOk result (scope_of scope.new ≡ statements.all_declared (scope_of scope.old) (names_of names.now) (ty_of own.now)) }
+    ensures { OnOk result (scope_of scope.new ≡ assignments.all_declared (scope_of scope.old) (names_of names.now) (ty_of own.now)) }
 {
     for name in names {
         scope.declare(alloc, name, copy(alloc, own)?)?;
@@ -58,12 +60,12 @@ fn variables(
 }
 
 // A zero value for each name.
-fn zeros(alloc: Global, names: &[Vec<u8>], own: &Type) -> Result<Vec<Term>, AllocError>
-    ensures { IfOk result (λ v. terms_of v.items ≡ statements.zeros (names_of names.now) (ty_of own.now)) }
+fn zeros(alloc: Global, names: &[Vec<u8>], own: &Type) -> Result<Vec<checked::Expr>, AllocError>
+    ensures { IfOk result (λ v. exprs_of v.items ≡ assignments.zeros (names_of names.now) (ty_of own.now)) }
 {
     let mut values = Vec::new(alloc);
     for _ in names {
-        values.push(Term::Literal(zero(own)))?;
+        values.push(checked::Expr::Literal(zero(own)))?;
     }
     Ok(values)
 }
@@ -116,15 +118,19 @@ fn written_of(
 
 // A value for a variable, with the variable's type.
 #[tactic(auto, unfolding(crate::specs::FindingStatements::declared_as))]
-fn typed_as(alloc: Global, written: &Option<Type>, value: Value) -> Result<(Type, Term), Fault>
+fn typed_as(
+    alloc: Global,
+    written: &Option<Type>,
+    value: Operand,
+) -> Result<(Type, checked::Expr), Fault>
     ensures { Agrees typed_of result (spec.declared_as (optional ty_of written.now) (meaning_of value)) }
 {
     match written {
         Some(written) => {
-            let term = given(written, value)?;
+            let term = as_type(written, value)?;
             Ok((copy(alloc, written)?, term))
         }
-        None => typed(value),
+        None => with_type(value),
     }
 }
 
@@ -134,10 +140,10 @@ fn declare_one(
     scope: &mut Scope,
     name: &[u8],
     written: &Option<Type>,
-    value: Value,
-) -> Result<(Option<usize>, Term), Fault>
+    value: Operand,
+) -> Result<(Option<usize>, checked::Expr), Fault>
     requires { scopes.is_free (scope_of scope.old) name.now ≡ true }
-    ensures { Agrees (λ g. ((g.0, term_of g.1), scope_of scope.new)) result (parts.placed (optional ty_of written.now) name.now (meaning_of value) (scope_of scope.old)) }
+    ensures { Agrees (λ g. ((g.0, expr_of g.1), scope_of scope.new)) result (parts.placed (optional ty_of written.now) name.now (meaning_of value) (scope_of scope.old)) }
 {
     let (own, term) = typed_as(alloc, written, value)?;
     scope.declare(alloc, name, own)?;
@@ -150,10 +156,10 @@ fn declare_each(
     scope: &mut Scope,
     names: &[Vec<u8>],
     written: &Option<Type>,
-    mut values: VecDeque<Value>,
-) -> Result<(Vec<Option<usize>>, Vec<Term>), Fault>
+    mut values: VecDeque<Operand>,
+) -> Result<(Vec<Option<usize>>, Vec<checked::Expr>), Fault>
     requires { Declarable (scope_of scope.old) (names_of names.now) }
-    ensures { Agrees (λ g. ((g.0.items, terms_of g.1.items), scope_of scope.new)) result (parts.all_placed (optional ty_of written.now) (names_of names.now) (meanings_of values.items) (scope_of scope.old)) }
+    ensures { Agrees (λ g. ((g.0.items, exprs_of g.1.items), scope_of scope.new)) result (parts.all_placed (optional ty_of written.now) (names_of names.now) (meanings_of values.items) (scope_of scope.old)) }
 {
     let mut variables = Vec::new(alloc);
     let mut terms = Vec::new(alloc);

@@ -1,7 +1,7 @@
 //! Terminating statements, and the breaks that leave a statement (Go: Terminating statements, Break statements).
 ghost use Rattle.std.specs.Prelude.{◌≡◌};
 ghost use Rattle.gr_tree.specs.Statements.{act_of, for_of, optional, statement_of, statements_of};
-ghost use Rattle.gr_types.specs.Endings as spec;
+ghost use Rattle.gr_typing.specs.Endings as spec;
 ghost use Rattle.gr_types.specs.StatementViews.{clause_body, clauses_of};
 
 use crate::context::is_labeled;

@@ -3,6 +3,7 @@ ghost use Rattle.std.specs.Prelude.{◌≡◌};
 ghost use Rattle.gr_types.specs.declared.fault.Fault.TheVariants as faults;
 ghost use Rattle.gr_types.specs.declared.fault.CheckError.TheVariants as errors;
 ghost use Rattle.gr_types.specs.Checking.{refused_at};
+ghost use Rattle.gr_types.specs.Codes.{constant_code};
 
 use gr_const::ConstError;
 use gr_scan::token::Place;
@@ -97,7 +98,9 @@ pub fn refused(fault: Fault, place: Place) -> CheckError
 }
 
 /// The rule that a constant expression without a value breaks.
-pub fn code_of(error: ConstError) -> Code {
+pub fn code_of(error: ConstError) -> Code
+    ensures { result ≡ constant_code error }
+{
     match error {
         ConstError::Form => Code::WrongForm,
         ConstError::Range => Code::Constant,

@@ -1,8 +1,8 @@
 //! The functions that calls may name.
 ghost use Rattle.std.specs.Prelude.{◌≡◌, ◌++◌, ◌∷◌, [], IfOk};
 ghost use Rattle.gr_tree.specs.Statements.{optional};
-ghost use Rattle.gr_types.specs.Scopes as spec;
-ghost use Rattle.gr_types.specs.TypeViews.{sign_of, signs_of};
+ghost use Rattle.gr_typing.specs.Scopes as spec;
+ghost use Rattle.gr_types.specs.Signatures.{sign_of, signs_of};
 ghost use Rattle.gr_types.specs.Tables.{block_of, Finds};
 ghost use Rattle.gr_types.specs.FunctionNumbers as numbers_spec;
 

@@ -2,23 +2,26 @@
 ghost use Rattle.gr_tree.specs.Exprs.{tree_of};
 ghost use Rattle.gr_tree.specs.Statements.{optional, simple_of, heading_of, if_of, target_of};
 ghost use Rattle.gr_types.specs.Tables.{scope_of};
+ghost use Rattle.gr_program.specs.TypeViews.{ty_of};
 ghost use Rattle.gr_types.specs.FunctionTables.{functions_of};
-ghost use Rattle.gr_types.specs.Programs.{term_of, act_of, opening_of};
+ghost use Rattle.gr_program.specs.Views.{expr_of, act_of, opening_of};
 ghost use Rattle.gr_types.specs.FindingStatements as spec;
-ghost use Rattle.gr_types.specs.Stepping.{if_parts_of, loop_parts_of, range_parts_of};
+ghost use Rattle.gr_types.specs.StatementParts.{if_parts_of, loop_parts_of, range_parts_of};
 ghost use Rattle.gr_types.specs.Checking.{Agrees, Settles};
 
 use crate::acts::simple;
-use crate::communications::receives;
+use crate::assignments::target_for;
+use crate::communications::received_from;
+use crate::definitions::define_target;
 use crate::expressions::find;
 use crate::fault::{CheckError, Code, Fault, refused};
 use crate::functions::Functions;
-use crate::program::{Act, Opening, Term};
+use crate::operands::{Operand, of_kind};
 use crate::scope::Scope;
-use crate::targets::range_target;
-use crate::types::Type;
-use crate::values::{Value, of_kind};
 use gr_const::Constant;
+use gr_program as checked;
+use gr_program::types::copy;
+use gr_program::{Act, Opening, Type};
 use gr_scan::token::Place;
 use gr_tree::{Expr, Header, IfHead, RangeTarget, Simple};
 use std::alloc::Global;
@@ -27,14 +30,14 @@ use std::alloc::Global;
 #[derive(Drop)]
 pub struct IfParts {
     pub init: Option<Opening>,
-    pub condition: Term,
+    pub condition: checked::Expr,
 }
 
 /// What stands between `for` and its block, unless it is a range.
 #[derive(Drop)]
 pub struct LoopParts {
     pub init: Option<Opening>,
-    pub condition: Option<Term>,
+    pub condition: Option<checked::Expr>,
     pub post: Option<Opening>,
 }
 
@@ -42,7 +45,7 @@ pub struct LoopParts {
 #[derive(Drop)]
 pub struct RangeParts {
     pub target: Option<usize>,
-    pub channel: Term,
+    pub channel: checked::Expr,
 }
 
 fn header_act(
@@ -73,8 +76,8 @@ fn opening(
         return Ok(None);
     };
     let act = header_act(alloc, functions, scope, header)?;
-    let line = header.place.line;
-    Ok(Some(Opening { line, act }))
+    let place = header.place;
+    Ok(Some(Opening { place, act }))
 }
 
 // The post statement of a for, which may not be a definition.
@@ -96,11 +99,16 @@ fn post_statement(
 }
 
 #[tactic(auto, using(crate::proofs::Conditions::no_truth), unfolding(crate::specs::FindingStatements::condition_in))]
-fn truth(alloc: Global, functions: &Functions, scope: &Scope, expr: &Expr) -> Result<Term, Fault>
-    ensures { Agrees term_of result (spec.condition_in (functions_of functions.now) (scope_of scope.now) (tree_of expr.now)) }
+fn truth(
+    alloc: Global,
+    functions: &Functions,
+    scope: &Scope,
+    expr: &Expr,
+) -> Result<checked::Expr, Fault>
+    ensures { Agrees expr_of result (spec.condition_in (functions_of functions.now) (scope_of scope.now) (tree_of expr.now)) }
 {
     match find(alloc, functions, scope, expr)? {
-        Value::Constant(Constant::Whole(_)) => Err(Fault::Broken(Code::WrongForm)),
+        Operand::Constant(Constant::Whole(_)) => Err(Fault::Broken(Code::WrongForm)),
         value => of_kind(&Type::Bool, value),
     }
 }
@@ -111,8 +119,8 @@ fn condition(
     scope: &Scope,
     place: Place,
     expr: &Expr,
-) -> Result<Term, CheckError>
-    ensures { Settles term_of result (spec.condition_in (functions_of functions.now) (scope_of scope.now) (tree_of expr.now)) }
+) -> Result<checked::Expr, CheckError>
+    ensures { Settles expr_of result (spec.condition_in (functions_of functions.now) (scope_of scope.now) (tree_of expr.now)) }
 {
     match truth(alloc, functions, scope, expr) {
         Ok(term) => Ok(term),
@@ -127,8 +135,8 @@ fn loop_condition(
     scope: &Scope,
     place: Place,
     expr: &Option<Expr>,
-) -> Result<Option<Term>, CheckError>
-    ensures { Settles (λ o. optional term_of o) result (spec.loop_condition_in (functions_of functions.now) (scope_of scope.now) (optional tree_of expr.now)) }
+) -> Result<Option<checked::Expr>, CheckError>
+    ensures { Settles (λ o. optional expr_of o) result (spec.loop_condition_in (functions_of functions.now) (scope_of scope.now) (optional tree_of expr.now)) }
 {
     let Some(expr) = expr else {
         return Ok(None);
@@ -175,6 +183,30 @@ pub fn loop_parts(
     })
 }
 
+/// What takes the values of a range, which are of this type.
+#[tactic(auto, unfolding(crate::specs::FindingStatements::target_in))]
+pub fn range_target(
+    alloc: Global,
+    functions: &Functions,
+    scope: &mut Scope,
+    own: &Type,
+    target: &RangeTarget,
+) -> Result<Option<usize>, Fault>
+    ensures { Agrees (λ k. (k, scope_of scope.new)) result (spec.target_in (scope_of scope.old) (ty_of own.now) (target_of target.now)) }
+{
+    match target {
+        RangeTarget::Nothing => Ok(None),
+        RangeTarget::Assign(name) => Ok(target_for(functions, scope, name, own)?),
+        RangeTarget::Define(name) => define_target(
+            alloc,
+            functions,
+            scope,
+            name,
+            copy(alloc, own)?,
+        ),
+    }
+}
+
 #[tactic(auto, unfolding(crate::specs::FindingStatements::range_parts))]
 fn range(
     alloc: Global,
@@ -186,7 +218,7 @@ fn range(
     ensures { Agrees (λ p. (range_parts_of p, scope_of scope.new)) result (spec.range_parts (functions_of functions.now) (scope_of scope.old) (target_of target.now) (tree_of expr.now)) }
 {
     let value = find(alloc, functions, scope, expr)?;
-    let (element, channel) = receives(value)?;
+    let (element, channel) = received_from(value)?;
     scope.enter(alloc)?;
     let target = range_target(alloc, functions, scope, &element, target)?;
     Ok(RangeParts { target, channel })

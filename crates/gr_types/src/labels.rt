@@ -1,9 +1,9 @@
 //! The labels of a function (Go: Labeled statements, Break statements, Continue statements).
 ghost use Rattle.std.specs.Prelude.{◌≡◌, ◌++◌, ◌∷◌, [], true, not, ◌&&◌, IfOk, OnOk, None, is_none};
 ghost use Rattle.gr_tree.specs.Statements.{act_of, statement_of, statements_of};
-ghost use Rattle.gr_types.specs.Endings as spec;
+ghost use Rattle.gr_typing.specs.Labels as spec;
 ghost use Rattle.gr_types.specs.LabelTables.{names_of, with_name, with_names, fit_after};
-ghost use Rattle.gr_types.specs.Names as name_specs;
+ghost use Rattle.gr_typing.specs.Names as name_specs;
 ghost use Rattle.gr_types.specs.StatementViews.{clause_body, clauses_of};
 
 use crate::names::is_blank;

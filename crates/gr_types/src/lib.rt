@@ -1,7 +1,6 @@
 //! From the tree of a Go file to its checked program.
 #![tactic(auto)]
 
-mod act_equality;
 mod acts;
 mod assignments;
 mod bodies;
@@ -10,29 +9,24 @@ pub mod check;
 mod communications;
 mod context;
 mod declarations;
+mod declared_names;
+mod definitions;
 mod endings;
-mod equality;
-mod evaluations;
+mod expression_statements;
 mod expressions;
 pub mod fault;
+mod forms;
 mod functions;
 mod headings;
 mod labels;
 pub mod laws;
-mod name_lists;
 mod names;
+mod operands;
 mod operators;
 mod outlines;
 mod parameters;
-pub mod program;
+mod right_sides;
 mod scope;
 mod selects;
-mod sides;
 mod statements;
-mod step_equality;
-mod steps;
-mod takers;
-mod targets;
-mod term_equality;
-pub mod types;
-mod values;
+mod types;

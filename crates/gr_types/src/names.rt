@@ -1,7 +1,7 @@
 //! Names, and tables of them.
 ghost use Rattle.std.specs.Prelude.{◌≡◌, ◌++◌, ◌∷◌, [], map, IfOk, OnOk, None};
-ghost use Rattle.gr_types.specs.Names as spec;
-ghost use Rattle.gr_types.specs.Scopes.{in_block};
+ghost use Rattle.gr_typing.specs.Names as spec;
+ghost use Rattle.gr_typing.specs.Scopes.{in_block};
 ghost use Rattle.gr_types.specs.Tables.{block_of};
 
 use indexmap::IndexMap;
@@ -30,7 +30,7 @@ fn is_among(mut names: &[&[u8]], name: &[u8]) -> bool
 }
 
 /// Whether the language declares this name before any program does.
-#[tactic(auto, unfolding(crate::specs::Names::predeclared))]
+#[tactic(auto, unfolding(gr_typing::specs::Names::predeclared))]
 pub fn is_predeclared(name: &[u8]) -> bool
     ensures { result ≡ spec.among spec.predeclared name.now }
 {

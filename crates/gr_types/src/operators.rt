@@ -1,18 +1,21 @@
 //! Operators on values.
 ghost use Rattle.std.specs.Prelude.{◌≡◌, Some};
 ghost use Rattle.gr_tree.specs.Statements.{optional};
-ghost use Rattle.gr_types.specs.Terms as terms;
-ghost use Rattle.gr_types.specs.TypeViews.{ty_of};
-ghost use Rattle.gr_types.specs.Programs.{term_of};
-ghost use Rattle.gr_types.specs.Values as rules;
+ghost use Rattle.gr_program.specs.Programs as terms;
+ghost use Rattle.gr_program.specs.TypeViews.{ty_of};
+ghost use Rattle.gr_program.specs.Views.{expr_of};
+ghost use Rattle.gr_typing.specs.Values as rules;
 ghost use Rattle.gr_types.specs.Finding as spec;
 ghost use Rattle.gr_types.specs.Checking.{Agrees, meaning_of, channel_of};
+ghost use Rattle.gr_types.specs.Codes.{Tells};
+ghost use Rattle.gr_types.specs.declared.fault.Code.TheVariants as codes;
 
 use crate::fault::{Code, Fault, code_of};
-use crate::program::{Literal, Term};
-use crate::types::{Type, is_assignable, may_receive, zero};
-use crate::values::{Channel, Value, as_channel, typed};
+use crate::operands::{Channel, Operand, as_channel, with_type};
+use crate::types::{is_assignable, may_receive, zero};
 use gr_const::Constant;
+use gr_program as checked;
+use gr_program::{Literal, Type};
 use gr_tree::{BinaryOp, UnaryOp};
 use std::alloc::Global;
 
@@ -26,49 +29,56 @@ fn unary_type(op: UnaryOp, operand: &Type) -> Option<Type>
     }
 }
 
-fn unary_made(alloc: Global, op: UnaryOp, operand: Type, term: Term) -> Result<Value, Fault>
-    ensures { Agrees meaning_of result (spec.unary_made op (ty_of operand) (term_of term)) }
+fn unary_made(
+    alloc: Global,
+    op: UnaryOp,
+    operand: Type,
+    term: checked::Expr,
+) -> Result<Operand, Fault>
+    ensures value { Agrees meaning_of result (spec.unary_made op (ty_of operand) (expr_of term)) }
+    ensures code { Tells result codes.WrongForm }
 {
     match unary_type(op, &operand) {
-        Some(own) => Ok(Value::Made(own, Term::Unary(op, Box::new(alloc, term)?))),
+        Some(own) => Ok(Operand::Made(own, checked::Expr::Unary(op, Box::new(alloc, term)?))),
         None => Err(Fault::Broken(Code::WrongForm)),
     }
 }
 
 #[tactic(auto, unfolding(crate::specs::Finding::unary_value))]
-fn unary_value(alloc: Global, op: UnaryOp, operand: Value) -> Result<Value, Fault>
+fn unary_value(alloc: Global, op: UnaryOp, operand: Operand) -> Result<Operand, Fault>
     ensures { Agrees meaning_of result (spec.unary_value op (meaning_of operand)) }
 {
     match operand {
-        Value::Constant(constant) => match gr_const::unary(op, constant) {
-            Ok(constant) => Ok(Value::Constant(constant)),
+        Operand::Constant(constant) => match gr_const::unary(op, constant) {
+            Ok(constant) => Ok(Operand::Constant(constant)),
             Err(error) => Err(Fault::Broken(code_of(error))),
         },
-        Value::Nil => Err(Fault::Broken(Code::WrongForm)),
-        Value::Made(own, term) => unary_made(alloc, op, own, term),
+        Operand::Nil => Err(Fault::Broken(Code::WrongForm)),
+        Operand::Made(own, term) => unary_made(alloc, op, own, term),
     }
 }
 
-fn received(alloc: Global, channel: Channel) -> Result<Value, Fault>
-    ensures { Agrees meaning_of result (spec.received (channel_of channel)) }
+fn receive_of(alloc: Global, channel: Channel) -> Result<Operand, Fault>
+    ensures value { Agrees meaning_of result (spec.received (channel_of channel)) }
+    ensures code { Tells result codes.WrongDirection }
 {
     if !may_receive(channel.direction) {
         return Err(Fault::Broken(Code::WrongDirection));
     }
     let nothing = zero(&channel.element);
-    let term = Term::Receive(Box::new(alloc, channel.term)?, nothing);
-    Ok(Value::Made(channel.element, term))
+    let term = checked::Expr::Receive(Box::new(alloc, channel.term)?, nothing);
+    Ok(Operand::Made(channel.element, term))
 }
 
 #[tactic(auto, unfolding(crate::specs::Finding::receive_value))]
-fn receive(alloc: Global, operand: Value) -> Result<Value, Fault>
+fn receive(alloc: Global, operand: Operand) -> Result<Operand, Fault>
     ensures { Agrees meaning_of result (spec.receive_value (meaning_of operand)) }
 {
-    received(alloc, as_channel(operand)?)
+    receive_of(alloc, as_channel(operand)?)
 }
 
 /// A unary operator on a value.
-pub fn unary(alloc: Global, op: UnaryOp, operand: Value) -> Result<Value, Fault>
+pub fn unary(alloc: Global, op: UnaryOp, operand: Operand) -> Result<Operand, Fault>
     ensures { Agrees meaning_of result (spec.on_operand op (meaning_of operand)) }
 {
     match op {
@@ -128,31 +138,37 @@ pub fn binary_type(op: BinaryOp, left: &Type, right: &Type) -> Option<Type>
 }
 
 /// Whether a value may stand right of an operator: no constant divisor is 0, no constant shift count negative.
-pub fn may_stand_right(op: BinaryOp, right: &Value) -> bool
+pub fn may_stand_right(op: BinaryOp, right: &Operand) -> bool
     ensures { result ≡ rules.may_stand_right op (meaning_of right.now) }
 {
     match (op, right) {
-        (BinaryOp::Divide | BinaryOp::Remainder, Value::Constant(Constant::Whole(n))) => *n != 0,
-        (BinaryOp::ShiftLeft | BinaryOp::ShiftRight, Value::Constant(Constant::Whole(n))) => *n
+        (BinaryOp::Divide | BinaryOp::Remainder, Operand::Constant(Constant::Whole(n))) => *n != 0,
+        (BinaryOp::ShiftLeft | BinaryOp::ShiftRight, Operand::Constant(Constant::Whole(n))) => *n
             >= 0,
         _ => true,
     }
 }
 
-fn joined(alloc: Global, own: Type, op: BinaryOp, left: Term, right: Term) -> Result<Value, Fault>
-    ensures { Agrees meaning_of result (Some (rules.Made (ty_of own) (terms.Binary op (term_of left) (term_of right)))) }
+fn joined(
+    alloc: Global,
+    own: Type,
+    op: BinaryOp,
+    left: checked::Expr,
+    right: checked::Expr,
+) -> Result<Operand, Fault>
+    ensures { Agrees meaning_of result (Some (rules.Made (ty_of own) (terms.Binary op (expr_of left) (expr_of right)))) }
 {
     let left = Box::new(alloc, left)?;
     let right = Box::new(alloc, right)?;
-    Ok(Value::Made(own, Term::Binary(op, left, right)))
+    Ok(Operand::Made(own, checked::Expr::Binary(op, left, right)))
 }
 
-fn binary_made(alloc: Global, op: BinaryOp, left: Value, right: Value) -> Result<Value, Fault>
+fn binary_made(alloc: Global, op: BinaryOp, left: Operand, right: Operand) -> Result<Operand, Fault>
     ensures { Agrees meaning_of result (spec.binary_made op (meaning_of left) (meaning_of right)) }
 {
     let may_stand = may_stand_right(op, &right);
-    let (left_type, left) = typed(left)?;
-    let (right_type, right) = typed(right)?;
+    let (left_type, left) = with_type(left)?;
+    let (right_type, right) = with_type(right)?;
     let Some(own) = binary_type(op, &left_type, &right_type) else {
         return Err(Fault::Broken(Code::WrongForm));
     };
@@ -162,7 +178,7 @@ fn binary_made(alloc: Global, op: BinaryOp, left: Value, right: Value) -> Result
     joined(alloc, own, op, left, right)
 }
 
-fn nil_left(alloc: Global, op: BinaryOp, right: Value) -> Result<Value, Fault>
+fn nil_left(alloc: Global, op: BinaryOp, right: Operand) -> Result<Operand, Fault>
     ensures { Agrees meaning_of result (spec.nil_compared op (spec.as_channel (meaning_of right)) (λ q. terms.Binary op (terms.Literally terms.Nil) q)) }
 {
     let channel = as_channel(right)?;
@@ -173,12 +189,12 @@ fn nil_left(alloc: Global, op: BinaryOp, right: Value) -> Result<Value, Fault>
         alloc,
         Type::Bool,
         op,
-        Term::Literal(Literal::Nil),
+        checked::Expr::Literal(Literal::Nil),
         channel.term,
     )
 }
 
-fn nil_right(alloc: Global, op: BinaryOp, left: Value) -> Result<Value, Fault>
+fn nil_right(alloc: Global, op: BinaryOp, left: Operand) -> Result<Operand, Fault>
     ensures { Agrees meaning_of result (spec.nil_compared op (spec.as_channel (meaning_of left)) (λ q. terms.Binary op q (terms.Literally terms.Nil))) }
 {
     let channel = as_channel(left)?;
@@ -190,22 +206,22 @@ fn nil_right(alloc: Global, op: BinaryOp, left: Value) -> Result<Value, Fault>
         Type::Bool,
         op,
         channel.term,
-        Term::Literal(Literal::Nil),
+        checked::Expr::Literal(Literal::Nil),
     )
 }
 
 /// A binary operator on values.
 #[tactic(auto, unfolding(crate::specs::Finding::binary_value))]
-pub fn binary(alloc: Global, op: BinaryOp, left: Value, right: Value) -> Result<Value, Fault>
+pub fn binary(alloc: Global, op: BinaryOp, left: Operand, right: Operand) -> Result<Operand, Fault>
     ensures { Agrees meaning_of result (spec.binary_value op (meaning_of left) (meaning_of right)) }
 {
     match (left, right) {
-        (Value::Constant(a), Value::Constant(b)) => match gr_const::binary(op, a, b) {
-            Ok(constant) => Ok(Value::Constant(constant)),
+        (Operand::Constant(a), Operand::Constant(b)) => match gr_const::binary(op, a, b) {
+            Ok(constant) => Ok(Operand::Constant(constant)),
             Err(error) => Err(Fault::Broken(code_of(error))),
         },
-        (Value::Nil, right) => nil_left(alloc, op, right),
-        (left, Value::Nil) => nil_right(alloc, op, left),
+        (Operand::Nil, right) => nil_left(alloc, op, right),
+        (left, Operand::Nil) => nil_right(alloc, op, left),
         (left, right) => binary_made(alloc, op, left, right),
     }
 }

@@ -2,8 +2,9 @@
 ghost use Rattle.std.specs.Prelude.{◌≡◌, []};
 ghost use Rattle.gr_tree.specs.Files as trees;
 ghost use Rattle.gr_tree.specs.Statements.{optional};
-ghost use Rattle.gr_types.specs.Scopes.{Sign};
-ghost use Rattle.gr_types.specs.TypeViews.{ty_of, types_of, sign_of};
+ghost use Rattle.gr_typing.specs.Scopes.{Sign};
+ghost use Rattle.gr_program.specs.TypeViews.{ty_of, types_of};
+ghost use Rattle.gr_types.specs.Signatures.{sign_of};
 ghost use Rattle.gr_types.specs.FunctionTables.{functions_of};
 ghost use Rattle.gr_types.specs.FindingFiles as files;
 ghost use Rattle.gr_types.specs.Outlines as spec;
@@ -14,9 +15,10 @@ use crate::fault::{CheckError, Code, Fault, refused};
 use crate::functions::Functions;
 use crate::names::{copy, is_predeclared};
 use crate::parameters::{Parameters, result_type, take_groups};
-use crate::program::Parameter;
 use crate::scope::Scope;
-use crate::types::{Signature, Type, copy_optional};
+use crate::types::Signature;
+use gr_program::types::copy_optional;
+use gr_program::{Parameter, Type};
 use gr_tree::Func;
 use std::alloc::Global;
 
@@ -53,7 +55,7 @@ fn fits_main(name: &[u8], types: &[Type], wanted: &Option<Type>) -> bool
     name != b"main".as_slice() || is_bare(name, types, wanted)
 }
 
-fn headed<'a>(
+fn outline_of_heading<'a>(
     alloc: Global,
     func: &'a Func,
     parameters: Parameters,
@@ -100,7 +102,7 @@ fn heading<'a>(
     }
     let parameters = take_groups(alloc, funcs, &func.parameters)?;
     let wanted = result_type(alloc, funcs, &func.result)?;
-    headed(alloc, func, parameters, wanted)
+    outline_of_heading(alloc, func, parameters, wanted)
 }
 
 /// The functions that calls may name, by the headings of a file's functions, and what the headings say of each.

@@ -2,20 +2,22 @@
 ghost use Rattle.std.specs.Prelude.{◌≡◌};
 ghost use Rattle.gr_tree.specs.Exprs as trees;
 ghost use Rattle.gr_tree.specs.Statements.{optional};
-ghost use Rattle.gr_tree.specs.Files.{groups_of};
-ghost use Rattle.gr_types.specs.Types as types;
-ghost use Rattle.gr_types.specs.TypeViews.{ty_of};
+ghost use Rattle.gr_tree.specs.Files.{groups_of, functions_of};
+ghost use Rattle.gr_typing.specs.Types as types;
+ghost use Rattle.gr_program.specs.TypeViews.{ty_of};
 ghost use Rattle.gr_types.specs.Tables.{scope_of};
 ghost use Rattle.gr_types.specs.FindingStatements.{written_of};
 ghost use Rattle.gr_types.specs.Outlines as spec;
 ghost use Rattle.gr_types.specs.OutlineViews.{taken_of};
 ghost use Rattle.gr_types.specs.Checking.{Agrees};
+ghost use Rattle.gr_types.specs.Codes.{Tells, is_function, heading_type_code};
 
 use crate::fault::{Code, Fault};
 use crate::names::{is_blank, is_predeclared};
-use crate::program::Parameter;
 use crate::scope::Scope;
-use crate::types::{Type, copy, written};
+use crate::types::written;
+use gr_program::types::copy;
+use gr_program::{Parameter, Type};
 use gr_tree::{Func, Group, TypeTree};
 use std::alloc::Global;
 
@@ -28,7 +30,9 @@ pub struct Parameters {
     pub scope: Scope,
 }
 
-fn is_function(funcs: &[Func], name: &[u8]) -> bool {
+fn is_function(funcs: &[Func], name: &[u8]) -> bool
+    ensures { result ≡ is_function (functions_of funcs.now) name.now }
+{
     for func in funcs {
         if func.name.as_slice() == name {
             return true;
@@ -38,7 +42,9 @@ fn is_function(funcs: &[Func], name: &[u8]) -> bool {
 }
 
 // The rule that a written type breaks which is none.
-fn no_type(funcs: &[Func], tree: &TypeTree) -> Code {
+fn no_type(funcs: &[Func], tree: &TypeTree) -> Code
+    ensures { result ≡ heading_type_code (functions_of funcs.now) (trees.type_of tree.now) }
+{
     match tree {
         TypeTree::Name(name) if is_blank(name) => Code::UnknownName,
         TypeTree::Name(name) if is_predeclared(name) || is_function(funcs, name) => Code::WrongForm,
@@ -49,7 +55,8 @@ fn no_type(funcs: &[Func], tree: &TypeTree) -> Code {
 }
 
 fn written_type(alloc: Global, funcs: &[Func], tree: &TypeTree) -> Result<Type, Fault>
-    ensures { Agrees ty_of result (types.type_written (trees.type_of tree.now)) }
+    ensures value { Agrees ty_of result (types.type_written (trees.type_of tree.now)) }
+    ensures code { Tells result (heading_type_code (functions_of funcs.now) (trees.type_of tree.now)) }
 {
     match written(alloc, tree)? {
         Some(own) => Ok(own),

@@ -1,13 +1,12 @@
 //! The variables in scope.
 ghost use Rattle.std.specs.Prelude.{◌≡◌, true, [], IfOk, OnOk};
 ghost use Rattle.gr_tree.specs.Statements.{optional};
-ghost use Rattle.gr_types.specs.Scopes as spec;
-ghost use Rattle.gr_types.specs.TypeViews.{ty_of, declared_of};
+ghost use Rattle.gr_typing.specs.Scopes as spec;
+ghost use Rattle.gr_program.specs.TypeViews.{ty_of, declared_of};
 ghost use Rattle.gr_types.specs.Tables.{scope_of, blocks_of};
 
 use crate::names::{NameTable, copy, is_blank};
-use crate::program::Variable;
-use crate::types::Type;
+use gr_program::{Type, Variable};
 use std::alloc::{AllocError, Global};
 
 /// The variables of a function so far, and the names in scope at a place.

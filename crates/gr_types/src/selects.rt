@@ -3,7 +3,7 @@ ghost use Rattle.std.specs.Prelude.{◌≡◌};
 ghost use Rattle.gr_tree.specs.Statements.{comm_of};
 ghost use Rattle.gr_types.specs.declared.fault.CheckError.TheVariants as errors;
 ghost use Rattle.gr_types.specs.StatementViews.{clauses_of};
-ghost use Rattle.gr_types.specs.StatementChecks.{at_most_one, defaults};
+ghost use Rattle.gr_typing.specs.Statements.{at_most_one, defaults};
 ghost use Rattle.gr_types.specs.Tables.{scope_of};
 ghost use Rattle.gr_types.specs.FunctionTables.{functions_of};
 ghost use Rattle.gr_types.specs.ActViews.{awaited_of};

@@ -2,21 +2,22 @@
 ghost use Rattle.gr_tree.specs.Statements.{act_of, comm_of, for_of, if_of, optional, statement_of, statements_of};
 ghost use Rattle.gr_types.specs.StatementViews.{clauses_of};
 ghost use Rattle.gr_types.specs.Tables.{scope_of};
-ghost use Rattle.gr_types.specs.Contexts.{context_of};
-ghost use Rattle.gr_types.specs.Programs as programs;
-ghost use Rattle.gr_types.specs.Programs.{steps_of, case_on, cases_of};
+ghost use Rattle.gr_types.specs.ContextViews.{context_of};
+ghost use Rattle.gr_program.specs.Views as programs;
+ghost use Rattle.gr_program.specs.Views.{stmts_of, case_on, cases_of};
 ghost use Rattle.gr_types.specs.FindingStatements as spec;
-ghost use Rattle.gr_types.specs.Stepping as stepping;
+ghost use Rattle.gr_types.specs.StatementParts as pieces;
 ghost use Rattle.gr_types.specs.Checking.{Settles};
 
 use crate::acts::act;
 use crate::context::{Around, Context, Nest};
 use crate::fault::{CheckError, Code, Fault, refused};
+use crate::forms;
 use crate::headings::{IfParts, LoopParts, RangeParts, if_parts, loop_parts, range_parts};
-use crate::program::{Act, Case, Step};
 use crate::scope::Scope;
 use crate::selects::{first_error, has_at_most_one_default, placed_awaits};
-use crate::steps;
+use gr_program as checked;
+use gr_program::{Act, Case};
 use gr_scan::token::Place;
 use gr_tree::{Action, Clause, Communication, ForHead, IfHead, Stmt};
 use std::alloc::Global;
@@ -42,12 +43,11 @@ fn act_step(
     scope: &mut Scope,
     place: Place,
     action: &Action,
-) -> Result<Step, CheckError>
-    ensures { Settles (λ s. (stepping.only_step s, scope_of scope.new)) result (stepping.does_in (context_of context.now) (scope_of scope.old) place (act_of action.now)) }
+) -> Result<checked::Stmt, CheckError>
+    ensures { Settles (λ s. (pieces.only_stmt s, scope_of scope.new)) result (pieces.does_in (context_of context.now) (scope_of scope.old) place (act_of action.now)) }
 {
     let act = placed_act(alloc, context, scope, place, action)?;
-    let line = place.line;
-    Ok(Step::Act { line, act })
+    Ok(checked::Stmt::Act { place, act })
 }
 
 /// What the statements of a body do, in order, in the block of the place.
@@ -57,8 +57,8 @@ pub fn body(
     context: &Context,
     scope: &mut Scope,
     stmts: &[Stmt],
-) -> Result<Vec<Step>, CheckError>
-    ensures { Settles (λ v. (steps_of v.items, scope_of scope.new)) result (spec.body_in (context_of context.now) (scope_of scope.old) (statements_of stmts.now)) }
+) -> Result<Vec<checked::Stmt>, CheckError>
+    ensures { Settles (λ v. (stmts_of v.items, scope_of scope.new)) result (spec.body_in (context_of context.now) (scope_of scope.old) (statements_of stmts.now)) }
 {
     let mut steps = Vec::new(alloc);
     for stmt in stmts {
@@ -79,8 +79,8 @@ fn statement(
     scope: &mut Scope,
     label: Option<&[u8]>,
     stmt: &Stmt,
-) -> Result<Option<Step>, CheckError>
-    ensures { Settles (λ o. (stepping.made_of o, scope_of scope.new)) result (spec.statement_in (context_of context.now) (scope_of scope.old) (optional (λ x. x.now) label.entry) (statement_of stmt.now)) }
+) -> Result<Option<checked::Stmt>, CheckError>
+    ensures { Settles (λ o. (pieces.made_of o, scope_of scope.new)) result (spec.statement_in (context_of context.now) (scope_of scope.old) (optional (λ x. x.now) label.entry) (statement_of stmt.now)) }
 {
     match stmt {
         Stmt::Act(place, action) => Ok(Some(act_step(alloc, context, scope, *place, action)?)),
@@ -90,11 +90,11 @@ fn statement(
         }
         Stmt::IfElse(place, head, body, otherwise) => {
             let tested = tested(alloc, context, scope, *place, head, body)?;
-            Ok(Some(if_else(alloc, context, scope, place.line, tested, otherwise)?))
+            Ok(Some(if_else(alloc, context, scope, *place, tested, otherwise)?))
         }
         Stmt::IfElseIf(place, head, body, otherwise) => {
             let tested = tested(alloc, context, scope, *place, head, body)?;
-            Ok(Some(if_else_if(alloc, context, scope, place.line, tested, otherwise)?))
+            Ok(Some(if_else_if(alloc, context, scope, *place, tested, otherwise)?))
         }
         Stmt::For(place, head, body) => Ok(Some(for_step(
             alloc, context, scope, label, *place, head, body,
@@ -113,13 +113,13 @@ fn block(
     context: &Context,
     scope: &mut Scope,
     stmts: &[Stmt],
-) -> Result<Step, CheckError>
-    ensures { Settles (λ s. (stepping.only_step s, scope_of scope.new)) result (stepping.block_in (context_of context.now) (scope_of scope.old) (statements_of stmts.now)) }
+) -> Result<checked::Stmt, CheckError>
+    ensures { Settles (λ s. (pieces.only_stmt s, scope_of scope.new)) result (pieces.block_in (context_of context.now) (scope_of scope.old) (statements_of stmts.now)) }
 {
     scope.enter(alloc)?;
     let steps = body(alloc, context, scope, stmts)?;
     scope.leave(alloc);
-    Ok(steps::block(steps))
+    Ok(checked::forms::block(steps))
 }
 
 // An if as far as its block; it stays in the block of the if.
@@ -131,8 +131,8 @@ fn tested(
     place: Place,
     head: &IfHead,
     stmts: &[Stmt],
-) -> Result<(IfParts, Vec<Step>), CheckError>
-    ensures { Settles (λ t. (stepping.tested_of t, scope_of scope.new)) result (stepping.tested_in (context_of context.now) (scope_of scope.old) (if_of head.now) (statements_of stmts.now)) }
+) -> Result<(IfParts, Vec<checked::Stmt>), CheckError>
+    ensures { Settles (λ t. (pieces.tested_of t, scope_of scope.new)) result (pieces.tested_in (context_of context.now) (scope_of scope.old) (if_of head.now) (statements_of stmts.now)) }
 {
     scope.enter(alloc)?;
     let parts = if_parts(alloc, context.functions, scope, place, head)?;
@@ -150,12 +150,12 @@ fn only_if(
     place: Place,
     head: &IfHead,
     stmts: &[Stmt],
-) -> Result<Step, CheckError>
-    ensures { Settles (λ s. (stepping.only_step s, scope_of scope.new)) result (stepping.if_in (context_of context.now) (scope_of scope.old) place (if_of head.now) (statements_of stmts.now)) }
+) -> Result<checked::Stmt, CheckError>
+    ensures { Settles (λ s. (pieces.only_stmt s, scope_of scope.new)) result (pieces.if_in (context_of context.now) (scope_of scope.old) place (if_of head.now) (statements_of stmts.now)) }
 {
     let (parts, steps) = tested(alloc, context, scope, place, head, stmts)?;
     scope.leave(alloc);
-    Ok(steps::conditional(place.line, parts, steps, Vec::new(alloc)))
+    Ok(forms::conditional(place, parts, steps, Vec::new(alloc)))
 }
 
 // An if whose block is known, with the block of its else.
@@ -164,18 +164,18 @@ fn if_else(
     alloc: Global,
     context: &Context,
     scope: &mut Scope,
-    line: usize,
-    tested: (IfParts, Vec<Step>),
+    place: Place,
+    tested: (IfParts, Vec<checked::Stmt>),
     otherwise: &[Stmt],
-) -> Result<Step, CheckError>
-    ensures { Settles (λ s. (stepping.only_step s, scope_of scope.new)) result (stepping.else_in (context_of context.now) line (statements_of otherwise.now) (stepping.tested_of tested) (scope_of scope.old)) }
+) -> Result<checked::Stmt, CheckError>
+    ensures { Settles (λ s. (pieces.only_stmt s, scope_of scope.new)) result (pieces.else_in (context_of context.now) place (statements_of otherwise.now) (pieces.tested_of tested) (scope_of scope.old)) }
 {
     scope.enter(alloc)?;
     let otherwise = body(alloc, context, scope, otherwise)?;
     scope.leave(alloc);
     scope.leave(alloc);
     let (parts, steps) = tested;
-    Ok(steps::conditional(line, parts, steps, otherwise))
+    Ok(forms::conditional(place, parts, steps, otherwise))
 }
 
 // An if whose block is known, with the if after its else.
@@ -184,17 +184,17 @@ fn if_else_if(
     alloc: Global,
     context: &Context,
     scope: &mut Scope,
-    line: usize,
-    tested: (IfParts, Vec<Step>),
+    place: Place,
+    tested: (IfParts, Vec<checked::Stmt>),
     otherwise: &Stmt,
-) -> Result<Step, CheckError>
-    ensures { Settles (λ s. (stepping.only_step s, scope_of scope.new)) result (stepping.else_if_in (context_of context.now) line (statement_of otherwise.now) (stepping.tested_of tested) (scope_of scope.old)) }
+) -> Result<checked::Stmt, CheckError>
+    ensures { Settles (λ s. (pieces.only_stmt s, scope_of scope.new)) result (pieces.else_if_in (context_of context.now) place (statement_of otherwise.now) (pieces.tested_of tested) (scope_of scope.old)) }
 {
     let otherwise = statement(alloc, context, scope, None, otherwise)?;
     scope.leave(alloc);
-    let otherwise = steps::listed(alloc, otherwise)?;
+    let otherwise = forms::listed(alloc, otherwise)?;
     let (parts, steps) = tested;
-    Ok(steps::conditional(line, parts, steps, otherwise))
+    Ok(forms::conditional(place, parts, steps, otherwise))
 }
 
 #[cycle(checking)]
@@ -206,8 +206,8 @@ fn for_step(
     place: Place,
     head: &ForHead,
     stmts: &[Stmt],
-) -> Result<Step, CheckError>
-    ensures { Settles (λ s. (stepping.only_step s, scope_of scope.new)) result (stepping.for_in (context_of context.now) (scope_of scope.old) (optional (λ x. x.now) label.entry) place (for_of head.now) (statements_of stmts.now)) }
+) -> Result<checked::Stmt, CheckError>
+    ensures { Settles (λ s. (pieces.only_stmt s, scope_of scope.new)) result (pieces.for_in (context_of context.now) (scope_of scope.old) (optional (λ x. x.now) label.entry) place (for_of head.now) (statements_of stmts.now)) }
 {
     let functions = context.functions;
     let nest = Nest::Inside(Around::Loop(label), &*context.nest);
@@ -216,11 +216,11 @@ fn for_step(
         ForHead::Loop(init, condition, post) => {
             scope.enter(alloc)?;
             let parts = loop_parts(alloc, functions, scope, place, init, condition, post)?;
-            loop_step(alloc, &inner, scope, place.line, parts, stmts)
+            loop_step(alloc, &inner, scope, place, parts, stmts)
         }
         ForHead::Range(target, channel) => {
             let parts = range_parts(alloc, functions, scope, place, target, channel)?;
-            range_step(alloc, &inner, scope, place.line, parts, stmts)
+            range_step(alloc, &inner, scope, place, parts, stmts)
         }
     }
 }
@@ -231,17 +231,17 @@ fn loop_step(
     alloc: Global,
     context: &Context,
     scope: &mut Scope,
-    line: usize,
+    place: Place,
     parts: LoopParts,
     stmts: &[Stmt],
-) -> Result<Step, CheckError>
-    ensures { Settles (λ s. (stepping.only_step s, scope_of scope.new)) result (stepping.loop_in (context_of context.now) line (stepping.loop_parts_of parts) (statements_of stmts.now) (scope_of scope.old)) }
+) -> Result<checked::Stmt, CheckError>
+    ensures { Settles (λ s. (pieces.only_stmt s, scope_of scope.new)) result (pieces.loop_in (context_of context.now) place (pieces.loop_parts_of parts) (statements_of stmts.now) (scope_of scope.old)) }
 {
     scope.enter(alloc)?;
     let steps = body(alloc, context, scope, stmts)?;
     scope.leave(alloc);
     scope.leave(alloc);
-    Ok(steps::repeated(line, parts, steps))
+    Ok(forms::repeated(place, parts, steps))
 }
 
 // A range whose heading is known; the context is that of its body.
@@ -250,17 +250,17 @@ fn range_step(
     alloc: Global,
     context: &Context,
     scope: &mut Scope,
-    line: usize,
+    place: Place,
     parts: RangeParts,
     stmts: &[Stmt],
-) -> Result<Step, CheckError>
-    ensures { Settles (λ s. (stepping.only_step s, scope_of scope.new)) result (stepping.range_in (context_of context.now) line (stepping.range_parts_of parts) (statements_of stmts.now) (scope_of scope.old)) }
+) -> Result<checked::Stmt, CheckError>
+    ensures { Settles (λ s. (pieces.only_stmt s, scope_of scope.new)) result (pieces.range_in (context_of context.now) place (pieces.range_parts_of parts) (statements_of stmts.now) (scope_of scope.old)) }
 {
     scope.enter(alloc)?;
     let steps = body(alloc, context, scope, stmts)?;
     scope.leave(alloc);
     scope.leave(alloc);
-    Ok(steps::ranged(line, parts, steps))
+    Ok(forms::ranged(place, parts, steps))
 }
 
 #[cycle(checking)]
@@ -271,8 +271,8 @@ fn select(
     label: Option<&[u8]>,
     place: Place,
     clauses: &[Clause],
-) -> Result<Step, CheckError>
-    ensures { Settles (λ s. (stepping.only_step s, scope_of scope.new)) result (stepping.select_in (context_of context.now) (scope_of scope.old) (optional (λ x. x.now) label.entry) place (clauses_of clauses.now)) }
+) -> Result<checked::Stmt, CheckError>
+    ensures { Settles (λ s. (pieces.only_stmt s, scope_of scope.new)) result (pieces.select_in (context_of context.now) (scope_of scope.old) (optional (λ x. x.now) label.entry) place (clauses_of clauses.now)) }
 {
     if !has_at_most_one_default(clauses) {
         return Err(refused(Fault::Broken(Code::DeclaredTwice), place));
@@ -281,7 +281,7 @@ fn select(
     let nest = Nest::Inside(Around::Choice(label), &*context.nest);
     let inner = (&*context).within(&nest);
     match cases(alloc, &inner, scope, place, clauses) {
-        Ok(cases) => Ok(steps::choice(place.line, cases)),
+        Ok(cases) => Ok(checked::forms::choice(place, cases)),
         Err(error) => {
             scope.leave_to(alloc, depth);
             Err(first_error(alloc, context.functions, scope, place, clauses, error))
@@ -316,7 +316,7 @@ fn case(
     place: Place,
     clause: &Clause,
 ) -> Result<Case, CheckError>
-    ensures { Settles (λ k. (case_on k, scope_of scope.new)) result (stepping.clause_in (context_of context.now) (scope_of scope.old) clause.now) }
+    ensures { Settles (λ k. (case_on k, scope_of scope.new)) result (pieces.clause_in (context_of context.now) (scope_of scope.old) clause.now) }
 {
     match clause {
         Clause::Default(body) => default_case(alloc, context, scope, body),
@@ -333,12 +333,12 @@ fn default_case(
     scope: &mut Scope,
     stmts: &[Stmt],
 ) -> Result<Case, CheckError>
-    ensures { Settles (λ k. (case_on k, scope_of scope.new)) result (stepping.default_in (context_of context.now) (scope_of scope.old) (statements_of stmts.now)) }
+    ensures { Settles (λ k. (case_on k, scope_of scope.new)) result (pieces.default_in (context_of context.now) (scope_of scope.old) (statements_of stmts.now)) }
 {
     scope.enter(alloc)?;
     let steps = body(alloc, context, scope, stmts)?;
     scope.leave(alloc);
-    Ok(steps::default_case(steps))
+    Ok(checked::forms::default_case(steps))
 }
 
 #[cycle(checking)]
@@ -350,11 +350,11 @@ fn awaited_case(
     communication: &Communication,
     stmts: &[Stmt],
 ) -> Result<Case, CheckError>
-    ensures { Settles (λ k. (case_on k, scope_of scope.new)) result (stepping.case_in (context_of context.now) (scope_of scope.old) (comm_of communication.now) (statements_of stmts.now)) }
+    ensures { Settles (λ k. (case_on k, scope_of scope.new)) result (pieces.case_in (context_of context.now) (scope_of scope.old) (comm_of communication.now) (statements_of stmts.now)) }
 {
     scope.enter(alloc)?;
     let awaited = placed_awaits(alloc, context.functions, scope, place, communication)?;
     let steps = body(alloc, context, scope, stmts)?;
     scope.leave(alloc);
-    Ok(steps::awaited_case(awaited, steps))
+    Ok(forms::awaited_case(awaited, steps))
 }

@@ -1,12 +1,8 @@
 -- From a source to the fault of its session.
-use Rattle.std.proofs.Common.{◌≡◌, ℕ, ◌<◌, ◌≤◌, List, [], ◌++◌, length, refl, ap, ◌∙◌, IfSome, inl, inr, None, Some, append-nil, length-append, ◌+◌, arith}
+use Rattle.std.proofs.Common.{◌≡◌, ◌↔◌, ℕ, ◌<◌, ◌≤◌, List, [], ◌++◌, length, refl, sym, subst, ap, ◌∙◌, IfSome, inl, inr, None, Some, append-nil, length-append, ◌+◌, arith}
 use Rattle.std.specs.declared.option.Option.{Option}
 use Rattle.std.specs.Io.KnownBytes.{Consumes, IsAtEnd}
-use Rattle.gr_scan.specs.Tokens.{Tok}
-use Rattle.gr_scan.specs.Scan.{IsScan}
 use Rattle.gr_scan.specs.declared.scan.ScanError.TheVariants as scanning
-use Rattle.gr_syntax.specs.declared.parse.ParseError.TheVariants as parsing
-use Rattle.gr_types.specs.declared.fault.CheckError.TheVariants as checking
 use Rattle.gr_scan.specs.declared.scan.TheConstants.{TEXT_LIMIT}
 use Rattle.gr_session.specs.PlainPrograms.{Program}
 use Rattle.gr_session.specs.declared.command.Entry.{Entry}
@@ -19,40 +15,24 @@ use Rattle.rewind.specs.declared.stream.ServeFault.{ServeFault}
 use Rattle.rewind.specs.declared.stream.ServeFault.TheVariants.{Read, Write, Memory}
 use Rattle.rewind.specs.declared.debug.DebugFault.{DebugFault}
 use Rattle.rewind.specs.declared.debug.DebugFault.TheVariants.{Source, Open, Serve}
+use Rattle.rewind.specs.Devices.{Device, Change, Fails}
 use Rattle.rewind.specs.Fault.{Left}
 use Rattle.rewind.specs.Served.{Served, ServedPart}
-use Rattle.rewind.specs.Debug.{SourceRead, Opened, Unopened, Stopped, SourceLeft, DebugLeft}
+use Rattle.rewind.specs.Debug.{SourceRead, Opened, Unopened, Stopped, SourceLeft, DebugLeft, BlamesSource, BlamesDevice}
 use Rattle.rewind.proofs.Known.{Keeps-refl}
 use Rattle.rewind.proofs.Legal.{legal_empty, legal_answered}
 
 -- a text that is too long has no tokens, and so no program
-past : (n m : ℕ) (text : List ℕ) → n ≡ m → n < length text → length text ≤ m → ⊥
-past n m text e long short = absurd (omega (arith, e))
-
-no_scan : (text : List ℕ) (ts : List Tok) → TEXT_LIMIT < length text → IsScan text ts → ⊥
-no_scan text ts long s = past TEXT_LIMIT 1048576 text refl long s.short
+past : (n : ℕ) (text : List ℕ) → n < length text → length text ≤ n → ⊥
+past n text long short = absurd (omega arith)
 
 pub long_source : (text : List ℕ) → TEXT_LIMIT < length text → NoProgram text
-long_source text long = λ p h. no_scan text h.tokens long h.scanned
+long_source text long = λ p h. past TEXT_LIMIT text long h.scanned.short
 
--- what is said of a text that is too long is true of each other
-pub true_refusal : (error : OpenError) (text all : List ℕ) → TEXT_LIMIT < length text → SaysWhy error text → NoProgram all → SaysWhy error all
-true_refusal (opening.Scan scanning.Memory at) text all long says none = tt
-true_refusal (opening.Scan (scanning.Strange n) at) text all long says none = none
-true_refusal (opening.Scan (scanning.Malformed n) at) text all long says none = none
-true_refusal (opening.Scan (scanning.TooGreat n) at) text all long says none = none
-true_refusal (opening.Scan (scanning.MalformedText n) at) text all long says none = none
-true_refusal (opening.Scan (scanning.Unclosed n) at) text all long says none = none
-true_refusal (opening.Scan (scanning.LeftOut n) at) text all long says none = none
-true_refusal (opening.Scan scanning.TooLong at) text all long says none = none
-true_refusal (opening.Parse parsing.Memory at) text all long says none = tt
-true_refusal (opening.Parse (parsing.NoFile n) at) text all long says none = none
-true_refusal (opening.Parse (parsing.LeftOut n) at) text all long says none = none
-true_refusal (opening.Parse (parsing.TooHigh n) at) text all long says none = none
-true_refusal (opening.Check checking.Memory at) text all long says none = tt
-true_refusal (opening.Check (checking.Refused code n) at) text all long says none = absurd (no_scan text says.tokens long says.scanned)
-true_refusal opening.NotYet text all long says none = absurd (no_scan text says.checked.tokens long says.checked.scanned)
-true_refusal opening.Memory text all long says none = tt
+-- so it is said of each text that is too long
+long_refused : (error : OpenError) (all : List ℕ) → error ≡ opening.Scan scanning.TooLong None → TEXT_LIMIT < length all → SaysWhy error all
+long_refused error all e long =
+    subst (λ f. SaysWhy f all) (sym e) (record { fault = long; place = refl; none = long_source all long })
 
 longer : (n m k : ℕ) → n < m → n < m + k
 longer n m k h = omega arith
@@ -83,22 +63,32 @@ opened had has text program h is = record {
   is_program = is;
 }
 
-pub unopened : (error : OpenError) (had has : Option (List ℕ)) (text : List ℕ) → SourceRead had has text → SaysWhy error text → Unopened error had has
-unopened error had has text h says = record {
+pub unopened : (error : OpenError) (had has : Option (List ℕ)) (text : List ℕ) → SourceRead had has text → SaysWhy error text
+    → (error ≡ opening.Scan scanning.TooLong None) ↔ (TEXT_LIMIT < length text) → Unopened error had has
+unopened error had has text h says when = record {
   text = text;
   taken = h.0;
   refused = says;
-  whole = all_of had has text (λ all. SaysWhy error all) h (λ e. says) (λ more all long. true_refusal error text all more says (long_source all long));
+  whole = all_of had has text (λ all. SaysWhy error all) h (λ e. says) (λ more all long. long_refused error all (when.1 more) long);
 }
 
 -- without a session nothing was done
-pub unserved : (fault : DebugFault) (source_had source_has had held : Option (List ℕ)) (source_failed reader_failed writer_failed : Type 0)
-    → SourceLeft fault source_had source_has source_failed → DebugLeft fault source_had source_has had had held held source_failed reader_failed writer_failed
-unserved Source source_had source_has had held source_failed reader_failed writer_failed h = (h, (Keeps-refl had, Keeps-refl held))
-unserved (Open error) source_had source_has had held source_failed reader_failed writer_failed h = (h, (Keeps-refl had, Keeps-refl held))
-unserved (Serve Read) source_had source_has had held source_failed reader_failed writer_failed h = absurd h
-unserved (Serve Write) source_had source_has had held source_failed reader_failed writer_failed h = absurd h
-unserved (Serve Memory) source_had source_has had held source_failed reader_failed writer_failed h = inl (Keeps-refl had, Keeps-refl held)
+pub unserved : (fault : DebugFault) (source : Change) (reader writer : Device) → SourceLeft fault source
+    → DebugLeft fault source (record { old = reader; new = reader }) (record { old = writer; new = writer })
+unserved Source source reader writer h = (Keeps-refl reader.bytes, Keeps-refl writer.bytes)
+unserved (Open error) source reader writer h = (h, (Keeps-refl reader.bytes, Keeps-refl writer.bytes))
+unserved (Serve Read) source reader writer h = absurd h
+unserved (Serve Write) source reader writer h = absurd h
+unserved (Serve Memory) source reader writer h = inl (Keeps-refl reader.bytes, Keeps-refl writer.bytes)
+
+-- and its fault names no device but the source
+pub source_blamed : (fault : DebugFault) (source : Change) (reader writer : Device) → SourceLeft fault source → BlamesSource fault source
+    → BlamesDevice fault source (record { old = reader; new = reader }) (record { old = writer; new = writer })
+source_blamed Source source reader writer h b = (b, (refl, refl))
+source_blamed (Open error) source reader writer h b = (b, (refl, refl))
+source_blamed (Serve Read) source reader writer h b = absurd h
+source_blamed (Serve Write) source reader writer h b = absurd h
+source_blamed (Serve Memory) source reader writer h b = (b, (refl, refl))
 
 -- the journal after lines is legal
 pub legal_served : {program : Program} {lines : List (List ℕ)} {journal : List Entry} {held holds : Option (List ℕ)} → Served program 1 lines [] journal held holds → IsLegal program 1 journal
@@ -115,17 +105,17 @@ legal_left Memory program had has journal held holds reader_failed writer_failed
 legal_left Memory program had has journal held holds reader_failed writer_failed (inr (inl h)) = legal_served h.served
 legal_left Memory program had has journal held holds reader_failed writer_failed (inr (inr h)) = legal_part h
 
-stopped_left : (fault : ServeFault) (source_had source_has had has held holds : Option (List ℕ)) (source_failed reader_failed writer_failed : Type 0)
-    → Stopped fault source_had source_has had has held holds reader_failed writer_failed → DebugLeft (Serve fault) source_had source_has had has held holds source_failed reader_failed writer_failed
-stopped_left Read source_had source_has had has held holds source_failed reader_failed writer_failed s = s
-stopped_left Write source_had source_has had has held holds source_failed reader_failed writer_failed s = s
-stopped_left Memory source_had source_has had has held holds source_failed reader_failed writer_failed s = inr s
+stopped_left : (fault : ServeFault) (source reader writer : Change) → Stopped fault source reader writer → DebugLeft (Serve fault) source reader writer
+stopped_left Read source reader writer s = s
+stopped_left Write source reader writer s = s
+stopped_left Memory source reader writer s = inr s
 
 -- the stream's fault is the session's
-pub stopped : (fault : ServeFault) (source_had source_has had has held holds : Option (List ℕ)) (program : Program) (journal : List Entry) (source_failed reader_failed writer_failed : Type 0)
-    → Opened source_had source_has program → Left fault program 1 had has [] journal held holds reader_failed writer_failed
-    → DebugLeft (Serve fault) source_had source_has had has held holds source_failed reader_failed writer_failed
-stopped fault source_had source_has had has held holds program journal source_failed reader_failed writer_failed o l =
-    let legal = legal_left fault program had has journal held holds reader_failed writer_failed l in
-    let s : Stopped fault source_had source_has had has held holds reader_failed writer_failed = record { program = program; opened = o; journal = journal; left = l; legal = legal } in
-    stopped_left fault source_had source_has had has held holds source_failed reader_failed writer_failed s
+pub stopped : (fault : ServeFault) (source reader writer : Change) (program : Program) (journal : List Entry)
+    → Opened source.old.bytes source.new.bytes program
+    → Left fault program 1 reader.old.bytes reader.new.bytes [] journal writer.old.bytes writer.new.bytes (Fails reader) (Fails writer)
+    → DebugLeft (Serve fault) source reader writer
+stopped fault source reader writer program journal o l =
+    let legal = legal_left fault program reader.old.bytes reader.new.bytes journal writer.old.bytes writer.new.bytes (Fails reader) (Fails writer) l in
+    let s : Stopped fault source reader writer = record { program = program; opened = o; journal = journal; left = l; legal = legal } in
+    stopped_left fault source reader writer s

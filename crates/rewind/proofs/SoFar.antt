@@ -11,10 +11,10 @@ use Rattle.rewind.specs.declared.command.Line.TheVariants.{Rejected}
 use Rattle.rewind.specs.declared.counted.LineEnd.TheVariants.{Newline, End}
 use Rattle.rewind.specs.Lines.{meaning, is_quit, lines_of}
 use Rattle.rewind.specs.Bytes.{Plain, Taken, LineRead}
-use Rattle.rewind.specs.Devices.{HasFailed}
+use Rattle.rewind.specs.Devices.{HasFailed, one_more, Device, Change, NeverFails}
 use Rattle.rewind.specs.Stream.{NoQuit, QuitLast}
 use Rattle.rewind.specs.Served.{Served, Begun, ServedAll, ServedWhole, ServedBefore, ServedPart}
-use Rattle.rewind.specs.Fault.{Untouched, LineLeft, Left}
+use Rattle.rewind.specs.Fault.{Untouched, LineLeft, Left, Blames, BlamesWriter}
 use Rattle.rewind.specs.declared.stream.ServeFault.{ServeFault}
 use Rattle.rewind.specs.declared.stream.ServeFault.TheVariants.{Read, Write, Memory}
 use Rattle.rewind.proofs.Known.{Keeps-refl, Consumes-nil, Consumes-then}
@@ -225,6 +225,16 @@ SoFar-before_last {program = program} {asker = asker} {had = had} {has = has} {r
 
 pub failed_later : (before mid after : ℕ) → before ≤ mid → HasFailed mid after → HasFailed before after
 failed_later before mid after h k = omega arith
+
+pub failed_now : (before mid after : ℕ) → mid ≡ before → after ≡ one_more mid → HasFailed before after
+failed_now before mid after h k = omega arith
+
+-- a line's fault names the device that failed
+pub line_blames : (fault : ServeFault) (reader : Change) (before mid after : Device) → NeverFails reader → mid.failures ≡ before.failures
+    → BlamesWriter fault (record { old = mid; new = after }) → Blames fault reader (record { old = before; new = after })
+line_blames Read reader before mid after r w h = absurd h
+line_blames Write reader before mid after r w h = (r, failed_later before.failures mid.failures after.failures (omega (arith, w)) h)
+line_blames Memory reader before mid after r w h = (r, h ∙ w)
 
 -- a line's fault is the stream's
 pub line_left : (fault : ServeFault) {program : Program} {asker : ℕ} {had has rest : Option (List ℕ)} {old mid : List Entry} {a b : Option (List ℕ)} {kept : List ℕ} (new : List Entry) (c : Option (List ℕ)) (reader_failed : Type 0) (early late last : ℕ)

@@ -13,7 +13,8 @@ use Rattle.rewind.specs.declared.stream.ServeFault.TheVariants.{Read, Write, Mem
 use Rattle.rewind.specs.declared.debug.DebugFault.{DebugFault}
 use Rattle.rewind.specs.declared.debug.DebugFault.TheVariants.{Source, Open, Serve}
 use Rattle.rewind.specs.Served.{ServedAll}
-use Rattle.rewind.specs.Fault.{Left}
+use Rattle.rewind.specs.Devices.{Change, Fails, NeverFails}
+use Rattle.rewind.specs.Fault.{Left, Blames}
 
 -- these bytes of a source were read: all, or more than a text may have
 abbrev pub SourceRead : Option (List ℕ) → Option (List ℕ) → List ℕ → Type 0
@@ -33,38 +34,51 @@ pub record Unopened (error : OpenError) (had has : Option (List ℕ)) : Type 0 w
   pub refused : SaysWhy error text
   pub whole : IfSome had (λ all. SaysWhy error all)
 
--- the lines were served by a session of the source's program, from an empty journal to a legal one, its one asker's number being 1
-pub record Debugged (source_had source_has had has held holds : Option (List ℕ)) : Type 0 where
+-- the lines were served by a session of the source's program, from an empty journal to a legal one; its one asker's number is 1
+pub record Debugged (source reader writer : Change) : Type 0 where
   pub program : Program
-  pub opened : Opened source_had source_has program
+  pub opened : Opened source.old.bytes source.new.bytes program
   pub journal : List Entry
-  pub served : ServedAll program 1 had has [] journal held holds
+  pub served : ServedAll program 1 reader.old.bytes reader.new.bytes [] journal writer.old.bytes writer.new.bytes
   pub legal : IsLegal program 1 journal
 
 -- such a stream was left
-pub record Stopped (fault : ServeFault) (source_had source_has had has held holds : Option (List ℕ)) (reader_failed writer_failed : Type 0) : Type 0 where
+pub record Stopped (fault : ServeFault) (source reader writer : Change) : Type 0 where
   pub program : Program
-  pub opened : Opened source_had source_has program
+  pub opened : Opened source.old.bytes source.new.bytes program
   pub journal : List Entry
-  pub left : Left fault program 1 had has [] journal held holds reader_failed writer_failed
+  pub left : Left fault program 1 reader.old.bytes reader.new.bytes [] journal writer.old.bytes writer.new.bytes (Fails reader) (Fails writer)
   pub legal : IsLegal program 1 journal
 
 -- no command was read, and nothing was written
-abbrev pub NothingDone : Option (List ℕ) → Option (List ℕ) → Option (List ℕ) → Option (List ℕ) → Type 0
-NothingDone had has held holds = Keeps had has × Keeps held holds
+abbrev pub NothingDone : Change → Change → Type 0
+NothingDone reader writer = Keeps reader.old.bytes reader.new.bytes × Keeps writer.old.bytes writer.new.bytes
+
+-- the fault is `Source` exactly where the source failed
+abbrev pub BlamesSource : DebugFault → (source : Change) → Type 0
+BlamesSource Source source = Fails source
+BlamesSource (Open error) source = NeverFails source
+BlamesSource (Serve fault) source = NeverFails source
+
+-- the fault names the device that failed, if one did
+abbrev pub BlamesDevice : DebugFault → (source reader writer : Change) → Type 0
+BlamesDevice Source source reader writer = Fails source × (NeverFails reader × NeverFails writer)
+BlamesDevice (Open error) source reader writer = NeverFails source × (NeverFails reader × NeverFails writer)
+BlamesDevice (Serve fault) source reader writer = NeverFails source × Blames fault reader writer
 
 -- why there is no session: the source failed, it was not opened, or memory was wanted
-abbrev pub SourceLeft : DebugFault → Option (List ℕ) → Option (List ℕ) → Type 0 → Type 0
-SourceLeft Source had has source_failed = source_failed
-SourceLeft (Open error) had has source_failed = Unopened error had has
-SourceLeft (Serve Read) had has source_failed = ⊥
-SourceLeft (Serve Write) had has source_failed = ⊥
-SourceLeft (Serve Memory) had has source_failed = Unit {0}
+abbrev pub SourceLeft : DebugFault → Change → Type 0
+SourceLeft Source source = Unit {0}
+SourceLeft (Open error) source = Unopened error source.old.bytes source.new.bytes
+SourceLeft (Serve Read) source = ⊥
+SourceLeft (Serve Write) source = ⊥
+SourceLeft (Serve Memory) source = Unit {0}
 
 -- what a fault leaves: where there is no session, nothing was done; else the stream was left
-abbrev pub DebugLeft : DebugFault → Option (List ℕ) → Option (List ℕ) → Option (List ℕ) → Option (List ℕ) → Option (List ℕ) → Option (List ℕ) → Type 0 → Type 0 → Type 0 → Type 0
-DebugLeft Source source_had source_has had has held holds source_failed reader_failed writer_failed = source_failed × NothingDone had has held holds
-DebugLeft (Open error) source_had source_has had has held holds source_failed reader_failed writer_failed = Unopened error source_had source_has × NothingDone had has held holds
-DebugLeft (Serve Read) source_had source_has had has held holds source_failed reader_failed writer_failed = Stopped Read source_had source_has had has held holds reader_failed writer_failed
-DebugLeft (Serve Write) source_had source_has had has held holds source_failed reader_failed writer_failed = Stopped Write source_had source_has had has held holds reader_failed writer_failed
-DebugLeft (Serve Memory) source_had source_has had has held holds source_failed reader_failed writer_failed = NothingDone had has held holds ⊎ Stopped Memory source_had source_has had has held holds reader_failed writer_failed
+abbrev pub DebugLeft : DebugFault → (source reader writer : Change) → Type 0
+DebugLeft Source source reader writer = NothingDone reader writer
+DebugLeft (Open error) source reader writer =
+    Unopened error source.old.bytes source.new.bytes × NothingDone reader writer
+DebugLeft (Serve Read) source reader writer = Stopped Read source reader writer
+DebugLeft (Serve Write) source reader writer = Stopped Write source reader writer
+DebugLeft (Serve Memory) source reader writer = NothingDone reader writer ⊎ Stopped Memory source reader writer

@@ -5,22 +5,38 @@ use Rattle.gr_session.specs.PlainPrograms.{Program}
 use Rattle.gr_session.specs.declared.command.Entry.{Entry}
 use Rattle.rewind.specs.declared.stream.ServeFault.{ServeFault}
 use Rattle.rewind.specs.declared.stream.ServeFault.TheVariants.{Read, Write, Memory}
+use Rattle.rewind.specs.Devices.{Change, Fails, NeverFails}
 use Rattle.rewind.specs.Served.{Begun, ServedWhole, ServedBefore, ServedPart}
+
+-- the fault of a line is `Write` exactly where the writer failed
+abbrev pub BlamesWriter : ServeFault → (writer : Change) → Type 0
+BlamesWriter Read writer = ⊥
+BlamesWriter Write writer = Fails writer
+BlamesWriter Memory writer = NeverFails writer
+
+-- the fault of a stream names the device that failed; want of memory is told where none did
+abbrev pub Blames : ServeFault → (reader writer : Change) → Type 0
+Blames Read reader writer = Fails reader × NeverFails writer
+Blames Write reader writer = NeverFails reader × Fails writer
+Blames Memory reader writer = NeverFails reader × NeverFails writer
 
 -- nothing was done: the journal is the old one, and nothing was written
 abbrev pub Untouched : List Entry → List Entry → Option (List ℕ) → Option (List ℕ) → Type 0
 Untouched old new held holds = (new ≡ old) × Keeps held holds
 
 -- what a fault leaves of one line: the writer failed in its answer, or memory was wanted before it was asked or in its answer
-abbrev pub LineLeft : ServeFault → Program → ℕ → List ℕ → List Entry → List Entry → Option (List ℕ) → Option (List ℕ) → Type 0 → Type 0
+abbrev pub LineLeft : ServeFault → Program → ℕ → List ℕ → (old new : List Entry) → (held holds : Option (List ℕ)) → (writer_failed : Type 0) → Type 0
 LineLeft Read program asker line old new held holds writer_failed = ⊥
 LineLeft Write program asker line old new held holds writer_failed = Begun program asker line old new held holds × writer_failed
-LineLeft Memory program asker line old new held holds writer_failed = Untouched old new held holds ⊎ Begun program asker line old new held holds
+LineLeft Memory program asker line old new held holds writer_failed =
+    Untouched old new held holds ⊎ Begun program asker line old new held holds
 
 -- what a fault leaves of a stream: the reader failed between two lines or within one; the writer failed in an answer; or
 -- memory was wanted while a line was read, while it was made into its command, or for its answer
-abbrev pub Left : ServeFault → Program → ℕ → Option (List ℕ) → Option (List ℕ) → List Entry → List Entry → Option (List ℕ) → Option (List ℕ) → Type 0 → Type 0 → Type 0
+abbrev pub Left : ServeFault → Program → ℕ → (had has : Option (List ℕ)) → (old new : List Entry) → (held holds : Option (List ℕ))
+    → (reader_failed writer_failed : Type 0) → Type 0
 Left Read program asker had has old new held holds reader_failed writer_failed = ServedWhole program asker had has old new held holds × reader_failed
 Left Write program asker had has old new held holds reader_failed writer_failed = ServedPart program asker had has old new held holds × writer_failed
 Left Memory program asker had has old new held holds reader_failed writer_failed =
-    ServedWhole program asker had has old new held holds ⊎ (ServedBefore program asker had has old new held holds ⊎ ServedPart program asker had has old new held holds)
+    ServedWhole program asker had has old new held holds
+    ⊎ (ServedBefore program asker had has old new held holds ⊎ ServedPart program asker had has old new held holds)

@@ -1,5 +1,6 @@
 -- The line that tells a fault to a user, and the exit status.
 use Rattle.std.specs.Prelude.{◌≡◌, ℕ, List, [], ◌++◌, codes, decimal, Option, Some, None}
+use Rattle.gr_scan.specs.declared.position.Position.{Position}
 use Rattle.gr_scan.specs.declared.scan.ScanError.{ScanError}
 use Rattle.gr_scan.specs.declared.scan.ScanError.TheVariants as scanning
 use Rattle.gr_syntax.specs.declared.parse.ParseError.{ParseError}
@@ -8,7 +9,6 @@ use Rattle.gr_types.specs.declared.fault.Code.{Code}
 use Rattle.gr_types.specs.declared.fault.Code.TheVariants as rules
 use Rattle.gr_types.specs.declared.fault.CheckError.{CheckError}
 use Rattle.gr_types.specs.declared.fault.CheckError.TheVariants as checking
-use Rattle.gr_session.specs.declared.open.Position.{Position}
 use Rattle.gr_session.specs.declared.open.OpenError.{OpenError}
 use Rattle.gr_session.specs.declared.open.OpenError.TheVariants as opening
 use Rattle.rewind.specs.declared.stream.ServeFault.{ServeFault}

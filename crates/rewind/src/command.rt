@@ -107,9 +107,9 @@ fn without_return(line: &[u8]) -> &[u8]
     }
 }
 
-/// What a line says. Its words stand between spaces or tabs, and a carriage return at its end is dropped. `undo`, `quit`,
-/// and `step` and `text` with the name of a goroutine are commands; a line with no word is blank; every other line, and one
-/// of more than 1,048,576 bytes, is rejected.
+/// What a line says. Its words stand between spaces or tabs, and a carriage return at its end is dropped. `undo`,
+/// `quit`, and `step` and `text` with the name of a goroutine are commands; a line with no word is blank; every other
+/// line, and one of more than 1,048,576 bytes, is rejected.
 ///
 /// The one error is want of memory for the name.
 pub fn read_command(alloc: Global, line: &[u8]) -> Result<Line, NoMemory>

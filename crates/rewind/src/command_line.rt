@@ -10,8 +10,10 @@ use std::alloc::Global;
 
 fn given<'a>(alloc: Global, words: &'a [&'a str]) -> Result<Option<&'a str>, Error>
     ensures some { IfOk result (λ given. is_some given ≡ true) }
-    ensures file { IfOk result (λ given. option_map (λ file. file.now) given ≡ file_in (map (λ word. word.now) words.entry.now)) }
-    ensures err { IfErr result (λ error. takes rewind_line (map (λ word. word.now) words.entry.now) ≡ true → kind_of error ≡ ErrorKind.OutOfMemory) }
+    ensures file { IfOk result (λ given.
+        option_map (λ file. file.now) given ≡ file_in (map (λ word. word.now) words.entry.now)) }
+    ensures err { IfErr result (λ error.
+        takes rewind_line (map (λ word. word.now) words.entry.now) ≡ true → kind_of error ≡ ErrorKind.OutOfMemory) }
 {
     let file = Arg::new(alloc, "FILE")
         .required(true)
@@ -25,11 +27,12 @@ fn given<'a>(alloc: Global, words: &'a [&'a str]) -> Result<Option<&'a str>, Err
 
 /// The settings that the words of a command line give, the first of which is the program's own name: `rewind FILE`.
 ///
-/// An error is `clap`'s, with the words that it has for the user: the command line is not of this form, asks for help, or
-/// there is no memory for it.
+/// An error is `clap`'s, with the words that it has for the user: the command line is not of this form, asks for
+/// help, or there is no memory for it.
 pub fn settings<'a>(alloc: Global, words: &'a [&'a str]) -> Result<settings::Settings<'a>, Error>
     ensures file { IfOk result (λ given. file_in (map (λ word. word.now) words.entry.now) ≡ Some given.file.now) }
-    ensures err { IfErr result (λ error. takes rewind_line (map (λ word. word.now) words.entry.now) ≡ true → kind_of error ≡ ErrorKind.OutOfMemory) }
+    ensures err { IfErr result (λ error.
+        takes rewind_line (map (λ word. word.now) words.entry.now) ≡ true → kind_of error ≡ ErrorKind.OutOfMemory) }
 {
     match given(alloc, words) {
         Ok(file) => Ok(settings::Settings {

@@ -1,14 +1,16 @@
 //! Readers and writers with a count of their failures, and lines of bytes.
-ghost use Rattle.std.specs.Prelude.{◌≡◌, ℕ, ◌+◌, ◌≤◌, ◌<◌, [], length, take, IfOk, IfSome, OnOk, OnErr, IsErrOf, IsOk, IsErr, List};
+ghost use Rattle.std.specs.Prelude.{◌≡◌, ◌≢◌, ◌↔◌, ◌+◌, ◌≤◌, ◌<◌, [], length, take, IfOk, IfErr, OnOk, OnErr, IsErrOf};
+ghost use Rattle.std.specs.IoError.{error_kind};
 ghost use Rattle.std.specs.Io.KnownBytes.{Appends, Consumes, Keeps};
 ghost use Rattle.rewind.specs.Bytes.{Next, Taken, LineRead, Begins};
-ghost use Rattle.rewind.specs.Devices.{HasFailed, device_of, failures_of, left_of};
+ghost use Rattle.rewind.specs.Devices.{one_more, device_of, failures_of, left_of};
 
 use crate::command::LINE_LIMIT;
+use std::io;
 use std::io::{ErrorKind, Read, Write};
 
-/// A reader or a writer, with how often it failed. It fails for good once it was used so often
-/// that `left` is 0.
+/// A reader or a writer, with how often it failed. It may be read 18,446,744,073,709,551,615 times, and fails from
+/// then on.
 #[derive(Drop)]
 pub struct Counted<T> {
     inner: T,
@@ -16,15 +18,21 @@ pub struct Counted<T> {
     left: u64,
 }
 
-/// The device failed, and the failure is counted.
+/// Why a device was not read or written. The failure is counted.
 #[derive(Clone, Copy)]
-pub(crate) struct Failed;
+pub(crate) enum Failed {
+    /// It was read as often as it may be.
+    Spent,
+    /// The device failed.
+    Device,
+}
 
 impl<T> Counted<T> {
     /// The device, which has not failed yet.
     pub fn new(inner: T) -> Counted<T>
         ensures inner { device_of result ≡ inner }
         ensures failures { failures_of result ≡ 0 }
+        ensures left { left_of result ≡ 0xFFFF_FFFF_FFFF_FFFF }
     {
         Counted {
             inner,
@@ -47,41 +55,55 @@ impl<T> Counted<T> {
         self.inner
     }
 
-    fn fail(&mut self) -> Failed
+    // Counts a failure.
+    fn fail(&mut self)
         ensures inner { device_of self.new ≡ device_of self.old }
-        ensures failures { HasFailed (failures_of self.old) (failures_of self.new) }
-        ensures grows { failures_of self.old ≤ failures_of self.new }
+        ensures failures { failures_of self.new ≡ one_more (failures_of self.old) }
         ensures left { left_of self.new ≡ left_of self.old }
     {
         self.failures = self.failures.saturating_add(1);
-        Failed
     }
 }
 
 impl<R: Read> Counted<R> {
     /// The next byte, if there is one.
     pub(crate) fn next_byte(&mut self) -> Result<Option<u8>, Failed>
-        ensures ok { IfOk result (λ next. Next (R.remaining (device_of self.old)) (R.remaining (device_of self.new)) next) }
+        ensures ok { IfOk result (λ next.
+            Next (R.remaining (device_of self.old)) (R.remaining (device_of self.new)) next) }
         ensures err { OnErr result (Keeps (R.remaining (device_of self.old)) (R.remaining (device_of self.new))) }
-        ensures failures { OnErr result (HasFailed (failures_of self.old) (failures_of self.new)) }
-        ensures grows { failures_of self.old ≤ failures_of self.new }
-        ensures left { OnOk result (left_of self.new < left_of self.old) }
+        ensures same { OnOk result (failures_of self.new ≡ failures_of self.old) }
+        ensures failures { OnErr result (failures_of self.new ≡ one_more (failures_of self.old)) }
+        ensures left { OnOk result (left_of self.new + 1 ≡ left_of self.old) }
+        ensures spent { IsErrOf result Failed.Spent ↔ (left_of self.old ≡ 0) }
+        ensures device { IsErrOf result Failed.Device → left_of self.new + 1 ≡ left_of self.old }
     {
         if self.left == 0 {
-            return Err(self.fail());
+            self.fail();
+            return Err(Failed::Spent);
         }
         self.left -= 1;
         match one_byte(&mut self.inner) {
             Ok(next) => Ok(next),
-            Err(_) => Err(self.fail()),
+            Err(_) => {
+                self.fail();
+                Err(Failed::Device)
+            }
         }
     }
 }
 
+// What is told of a device that is interrupted each time.
+fn interrupted() -> io::Error
+    ensures { error_kind result ≡ ErrorKind.TimedOut }
+{
+    io::Error::from(ErrorKind::TimedOut)
+}
+
 // One byte, tried again where the read was interrupted.
-fn one_byte<R: Read>(reader: &mut R) -> Result<Option<u8>, Failed>
+fn one_byte<R: Read>(reader: &mut R) -> io::Result<Option<u8>>
     ensures ok { IfOk result (λ next. Next (R.remaining reader.old) (R.remaining reader.new) next) }
     ensures err { OnErr result (Keeps (R.remaining reader.old) (R.remaining reader.new)) }
+    ensures retried { IfErr result (λ error. error_kind error ≢ ErrorKind.Interrupted) }
 {
     for _ in 0..u64::MAX {
         let mut one = [0u8; 1];
@@ -90,51 +112,57 @@ fn one_byte<R: Read>(reader: &mut R) -> Result<Option<u8>, Failed>
             Ok(_) => return Ok(Some(one[0])),
             Err(e) => {
                 if e.kind() != ErrorKind::Interrupted {
-                    return Err(Failed);
+                    return Err(e);
                 }
             }
         }
     }
-    Err(Failed)
+    Err(interrupted())
 }
 
 impl<W: Write> Counted<W> {
     /// Writes the bytes, or a beginning of them.
     pub(crate) fn put(&mut self, bytes: &[u8]) -> Result<(), Failed>
-        ensures ok { OnOk result (Appends (W.contents (device_of self.old)) (W.contents (device_of self.new)) bytes.now) }
-        ensures err { OnErr result (Begins (W.contents (device_of self.old)) (W.contents (device_of self.new)) bytes.now) }
-        ensures failures { OnErr result (HasFailed (failures_of self.old) (failures_of self.new)) }
-        ensures grows { failures_of self.old ≤ failures_of self.new }
+        ensures ok { OnOk result
+            (Appends (W.contents (device_of self.old)) (W.contents (device_of self.new)) bytes.now) }
+        ensures err { OnErr result
+            (Begins (W.contents (device_of self.old)) (W.contents (device_of self.new)) bytes.now) }
+        ensures same { OnOk result (failures_of self.new ≡ failures_of self.old) }
+        ensures failures { OnErr result (failures_of self.new ≡ one_more (failures_of self.old)) }
     {
         match put_all(&mut self.inner, bytes) {
             Ok(()) => Ok(()),
-            Err(_) => Err(self.fail()),
+            Err(_) => {
+                self.fail();
+                Err(Failed::Device)
+            }
         }
     }
 }
 
 // Some of the bytes, tried again where the write was interrupted. That no byte was taken is a failure.
-fn put_some<W: Write>(writer: &mut W, bytes: &[u8]) -> Result<usize, Failed>
+fn put_some<W: Write>(writer: &mut W, bytes: &[u8]) -> io::Result<usize>
     ensures ok { IfOk result (λ n. Appends (W.contents writer.old) (W.contents writer.new) (take n bytes.now)) }
     ensures count { IfOk result (λ n. (0 < n) × (n ≤ length bytes.now)) }
     ensures err { OnErr result (Keeps (W.contents writer.old) (W.contents writer.new)) }
+    ensures retried { IfErr result (λ error. error_kind error ≢ ErrorKind.Interrupted) }
 {
     for _ in 0..u64::MAX {
         match writer.write(bytes) {
-            Ok(0) => return Err(Failed),
+            Ok(0) => return Err(io::Error::from(ErrorKind::WriteZero)),
             Ok(n) => return Ok(n),
             Err(e) => {
                 if e.kind() != ErrorKind::Interrupted {
-                    return Err(Failed);
+                    return Err(e);
                 }
             }
         }
     }
-    Err(Failed)
+    Err(interrupted())
 }
 
 // All the bytes, or a beginning of them.
-fn put_all<W: Write>(writer: &mut W, bytes: &[u8]) -> Result<(), Failed>
+fn put_all<W: Write>(writer: &mut W, bytes: &[u8]) -> io::Result<()>
     ensures ok { OnOk result (Appends (W.contents writer.old) (W.contents writer.new) bytes.now) }
     ensures err { OnErr result (Begins (W.contents writer.old) (W.contents writer.new) bytes.now) }
 {
@@ -168,8 +196,9 @@ pub(crate) fn read_line<R: Read>(
     ensures ok { IfOk result (λ end.
         LineRead (R.remaining (device_of reader.old)) (R.remaining (device_of reader.new)) line.new.items end) }
     ensures err { OnErr result (Taken (R.remaining (device_of reader.old)) (R.remaining (device_of reader.new))) }
-    ensures failures { IsErrOf result LineFault.Read → HasFailed (failures_of reader.old) (failures_of reader.new) }
-    ensures grows { failures_of reader.old ≤ failures_of reader.new }
+    ensures read { IsErrOf result LineFault.Read → failures_of reader.new ≡ one_more (failures_of reader.old) }
+    ensures same { OnOk result (failures_of reader.new ≡ failures_of reader.old) }
+    ensures memory { IsErrOf result LineFault.Memory → failures_of reader.new ≡ failures_of reader.old }
     ensures left { OnOk result (left_of reader.new < left_of reader.old) }
 {
     loop {

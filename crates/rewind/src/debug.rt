@@ -1,8 +1,8 @@
 //! A session from its source to its last reply.
-ghost use Rattle.std.specs.Prelude.{◌≡◌, ℕ, ◌+◌, ◌≤◌, ◌<◌, [], length, IfOk, OnOk, IfErr, IsErrOf};
+ghost use Rattle.std.specs.Prelude.{◌≡◌, [], length, IfOk, OnOk, IfErr, IsErrOf};
 ghost use Rattle.gr_session.specs.PlainPrograms.{program_of};
-ghost use Rattle.rewind.specs.Devices.{HasFailed, device_of, failures_of};
-ghost use Rattle.rewind.specs.Debug.{SourceRead, Opened, SourceLeft, Debugged, DebugLeft};
+ghost use Rattle.rewind.specs.Devices.{change, device_of, Fails, NeverFails};
+ghost use Rattle.rewind.specs.Debug.{SourceRead, Opened, SourceLeft, Debugged, DebugLeft, BlamesSource, BlamesDevice};
 
 use crate::counted::{Counted, LineFault};
 use crate::stream::{ServeFault, serve};
@@ -29,8 +29,11 @@ pub enum DebugFault {
 // The bytes of the source; of a source that is too long, one byte more than a text may have.
 fn read_source<S: Read>(source: &mut Counted<S>, text: &mut Vec<u8>) -> Result<(), LineFault>
     requires { length text.old.items ≡ 0 }
-    ensures ok { OnOk result (SourceRead (S.remaining (device_of source.old)) (S.remaining (device_of source.new)) text.new.items) }
-    ensures failures { IsErrOf result LineFault.Read → HasFailed (failures_of source.old) (failures_of source.new) }
+    ensures ok { OnOk result
+        (SourceRead (S.remaining (device_of source.old)) (S.remaining (device_of source.new)) text.new.items) }
+    ensures same { OnOk result (NeverFails (change S.remaining source.old source.new)) }
+    ensures read { IsErrOf result LineFault.Read → Fails (change S.remaining source.old source.new) }
+    ensures memory { IsErrOf result LineFault.Memory → NeverFails (change S.remaining source.old source.new) }
 {
     while text.len() <= TEXT_LIMIT {
         match source.next_byte() {
@@ -48,9 +51,12 @@ fn read_source<S: Read>(source: &mut Counted<S>, text: &mut Vec<u8>) -> Result<(
 
 // A session of the source's program.
 fn open_source<S: Read>(alloc: Global, source: &mut Counted<S>) -> Result<Session, DebugFault>
-    ensures program { IfOk result (λ session. Opened (S.remaining (device_of source.old)) (S.remaining (device_of source.new)) (program_of session.program)) }
+    ensures program { IfOk result (λ session.
+        Opened (S.remaining (device_of source.old)) (S.remaining (device_of source.new)) (program_of session.program)) }
     ensures empty { IfOk result (λ session. (session.journal ≡ []) × (session.askers ≡ 0)) }
-    ensures err { IfErr result (λ fault. SourceLeft fault (S.remaining (device_of source.old)) (S.remaining (device_of source.new)) (HasFailed (failures_of source.old) (failures_of source.new))) }
+    ensures err { IfErr result (λ fault. SourceLeft fault (change S.remaining source.old source.new)) }
+    ensures same { OnOk result (NeverFails (change S.remaining source.old source.new)) }
+    ensures source { IfErr result (λ fault. BlamesSource fault (change S.remaining source.old source.new)) }
 {
     let mut text = Vec::new(alloc);
     match read_source(source, &mut text) {
@@ -64,25 +70,25 @@ fn open_source<S: Read>(alloc: Global, source: &mut Counted<S>) -> Result<Sessio
     }
 }
 
-/// Reads the source, opens a session of its program with one asker, and serves that asker's commands. The answer to each
-/// line is written before the next one is read: a command's reply, or `no Q1` or `no Q2` where the journal is full or there
-/// is no memory for its entry; `? bad command` for a rejected line; nothing for a blank one; and `ok` for `quit`, after which
-/// nothing is read.
+/// Reads the source, opens a session of its program with one asker, and serves that asker's commands. The answer to
+/// each line is written before the next one is read: a command's reply, or `no Q1` or `no Q2` where the journal is
+/// full or there is no memory for its entry; `? bad command` for a rejected line; nothing for a blank one; and `ok`
+/// for `quit`, after which nothing is read.
 ///
-/// After `Source` and `Open` no command was read and nothing was written; a source of more than 1,048,576 bytes is not
-/// opened. After `Serve` the session stands as `serve` says.
+/// After `Source` and `Open` no command was read and nothing was written; a source of more than 1,048,576 bytes is
+/// not opened. After `Serve` the session stands as `serve` says. The fault names the device that failed, if one did.
 pub fn debug<S: Read, R: Read, W: Write>(
     alloc: Global,
     source: &mut Counted<S>,
     reader: &mut Counted<R>,
     writer: &mut Counted<W>,
 ) -> Result<(), DebugFault>
-    ensures ok { OnOk result (Debugged (S.remaining (device_of source.old)) (S.remaining (device_of source.new))
-        (R.remaining (device_of reader.old)) (R.remaining (device_of reader.new)) (W.contents (device_of writer.old)) (W.contents (device_of writer.new))) }
-    ensures err { IfErr result (λ fault. DebugLeft fault (S.remaining (device_of source.old)) (S.remaining (device_of source.new))
-        (R.remaining (device_of reader.old)) (R.remaining (device_of reader.new)) (W.contents (device_of writer.old)) (W.contents (device_of writer.new))
-        (HasFailed (failures_of source.old) (failures_of source.new))
-        (HasFailed (failures_of reader.old) (failures_of reader.new)) (HasFailed (failures_of writer.old) (failures_of writer.new))) }
+    ensures ok { OnOk result (Debugged (change S.remaining source.old source.new)
+        (change R.remaining reader.old reader.new) (change W.contents writer.old writer.new)) }
+    ensures err { IfErr result (λ fault. DebugLeft fault (change S.remaining source.old source.new)
+        (change R.remaining reader.old reader.new) (change W.contents writer.old writer.new)) }
+    ensures blames { IfErr result (λ fault. BlamesDevice fault (change S.remaining source.old source.new)
+        (change R.remaining reader.old reader.new) (change W.contents writer.old writer.new)) }
 {
     let mut session = match open_source(alloc, source) {
         Ok(session) => session,

@@ -9,5 +9,3 @@ mod reply;
 pub mod report;
 pub mod settings;
 pub mod stream;
-#[cfg(test)]
-mod tests;

@@ -18,7 +18,8 @@ fn put_step(text: &mut Vec<u8>, id: &StepId) -> Result<(), NoMemory>
 }
 
 fn put_stepped(text: &mut Vec<u8>, id: &StepId, kind: Kind) -> Result<(), NoMemory>
-    ensures { OnOk result (text.new.items ≡ text.old.items ++ (codes "ok " ++ (step_text id.now ++ (codes " " ++ (kind_text kind ++ codes "\n"))))) }
+    ensures { OnOk result (text.new.items
+        ≡ text.old.items ++ (codes "ok " ++ (step_text id.now ++ (codes " " ++ (kind_text kind ++ codes "\n"))))) }
 {
     put_step(text, id)?;
     text.push(b' ')?;

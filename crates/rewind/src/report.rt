@@ -144,8 +144,8 @@ fn put_line(text: &mut Vec<u8>, fault: &DebugFault, file: &[u8]) -> Result<(), N
     put(text, b"\n")
 }
 
-/// The exit status of a session that a fault ended: 1 where the source cannot be read or is refused, 3 where reading or
-/// writing failed, or memory was wanted.
+/// The exit status of a session that a fault ended: 1 where the source cannot be read or is refused, 3 where reading
+/// or writing failed, or memory was wanted.
 pub fn exit_status(fault: &DebugFault) -> u8
     ensures { result ≡ status_of fault.now }
 {
@@ -158,9 +158,9 @@ pub fn exit_status(fault: &DebugFault) -> u8
 }
 
 /// Appends the line that tells a fault to the user, with its newline, and answers the exit status. The line is
-/// `rewind: CODE at LINE:COL` for a source that is refused (without a place for S7, S8, P4, U1 and C11), `rewind: cannot read
-/// FILE`, `rewind: memory`, `rewind: read` or `rewind: write`. Want of memory leaves the text as it was; `exit_status` takes
-/// none.
+/// `rewind: CODE at LINE:COL` for a source that is refused (without a place for S7, S8, P4, U1 and C11), `rewind:
+/// cannot read FILE`, `rewind: memory`, `rewind: read` or `rewind: write`. Want of memory leaves the text as it was;
+/// `exit_status` takes none.
 #[tactic(auto, using(crate::proofs::Growing::cut_back))]
 pub fn report(fault: &DebugFault, file: &str, text: &mut Vec<u8>) -> Result<u8, NoMemory>
     ensures line { OnOk result (text.new.items ≡ text.old.items ++ fault_line file.now fault.now) }

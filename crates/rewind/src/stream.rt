@@ -1,11 +1,9 @@
 //! A stream of commands, and its replies.
-ghost use Rattle.std.specs.Prelude.{◌≡◌, ℕ, ◌+◌, ◌≤◌, ◌∷◌, [], IfOk, OnOk, OnErr, IfErr};
-ghost use Rattle.gr_session.specs.PlainPrograms.{program_of};
+ghost use Rattle.std.specs.Prelude.{◌≡◌, ◌≤◌, IfOk, OnOk, OnErr, IfErr};
 ghost use Rattle.rewind.specs.Lines.{meaning, is_quit};
-ghost use Rattle.rewind.specs.Devices.{HasFailed, device_of, failures_of};
-ghost use Rattle.rewind.specs.Stream.{Answers, AnsweredLine};
-ghost use Rattle.rewind.specs.Served.{Served, ServedAll};
-ghost use Rattle.rewind.specs.Fault.{LineLeft, Left};
+ghost use Rattle.rewind.specs.Devices.{change, NeverFails};
+ghost use Rattle.rewind.specs.Fault.{Blames, BlamesWriter};
+ghost use Rattle.rewind.specs.Streams.{AnswersWith, HasAnswered, ServesLine, LeavesLine, Serves, Leaves};
 
 use crate::command::{Line, read_command};
 use crate::counted::{Counted, LineEnd, LineFault, read_line};
@@ -44,8 +42,9 @@ fn ask(
     command: Command,
 ) -> Result<Vec<u8>, NoMemory>
     requires { (1 ≤ desk.number) × (desk.number ≤ session.old.askers) }
-    ensures ok { IfOk result (λ text. Answers (program_of session.old.program) desk.number (Line.Command command) session.old.journal session.new.journal text.items) }
-    ensures err { OnErr result (AnsweredLine (program_of session.old.program) desk.number (Line.Command command) session.old.journal session.new.journal) }
+    ensures ok { IfOk result (λ text.
+        AnswersWith desk.number session.old session.new (Line.Command command) text.items) }
+    ensures err { OnErr result (HasAnswered desk.number session.old session.new (Line.Command command)) }
     ensures others { (session.new.program ≡ session.old.program) × (session.new.askers ≡ session.old.askers) }
 {
     match session.ask(alloc, desk, command) {
@@ -63,8 +62,8 @@ fn answer(
     line: Line,
 ) -> Result<Vec<u8>, NoMemory>
     requires { (1 ≤ desk.number) × (desk.number ≤ session.old.askers) }
-    ensures ok { IfOk result (λ text. Answers (program_of session.old.program) desk.number line session.old.journal session.new.journal text.items) }
-    ensures err { OnErr result (AnsweredLine (program_of session.old.program) desk.number line session.old.journal session.new.journal) }
+    ensures ok { IfOk result (λ text. AnswersWith desk.number session.old session.new line text.items) }
+    ensures err { OnErr result (HasAnswered desk.number session.old session.new line) }
     ensures others { (session.new.program ≡ session.old.program) × (session.new.askers ≡ session.old.askers) }
 {
     match line {
@@ -84,12 +83,13 @@ fn serve_line<W: Write>(
     writer: &mut Counted<W>,
 ) -> Result<bool, ServeFault>
     requires { (1 ≤ desk.number) × (desk.number ≤ session.old.askers) }
-    ensures ok { OnOk result (Served (program_of session.old.program) desk.number (line.now ∷ []) session.old.journal session.new.journal
-        (W.contents (device_of writer.old)) (W.contents (device_of writer.new))) }
+    ensures ok { OnOk result (ServesLine desk.number session.old session.new line.now
+        (change W.contents writer.old writer.new)) }
     ensures quit { IfOk result (λ quit. quit ≡ is_quit (meaning line.now)) }
-    ensures err { IfErr result (λ fault. LineLeft fault (program_of session.old.program) desk.number line.now session.old.journal session.new.journal
-        (W.contents (device_of writer.old)) (W.contents (device_of writer.new)) (HasFailed (failures_of writer.old) (failures_of writer.new))) }
-    ensures grows { failures_of writer.old ≤ failures_of writer.new }
+    ensures err { IfErr result (λ fault. LeavesLine fault desk.number session.old session.new line.now
+        (change W.contents writer.old writer.new)) }
+    ensures same { OnOk result (NeverFails (change W.contents writer.old writer.new)) }
+    ensures blames { IfErr result (λ fault. BlamesWriter fault (change W.contents writer.old writer.new)) }
     ensures others { (session.new.program ≡ session.old.program) × (session.new.askers ≡ session.old.askers) }
 {
     let said = match read_command(alloc, line) {
@@ -106,11 +106,16 @@ fn serve_line<W: Write>(
     }
 }
 
-/// Answers the lines that the reader gives, in order, up to `quit` or the end, and writes each answer before the next line
-/// is read. A command is asked of the session for this desk, whose number `enrol` of the session gave.
+/// Answers the lines that the reader gives, in order, up to `quit` or the end. A command is asked of the session for
+/// this desk, whose number `enrol` of the session gave.
 ///
-/// After `Read` the session stands after the last whole line. After `Write` the last command was asked, and a beginning of
-/// its answer may have gone out. After `Memory` one of these holds, or the session stands after the line before the last.
+/// Each answer is written before the next line is read. The contract says it by what a failure leaves: a writer may
+/// fail at each write, and what was read then ends in the line whose answer was begun (`ServedPart`); a reader may
+/// fail at each byte, and the lines that were read whole are then answered (`ServedWhole`).
+///
+/// The fault names the device that failed. After `Read` the session stands after the last whole line. After `Write`
+/// the last command was asked, and a beginning of its answer may have gone out. After `Memory` no device failed, and
+/// the session stands as after one of these, or after the line before the last.
 pub fn serve<R: Read, W: Write>(
     alloc: Global,
     session: &mut Session,
@@ -119,11 +124,14 @@ pub fn serve<R: Read, W: Write>(
     writer: &mut Counted<W>,
 ) -> Result<(), ServeFault>
     requires { (1 ≤ desk.number) × (desk.number ≤ session.old.askers) }
-    ensures ok { OnOk result (ServedAll (program_of session.old.program) desk.number (R.remaining (device_of reader.old)) (R.remaining (device_of reader.new))
-        session.old.journal session.new.journal (W.contents (device_of writer.old)) (W.contents (device_of writer.new))) }
-    ensures err { IfErr result (λ fault. Left fault (program_of session.old.program) desk.number (R.remaining (device_of reader.old)) (R.remaining (device_of reader.new))
-        session.old.journal session.new.journal (W.contents (device_of writer.old)) (W.contents (device_of writer.new))
-        (HasFailed (failures_of reader.old) (failures_of reader.new)) (HasFailed (failures_of writer.old) (failures_of writer.new))) }
+    ensures ok { OnOk result (Serves desk.number session.old session.new
+        (change R.remaining reader.old reader.new) (change W.contents writer.old writer.new)) }
+    ensures err { IfErr result (λ fault. Leaves fault desk.number session.old session.new
+        (change R.remaining reader.old reader.new) (change W.contents writer.old writer.new)) }
+    ensures reads { OnOk result (NeverFails (change R.remaining reader.old reader.new)) }
+    ensures writes { OnOk result (NeverFails (change W.contents writer.old writer.new)) }
+    ensures blames { IfErr result (λ fault.
+        Blames fault (change R.remaining reader.old reader.new) (change W.contents writer.old writer.new)) }
     ensures others { (session.new.program ≡ session.old.program) × (session.new.askers ≡ session.old.askers) }
 {
     let mut line = Vec::new(alloc);

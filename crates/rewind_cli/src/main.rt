@@ -11,11 +11,19 @@ use rewind::debug::{DebugFault, debug};
 use rewind::report::{exit_status, report};
 use rewind::stream::ServeFault;
 use std::fs::File;
-use std::io::{BufReader, Write};
+use std::io::{BufReader, ErrorKind as IoErrorKind, Write};
 use std::process::ExitCode;
 use std::{env, io};
 
 const MEMORY: DebugFault = DebugFault::Serve(ServeFault::Memory);
+
+// The words of Rust's `clap` for an argument that is not UTF-8: the kit's is given texts alone.
+const NOT_UTF_8: &str = "error: invalid UTF-8 was detected in one or more arguments
+
+Usage: rewind <FILE>
+
+For more information, try '--help'.
+";
 
 // Tells a fault on standard error.
 fn fail(rt: &HostRuntime, fault: &DebugFault, file: &str) -> ExitCode {
@@ -49,8 +57,18 @@ fn debug_file(rt: &HostRuntime, file: &str) -> io::Result<ExitCode> {
     }
 }
 
+// Refuses a command line that is no text.
+fn refuse_bytes(rt: &HostRuntime) -> ExitCode {
+    let _ = rt.stderr().write_all(NOT_UTF_8.as_bytes());
+    ExitCode::from(2)
+}
+
 fn run(rt: &HostRuntime) -> io::Result<ExitCode> {
-    let words: Vec<String> = env::args(rt)?.collect(rt.alloc())?;
+    let words: Vec<String> = match env::args(rt) {
+        Ok(words) => words.collect(rt.alloc())?,
+        Err(error) if error.kind() == IoErrorKind::InvalidData => return Ok(refuse_bytes(rt)),
+        Err(error) => return Err(error),
+    };
     let mut texts = Vec::new(rt.alloc());
     for word in &words {
         texts.push(word.as_str())?;

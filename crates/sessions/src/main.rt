@@ -1,6 +1,6 @@
-//! Runs example sessions: for each NAME among its arguments the source NAME.go, the commands NAME.script, none where there
-//! is no such file, and the output NAME.expect, which ends in the line of the fault where there is one. It prints `NAME: ok`
-//! or `NAME: differs`.
+//! Runs the example sessions of the folder that it is run in: of each NAME.go the commands NAME.script, none where there is
+//! no such file, and the output NAME.expect, which ends in the line of the fault where there is one. It prints `NAME: differs`
+//! for each that is not as expected, and at the end how many are.
 //!
 //! Exit status: 0 where all are as expected, else 1.
 #![tactic(auto)]
@@ -11,7 +11,7 @@ use rewind::debug::debug;
 use rewind::report::report;
 use std::alloc::Global;
 use std::process::ExitCode;
-use std::{env, fs, io};
+use std::{fs, io};
 
 // What the debugger writes for these commands on this source, and after it the line of the fault, if there is one.
 fn output(alloc: Global, file: &str, source: &[u8], script: &[u8]) -> Result<Vec<u8>, NoMemory> {
@@ -46,16 +46,29 @@ fn is_expected(rt: &HostRuntime, name: &str) -> io::Result<bool> {
     }
 }
 
+// The names of the sessions, in order.
+fn sessions(rt: &HostRuntime) -> io::Result<Vec<String>> {
+    let mut names = Vec::new(rt.alloc());
+    for entry in fs::read_dir(rt, ".")? {
+        if let Some(name) = entry?.file_name().strip_suffix(".go") {
+            names.push(String::from_str(rt.alloc(), name)?)?;
+        }
+    }
+    names.sort()?;
+    Ok(names)
+}
+
 fn main(rt: HostRuntime) -> io::Result<ExitCode> {
-    let names: Vec<String> = env::args(&rt)?.skip(1).collect(rt.alloc())?;
+    let mut expected = 0u64;
     let mut status = 0;
-    for name in &names {
+    for name in &sessions(&rt)? {
         if is_expected(&rt, name.as_str())? {
-            println!(rt; "{name}: ok")?;
+            expected = expected.saturating_add(1);
         } else {
             println!(rt; "{name}: differs")?;
             status = 1;
         }
     }
+    println!(rt; "{expected} sessions are as expected")?;
     Ok(ExitCode::from(status))
 }

@@ -4,8 +4,8 @@ use Rattle.gr_scan.proofs.WordPieces.{word_piece}
 use Rattle.gr_scan.proofs.OperatorPieces.{other_only}
 use Rattle.gr_scan.proofs.piece.longest_piece.Goals as goal
 
-pub mark-requires : goal.mark-requires
-mark-requires c = other_only c.args.text.now (sym c.classify.ensures ∙ c.in-Other.is)
+pub mark-requires-clause-marks : goal.mark-requires-clause-marks
+mark-requires-clause-marks c = other_only c.args.text.now (sym c.classify.ensures ∙ c.in-Other.is)
 
 pub returns-in-Letter-clause-ok : goal.returns-in-Letter-clause-ok
 returns-in-Letter-clause-ok c =

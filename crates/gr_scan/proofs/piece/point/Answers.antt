@@ -9,5 +9,5 @@ returns-then-digit-clause-ok c =
     let second : is_digit (get_or c.args.text.now 1 0) ≡ true = ap is_digit (sym c.byte.ensures) ∙ sym c.digit.ensures ∙ c.if-digit.true in
     point_piece c.args.text.now (digit_there c.args.text.now 1 second) c.requires.class second
 
-pub mark-requires : goal.mark-requires
-mark-requires c = point_only c.args.text.now c.requires.class (ap is_digit (sym c.byte.ensures) ∙ sym c.digit.ensures ∙ c.if-digit.false)
+pub mark-requires-clause-marks : goal.mark-requires-clause-marks
+mark-requires-clause-marks c = point_only c.args.text.now c.requires.class (ap is_digit (sym c.byte.ensures) ∙ sym c.digit.ensures ∙ c.if-digit.false)

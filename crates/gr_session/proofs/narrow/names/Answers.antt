@@ -1,8 +1,8 @@
 use Rattle.std.proofs.Common.{length, refl, ap, sym, ◌∙◌, arith}
 use Rattle.std.specs.Vec.Iter.{into_iter_items}
 use Rattle.std.proofs.lemmas.Result.{err_from_is_err_and}
-use Rattle.gr_types.specs.declared.program.Variable.{Variable}
-use Rattle.gr_types.specs.TypeViews.{variable_of, declared_of}
+use Rattle.gr_program.specs.declared.program.Variable.{Variable}
+use Rattle.gr_program.specs.TypeViews.{variable_of, declared_of}
 use Rattle.gr_session.specs.Narrowing.{plain_variable, plain_variables}
 use Rattle.gr_session.proofs.Parts.{before, name_before, bytes_of, made, unmade, names_end, nothing_left}
 use Rattle.gr_session.proofs.narrow.names.Goals as goal

@@ -1,6 +1,6 @@
 use Rattle.std.proofs.Common.{◌≡◌, length}
 use Rattle.std.specs.Vec.Iter.{into_iter_items, into_iter_len}
-use Rattle.gr_types.specs.TypeViews.{declared_of}
+use Rattle.gr_program.specs.TypeViews.{declared_of}
 use Rattle.gr_session.specs.Narrowing.{plain_variables}
 use Rattle.gr_session.proofs.Parts.{before, name_before, bytes_of}
 use Rattle.gr_session.proofs.narrow.names.Given as goal

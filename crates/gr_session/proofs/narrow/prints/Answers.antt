@@ -1,8 +1,8 @@
 use Rattle.std.proofs.Common.{refl, ap, sym, ◌∙◌}
 use Rattle.std.proofs.lemmas.List.{drop_all}
 use Rattle.std.proofs.lemmas.Result.{err_from_is_err_and}
-use Rattle.gr_types.specs.declared.program.Printed.{Printed}
-use Rattle.gr_types.specs.Programs as checked
+use Rattle.gr_program.specs.declared.program.Printed.{Printed}
+use Rattle.gr_program.specs.Views as checked
 use Rattle.gr_session.specs.PlainPrograms.{more, term_of}
 use Rattle.gr_session.specs.Narrowing.{plain_print, plain_prints}
 use Rattle.gr_session.proofs.Parts.{before, made, unmade, terms_end, from}

@@ -1,5 +1,5 @@
 use Rattle.std.proofs.Common.{◌≡◌, drop}
-use Rattle.gr_types.specs.Programs as checked
+use Rattle.gr_program.specs.Views as checked
 use Rattle.gr_session.specs.PlainPrograms.{more, term_of}
 use Rattle.gr_session.specs.Narrowing.{plain_prints}
 use Rattle.gr_session.proofs.Parts.{before}

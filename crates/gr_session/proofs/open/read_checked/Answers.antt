@@ -2,15 +2,15 @@ use Rattle.gr_session.proofs.Sources.{scan_refused, parse_refused, check_refused
 use Rattle.gr_session.proofs.open.read_checked.Goals as goal
 
 pub returns-in-Err-clause-none : goal.returns-in-Err-clause-none
-returns-in-Err-clause-none c = rw c.scan_error.ensures.1 (scan_refused c.in-Err.error _ _ c.in-Err.ensures.none)
+returns-in-Err-clause-none c = rw c.scan_error.ensures (scan_refused c.in-Err.error _ c.in-Err.ensures.none c.in-Err.ensures.fault)
 
 pub returns-in-Err-parse-clause-none : goal.returns-in-Err-parse-clause-none
 returns-in-Err-parse-clause-none c =
-    rw c.parse_error.ensures.1
-    (parse_refused c.one_list.ensures c.in-Err-parse.error _ _ _ c.in-Ok.ensures.tokens (rw c.as_slice.ensures.value at c.in-Err-parse.ensures.none))
+    rw (c.parse_error.ensures, c.as_slice-in-Err-parse.ensures.value)
+    (parse_refused c.one_list.ensures c.in-Err-parse.error _ _ c.in-Ok.ensures.tokens (rw c.as_slice.ensures.value at c.in-Err-parse.ensures.none))
 
 pub returns-clause-none : goal.returns-clause-none
 returns-clause-none c =
-    rw c.check_error.ensures.1
-    (check_refused c.one_list.ensures c.one_tree.ensures c.in-Err-check.error _ _ _ _
+    rw c.check_error.ensures
+    (check_refused c.one_list.ensures c.one_tree.ensures c.in-Err-check.error _ _ _
     c.in-Ok.ensures.tokens (rw c.as_slice.ensures.value at c.in-Ok-parse.ensures.tree) c.in-Err-check.ensures.none)

@@ -1,7 +1,7 @@
-use Rattle.std.proofs.Common.{◌∙◌, sym, arith, ◌-◌}
+use Rattle.std.proofs.Common.{◌∙◌, ap, sym, arith, ◌-◌}
 use Rattle.std.proofs.lemmas.Result.{err_from_is_err_and}
 use Rattle.gr_scan.specs.Tokens.{tokens_of}
-use Rattle.gr_tree.specs.Exprs.{Trees, tree_of, trees_of}
+use Rattle.gr_tree.specs.Exprs.{Tree, Trees, tree_of, trees_of}
 use Rattle.gr_syntax.specs.Reading.{Found, type_at, expr_at}
 use Rattle.gr_syntax.specs.Views.{found_of}
 use Rattle.gr_syntax.proofs.Turns.{chain_end, chain_weak, chain_high, chain_err, chain_go, expr_shorter, exprs_err, exprs_last, exprs_trail, exprs_go, trees_push, call_is, named_call, fails_on}
@@ -10,7 +10,7 @@ use Rattle.gr_syntax.proofs.expression.+parser.Goals.{expr-in-Some+then-preceden
 
 pub expr-returns-then-left-below-clause-gives : goal.expr-returns-then-left-below-clause-gives
 expr-returns-then-left-below-clause-gives t c =
-    sym c.loop-op.invariant.gives ∙ chain_high (c.args.limit - 1) c.args.level (found_of tree_of c.loop-op.left) c.in-Some.op (tokens_of c.in-Some.rest.now) c.in-Some.ensures.value (omega arith) c.if-left-below.true
+    rw c.abandon.ensures (sym c.loop-op.invariant.gives ∙ chain_high (c.args.limit - 1) c.args.level (found_of tree_of c.loop-op.left) c.in-Some.op (tokens_of c.in-Some.rest.now) c.in-Some.ensures.value (omega arith) c.if-left-below.true)
 
 pub expr-returns-in_err-right-clause-gives : goal.expr-returns-in_err-right-clause-gives
 expr-returns-in_err-right-clause-gives t c =
@@ -21,10 +21,8 @@ pub expr-loop-op-preserved : goal.expr-loop-op-preserved
 expr-loop-op-preserved t c =
     let e = chain_go (c.args.limit - 1) c.args.level (found_of tree_of c.loop-op.left) c.in-Some.op (tokens_of c.in-Some.rest.now) (found_of tree_of c.in_ok-right.right) c.in-Some.ensures.value (omega arith) (omega arith) (rw (← c.precedence-in-Some.ensures.value) c.in_ok-right.ensures.gives) in
     let q = c.loop-op.invariant.gives in
-    let a = c.in_ok-new.ensures.ok in
-    let b = c.in_ok-new-2.ensures.ok in
-    let m = c.max-height.ensures in
-    record { gives = cc; fits = omega (arith, c.in_ok-right.ensures.fits) }
+    let j = c.in_ok-joined.ensures.joined in
+    record { gives = cc; fits = omega (arith, c.in_ok-right.ensures.fits, ap (λ (f : Found Tree). f.1) j) }
 
 pub expr-returns-clause-gives : goal.expr-returns-clause-gives
 expr-returns-clause-gives t c = elim c.match-binary.branch [

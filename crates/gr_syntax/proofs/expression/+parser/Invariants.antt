@@ -14,6 +14,9 @@ decreases-exprs l = 8 * l.limit + 1
 abbrev pub decreases-arguments : goal.decreases-arguments
 decreases-arguments l = 8 * l.limit + 2
 
+abbrev pub decreases-sized : goal.decreases-sized
+decreases-sized l = 8 * l.below + 2
+
 abbrev pub decreases-make : goal.decreases-make
 decreases-make l = 8 * l.below + 3
 

@@ -1,6 +1,6 @@
-use Rattle.std.proofs.Common.{◌∙◌, sym, arith, ℕ, List}
+use Rattle.std.proofs.Common.{◌∙◌, sym, arith}
 use Rattle.std.proofs.lemmas.Result.{err_from_is_err_and}
-use Rattle.gr_scan.specs.Tokens.{Tok, tokens_of}
+use Rattle.gr_scan.specs.Tokens.{tokens_of}
 use Rattle.gr_tree.specs.Exprs.{type_of, names_of}
 use Rattle.gr_tree.specs.Files.{groups_of}
 use Rattle.gr_syntax.specs.Reading.{Found}

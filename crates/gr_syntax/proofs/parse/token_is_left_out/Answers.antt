@@ -1,8 +1,8 @@
-use Rattle.std.proofs.Common.{◌≡◌, ◌∙◌, ◌<◌, ◌≤◌, List, Option, true, Some, None, length, ltb, get_or, refl, ap, sym, arith, ltb-true, ltb-false}
+use Rattle.std.proofs.Common.{◌≡◌, ◌∙◌, ◌≤◌, List, true, Some, length, ltb, get_or, refl, sym, arith, ltb-true, ltb-false}
 use Rattle.std.specs.List.{slice_get}
 use Rattle.std.proofs.lemmas.Option.{slice_get_read, slice_get_past}
 use Rattle.gr_scan.specs.declared.token.Token.{Token}
-use Rattle.gr_scan.specs.Tokens.{Tok, token_of, tokens_of}
+use Rattle.gr_scan.specs.Tokens.{token_of, tokens_of}
 use Rattle.gr_syntax.specs.Refused.{left_out}
 use Rattle.gr_syntax.proofs.Files.{get_none, get_some}
 use Rattle.gr_syntax.proofs.parse.token_is_left_out.Goals as goal

@@ -9,7 +9,7 @@ use Rattle.gr_syntax.specs.Views.{found_of}
 use Rattle.gr_syntax.proofs.Turns.{fails_on}
 use Rattle.gr_syntax.proofs.StatementLists.{turn_close, turn_empty}
 use Rattle.gr_syntax.proofs.StatementTurns.{list_err, list_bad, statement_shorter}
-use Rattle.gr_syntax.proofs.ClauseTurns.{clauses_end, case_err, case_colon, case_bad, default_colon, default_bad, case_pushed, default_pushed, list_pushed, list_shorter, comm_shorter}
+use Rattle.gr_syntax.proofs.ClauseTurns.{clauses_end, case_err, case_broken, default_broken, case_pushed, default_pushed, list_pushed, body_shorter, comm_shorter}
 use Rattle.gr_syntax.proofs.statement.+statement.Goals as goal
 
 pub list-loop-alloc-preserved-in-Some : goal.list-loop-alloc-preserved-in-Some
@@ -36,7 +36,7 @@ pub list-loop-alloc-preserved : goal.list-loop-alloc-preserved
 list-loop-alloc-preserved t c =
     let m : stops_at (tokens_of c.loop-alloc.rest.now) ≡ false = cc (c.stops.ensures, c.loop-alloc-test.true) in
     record {
-      gives = sym (list_pushed c.args.limit c.loop-alloc.value.items c.push.new.self.items c.in_ok-next.next.value c.loop-alloc.height c.max-height.result c.in_ok-next.next.height (tokens_of c.loop-alloc.rest.now) (tokens_of c.in_ok-next.next.rest.now) (tokens_of c.in_ok-rest.rest.now) m c.in_default.ensures.value c.in_ok-next.ensures.gives c.in_ok-rest.ensures.gives c.in_ok-push.ensures.items c.max-height.ensures) ∙ c.loop-alloc.invariant.gives;
+      gives = sym (list_pushed c.args.limit c.loop-alloc.value.items c.push.new.values.items c.in_ok-next.next.value c.loop-alloc.height c.max-height.result c.in_ok-next.next.height (tokens_of c.loop-alloc.rest.now) (tokens_of c.in_ok-next.next.rest.now) (tokens_of c.in_ok-rest.rest.now) m c.in_default.ensures.value c.in_ok-next.ensures.gives c.in_ok-rest.ensures.gives c.in_ok-push.ensures.items c.max-height.ensures) ∙ c.loop-alloc.invariant.gives;
       fits = omega (arith, c.max-height.ensures, c.loop-alloc.invariant.fits, c.in_ok-next.ensures.fits);
     }
 
@@ -55,17 +55,10 @@ clauses-returns-in_err-awaited-clause-gives t c =
     let p = err_from_is_err_and c.from_residual.result c.from_residual.ensures.1 in
     rw (p.1, p.2) (fails_on c.in_err-awaited.field-0.0 _ _ (λ d e. sym c.loop-more.invariant.gives ∙ case_err c.args.limit cs (tokens_of c.in-Some.more.now) d c.in-Some.ensures.value e) c.in_err-awaited.ensures.gives)
 
-pub clauses-returns-in_err-more-clause-gives : goal.clauses-returns-in_err-more-clause-gives
-clauses-returns-in_err-more-clause-gives t c =
+pub clauses-returns-in-Err-clause-gives : goal.clauses-returns-in-Err-clause-gives
+clauses-returns-in-Err-clause-gives t c =
     let cs : Found Clauses = (clauses_of c.loop-more.value.items, c.loop-more.height, tokens_of c.loop-more.rest.now) in
-    let p = err_from_is_err_and c.from_residual-in_err-more.result c.from_residual-in_err-more.ensures.1 in
-    rw (p.1, p.2) (fails_on c.in_err-more.field-0.0 _ _ (λ d e. sym c.loop-more.invariant.gives ∙ case_colon c.args.limit cs (tokens_of c.in-Some.more.now) (found_of comm_of c.in_ok-awaited.awaited) d c.in-Some.ensures.value c.in_ok-awaited.ensures.gives e) c.in_err-more.ensures.gives)
-
-pub clauses-returns-in_err-body-clause-gives : goal.clauses-returns-in_err-body-clause-gives
-clauses-returns-in_err-body-clause-gives t c =
-    let cs : Found Clauses = (clauses_of c.loop-more.value.items, c.loop-more.height, tokens_of c.loop-more.rest.now) in
-    let p = err_from_is_err_and c.from_residual-in_err-body.result c.from_residual-in_err-body.ensures.1 in
-    rw (p.1, p.2) (fails_on c.in_err-body.field-0.0 _ _ (λ d e. sym c.loop-more.invariant.gives ∙ case_bad c.args.limit cs (tokens_of c.in-Some.more.now) (found_of comm_of c.in_ok-awaited.awaited) (c.in_ok-more.field-0-0, tokens_of c.in_ok-more.more.now) d c.in-Some.ensures.value c.in_ok-awaited.ensures.gives c.in_ok-more.ensures.gives e) c.in_err-body.ensures.gives)
+    rw c.abandon.ensures (fails_on c.in-Err.fault _ _ (λ d e. sym c.loop-more.invariant.gives ∙ case_broken c.args.limit cs (tokens_of c.in-Some.more.now) (found_of comm_of c.in_ok-awaited.awaited) d c.in-Some.ensures.value c.in_ok-awaited.ensures.gives e) c.in-Err.ensures.gives)
 
 pub clauses-loop-more-smaller-in-Some : goal.clauses-loop-more-smaller-in-Some
 clauses-loop-more-smaller-in-Some t c =
@@ -73,14 +66,13 @@ clauses-loop-more-smaller-in-Some t c =
       arith,
       c.in-Some.ensures.shorter,
       comm_shorter c.args.limit c.in-Some.more.now c.in_ok-awaited.awaited.rest.now (comm_of c.in_ok-awaited.awaited.value) c.in_ok-awaited.awaited.height c.in_ok-awaited.ensures.gives,
-      c.in_ok-more.ensures.shorter,
-      list_shorter c.args.limit c.in_ok-more.more.now c.in_ok-body.body.rest.now (statements_of c.in_ok-body.body.value.items) c.in_ok-body.body.height c.in_ok-body.ensures.gives,
+      body_shorter c.args.limit c.in_ok-awaited.awaited.rest.now c.in-Ok.body.rest.now (statements_of c.in-Ok.body.value.items) c.in-Ok.body.height c.in-Ok.ensures.gives,
     )
 
 pub clauses-loop-more-preserved-in-Some : goal.clauses-loop-more-preserved-in-Some
 clauses-loop-more-preserved-in-Some t c = record {
-  gives = sym (case_pushed c.args.limit c.loop-more.value.items c.push.new.self.items c.in_ok-awaited.awaited.value c.in_ok-body.body.value c.loop-more.height c.max-height.result c.max.result c.in_ok-awaited.awaited.height c.in_ok-body.body.height (tokens_of c.loop-more.rest.now) (tokens_of c.in-Some.more.now) (tokens_of c.in_ok-awaited.awaited.rest.now) (tokens_of c.in_ok-body.body.rest.now) (c.in_ok-more.field-0-0, tokens_of c.in_ok-more.more.now) c.in-Some.ensures.value c.in_ok-awaited.ensures.gives c.in_ok-more.ensures.gives c.in_ok-body.ensures.gives c.in_ok-push.ensures.items c.max-height.ensures c.max.ensures) ∙ c.loop-more.invariant.gives;
-  fits = omega (arith, c.max-height.ensures, c.max.ensures, c.loop-more.invariant.fits, c.in_ok-awaited.ensures.fits, c.in_ok-body.ensures.fits);
+  gives = sym (case_pushed c.args.limit c.loop-more.value.items c.push.new.values.items c.in_ok-awaited.awaited.value c.in-Ok.body.value c.loop-more.height c.max-height.result c.max.result c.in_ok-awaited.awaited.height c.in-Ok.body.height (tokens_of c.loop-more.rest.now) (tokens_of c.in-Some.more.now) (tokens_of c.in_ok-awaited.awaited.rest.now) (tokens_of c.in-Ok.body.rest.now) c.in-Some.ensures.value c.in_ok-awaited.ensures.gives c.in-Ok.ensures.gives c.in_ok-push.ensures.items c.max-height.ensures c.max.ensures) ∙ c.loop-more.invariant.gives;
+  fits = omega (arith, c.max-height.ensures, c.max.ensures, c.loop-more.invariant.fits, c.in_ok-awaited.ensures.fits, c.in-Ok.ensures.fits);
 }
 
 pub clauses-returns-in_default-after-clause-gives : goal.clauses-returns-in_default-after-clause-gives
@@ -88,29 +80,22 @@ clauses-returns-in_default-after-clause-gives t c =
     let cs : Found Clauses = (clauses_of c.loop-more.value.items, c.loop-more.height, tokens_of c.loop-more.rest.now) in
     sym c.loop-more.invariant.gives ∙ clauses_end c.args.limit cs c.in_default.ensures.value c.in_default-after.ensures.value
 
-pub clauses-returns-in_err-more-2-clause-gives : goal.clauses-returns-in_err-more-2-clause-gives
-clauses-returns-in_err-more-2-clause-gives t c =
+pub clauses-returns-in_err-body-clause-gives : goal.clauses-returns-in_err-body-clause-gives
+clauses-returns-in_err-body-clause-gives t c =
     let cs : Found Clauses = (clauses_of c.loop-more.value.items, c.loop-more.height, tokens_of c.loop-more.rest.now) in
-    let p = err_from_is_err_and c.from_residual-in_err-more-2.result c.from_residual-in_err-more-2.ensures.1 in
-    rw (p.1, p.2) (fails_on c.in_err-more-2.field-0.0 _ _ (λ d e. sym c.loop-more.invariant.gives ∙ default_colon c.args.limit cs (tokens_of c.in-Some-after.more.now) d c.in_default.ensures.value c.in-Some-after.ensures.value e) c.in_err-more-2.ensures.gives)
-
-pub clauses-returns-in_err-body-2-clause-gives : goal.clauses-returns-in_err-body-2-clause-gives
-clauses-returns-in_err-body-2-clause-gives t c =
-    let cs : Found Clauses = (clauses_of c.loop-more.value.items, c.loop-more.height, tokens_of c.loop-more.rest.now) in
-    let p = err_from_is_err_and c.from_residual-in_err-body-2.result c.from_residual-in_err-body-2.ensures.1 in
-    rw (p.1, p.2) (fails_on c.in_err-body-2.field-0.0 _ _ (λ d e. sym c.loop-more.invariant.gives ∙ default_bad c.args.limit cs (tokens_of c.in-Some-after.more.now) (c.in_ok-more-2.field-0-0, tokens_of c.in_ok-more-2.more.now) d c.in_default.ensures.value c.in-Some-after.ensures.value c.in_ok-more-2.ensures.gives e) c.in_err-body-2.ensures.gives)
+    let p = err_from_is_err_and c.from_residual-in_err-body.result c.from_residual-in_err-body.ensures.1 in
+    rw (p.1, p.2) (fails_on c.in_err-body.field-0.0 _ _ (λ d e. sym c.loop-more.invariant.gives ∙ default_broken c.args.limit cs (tokens_of c.in-Some-after.more.now) d c.in_default.ensures.value c.in-Some-after.ensures.value e) c.in_err-body.ensures.gives)
 
 pub clauses-loop-more-smaller : goal.clauses-loop-more-smaller
 clauses-loop-more-smaller t c =
     omega (
       arith,
       c.in-Some-after.ensures.shorter,
-      c.in_ok-more-2.ensures.shorter,
-      list_shorter c.args.limit c.in_ok-more-2.more.now c.in_ok-body-2.body.rest.now (statements_of c.in_ok-body-2.body.value.items) c.in_ok-body-2.body.height c.in_ok-body-2.ensures.gives,
+      body_shorter c.args.limit c.in-Some-after.more.now c.in_ok-body.body.rest.now (statements_of c.in_ok-body.body.value.items) c.in_ok-body.body.height c.in_ok-body.ensures.gives,
     )
 
 pub clauses-loop-more-preserved : goal.clauses-loop-more-preserved
 clauses-loop-more-preserved t c = record {
-  gives = sym (default_pushed c.args.limit c.loop-more.value.items c.push-in-loop-more.new.self.items c.in_ok-body-2.body.value c.loop-more.height c.max-height-in-loop-more.result c.in_ok-body-2.body.height (tokens_of c.loop-more.rest.now) (tokens_of c.in-Some-after.more.now) (tokens_of c.in_ok-body-2.body.rest.now) (c.in_ok-more-2.field-0-0, tokens_of c.in_ok-more-2.more.now) c.in_default.ensures.value c.in-Some-after.ensures.value c.in_ok-more-2.ensures.gives c.in_ok-body-2.ensures.gives c.in_ok-push-2.ensures.items c.max-height-in-loop-more.ensures) ∙ c.loop-more.invariant.gives;
-  fits = omega (arith, c.max-height-in-loop-more.ensures, c.loop-more.invariant.fits, c.in_ok-body-2.ensures.fits);
+  gives = sym (default_pushed c.args.limit c.loop-more.value.items c.push-in-loop-more.new.values.items c.in_ok-body.body.value c.loop-more.height c.max-height-in-loop-more.result c.in_ok-body.body.height (tokens_of c.loop-more.rest.now) (tokens_of c.in-Some-after.more.now) (tokens_of c.in_ok-body.body.rest.now) c.in_default.ensures.value c.in-Some-after.ensures.value c.in_ok-body.ensures.gives c.in_ok-push-2.ensures.items c.max-height-in-loop-more.ensures) ∙ c.loop-more.invariant.gives;
+  fits = omega (arith, c.max-height-in-loop-more.ensures, c.loop-more.invariant.fits, c.in_ok-body.ensures.fits);
 }

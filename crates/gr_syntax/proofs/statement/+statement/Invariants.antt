@@ -15,8 +15,11 @@ decreases-list l = 8 * l.limit + 1
 abbrev pub decreases-block : goal.decreases-block
 decreases-block l = 8 * l.limit + 2
 
+abbrev pub decreases-clause_body : goal.decreases-clause_body
+decreases-clause_body l = 8 * l.limit + 2
+
 abbrev pub decreases-clauses : goal.decreases-clauses
-decreases-clauses l = 8 * l.limit + 2
+decreases-clauses l = 8 * l.limit + 3
 
 abbrev pub decreases-labelled : goal.decreases-labelled
 decreases-labelled l = 8 * l.below + 1
@@ -37,7 +40,7 @@ abbrev pub decreases-looped : goal.decreases-looped
 decreases-looped l = 8 * l.below + 3
 
 abbrev pub decreases-select : goal.decreases-select
-decreases-select l = 8 * l.below + 3
+decreases-select l = 8 * l.below + 4
 
 abbrev pub decreases-branch : goal.decreases-branch
 decreases-branch l = 8 * l.below + 4

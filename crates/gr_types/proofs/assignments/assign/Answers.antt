@@ -2,7 +2,7 @@ use Rattle.std.proofs.Common.{subst}
 use Rattle.gr_tree.specs.Exprs.{names_of, trees_of}
 use Rattle.gr_types.specs.Tables.{scope_of}
 use Rattle.gr_types.specs.FunctionTables.{functions_of}
-use Rattle.gr_types.specs.Programs.{act_of}
+use Rattle.gr_program.specs.Views.{act_of}
 use Rattle.gr_types.specs.TakerViews.{pair_view}
 use Rattle.gr_types.specs.Checking.{Agrees}
 use Rattle.gr_types.proofs.Taking.{assign_pair}

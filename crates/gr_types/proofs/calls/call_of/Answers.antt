@@ -1,8 +1,8 @@
 use Rattle.std.proofs.Common.{ap, ◌∙◌}
 use Rattle.std.specs.Prelude.{Some}
 use Rattle.gr_tree.specs.Statements.{optional}
-use Rattle.gr_types.specs.Terms.{Call}
-use Rattle.gr_types.specs.TypeViews.{ty_of}
+use Rattle.gr_program.specs.Programs.{Call}
+use Rattle.gr_program.specs.TypeViews.{ty_of}
 use Rattle.gr_types.specs.Finding.{◌>>=◌}
 use Rattle.gr_types.proofs.Arguments.{wrong_count}
 use Rattle.gr_types.proofs.calls.call_of.Goals as goal

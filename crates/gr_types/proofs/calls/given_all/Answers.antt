@@ -1,5 +1,5 @@
 use Rattle.std.proofs.Common.{sym, ◌∙◌, true≢false, eqb-true, eq-eqb}
-use Rattle.gr_types.specs.TypeViews.{types_of}
+use Rattle.gr_program.specs.TypeViews.{types_of}
 use Rattle.gr_types.specs.Calling.{given_all}
 use Rattle.gr_types.specs.Checking.{meanings_of}
 use Rattle.gr_types.proofs.Arguments.{given_on, given_end, given_over}
@@ -7,7 +7,7 @@ use Rattle.gr_types.proofs.calls.given_all.Goals as goal
 
 pub loop-parameter-preserved : goal.loop-parameter-preserved
 loop-parameter-preserved c =
-    given_on c.args.parameters.now c.loop-parameter.parameter-index c.loop-parameter.values.items c.loop-parameter.terms.items (given_all (meanings_of c.args.values.items) (types_of c.args.parameters.now)) c.loop-parameter.invariant c.parameter-item.result c.in-Some.value c.pop_front.new.self.items c.in_ok-term.term c.push.new.self.items c.loop-parameter-test.true c.parameter-item.is c.in-Some.ensures.items c.in_ok-term.ensures c.in_ok-push.ensures.items
+    given_on c.args.parameters.now c.loop-parameter.parameter-index c.loop-parameter.values.items c.loop-parameter.terms.items (given_all (meanings_of c.args.values.items) (types_of c.args.parameters.now)) c.loop-parameter.invariant c.parameter-item.result c.in-Some.value c.pop_front.new.self.items c.in_ok-term.term c.push.new.self.items c.loop-parameter-test.true c.parameter-item.is c.in-Some.ensures.items c.in_ok-term.ensures.value c.in_ok-push.ensures.items
 
 pub returns-then-not-is_empty : goal.returns-then-not-is_empty
 returns-then-not-is_empty c =

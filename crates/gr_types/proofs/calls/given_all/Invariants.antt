@@ -1,6 +1,6 @@
 use Rattle.std.proofs.Common.{◌≡◌, drop}
 use Rattle.std.specs.Prelude.{Some}
-use Rattle.gr_types.specs.TypeViews.{types_of}
+use Rattle.gr_program.specs.TypeViews.{types_of}
 use Rattle.gr_types.specs.Finding.{◌>>=◌}
 use Rattle.gr_types.specs.Calling.{given_all}
 use Rattle.gr_types.specs.Checking.{meanings_of}

@@ -1,9 +1,9 @@
 use Rattle.std.proofs.Common.{subst, inl, inr}
 use Rattle.gr_tree.specs.Statements.{optional}
-use Rattle.gr_types.specs.TypeViews.{ty_of}
+use Rattle.gr_program.specs.TypeViews.{ty_of}
 use Rattle.gr_types.specs.Tables.{scope_of}
 use Rattle.gr_types.specs.FunctionTables.{functions_of}
-use Rattle.gr_types.specs.Programs.{act_of}
+use Rattle.gr_program.specs.Views.{act_of}
 use Rattle.gr_types.specs.Checking.{Agrees}
 use Rattle.gr_types.proofs.Declaring.{by_pair, by_no_pair}
 use Rattle.gr_types.proofs.declarations.declare_by.Goals as goal

@@ -1,5 +1,5 @@
 use Rattle.gr_tree.specs.Statements.{optional}
-use Rattle.gr_types.specs.TypeViews.{ty_of}
+use Rattle.gr_program.specs.TypeViews.{ty_of}
 use Rattle.gr_types.specs.Tables.{scope_of}
 use Rattle.gr_types.specs.FunctionTables.{functions_of}
 use Rattle.gr_types.proofs.Declaring.{wrong_names}

@@ -1,9 +1,9 @@
 use Rattle.std.proofs.Common.{sym, ◌∙◌, true≢false, eqb-true, eq-eqb}
 use Rattle.gr_tree.specs.Exprs.{names_of}
 use Rattle.gr_tree.specs.Statements.{optional}
-use Rattle.gr_types.specs.TypeViews.{ty_of}
+use Rattle.gr_program.specs.TypeViews.{ty_of}
 use Rattle.gr_types.specs.Tables.{scope_of}
-use Rattle.gr_types.specs.Programs.{term_of}
+use Rattle.gr_program.specs.Views.{expr_of}
 use Rattle.gr_types.specs.Declaring.{all_placed}
 use Rattle.gr_types.specs.Checking.{meaning_of, meanings_of}
 use Rattle.gr_types.proofs.Declaring.{free_on, place_on, place_end, place_over}
@@ -18,7 +18,7 @@ loop-name-preserved c =
     let k = c.in_ok-variable.variable in
     let p = c.in_ok-variable.term in
     let n = scope_of c.declare_one.new.scope in record {
-      free = free_on c.args.names.now l.name-index t l.values.items m l.variables.items l.terms.items c.name-item.result c.deref.result.now (meaning_of c.in-Some.value) (k, term_of p) n c.loop-name-test.true c.name-item.is c.deref.ensures.value c.in_ok-variable.ensures l.invariant.free;
+      free = free_on c.args.names.now l.name-index t l.values.items m l.variables.items l.terms.items c.name-item.result c.deref.result.now (meaning_of c.in-Some.value) (k, expr_of p) n c.loop-name-test.true c.name-item.is c.deref.ensures.value c.in_ok-variable.ensures l.invariant.free;
       so_far = place_on c.args.names.now l.name-index t l.values.items m l.variables.items l.terms.items o l.invariant.so_far c.name-item.result c.deref.result.now c.in-Some.value c.pop_front.new.self.items k p n c.push.new.self.items c.push-in-loop-name.new.self.items c.loop-name-test.true c.name-item.is c.deref.ensures.value c.in-Some.ensures.items c.in_ok-variable.ensures c.in_ok-push.ensures.items c.in_ok-push-2.ensures.items;
     }
 

@@ -1,7 +1,7 @@
 use Rattle.std.proofs.Common.{◌≡◌, drop}
 use Rattle.gr_tree.specs.Exprs.{names_of}
 use Rattle.gr_tree.specs.Statements.{optional}
-use Rattle.gr_types.specs.TypeViews.{ty_of}
+use Rattle.gr_program.specs.TypeViews.{ty_of}
 use Rattle.gr_types.specs.Tables.{scope_of}
 use Rattle.gr_types.specs.Finding.{◌>>=◌}
 use Rattle.gr_types.specs.Declaring.{Declarable, all_placed}

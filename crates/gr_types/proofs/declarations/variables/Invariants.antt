@@ -1,7 +1,7 @@
 use Rattle.std.proofs.Common.{◌≡◌, ◌++◌, drop, map}
 use Rattle.gr_tree.specs.Exprs.{names_of}
 use Rattle.gr_types.specs.Tables.{scope_of}
-use Rattle.gr_types.specs.Scopes.{number_of}
+use Rattle.gr_typing.specs.Scopes.{number_of}
 use Rattle.gr_types.proofs.declarations.variables.Given as goal
 
 abbrev pub invariant-loop-name : goal.invariant-loop-name

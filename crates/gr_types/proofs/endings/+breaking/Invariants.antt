@@ -1,6 +1,6 @@
 use Rattle.std.proofs.Common.{◌≡◌, drop}
 use Rattle.gr_tree.specs.Statements.{optional, statements_of}
-use Rattle.gr_types.specs.Endings.{breaks_in, breaks_among}
+use Rattle.gr_typing.specs.Endings.{breaks_in, breaks_among}
 use Rattle.gr_types.specs.StatementViews.{clauses_of}
 use Rattle.gr_types.proofs.endings.+breaking.Given as goal
 

@@ -2,7 +2,7 @@ use Rattle.std.proofs.Common.{◌≡◌, ℕ, zero, suc, ◌+◌, ◌-◌, List,
 use Rattle.std.specs.Prelude.{Some, None, slice_get}
 use Rattle.gr_tree.specs.declared.stmt.Stmt as rows
 use Rattle.gr_tree.specs.Statements.{statement_of, statements_of}
-use Rattle.gr_types.specs.Endings.{ends, terminates}
+use Rattle.gr_typing.specs.Endings.{ends, terminates}
 use Rattle.gr_types.proofs.TreeRows.{block_is, else_is, else_if_is, for_is, select_is, body_is}
 use Rattle.gr_types.proofs.endings.+ending.Goals as goal
 

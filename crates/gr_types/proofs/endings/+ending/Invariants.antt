@@ -1,5 +1,5 @@
 use Rattle.std.proofs.Common.{◌≡◌, drop}
-use Rattle.gr_types.specs.Endings.{all_end}
+use Rattle.gr_typing.specs.Endings.{all_end}
 use Rattle.gr_types.specs.StatementViews.{clauses_of}
 use Rattle.gr_types.proofs.endings.+ending.Given as goal
 

@@ -1,6 +1,6 @@
 use Rattle.std.proofs.Common.{◌+◌, ◌<◌, ◌∷◌, ◌++◌, length, drop, inl, inr, rules, arith, ap, ◌∙◌, sym}
 use Rattle.gr_tree.specs.Statements.{then, statement_of, statements_of}
-use Rattle.gr_types.specs.Endings.{labels_in, labels_of, labels_among}
+use Rattle.gr_typing.specs.Labels.{labels_in, labels_of, labels_among}
 use Rattle.gr_types.specs.StatementViews.{clause_body, clauses_of}
 use Rattle.gr_types.specs.LabelTables.{names_of, fit_after}
 use Rattle.gr_types.proofs.LabelNames.{unfit_on, fit_next, names_next, none_false, none_true, labels_clause}

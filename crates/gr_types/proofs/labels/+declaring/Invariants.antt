@@ -1,6 +1,6 @@
 use Rattle.std.proofs.Common.{◌≡◌, ◌++◌, drop}
 use Rattle.gr_tree.specs.Statements.{statements_of}
-use Rattle.gr_types.specs.Endings.{labels_in, labels_among}
+use Rattle.gr_typing.specs.Labels.{labels_in, labels_among}
 use Rattle.gr_types.specs.StatementViews.{clauses_of}
 use Rattle.gr_types.specs.LabelTables.{names_of, fit_after}
 use Rattle.gr_types.proofs.labels.+declaring.Given as goal

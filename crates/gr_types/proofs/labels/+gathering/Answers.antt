@@ -1,6 +1,6 @@
 use Rattle.std.proofs.Common.{◌+◌, ◌<◌, ◌∷◌, length, drop, inl, inr, rules, arith, ap, ◌∙◌, sym}
 use Rattle.gr_tree.specs.Statements.{then, statement_of, statements_of}
-use Rattle.gr_types.specs.Endings.{uses_in, uses_of, uses_among}
+use Rattle.gr_typing.specs.Labels.{uses_in, uses_of, uses_among}
 use Rattle.gr_types.specs.StatementViews.{clause_body, clauses_of}
 use Rattle.gr_types.specs.LabelTables.{names_of, with_names}
 use Rattle.gr_types.proofs.LabelNames.{names_on, uses_clause}

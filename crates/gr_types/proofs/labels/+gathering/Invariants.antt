@@ -1,6 +1,6 @@
 use Rattle.std.proofs.Common.{◌≡◌, drop}
 use Rattle.gr_tree.specs.Statements.{statements_of}
-use Rattle.gr_types.specs.Endings.{uses_in, uses_among}
+use Rattle.gr_typing.specs.Labels.{uses_in, uses_among}
 use Rattle.gr_types.specs.StatementViews.{clauses_of}
 use Rattle.gr_types.specs.LabelTables.{names_of, with_names}
 use Rattle.gr_types.proofs.labels.+gathering.Given as goal

@@ -1,6 +1,6 @@
 use Rattle.std.proofs.Common.{rules, ap, ◌∙◌, sym}
 use Rattle.gr_tree.specs.Statements.{statements_of}
-use Rattle.gr_types.specs.Endings.{labels_in, uses_in}
+use Rattle.gr_typing.specs.Labels.{labels_in, uses_in}
 use Rattle.gr_types.specs.LabelTables.{names_of, with_names, fit_after}
 use Rattle.gr_types.proofs.LabelNames.{body_fits}
 use Rattle.gr_types.proofs.labels.unfit_label.Goals as goal

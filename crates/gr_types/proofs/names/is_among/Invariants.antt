@@ -1,5 +1,5 @@
 use Rattle.std.proofs.Common.{◌≡◌, length, map}
-use Rattle.gr_types.specs.Names.{among}
+use Rattle.gr_typing.specs.Names.{among}
 use Rattle.gr_types.proofs.names.is_among.Given as goal
 
 abbrev pub invariant-loop-names : goal.invariant-loop-names

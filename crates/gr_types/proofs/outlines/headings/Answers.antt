@@ -1,6 +1,6 @@
 use Rattle.std.proofs.Common.{◌∙◌, ap, []}
 use Rattle.gr_tree.specs.Files as files
-use Rattle.gr_types.specs.TypeViews.{sign_of}
+use Rattle.gr_types.specs.Signatures.{sign_of}
 use Rattle.gr_types.specs.FunctionTables.{functions_of}
 use Rattle.gr_types.specs.Outlines.{headings_in}
 use Rattle.gr_types.specs.OutlineViews.{outline_of, outlines_of}

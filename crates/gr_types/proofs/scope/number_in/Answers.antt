@@ -1,5 +1,5 @@
 use Rattle.std.proofs.Common.{◌∙◌, sym}
-use Rattle.gr_types.specs.Scopes.{in_blocks}
+use Rattle.gr_typing.specs.Scopes.{in_blocks}
 use Rattle.gr_types.specs.Tables.{blocks_of}
 use Rattle.gr_types.proofs.Scopes.{found_last, not_last, no_block}
 use Rattle.gr_types.proofs.scope.number_in.Goals as goal

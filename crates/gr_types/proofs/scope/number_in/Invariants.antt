@@ -1,5 +1,5 @@
 use Rattle.std.proofs.Common.{◌≡◌, length}
-use Rattle.gr_types.specs.Scopes.{in_blocks}
+use Rattle.gr_typing.specs.Scopes.{in_blocks}
 use Rattle.gr_types.specs.Tables.{blocks_of}
 use Rattle.gr_types.proofs.scope.number_in.Given as goal
 

@@ -1,6 +1,6 @@
 use Rattle.std.proofs.Common.{◌≡◌, drop}
 use Rattle.gr_types.specs.StatementViews.{clauses_of}
-use Rattle.gr_types.specs.StatementChecks.{defaults, at_most_one}
+use Rattle.gr_typing.specs.Statements.{defaults, at_most_one}
 use Rattle.gr_types.proofs.Stepping.{counted}
 use Rattle.gr_types.proofs.selects.has_at_most_one_default.Given as goal
 

@@ -4,11 +4,11 @@ use Rattle.std.proofs.lemmas.Result.{err_from_is_err_and}
 use Rattle.gr_tree.specs.Statements.{for_of, if_of, optional, statement_of, statements_of}
 use Rattle.gr_types.specs.StatementViews.{clauses_of}
 use Rattle.gr_types.specs.Tables.{scope_of}
-use Rattle.gr_types.specs.Contexts.{context_of}
-use Rattle.gr_types.specs.Programs.{steps_of, case_on}
+use Rattle.gr_types.specs.ContextViews.{context_of}
+use Rattle.gr_program.specs.Views.{stmts_of, case_on}
 use Rattle.gr_types.specs.FindingStatements.{statement_in, body_in, clauses_in}
 use Rattle.gr_types.specs.Finding.{◌>>=◌}
-use Rattle.gr_types.specs.Stepping.{made_of, block_in, tested_of, tested_in, if_in, else_in, else_if_in, for_in, select_in}
+use Rattle.gr_types.specs.StatementParts.{made_of, block_in, tested_of, tested_in, if_in, else_in, else_if_in, for_in, select_in}
 use Rattle.gr_types.proofs.Stepping.{no_steps, step_on, none_on, stopped, all_steps, no_cases, case_on_next, case_stopped, all_cases, default_as, case_as, default_done, block_as, if_as, else_as, else_if_as, for_as, select_as, denied, denied_first, denied_then, select_refused}
 use Rattle.gr_types.proofs.statements.+checking.Goals as goal
 
@@ -69,7 +69,7 @@ case-returns-in-Case t c =
 
 pub default_case-returns : goal.default_case-returns
 default_case-returns t c =
-    default_done (context_of c.args.context.now) (scope_of c.args.scope.now) (scope_of c.enter.new.self) (scope_of c.body.new.scope) (scope_of c.leave.new.self) (statements_of c.args.stmts.now) (steps_of c.in_ok-steps.steps.items) (case_on c.default_case.result) c.in_ok-enter.ensures c.in_ok-steps.ensures c.default_case.ensures c.leave.ensures
+    default_done (context_of c.args.context.now) (scope_of c.args.scope.now) (scope_of c.enter.new.self) (scope_of c.body.new.scope) (scope_of c.leave.new.self) (statements_of c.args.stmts.now) (stmts_of c.in_ok-steps.steps.items) (case_on c.default_case.result) c.in_ok-enter.ensures c.in_ok-steps.ensures c.default_case.ensures c.leave.ensures
 
 pub statement-returns-in_err-block-in-Block : goal.statement-returns-in_err-block-in-Block
 statement-returns-in_err-block-in-Block t c =
@@ -130,12 +130,12 @@ statement-returns-in_err-if_else-in-IfElse t c =
     let o = statement_in (context_of c.args.context.now) (scope_of c.args.scope.now) (optional (λ x. x.now) c.args.label) (statement_of c.args.stmt.now) in
     let same = else_as (context_of c.args.context.now) (scope_of c.args.scope.now) (optional (λ x. x.now) c.args.label) c.args.stmt.now c.in-IfElse.place c.in-IfElse.head c.in-IfElse.body c.in-IfElse.otherwise c.deref-in-IfElse.result.now c.deref-in-IfElse-2.result.now c.in-IfElse.is c.deref-in-IfElse.ensures.value c.deref-in-IfElse-2.ensures.value in
     let first = tested_in (context_of c.args.context.now) (scope_of c.args.scope.now) (if_of c.in-IfElse.head) (statements_of c.deref-in-IfElse.result.now) in
-    rw (p.1, p.2) (denied_then c.in_err-if_else-in-IfElse.field-0.0 o first (λ t. else_in (context_of c.args.context.now) c.in-IfElse.place.line (statements_of c.deref-in-IfElse-2.result.now) t.0 t.1) (tested_of c.in_ok-tested-in-IfElse.tested, scope_of c.tested.new.scope) same c.in_ok-tested-in-IfElse.ensures c.in_err-if_else-in-IfElse.ensures)
+    rw (p.1, p.2) (denied_then c.in_err-if_else-in-IfElse.field-0.0 o first (λ t. else_in (context_of c.args.context.now) c.in-IfElse.place (statements_of c.deref-in-IfElse-2.result.now) t.0 t.1) (tested_of c.in_ok-tested-in-IfElse.tested, scope_of c.tested.new.scope) same c.in_ok-tested-in-IfElse.ensures c.in_err-if_else-in-IfElse.ensures)
 
 pub statement-returns-in_ok-if_else-in-IfElse : goal.statement-returns-in_ok-if_else-in-IfElse
 statement-returns-in_ok-if_else-in-IfElse t c =
     else_as (context_of c.args.context.now) (scope_of c.args.scope.now) (optional (λ x. x.now) c.args.label) c.args.stmt.now c.in-IfElse.place c.in-IfElse.head c.in-IfElse.body c.in-IfElse.otherwise c.deref-in-IfElse.result.now c.deref-in-IfElse-2.result.now c.in-IfElse.is c.deref-in-IfElse.ensures.value c.deref-in-IfElse-2.ensures.value
-    ∙ ap (λ q. q >>= (λ t. else_in (context_of c.args.context.now) c.in-IfElse.place.line (statements_of c.deref-in-IfElse-2.result.now) t.0 t.1)) c.in_ok-tested-in-IfElse.ensures ∙ c.in_ok-if_else-in-IfElse.ensures
+    ∙ ap (λ q. q >>= (λ t. else_in (context_of c.args.context.now) c.in-IfElse.place (statements_of c.deref-in-IfElse-2.result.now) t.0 t.1)) c.in_ok-tested-in-IfElse.ensures ∙ c.in_ok-if_else-in-IfElse.ensures
 
 pub statement-returns-in_err-if_else_if-in-IfElseIf : goal.statement-returns-in_err-if_else_if-in-IfElseIf
 statement-returns-in_err-if_else_if-in-IfElseIf t c =
@@ -144,12 +144,12 @@ statement-returns-in_err-if_else_if-in-IfElseIf t c =
     let o = statement_in (context_of c.args.context.now) (scope_of c.args.scope.now) (optional (λ x. x.now) c.args.label) (statement_of c.args.stmt.now) in
     let same = else_if_as (context_of c.args.context.now) (scope_of c.args.scope.now) (optional (λ x. x.now) c.args.label) c.args.stmt.now c.in-IfElseIf.place c.in-IfElseIf.head c.in-IfElseIf.body c.in-IfElseIf.otherwise c.deref-in-IfElseIf.result.now c.deref-in-IfElseIf-2.result.now c.in-IfElseIf.is c.deref-in-IfElseIf.ensures.value c.deref-in-IfElseIf-2.ensures in
     let first = tested_in (context_of c.args.context.now) (scope_of c.args.scope.now) (if_of c.in-IfElseIf.head) (statements_of c.deref-in-IfElseIf.result.now) in
-    rw (p.1, p.2) (denied_then c.in_err-if_else_if-in-IfElseIf.field-0.0 o first (λ t. else_if_in (context_of c.args.context.now) c.in-IfElseIf.place.line (statement_of c.deref-in-IfElseIf-2.result.now) t.0 t.1) (tested_of c.in_ok-tested-in-IfElseIf.tested, scope_of c.tested-in-IfElseIf.new.scope) same c.in_ok-tested-in-IfElseIf.ensures c.in_err-if_else_if-in-IfElseIf.ensures)
+    rw (p.1, p.2) (denied_then c.in_err-if_else_if-in-IfElseIf.field-0.0 o first (λ t. else_if_in (context_of c.args.context.now) c.in-IfElseIf.place (statement_of c.deref-in-IfElseIf-2.result.now) t.0 t.1) (tested_of c.in_ok-tested-in-IfElseIf.tested, scope_of c.tested-in-IfElseIf.new.scope) same c.in_ok-tested-in-IfElseIf.ensures c.in_err-if_else_if-in-IfElseIf.ensures)
 
 pub statement-returns-in_ok-if_else_if-in-IfElseIf : goal.statement-returns-in_ok-if_else_if-in-IfElseIf
 statement-returns-in_ok-if_else_if-in-IfElseIf t c =
     else_if_as (context_of c.args.context.now) (scope_of c.args.scope.now) (optional (λ x. x.now) c.args.label) c.args.stmt.now c.in-IfElseIf.place c.in-IfElseIf.head c.in-IfElseIf.body c.in-IfElseIf.otherwise c.deref-in-IfElseIf.result.now c.deref-in-IfElseIf-2.result.now c.in-IfElseIf.is c.deref-in-IfElseIf.ensures.value c.deref-in-IfElseIf-2.ensures
-    ∙ ap (λ q. q >>= (λ t. else_if_in (context_of c.args.context.now) c.in-IfElseIf.place.line (statement_of c.deref-in-IfElseIf-2.result.now) t.0 t.1)) c.in_ok-tested-in-IfElseIf.ensures ∙ c.in_ok-if_else_if-in-IfElseIf.ensures
+    ∙ ap (λ q. q >>= (λ t. else_if_in (context_of c.args.context.now) c.in-IfElseIf.place (statement_of c.deref-in-IfElseIf-2.result.now) t.0 t.1)) c.in_ok-tested-in-IfElseIf.ensures ∙ c.in_ok-if_else_if-in-IfElseIf.ensures
 
 pub statement-returns-in_err-tested-in-IfElse : goal.statement-returns-in_err-tested-in-IfElse
 statement-returns-in_err-tested-in-IfElse t c =
@@ -158,7 +158,7 @@ statement-returns-in_err-tested-in-IfElse t c =
     let o = statement_in (context_of c.args.context.now) (scope_of c.args.scope.now) (optional (λ x. x.now) c.args.label) (statement_of c.args.stmt.now) in
     let same = else_as (context_of c.args.context.now) (scope_of c.args.scope.now) (optional (λ x. x.now) c.args.label) c.args.stmt.now c.in-IfElse.place c.in-IfElse.head c.in-IfElse.body c.in-IfElse.otherwise c.deref-in-IfElse.result.now c.in-IfElse.otherwise.items c.in-IfElse.is c.deref-in-IfElse.ensures.value refl in
     let first = tested_in (context_of c.args.context.now) (scope_of c.args.scope.now) (if_of c.in-IfElse.head) (statements_of c.deref-in-IfElse.result.now) in
-    rw (p.1, p.2) (denied_first c.in_err-tested-in-IfElse.field-0.0 o first (λ t. else_in (context_of c.args.context.now) c.in-IfElse.place.line (statements_of c.in-IfElse.otherwise.items) t.0 t.1) same c.in_err-tested-in-IfElse.ensures)
+    rw (p.1, p.2) (denied_first c.in_err-tested-in-IfElse.field-0.0 o first (λ t. else_in (context_of c.args.context.now) c.in-IfElse.place (statements_of c.in-IfElse.otherwise.items) t.0 t.1) same c.in_err-tested-in-IfElse.ensures)
 
 pub statement-returns-in_err-tested-in-IfElseIf : goal.statement-returns-in_err-tested-in-IfElseIf
 statement-returns-in_err-tested-in-IfElseIf t c =
@@ -167,7 +167,7 @@ statement-returns-in_err-tested-in-IfElseIf t c =
     let o = statement_in (context_of c.args.context.now) (scope_of c.args.scope.now) (optional (λ x. x.now) c.args.label) (statement_of c.args.stmt.now) in
     let same = else_if_as (context_of c.args.context.now) (scope_of c.args.scope.now) (optional (λ x. x.now) c.args.label) c.args.stmt.now c.in-IfElseIf.place c.in-IfElseIf.head c.in-IfElseIf.body c.in-IfElseIf.otherwise c.deref-in-IfElseIf.result.now c.in-IfElseIf.otherwise.value c.in-IfElseIf.is c.deref-in-IfElseIf.ensures.value refl in
     let first = tested_in (context_of c.args.context.now) (scope_of c.args.scope.now) (if_of c.in-IfElseIf.head) (statements_of c.deref-in-IfElseIf.result.now) in
-    rw (p.1, p.2) (denied_first c.in_err-tested-in-IfElseIf.field-0.0 o first (λ t. else_if_in (context_of c.args.context.now) c.in-IfElseIf.place.line (statement_of c.in-IfElseIf.otherwise.value) t.0 t.1) same c.in_err-tested-in-IfElseIf.ensures)
+    rw (p.1, p.2) (denied_first c.in_err-tested-in-IfElseIf.field-0.0 o first (λ t. else_if_in (context_of c.args.context.now) c.in-IfElseIf.place (statement_of c.in-IfElseIf.otherwise.value) t.0 t.1) same c.in_err-tested-in-IfElseIf.ensures)
 
 pub select-returns-in-Err : goal.select-returns-in-Err
 select-returns-in-Err t c =

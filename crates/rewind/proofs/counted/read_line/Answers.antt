@@ -15,7 +15,7 @@ loop-byte-preserved-then-len-gt-LINE_LIMIT g c =
     let long : LINE_LIMIT < length c.loop-byte.line.items = search rules in
     record {
       part = Part-dropped c.loop-byte.invariant.part t c.in-Ok-Some.byte-test.1 long;
-      grows = omega arith;
+      same = omega (arith, c.in-Ok-Some.ensures.same);
       left = omega (arith, c.in-Ok-Some.ensures.left);
     }
 
@@ -26,6 +26,6 @@ loop-byte-preserved g c =
     let items : c.push.new.self.items ≡ c.loop-byte.line.items ++ c.in-Ok-Some.byte ∷ [] = search rules in
     record {
       part = rw items (Part-kept c.loop-byte.invariant.part t c.in-Ok-Some.byte-test.1 short);
-      grows = omega arith;
+      same = omega (arith, c.in-Ok-Some.ensures.same);
       left = omega (arith, c.in-Ok-Some.ensures.left);
     }

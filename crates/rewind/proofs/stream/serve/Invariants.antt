@@ -1,4 +1,4 @@
-use Rattle.std.proofs.Common.{◌≡◌, ◌≤◌}
+use Rattle.std.proofs.Common.{◌≡◌}
 use Rattle.gr_session.specs.PlainPrograms.{program_of}
 use Rattle.rewind.proofs.SoFar.{SoFar}
 use Rattle.rewind.proofs.stream.serve.Given as goal
@@ -8,8 +8,8 @@ invariant-loop-line g l = record {
   so_far : SoFar (program_of l.fn.session.program) l.fn.desk.number (g.R.Read.remaining l.fn.reader.inner) (g.R.Read.remaining l.reader.inner)
       l.fn.session.journal l.session.journal (g.W.Write.contents l.fn.writer.inner) (g.W.Write.contents l.writer.inner);
   others : (l.session.program ≡ l.fn.session.program) × (l.session.askers ≡ l.fn.session.askers);
-  reads : l.fn.reader.failures ≤ l.reader.failures;
-  writes : l.fn.writer.failures ≤ l.writer.failures;
+  reads : l.reader.failures ≡ l.fn.reader.failures;
+  writes : l.writer.failures ≡ l.fn.writer.failures;
 }
 
 abbrev pub decreases-loop-line : goal.decreases-loop-line

@@ -1,7 +1,7 @@
 use Rattle.std.proofs.Common.{◌≡◌, subst}
 use Rattle.gr_tree.specs.Statements.{optional}
-use Rattle.gr_types.specs.Scopes.{signature}
-use Rattle.gr_types.specs.TypeViews.{sign_of, signs_of}
+use Rattle.gr_typing.specs.Scopes.{signature}
+use Rattle.gr_types.specs.Signatures.{sign_of, signs_of}
 use Rattle.gr_types.proofs.FunctionNumbers.{signature_is}
 use Rattle.gr_types.proofs.functions.Functions.signature.Goals as goal
 

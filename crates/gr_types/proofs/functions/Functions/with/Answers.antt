@@ -1,5 +1,5 @@
 use Rattle.std.proofs.Common.{◌∙◌, ap}
-use Rattle.gr_types.specs.TypeViews.{signs_of}
+use Rattle.gr_types.specs.Signatures.{signs_of}
 use Rattle.gr_types.specs.Tables.{block_of}
 use Rattle.gr_types.specs.FunctionNumbers.{with_function}
 use Rattle.gr_types.proofs.FunctionNumbers.{finds_more, signs_push}

@@ -1,6 +1,6 @@
 use Rattle.std.proofs.Common.{◌≡◌, drop}
 use Rattle.gr_tree.specs.Exprs.{names_of}
-use Rattle.gr_types.specs.TypeViews.{ty_of}
+use Rattle.gr_program.specs.TypeViews.{ty_of}
 use Rattle.gr_types.specs.Outlines.{take_each}
 use Rattle.gr_types.specs.OutlineViews.{taken_of}
 use Rattle.gr_types.proofs.parameters.Parameters.take_each.Given as goal

@@ -1,4 +1,4 @@
-use Rattle.gr_types.specs.TypeViews.{declared_of}
+use Rattle.gr_program.specs.TypeViews.{declared_of}
 use Rattle.gr_types.proofs.Scopes.{left_is}
 use Rattle.gr_types.proofs.scope.Scope.leave.Goals as goal
 

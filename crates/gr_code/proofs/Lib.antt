@@ -1,0 +1,12 @@
+pub mod Fills
+pub mod FrameSimulation
+pub mod Simulation
+pub mod Staying
+pub mod Remaining
+pub mod Plugs
+pub mod Clearing
+pub mod Passing
+pub mod VectorLemmas
+pub mod ExampleLemmas
+pub mod Beginning
+pub mod Bounding

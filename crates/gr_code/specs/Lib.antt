@@ -1,0 +1,9 @@
+-- Code: instructions that mean points of the rules, what each of them does, and when they are the code of a program.
+pub mod Filling
+pub mod Instructions
+pub mod Code
+pub mod Bounds
+pub mod Plugging
+pub mod Passing
+pub mod Vectors
+pub mod Examples

@@ -1,0 +1,26 @@
+-- The rules of steps: evaluation, where frames stand and what they do next, states, and for each event a step or a refusal.
+pub mod Outcomes
+pub mod Operators
+pub mod Operands
+pub mod Evaluation
+pub mod Parts
+pub mod Points
+pub mod Frames
+pub mod Deeds
+pub mod Goroutines
+pub mod States
+pub mod Attempts
+pub mod Actors
+pub mod Communications
+pub mod Selects
+pub mod Limits
+pub mod Steps
+pub mod Touches
+pub mod Tells
+pub mod History
+pub mod LocalSteps
+pub mod Turns
+pub mod Assigned
+pub mod ExampleValues
+pub mod ExamplePoints
+pub mod ExampleSteps

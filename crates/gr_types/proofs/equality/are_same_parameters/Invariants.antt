@@ -1,8 +1,0 @@
-use Rattle.std.proofs.Common.{◌≡◌, drop}
-use Rattle.std.specs.Cmp.Lexicographic.{pointwise}
-use Rattle.gr_types.specs.Programs.{parameters_of}
-use Rattle.gr_types.specs.Sameness.{same_parameter}
-use Rattle.gr_types.proofs.equality.are_same_parameters.Given as goal
-
-abbrev pub invariant-loop-number : goal.invariant-loop-number
-invariant-loop-number l = pointwise same_parameter (parameters_of (drop l.number l.a)) (parameters_of (drop l.number l.b)) ≡ pointwise same_parameter (parameters_of l.a) (parameters_of l.b)

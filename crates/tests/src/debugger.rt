@@ -1,0 +1,340 @@
+//! Sessions and their commands: that calls succeed, texts from outside, and devices that fail in mid-stream.
+use gr_scan::scan::ScanError;
+use gr_session::{Command, OpenError, Position, Session};
+use gr_syntax::parse::ParseError;
+use gr_types::fault::{CheckError, Code};
+use rewind::command::{Line, read_command};
+use rewind::command_line::settings;
+use rewind::counted::Counted;
+use rewind::debug::{DebugFault, debug};
+use rewind::report::report;
+use rewind::stream::{ServeFault, serve};
+use std::io;
+use std::io::{ErrorKind, Read, Write};
+use std::test::Fail;
+
+// Gives the bytes, and fails once there are no more.
+#[derive(Drop)]
+struct Broken<'a> {
+    bytes: &'a [u8],
+}
+
+impl Read for Broken<'_> {
+    fn read(&mut self, buf: &mut [u8]) -> io::Result<usize> {
+        if self.bytes.is_empty() {
+            return Err(io::Error::from(ErrorKind::Other));
+        }
+        self.bytes.read(buf)
+    }
+}
+
+// Takes as many bytes as there is room, and then fails.
+#[derive(Drop)]
+struct Full {
+    room: usize,
+}
+
+impl Write for Full {
+    fn write(&mut self, buf: &[u8]) -> io::Result<usize> {
+        if self.room == 0 {
+            return Err(io::Error::from(ErrorKind::Other));
+        }
+        let taken = buf.len().min(self.room);
+        self.room -= taken;
+        Ok(taken)
+    }
+
+    fn flush(&mut self) -> io::Result<()> {
+        Ok(())
+    }
+}
+
+// Gives the bytes, but fails with an error of this kind at every other read, the first among them.
+#[derive(Drop)]
+struct UneasyReader<'a> {
+    bytes: &'a [u8],
+    kind: ErrorKind,
+    failed: bool,
+}
+
+impl Read for UneasyReader<'_> {
+    fn read(&mut self, buf: &mut [u8]) -> io::Result<usize> {
+        self.failed = !self.failed;
+        if self.failed {
+            return Err(io::Error::from(self.kind));
+        }
+        self.bytes.read(buf)
+    }
+}
+
+// Counts the bytes, but fails with an error of this kind at every other write, the first among them.
+#[derive(Drop)]
+struct UneasyWriter {
+    taken: usize,
+    kind: ErrorKind,
+    failed: bool,
+}
+
+impl Write for UneasyWriter {
+    fn write(&mut self, buf: &[u8]) -> io::Result<usize> {
+        self.failed = !self.failed;
+        if self.failed {
+            return Err(io::Error::from(self.kind));
+        }
+        self.taken = self.taken.saturating_add(buf.len());
+        Ok(buf.len())
+    }
+
+    fn flush(&mut self) -> io::Result<()> {
+        Ok(())
+    }
+}
+
+#[test]
+fn serves_a_session(rt: HostRuntime) -> Result<(), Fail> {
+    let mut source = Counted::new(
+        b"package main\nfunc main() {\n\tx := 2\n\tprintln(x*3+1, x)\n}\n".as_slice(),
+    );
+    let mut reader = Counted::new(
+        b"step g0\r\n\n step\tg0 \nstp g0\nstep g00\ntext g0\ntext g0.1\nundo\ntext g0\nundo\nundo\nquit\nstep g0\n".as_slice(),
+    );
+    let mut writer = Counted::new(Vec::new(rt.alloc()));
+    let served = debug(rt.alloc(), &mut source, &mut reader, &mut writer);
+    assert!(rt; served.is_ok());
+    assert_eq!(rt;
+        writer.into_inner().as_slice(),
+        b"ok g0#1 pure\nok g0#2 pure\n? bad command\n? bad command\n| 7 2\nok\nno N2\nok g0#2\nok\nok g0#1\nno B1\nok\n".as_slice()
+    );
+    assert_eq!(rt; reader.into_inner(), b"step g0\n".as_slice());
+    Ok(())
+}
+
+#[test]
+fn names_the_device_that_failed(rt: HostRuntime) -> Result<(), Fail> {
+    let opened = Session::open(rt.alloc(), b"package main; func main() {}");
+    let mut session = opened.ok().ok_or("no session")?;
+    let desk = session.enrol().ok().ok_or("no desk")?;
+    let mut reader = Counted::new(Broken {
+        bytes: b"step g0\nun",
+    });
+    let mut writer = Counted::new(Vec::new(rt.alloc()));
+    let served = serve(rt.alloc(), &mut session, desk, &mut reader, &mut writer);
+    assert!(rt; matches!(served, Err(ServeFault::Read)));
+    assert_eq!(rt; reader.failures(), 1);
+    assert_eq!(rt; writer.failures(), 0);
+    assert_eq!(rt;
+        writer.into_inner().as_slice(),
+        b"ok g0#1 exit\n".as_slice()
+    );
+    assert_eq!(rt; session.journal().len(), 1);
+    let mut rest = Counted::new(b"undo".as_slice());
+    let mut full = Counted::new(Full { room: 3 });
+    let served = serve(rt.alloc(), &mut session, desk, &mut rest, &mut full);
+    assert!(rt; matches!(served, Err(ServeFault::Write)));
+    assert_eq!(rt; rest.failures(), 0);
+    assert_eq!(rt; full.failures(), 1);
+    assert_eq!(rt; session.journal().len(), 2);
+    Ok(())
+}
+
+#[test]
+fn tries_again_where_it_is_interrupted(rt: HostRuntime) -> Result<(), Fail> {
+    let opened = Session::open(rt.alloc(), b"package main; func main() {}");
+    let mut session = opened.ok().ok_or("no session")?;
+    let desk = session.enrol().ok().ok_or("no desk")?;
+    let mut reader = Counted::new(UneasyReader {
+        bytes: b"step g0\nquit\n",
+        kind: ErrorKind::Interrupted,
+        failed: false,
+    });
+    let mut writer = Counted::new(UneasyWriter {
+        taken: 0,
+        kind: ErrorKind::Interrupted,
+        failed: false,
+    });
+    let served = serve(rt.alloc(), &mut session, desk, &mut reader, &mut writer);
+    assert!(rt; served.is_ok());
+    assert_eq!(rt; reader.failures(), 0);
+    assert_eq!(rt; writer.failures(), 0);
+    assert_eq!(rt; writer.into_inner().taken, b"ok g0#1 exit\nok\n".len());
+    Ok(())
+}
+
+#[test]
+fn tries_no_other_failure_again(rt: HostRuntime) -> Result<(), Fail> {
+    let opened = Session::open(rt.alloc(), b"package main; func main() {}");
+    let mut session = opened.ok().ok_or("no session")?;
+    let desk = session.enrol().ok().ok_or("no desk")?;
+    let mut reader = Counted::new(UneasyReader {
+        bytes: b"quit\n",
+        kind: ErrorKind::TimedOut,
+        failed: false,
+    });
+    let mut writer = Counted::new(UneasyWriter {
+        taken: 0,
+        kind: ErrorKind::TimedOut,
+        failed: false,
+    });
+    let served = serve(rt.alloc(), &mut session, desk, &mut reader, &mut writer);
+    assert!(rt; matches!(served, Err(ServeFault::Read)));
+    assert_eq!(rt; reader.into_inner().bytes.len(), 5);
+    let mut rest = Counted::new(b"quit\n".as_slice());
+    let served = serve(rt.alloc(), &mut session, desk, &mut rest, &mut writer);
+    assert!(rt; matches!(served, Err(ServeFault::Write)));
+    assert_eq!(rt; writer.failures(), 1);
+    assert_eq!(rt; writer.into_inner().taken, 0);
+    Ok(())
+}
+
+#[test]
+fn reads_no_command_without_a_program(rt: HostRuntime) -> Result<(), Fail> {
+    let mut source = Counted::new(Broken { bytes: b"package" });
+    let mut reader = Counted::new(b"quit".as_slice());
+    let mut writer = Counted::new(Vec::new(rt.alloc()));
+    let ended = debug(rt.alloc(), &mut source, &mut reader, &mut writer);
+    assert!(rt; matches!(ended, Err(DebugFault::Source)));
+    let mut source = Counted::new(b"package main; func main() {".as_slice());
+    let ended = debug(rt.alloc(), &mut source, &mut reader, &mut writer);
+    assert!(rt;
+        matches!(
+            ended,
+            Err(DebugFault::Open(OpenError::Parse(
+                ParseError::NoFile { .. },
+                Some(Position {
+                    line: 1,
+                    column: 28
+                })
+            )))
+        )
+    );
+    assert_eq!(rt; reader.into_inner(), b"quit".as_slice());
+    assert_eq!(rt; writer.into_inner().len(), 0);
+    Ok(())
+}
+
+#[test]
+fn reads_lines(rt: HostRuntime) -> Result<(), Fail> {
+    assert!(rt;
+        matches!(
+            read_command(rt.alloc(), b"undo\r"),
+            Ok(Line::Command(Command::Undo))
+        )
+    );
+    assert!(rt;
+        matches!(
+            read_command(rt.alloc(), b" step\tg0.2 "),
+            Ok(Line::Command(Command::Step(_)))
+        )
+    );
+    assert!(rt;
+        matches!(
+            read_command(rt.alloc(), b"text g0"),
+            Ok(Line::Command(Command::Text(_)))
+        )
+    );
+    assert!(rt; matches!(read_command(rt.alloc(), b"quit"), Ok(Line::Quit)));
+    assert!(rt; matches!(read_command(rt.alloc(), b"\t "), Ok(Line::Blank)));
+    for line in [
+        b"step g0 1".as_slice(),
+        b"undo undo".as_slice(),
+        b"text".as_slice(),
+        b"step g0.01".as_slice(),
+        b"undo\r\r".as_slice(),
+    ] {
+        assert!(rt; matches!(read_command(rt.alloc(), line), Ok(Line::Rejected)));
+    }
+    Ok(())
+}
+
+#[test]
+fn reports_faults(rt: HostRuntime) -> Result<(), Fail> {
+    let at = Some(Position {
+        line: 3,
+        column: 20,
+    });
+    let faults = [
+        (DebugFault::Source, "rewind: cannot read main.go\n", 1),
+        (
+            DebugFault::Open(OpenError::Scan(ScanError::Malformed(9), at)),
+            "rewind: S2 at 3:20\n",
+            1,
+        ),
+        (
+            DebugFault::Open(OpenError::Scan(ScanError::MalformedText(9), at)),
+            "rewind: S4 at 3:20\n",
+            1,
+        ),
+        (
+            DebugFault::Open(OpenError::Scan(ScanError::Unclosed(9), at)),
+            "rewind: S5 at 3:20\n",
+            1,
+        ),
+        (
+            DebugFault::Open(OpenError::Scan(ScanError::LeftOut(9), at)),
+            "rewind: S6 at 3:20\n",
+            1,
+        ),
+        (
+            DebugFault::Open(OpenError::Scan(ScanError::TooLong, None)),
+            "rewind: S7\n",
+            1,
+        ),
+        (
+            DebugFault::Open(OpenError::Parse(ParseError::LeftOut { token: 7 }, at)),
+            "rewind: P2 at 3:20\n",
+            1,
+        ),
+        (
+            DebugFault::Open(OpenError::Parse(ParseError::TooHigh { token: 7 }, at)),
+            "rewind: P3 at 3:20\n",
+            1,
+        ),
+        (
+            DebugFault::Open(OpenError::Check(
+                CheckError::Refused {
+                    code: Code::NoNewVariable,
+                    at: 5,
+                },
+                at,
+            )),
+            "rewind: C10 at 3:20\n",
+            1,
+        ),
+        (
+            DebugFault::Open(OpenError::Check(
+                CheckError::Refused {
+                    code: Code::WrongLabel,
+                    at: 5,
+                },
+                at,
+            )),
+            "rewind: C8 at 3:20\n",
+            1,
+        ),
+        (
+            DebugFault::Open(OpenError::Check(CheckError::Memory, None)),
+            "rewind: C11\n",
+            1,
+        ),
+        (DebugFault::Open(OpenError::NotYet), "rewind: U1\n", 1),
+        (DebugFault::Open(OpenError::Memory), "rewind: memory\n", 3),
+        (DebugFault::Serve(ServeFault::Read), "rewind: read\n", 3),
+        (DebugFault::Serve(ServeFault::Write), "rewind: write\n", 3),
+        (DebugFault::Serve(ServeFault::Memory), "rewind: memory\n", 3),
+    ];
+    for (fault, line, status) in &faults {
+        let mut text = Vec::from_slice(rt.alloc(), b"> ")?;
+        assert_eq!(rt; report(fault, "main.go", &mut text).ok(), Some(*status));
+        assert_eq!(rt; &text.as_slice()[2..], line.as_bytes());
+    }
+    Ok(())
+}
+
+#[test]
+fn takes_one_file(rt: HostRuntime) -> Result<(), Fail> {
+    let given = settings(rt.alloc(), ["rewind", "main.go"].as_slice());
+    assert_eq!(rt; given.ok().ok_or("refused")?.file, "main.go");
+    assert!(rt; settings(rt.alloc(), ["rewind"].as_slice()).is_err());
+    assert!(rt; settings(rt.alloc(), ["rewind", "a.go", "b.go"].as_slice()).is_err());
+    Ok(())
+}

@@ -1,0 +1,15 @@
+//! Tests of the crates below, over their public calls.
+#![tactic(auto)]
+
+#[cfg(test)]
+mod base;
+#[cfg(test)]
+mod channels;
+#[cfg(test)]
+mod debugger;
+#[cfg(test)]
+mod pool;
+#[cfg(test)]
+mod scan;
+#[cfg(test)]
+mod syntax;

@@ -1,0 +1,52 @@
+//! Type safety: progress and preservation. What holds of every state that a run of a checked program reaches.
+#![tactic(auto)]
+
+ghost use Rattle.std.specs.Prelude.{◌≡◌, ℕ, List, [], Some, None};
+ghost use Rattle.gr_base.specs.declared.events.Event.{Event};
+ghost use Rattle.gr_tree.specs.Files.{FileTree};
+ghost use Rattle.gr_program.specs.Programs.{Program};
+ghost use Rattle.gr_typing.specs.FileChecks.{ProgramOf};
+ghost use Rattle.gr_rules.specs.Outcomes.{gives};
+ghost use Rattle.gr_rules.specs.Frames.{Frame};
+ghost use Rattle.gr_rules.specs.Goroutines.{ready, Goroutine, started};
+ghost use Rattle.gr_rules.specs.Attempts.{unsound};
+ghost use Rattle.gr_rules.specs.States.{live, State, call_of, main_of, start};
+ghost use Rattle.gr_rules.specs.Steps.{refusal};
+ghost use Rattle.gr_rules.specs.Tells.{usual_choice};
+ghost use Rattle.gr_laws.specs.Reached.{Reached};
+ghost use Rattle.type_safety.specs.Standing.{StandsAs, AreFresh};
+
+/// Progress: in every state that a run of a checked program reaches, while the program runs, a goroutine that is ready has a
+/// step, the one with the usual choice; and no event is refused as unsound, since no value of a wrong kind is met.
+pub fn law_of_checked_programs()
+    ensures progress { (file : FileTree) (p : Program) (t : State) (name : List ℕ) (g : Goroutine)
+        → ProgramOf file p
+        → Reached p t
+        → t.run ≡ live
+        → t.goroutines name ≡ Some g
+        → g.status ≡ ready
+        → refusal p t (record { go = name; choice = usual_choice p t name }) ≡ None }
+    ensures sound { (file : FileTree) (p : Program) (t : State) (e : Event)
+        → ProgramOf file p
+        → Reached p t
+        → ¬ (refusal p t e ≡ Some unsound) }
+{}
+
+/// Preservation, as far as the rules speak of it: in every state that a run of a checked program reaches, a goroutine has
+/// frames until it is finished; the innermost comes to a step or a fault, and where the goroutine waits it stands at just the
+/// operations that it waits for; each frame below stands at the call of the one above it and goes on with its result. The
+/// names of children that are not yet started are free. The run starts with a goroutine that is ready, in `main`.
+pub fn law_of_checked_states()
+    ensures standing { (file : FileTree) (p : Program) (t : State) (name : List ℕ) (g : Goroutine)
+        → ProgramOf file p
+        → Reached p t
+        → t.goroutines name ≡ Some g
+        → StandsAs g.status g.frames }
+    ensures names { (file : FileTree) (p : Program) (t : State)
+        → ProgramOf file p
+        → Reached p t
+        → AreFresh t }
+    ensures begins { (file : FileTree) (p : Program)
+        → ProgramOf file p
+        → (f : Frame) × (call_of p (main_of p) [] ≡ gives f) × ((start p).goroutines [] ≡ Some (started f)) }
+{}
