@@ -15,7 +15,7 @@ use Rattle.gr_rules.specs.States.{State, same}
 use Rattle.gr_rules.specs.Attempts.{Operation, sends_on, receives_from, Report}
 use Rattle.gr_rules.specs.History.{sends, receives}
 use Rattle.gr_rules.specs.Steps.{machine}
-use Rattle.gr_rules.specs.Touches.{Touches, senders_at, head_slot, tail_slot, woken, taken, with_channel, and_always, row, table, AsTheTable}
+use Rattle.gr_rules.specs.Touches.{Touches, senders_at, slot_at_head, slot_at_tail, woken, taken, with_channel, and_always, row, table, AsTheTable}
 use Rattle.gr_laws.specs.Reached.{Logged}
 use Rattle.gr_laws.specs.Dependence.{clash}
 use Rattle.gr_laws.specs.OneBuffer.{IsReceive, IsSend, Shares, one_goroutine, one_slot, sender_moves, receiver_waits, sender_waits, sender_met, receiver_met}
@@ -68,9 +68,9 @@ module _ (c : ChName) (s t : State) (g h : List ℕ) where
   gate_taken [] = by_reads g (taken s c []) (Gate c) (inl refl)
   gate_taken (n ∷ ns) = by_writes g (taken s c (n ∷ ns)) (Gate c) (inl refl)
 
-  slot_taken : (names : List (List ℕ)) (o : Object) → In o (head_slot s c) → In o (touched g (taken s c names))
+  slot_taken : (names : List (List ℕ)) (o : Object) → In o (slot_at_head s c) → In o (touched g (taken s c names))
   slot_taken [] o i = by_writes g (taken s c []) o (inr i)
-  slot_taken (n ∷ ns) o i = by_writes g (taken s c (n ∷ ns)) o (inr (inr (inr (In-append_left o (head_slot s c) (woken s c (n ∷ [])) i))))
+  slot_taken (n ∷ ns) o i = by_writes g (taken s c (n ∷ ns)) o (inr (inr (inr (In-append_left o (slot_at_head s c) (woken s c (n ∷ [])) i))))
 
   gate_received : (k : Kind) → receives k ≡ true → In (Gate c) (TR k)
   gate_received Take e = gate_taken (senders_at (s.gates c))
@@ -85,7 +85,7 @@ module _ (c : ChName) (s t : State) (g h : List ℕ) where
   gate_sent SendWait e = by_reads h (S SendWait) (Gate c) (inl refl)
   gate_sent _ e = absurd (no_truth e)
 
-  slot_received : (k : Kind) → receives k ≡ true → (o : Object) → In o (head_slot s c) → In o (TR k)
+  slot_received : (k : Kind) → receives k ≡ true → (o : Object) → In o (slot_at_head s c) → In o (TR k)
   slot_received Take e o i = slot_taken (senders_at (s.gates c)) o i
   slot_received Meet e o i = by_reads g (R Meet) o (inr (inr i))
   slot_received Closed e o i = by_reads g (R Closed) o (inr (inr i))
@@ -103,8 +103,8 @@ module _ (c : ChName) (s t : State) (g h : List ℕ) where
   moved_writes [] n = absurd (n refl)
   moved_writes (m ∷ ms) n = inl refl
 
-  slot_clash : (k l : Kind) → receives k ≡ true → sends l ≡ true → (o : Object) → In o (head_slot s c)
-      → In o (tail_slot t c) → Clash k l
+  slot_clash : (k l : Kind) → receives k ≡ true → sends l ≡ true → (o : Object) → In o (slot_at_head s c)
+      → In o (slot_at_tail t c) → Clash k l
   slot_clash k Buffer e f o i j = by_send k Buffer o (inr (inr j)) (slot_received k e o i)
   slot_clash k Hand e f o i j = by_send k Hand (Gate c) (inr (inl refl)) (gate_received k e)
   slot_clash k SendWait e f o i j = by_send k SendWait (Gate c) (inr (inl refl)) (gate_received k e)
@@ -123,7 +123,7 @@ module _ (c : ChName) (s t : State) (g h : List ℕ) where
   tail_touched : (o : Object) → In o (TS Buffer) → (o ≡ Run) ⊎ ((o ≡ Gate c) ⊎ In o (WS Buffer))
   tail_touched o i = elim i [ inl e ↦ inl e | inr j ↦ elim j [ inl e ↦ inr (inl e) | inr k ↦ inr (inr k) ] ]
 
-  tail_written : (o : Object) → In o (WS Buffer) → (o ≡ Go h) ⊎ ((o ≡ Tail c) ⊎ In o (tail_slot t c))
+  tail_written : (o : Object) → In o (WS Buffer) → (o ≡ Go h) ⊎ ((o ≡ Tail c) ⊎ In o (slot_at_tail t c))
   tail_written o i = elim i [ inl e ↦ inl e | inr j ↦ elim j [ inl e ↦ inr (inl e) | inr k ↦ inr (inr k) ] ]
 
   abbrev Front : Kind → Type 0
@@ -131,9 +131,9 @@ module _ (c : ChName) (s t : State) (g h : List ℕ) where
 
   -- what a receive can have of the front of the buffer
   abbrev AtFront : Object → Type 0
-  AtFront o = (o ≡ Go g) ⊎ ((o ≡ Head c) ⊎ In o (head_slot s c))
+  AtFront o = (o ≡ Go g) ⊎ ((o ≡ Head c) ⊎ In o (slot_at_head s c))
 
-  no_tail_slot : (o : Object) → ((j : ℕ) → o ≡ Slot c j → ⊥) → In o (tail_slot t c) → ⊥
+  no_tail_slot : (o : Object) → ((j : ℕ) → o ≡ Slot c j → ⊥) → In o (slot_at_tail t c) → ⊥
   no_tail_slot o n i = let at = slot_is t c o _ _ i in n at.0 at.1
 
   go_shared : (k : Kind) → In (Go g) (WS Buffer) → Front k
@@ -145,7 +145,7 @@ module _ (c : ChName) (s t : State) (g h : List ℕ) where
   no_head : In (Head c) (WS Buffer) → ⊥
   no_head i = elim (tail_written (Head c) i) [ inl e ↦ cc | inr j ↦ elim j [ inl e ↦ cc | inr x ↦ no_tail_slot (Head c) (λ j e. cc) x ] ]
 
-  slot_shared : (k : Kind) (o : Object) → In o (head_slot s c) → In o (WS Buffer) → Front k
+  slot_shared : (k : Kind) (o : Object) → In o (slot_at_head s c) → In o (WS Buffer) → Front k
   slot_shared k o i w =
       let at = slot_is s c o _ _ i in elim (tail_written o w) [
         | inl e ↦ absurd (let q : Slot c at.0 ≡ Go h = sym at.1 ∙ e in cc)
@@ -192,7 +192,7 @@ module _ (c : ChName) (s t : State) (g h : List ℕ) where
   ]
 
   closed_touched : (o : Object) → In o (TR Closed) → ((o ≡ Run) ⊎ (o ≡ Gate c)) ⊎ AtFront o
-  closed_touched o i = elim (In-append_cases o (Run ∷ Gate c ∷ Head c ∷ head_slot s c) (WR Closed) i) [
+  closed_touched o i = elim (In-append_cases o (Run ∷ Gate c ∷ Head c ∷ slot_at_head s c) (WR Closed) i) [
     | inl j ↦ elim j [
       | inl e ↦ inl (inl e)
       | inr j ↦ elim j [ inl e ↦ inl (inr e) | inr j ↦ inr (inr j) ]

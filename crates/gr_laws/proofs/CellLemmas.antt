@@ -1,4 +1,5 @@
--- A state is its contents: the laws of cells, from which the machine of a program meets the laws of machines.
+-- A state is its contents: the laws of cells, from which the machine of a program meets the laws of machines. The crates above
+-- use these lemmas too.
 use Rattle.std.proofs.Common.{◌≡◌, ℕ, nat_eq, Bool, true, false, ◌==◌, ◌&&◌, if◌then◌else◌, List, [], ◌∷◌, Option, refl, sym, ◌∙◌, ap, eqb-true, eq-eqb, inl, inr}
 use Rattle.std.specs.Cmp.Lexicographic.{pointwise, same_text}
 use Rattle.gr_base.specs.declared.names.ChName.{ChName}

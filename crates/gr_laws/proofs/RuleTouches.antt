@@ -24,7 +24,7 @@ use Rattle.gr_rules.specs.Attempts.{no_such_choice, Operation, sends_on, receive
 use Rattle.gr_rules.specs.Actors.{Actor, onward, does, given, if_gives, without, channels_but, met, ask_met}
 use Rattle.gr_rules.specs.Communications.{proceeds, send_to, send, take, receive_from, receive, communicate, all_waits, enqueued, ask_enqueued, wait, proceed_or_wait, once, ask_waiters, close_open, close}
 use Rattle.gr_rules.specs.Selects.{ask_ready, if_none_ready}
-use Rattle.gr_rules.specs.Touches.{touches, senders_at, receivers_at, tail_slot, head_slot, waits_at, woken, send_side, receive_side, side, taken, with_channel, without_channel, and_always, row}
+use Rattle.gr_rules.specs.Touches.{touches, senders_at, receivers_at, slot_at_tail, slot_at_head, waits_at, woken, send_side, receive_side, side, taken, with_channel, without_channel, and_always, row}
 use Rattle.gr_laws.proofs.SureLemmas.{Sure, sure_past}
 use Rattle.gr_laws.proofs.TouchLemmas.{seen, F, refused, asked, leaf, wide, if_fits, gate_fits, room_fits, item_fits, withdrawn_fits, waiter_fits}
 
@@ -93,8 +93,8 @@ module _ (s : State) (a : Actor) (choice : Choice) (here : s.goroutines a.name �
     | Some n ↦ proceeds a clause (sends_on c) kinds.Buffer None (tail_has c (n + 1) ∷ slot_has c (n % gate.capacity) (Some (n, v)) ∷ [])
     | None ↦ otherwise
   ]) at
-      (wide s e (seen (seen P0 (Gate c ∷ [])) (Tail c ∷ tail_slot s c)) (λ o. ((λ z. grind (arith)), (λ z. grind (arith)))) h)
-      (λ q. proceeds_fits clause (sends_on c) kinds.Buffer None (tail_has c (s.tails c + 1) ∷ slot_has c (s.tails c % gate.capacity) (Some (s.tails c, v)) ∷ []) (Gate c ∷ []) (Tail c ∷ tail_slot s c) refl (ap (◌∷◌ (Tail c)) (sym q)) (λ o. ((λ z. grind (arith)), (λ z. grind (arith)))))
+      (wide s e (seen (seen P0 (Gate c ∷ [])) (Tail c ∷ slot_at_tail s c)) (λ o. ((λ z. grind (arith)), (λ z. grind (arith)))) h)
+      (λ q. proceeds_fits clause (sends_on c) kinds.Buffer None (tail_has c (s.tails c + 1) ∷ slot_has c (s.tails c % gate.capacity) (Some (s.tails c, v)) ∷ []) (Gate c ∷ []) (Tail c ∷ slot_at_tail s c) refl (ap (◌∷◌ (Tail c)) (sym q)) (λ o. ((λ z. grind (arith)), (λ z. grind (arith)))))
 
   send_fits : (clause : Option ℕ) (c : ChName) (v : Value) (otherwise : Attempt) → G (seen P0 (send_side s c)) otherwise
       → G P0 (send a clause c v otherwise)
@@ -103,9 +103,9 @@ module _ (s : State) (a : Actor) (choice : Choice) (here : s.goroutines a.name �
       (send_to_fits clause c gate v otherwise gate.receivers at refl h))
 
   take_fits : (clause : Option ℕ) (c : ChName) (gate : GateContent) (v : Value) (ws : List (Waiter Value))
-      → s.gates c ≡ Some gate → gate.senders ≡ ws → head_slot s c ≡ Slot c (s.heads c % gate.capacity) ∷ []
-      → G (seen (seen P0 (Gate c ∷ [])) (Head c ∷ head_slot s c)) (take a clause c gate (s.heads c, v) ws)
-  take_fits clause c gate v [] at r q = proceeds_fits clause (receives_from c) kinds.Take (Some (v, true)) (head_has c (s.heads c + 1) ∷ slot_has c (s.heads c % gate.capacity) None ∷ []) (Gate c ∷ []) (Head c ∷ head_slot s c)
+      → s.gates c ≡ Some gate → gate.senders ≡ ws → slot_at_head s c ≡ Slot c (s.heads c % gate.capacity) ∷ []
+      → G (seen (seen P0 (Gate c ∷ [])) (Head c ∷ slot_at_head s c)) (take a clause c gate (s.heads c, v) ws)
+  take_fits clause c gate v [] at r q = proceeds_fits clause (receives_from c) kinds.Take (Some (v, true)) (head_has c (s.heads c + 1) ∷ slot_has c (s.heads c % gate.capacity) None ∷ []) (Gate c ∷ []) (Head c ∷ slot_at_head s c)
       (ap (λ x. taken s c (senders_at x)) at ∙ ap (λ (x : List (Waiter Value)). taken s c (map (λ w. w.go) x)) r)
       (ap (◌∷◌ (Head c)) (sym q)) (λ o. ((λ z. grind (arith)), (λ z. grind (arith))))
   take_fits clause c gate v (w ∷ ws) at r q = subst (λ l. G (seen (seen P0 (Gate c ∷ [])) (Head c ∷ l)) (take a clause c gate (s.heads c, v) (w ∷ ws))) (sym q) (asked s e (met_fits c w None
@@ -120,7 +120,7 @@ module _ (s : State) (a : Actor) (choice : Choice) (here : s.goroutines a.name �
 
   receive_from_fits : (clause : Option ℕ) (c : ChName) (gate : GateContent) (zero : Value) (otherwise : Attempt) (ws : List (Waiter Value))
       → s.gates c ≡ Some gate → gate.senders ≡ ws → G (seen P0 (receive_side s c)) otherwise
-      → G (seen (seen P0 (Gate c ∷ [])) (Head c ∷ head_slot s c)) (receive_from a clause c gate zero otherwise None ws)
+      → G (seen (seen P0 (Gate c ∷ [])) (Head c ∷ slot_at_head s c)) (receive_from a clause c gate zero otherwise None ws)
   receive_from_fits clause c gate zero otherwise (w ∷ ws) at r h = met_fits c w None
       (λ cells. proceeds a clause (receives_from c) kinds.Meet (Some (w.value, true)) (gate_has c (Some (without (w.go ∷ []) gate)) ∷ cells))
       (λ cells d. proceeds_fits clause (receives_from c) kinds.Meet (Some (w.value, true)) (gate_has c (Some (without (w.go ∷ []) gate)) ∷ cells) (receive_side s c) (Gate c ∷ woken s c (w.go ∷ []))
@@ -128,7 +128,7 @@ module _ (s : State) (a : Actor) (choice : Choice) (here : s.goroutines a.name �
       (ap (◌∷◌ (Gate c)) d) (λ o. ((λ z. grind (arith)), (λ z. grind (arith)))))
   receive_from_fits clause c gate zero otherwise [] at r h = if_fits s e gate.closed
       (proceeds_fits clause (receives_from c) kinds.Closed (Some (zero, false)) [] (receive_side s c) [] refl refl (λ o. ((λ z. grind (arith)), (λ z. grind (arith)))))
-      (wide s e (seen (seen P0 (Gate c ∷ [])) (Head c ∷ head_slot s c)) (λ o. ((λ z. grind (arith)), (λ z. grind (arith)))) h)
+      (wide s e (seen (seen P0 (Gate c ∷ [])) (Head c ∷ slot_at_head s c)) (λ o. ((λ z. grind (arith)), (λ z. grind (arith)))) h)
 
   receive_fits : (clause : Option ℕ) (c : ChName) (zero : Value) (otherwise : Attempt) → G (seen P0 (receive_side s c)) otherwise
       → G P0 (receive a clause c zero otherwise)
@@ -223,12 +223,12 @@ module _ (s : State) (a : Actor) (choice : Choice) (here : s.goroutines a.name �
   pub ready_fits : {P : Object → Type 0} (x : Communication) (k : Bool → Attempt)
       → ((b : Bool) → G (seen P (side s x)) (k b)) → G P (ask_ready x k)
   ready_fits {P} (Sending (Some c) v) k h = gate_fits s e c (λ gate at. room_fits s e c gate (λ room. k (gate.closed || has_any gate.receivers || is_some room)) at
-      (wide s e (seen (seen P (Gate c ∷ [])) (Tail c ∷ tail_slot s c)) (λ o. ((λ z. grind (arith)), (λ z. grind (arith)))) (h _))
-      (λ q. wide s e (seen (seen P (Gate c ∷ [])) (Tail c ∷ tail_slot s c)) (λ o. ((λ z. grind (arith)), (λ z. grind (arith)))) (h _)))
+      (wide s e (seen (seen P (Gate c ∷ [])) (Tail c ∷ slot_at_tail s c)) (λ o. ((λ z. grind (arith)), (λ z. grind (arith)))) (h _))
+      (λ q. wide s e (seen (seen P (Gate c ∷ [])) (Tail c ∷ slot_at_tail s c)) (λ o. ((λ z. grind (arith)), (λ z. grind (arith)))) (h _)))
   ready_fits {P} (Sending None v) k h = wide s e P (λ o. ((λ z. grind (arith)), (λ z. grind (arith)))) (h false)
   ready_fits {P} (Receiving (Some c) zero) k h = gate_fits s e c (λ gate at. item_fits s e c gate (λ item. k (gate.closed || has_any gate.senders || is_some item)) at
-      (wide s e (seen (seen P (Gate c ∷ [])) (Head c ∷ head_slot s c)) (λ o. ((λ z. grind (arith)), (λ z. grind (arith)))) (h _))
-      (λ v q. wide s e (seen (seen P (Gate c ∷ [])) (Head c ∷ head_slot s c)) (λ o. ((λ z. grind (arith)), (λ z. grind (arith)))) (h _)))
+      (wide s e (seen (seen P (Gate c ∷ [])) (Head c ∷ slot_at_head s c)) (λ o. ((λ z. grind (arith)), (λ z. grind (arith)))) (h _))
+      (λ v q. wide s e (seen (seen P (Gate c ∷ [])) (Head c ∷ slot_at_head s c)) (λ o. ((λ z. grind (arith)), (λ z. grind (arith)))) (h _)))
   ready_fits {P} (Receiving None zero) k h = wide s e P (λ o. ((λ z. grind (arith)), (λ z. grind (arith)))) (h false)
   ready_fits {P} Otherwise k h = wide s e P (λ o. ((λ z. grind (arith)), (λ z. grind (arith)))) (h false)
 

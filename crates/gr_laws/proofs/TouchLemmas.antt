@@ -13,7 +13,7 @@ use Rattle.gr_rules.specs.Goroutines.{Wait, Status, ready, waiting, finished, Go
 use Rattle.gr_rules.specs.States.{Cell, gate_has, State, object_of, look}
 use Rattle.gr_rules.specs.Attempts.{Refusal, Report, Attempt, refuse, perform, ask, if_there, ask_gate, room_for, ask_room, ask_item}
 use Rattle.gr_rules.specs.Actors.{without, if_waiting, ask_waiter, ask_withdrawn}
-use Rattle.gr_rules.specs.Touches.{Touches, touches, capacity_at, slot_of, tail_slot, head_slot, waits_at, table}
+use Rattle.gr_rules.specs.Touches.{Touches, touches, capacity_at, slot_numbered, slot_at_tail, slot_at_head, waits_at, table}
 
 -- these objects, or objects that were read before
 abbrev pub seen : (Object → Type 0) → List Object → Object → Type 0
@@ -86,8 +86,8 @@ module _ (s : State) (e : Event) where
 
   -- a side of a buffer: its end, and the slot of that number, if there is one
   slots : {P : Object → Type 0} (end : Object) (c : ChName) (capacity n : ℕ) (x : Attempt) (f : Cell → Attempt)
-      → F (seen P (end ∷ slot_of c capacity n)) x
-      → (slot_of c capacity n ≡ Slot c (n % capacity) ∷ [] → F (seen P (end ∷ slot_of c capacity n)) (f (look s (Slot c (n % capacity)))))
+      → F (seen P (end ∷ slot_numbered c capacity n)) x
+      → (slot_numbered c capacity n ≡ Slot c (n % capacity) ∷ [] → F (seen P (end ∷ slot_numbered c capacity n)) (f (look s (Slot c (n % capacity)))))
       → F (seen P (end ∷ [])) (if capacity == 0 then x else ask (Slot c (n % capacity)) f)
   slots {P} end c zero n x f g h = g
   slots {P} end c (suc m) n x f g h = rw (eqb-suc-zero m) (asked (wide (seen (seen P (end ∷ [])) (Slot c (n % suc m) ∷ [])) (λ o. ((λ q. grind (arith)), (λ q. grind (arith)))) (h refl)))
@@ -96,14 +96,14 @@ module _ (s : State) (e : Event) where
   capacity_is c gate at = ap capacity_at at
 
   pub room_fits : {P : Object → Type 0} (c : ChName) (gate : GateContent) (k : Option ℕ → Attempt) → s.gates c ≡ Some gate
-      → F (seen P (Tail c ∷ tail_slot s c)) (k None)
-      → (tail_slot s c ≡ Slot c (s.tails c % gate.capacity) ∷ [] → F (seen P (Tail c ∷ tail_slot s c)) (k (Some (s.tails c))))
+      → F (seen P (Tail c ∷ slot_at_tail s c)) (k None)
+      → (slot_at_tail s c ≡ Slot c (s.tails c % gate.capacity) ∷ [] → F (seen P (Tail c ∷ slot_at_tail s c)) (k (Some (s.tails c))))
       → F P (ask_room c gate k)
   room_fits {P} c gate k at none some =
       let same = capacity_is c gate at in
-      let none' : F (seen P (Tail c ∷ slot_of c gate.capacity (s.tails c))) (k None) = subst (λ n. F (seen P (Tail c ∷ slot_of c n (s.tails c))) (k None)) same none in
-      let some' : slot_of c gate.capacity (s.tails c) ≡ Slot c (s.tails c % gate.capacity) ∷ [] → F (seen P (Tail c ∷ slot_of c gate.capacity (s.tails c))) (k (Some (s.tails c)))
-      = subst (λ n. slot_of c n (s.tails c) ≡ Slot c (s.tails c % gate.capacity) ∷ [] → F (seen P (Tail c ∷ slot_of c n (s.tails c))) (k (Some (s.tails c)))) same some in
+      let none' : F (seen P (Tail c ∷ slot_numbered c gate.capacity (s.tails c))) (k None) = subst (λ n. F (seen P (Tail c ∷ slot_numbered c n (s.tails c))) (k None)) same none in
+      let some' : slot_numbered c gate.capacity (s.tails c) ≡ Slot c (s.tails c % gate.capacity) ∷ [] → F (seen P (Tail c ∷ slot_numbered c gate.capacity (s.tails c))) (k (Some (s.tails c)))
+      = subst (λ n. slot_numbered c n (s.tails c) ≡ Slot c (s.tails c % gate.capacity) ∷ [] → F (seen P (Tail c ∷ slot_numbered c n (s.tails c))) (k (Some (s.tails c)))) same some in
       asked (slots (Tail c) c gate.capacity (s.tails c) (k None) _ none' (λ q. by_slot (s.slots c (s.tails c % gate.capacity)) none' (some' q)))
     where
       by_slot : (x : Option (ℕ × Value)) {Q : Object → Type 0} → F Q (k None) → F Q (k (Some (s.tails c)))
@@ -113,14 +113,14 @@ module _ (s : State) (e : Event) where
 
   pub item_fits : {P : Object → Type 0} (c : ChName) (gate : GateContent) (k : Option (ℕ × Value) → Attempt)
       → s.gates c ≡ Some gate
-      → F (seen P (Head c ∷ head_slot s c)) (k None)
-      → ((v : Value) → head_slot s c ≡ Slot c (s.heads c % gate.capacity) ∷ [] → F (seen P (Head c ∷ head_slot s c)) (k (Some (s.heads c, v))))
+      → F (seen P (Head c ∷ slot_at_head s c)) (k None)
+      → ((v : Value) → slot_at_head s c ≡ Slot c (s.heads c % gate.capacity) ∷ [] → F (seen P (Head c ∷ slot_at_head s c)) (k (Some (s.heads c, v))))
       → F P (ask_item c gate k)
   item_fits {P} c gate k at none some =
       let same = capacity_is c gate at in
-      let none' : F (seen P (Head c ∷ slot_of c gate.capacity (s.heads c))) (k None) = subst (λ n. F (seen P (Head c ∷ slot_of c n (s.heads c))) (k None)) same none in
-      let some' : (v : Value) → slot_of c gate.capacity (s.heads c) ≡ Slot c (s.heads c % gate.capacity) ∷ [] → F (seen P (Head c ∷ slot_of c gate.capacity (s.heads c))) (k (Some (s.heads c, v)))
-      = subst (λ n. (v : Value) → slot_of c n (s.heads c) ≡ Slot c (s.heads c % gate.capacity) ∷ [] → F (seen P (Head c ∷ slot_of c n (s.heads c))) (k (Some (s.heads c, v)))) same some in
+      let none' : F (seen P (Head c ∷ slot_numbered c gate.capacity (s.heads c))) (k None) = subst (λ n. F (seen P (Head c ∷ slot_numbered c n (s.heads c))) (k None)) same none in
+      let some' : (v : Value) → slot_numbered c gate.capacity (s.heads c) ≡ Slot c (s.heads c % gate.capacity) ∷ [] → F (seen P (Head c ∷ slot_numbered c gate.capacity (s.heads c))) (k (Some (s.heads c, v)))
+      = subst (λ n. (v : Value) → slot_numbered c n (s.heads c) ≡ Slot c (s.heads c % gate.capacity) ∷ [] → F (seen P (Head c ∷ slot_numbered c n (s.heads c))) (k (Some (s.heads c, v)))) same some in
       asked (slots (Head c) c gate.capacity (s.heads c) (k None) _ none' (λ q. by_slot (s.slots c (s.heads c % gate.capacity)) none' (λ v. some' v q)))
     where
       by_slot : (x : Option (ℕ × Value)) {Q : Object → Type 0} → F Q (k None) → ((v : Value) → F Q (k (Some (s.heads c, v))))

@@ -19,7 +19,7 @@ use Rattle.gr_rules.specs.Attempts.{Operation, sends_on, receives_from, takes_le
 use Rattle.gr_rules.specs.Actors.{channels_but}
 use Rattle.gr_rules.specs.Communications.{once}
 use Rattle.gr_rules.specs.Steps.{machine}
-use Rattle.gr_rules.specs.Touches.{senders_at, receivers_at, slot_of, woken, taken, with_channel, without_channel, row, table, AsTheTable}
+use Rattle.gr_rules.specs.Touches.{senders_at, receivers_at, slot_numbered, woken, taken, with_channel, without_channel, row, table, AsTheTable}
 use Rattle.gr_laws.specs.Reached.{Logged}
 use Rattle.gr_laws.specs.Dependence.{clash}
 use Rattle.gr_laws.specs.Touched.{AreTouched, TellTouches, each_once, read_only}
@@ -122,18 +122,18 @@ module _ (s : State) (c : ChName) where
   gate_and_woken : (names : List (List ℕ)) → Distinct names → Distinct (Gate c ∷ woken s c names)
   gate_and_woken names d = (gate_not_woken names, woken_once names d)
 
-  pub slot_is : (o : Object) (k n : ℕ) → In o (slot_of c k n) → (j : ℕ) × (o ≡ Slot c j)
+  pub slot_is : (o : Object) (k n : ℕ) → In o (slot_numbered c k n) → (j : ℕ) × (o ≡ Slot c j)
   slot_is o zero n i = absurd i
   slot_is o (suc k) n i = elim i [ inl e ↦ (_, e) | inr j ↦ absurd j ]
 
-  slot_once : (k n : ℕ) → Distinct (slot_of c k n)
+  slot_once : (k n : ℕ) → Distinct (slot_numbered c k n)
   slot_once zero n = tt
   slot_once (suc k) n = (λ i. i, tt)
 
-  no_slot : (o : Object) (k n : ℕ) → ((j : ℕ) → o ≡ Slot c j → ⊥) → In o (slot_of c k n) → ⊥
+  no_slot : (o : Object) (k n : ℕ) → ((j : ℕ) → o ≡ Slot c j → ⊥) → In o (slot_numbered c k n) → ⊥
   no_slot o k n h i = let j = slot_is o k n i in h j.0 j.1
 
-  end_and_slot : (o : Object) (k n : ℕ) → ((j : ℕ) → o ≡ Slot c j → ⊥) → Distinct (o ∷ slot_of c k n)
+  end_and_slot : (o : Object) (k n : ℕ) → ((j : ℕ) → o ≡ Slot c j → ⊥) → Distinct (o ∷ slot_numbered c k n)
   end_and_slot o k n h = (no_slot o k n h, slot_once k n)
 
   one_once : (names : List (List ℕ)) → Distinct (take 1 names)
@@ -142,7 +142,7 @@ module _ (s : State) (c : ChName) where
 
   -- a receive after which a sender moves up
   moved_once : (k n : ℕ) (names : List (List ℕ)) → Distinct names
-      → Distinct (Gate c ∷ Head c ∷ Tail c ∷ slot_of c k n ++ woken s c names)
+      → Distinct (Gate c ∷ Head c ∷ Tail c ∷ slot_numbered c k n ++ woken s c names)
   moved_once k n names d = (
     λ i. elim i [
       | inl e ↦ cc
@@ -152,15 +152,15 @@ module _ (s : State) (c : ChName) where
       λ i. elim i [ inl e ↦ cc | inr i ↦ apart (Head c) (λ j e. cc) (λ m e. cc) (λ d e. absurd cc) i ],
       (
         λ i. apart (Tail c) (λ j e. cc) (λ m e. cc) (λ d e. absurd cc) i,
-        both_once (slot_of c k n) (woken s c names) (slot_once k n) (woken_once names d)
+        both_once (slot_numbered c k n) (woken s c names) (slot_once k n) (woken_once names d)
             (λ o i j. let at = slot_is o k n i in not_woken o names (λ m e. let q : Slot c at.0 ≡ Go m = sym at.1 ∙ e in cc) (λ d e. absurd (let q : Slot c at.0 ≡ Gate d = sym at.1 ∙ e in cc)) j),
       ),
     ),
   )
     where
       apart : (o : Object) → ((j : ℕ) → o ≡ Slot c j → ⊥) → ((m : List ℕ) → o ≡ Go m → ⊥) → ((d : ChName) → o ≡ Gate d → d ≡ c)
-          → In o (slot_of c k n ++ woken s c names) → ⊥
-      apart o h go gate i = elim (In-append_cases o (slot_of c k n) (woken s c names) i) [ inl j ↦ no_slot o k n h j | inr j ↦ not_woken o names go gate j ]
+          → In o (slot_numbered c k n ++ woken s c names) → ⊥
+      apart o h go gate i = elim (In-append_cases o (slot_numbered c k n) (woken s c names) i) [ inl j ↦ no_slot o k n h j | inr j ↦ not_woken o names go gate j ]
 
   taken_once : (names : List (List ℕ)) → Distinct (taken s c names).writes
   taken_once [] = end_and_slot (Head c) _ _ (λ j e. cc)

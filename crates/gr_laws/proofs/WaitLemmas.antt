@@ -22,10 +22,6 @@ use Rattle.gr_rules.specs.Selects.{values_of}
 use Rattle.gr_laws.specs.Soundness.{Stands}
 use Rattle.gr_laws.proofs.CellLemmas.{go_is, go_self, channel_is, channel_self, same_is, same_self, put_here, put_else}
 
--- each of these, as the crates above have it
-abbrev pub All : {A : Type 0} → (A → Type 0) → List A → Type 0
-All P xs = AllByRecursion P xs
-
 pub all_map : {A : Type 0} (P Q : A → Type 0) (xs : List A) → ((x : A) → P x → Q x) → AllByRecursion P xs → AllByRecursion Q xs
 all_map P Q [] f h = tt
 all_map P Q (x ∷ xs) f h = (f x h.0, all_map P Q xs f h.1)

@@ -9,7 +9,7 @@ use Rattle.gr_causal.specs.Sequences.{In}
 use Rattle.gr_rules.specs.States.{State}
 use Rattle.gr_rules.specs.Attempts.{Report, sends_on, receives_from}
 use Rattle.gr_rules.specs.History.{sends, receives}
-use Rattle.gr_rules.specs.Touches.{senders_at, head_slot, tail_slot}
+use Rattle.gr_rules.specs.Touches.{senders_at, slot_at_head, slot_at_tail}
 
 -- the step received from the channel or waits for that, and so for a send; a fault does neither
 abbrev pub IsReceive : ChName → Report → Type 0
@@ -24,7 +24,7 @@ pub data Shares (c : ChName) (s t : State) (receive send : Kind) (received sent 
   -- a goroutine: that of both, or one that a step woke
   one_goroutine : (g : List ℕ) → In (Go g) received → In (Go g) sent → Shares c s t receive send received sent
   -- the slot of the front item is the one that the value enters
-  one_slot : (o : Object) → In o (head_slot s c) → In o (tail_slot t c) → Shares c s t receive send received sent
+  one_slot : (o : Object) → In o (slot_at_head s c) → In o (slot_at_tail t c) → Shares c s t receive send received sent
   -- a waiting sender moves up
   sender_moves : receive ≡ Take → ¬ (senders_at (s.gates c) ≡ []) → Shares c s t receive send received sent
   -- one of them waits

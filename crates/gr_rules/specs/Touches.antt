@@ -42,15 +42,15 @@ abbrev pub capacity_at : Option GateContent → ℕ
 capacity_at o = option_map_or (λ gate. gate.capacity) o 0
 
 -- the slot of a number; there is none at capacity 0
-abbrev pub slot_of : ChName → ℕ → ℕ → List Object
-slot_of c zero n = []
-slot_of c (suc k) n = Slot c (n % suc k) ∷ []
+abbrev pub slot_numbered : ChName → ℕ → ℕ → List Object
+slot_numbered c zero n = []
+slot_numbered c (suc k) n = Slot c (n % suc k) ∷ []
 
-abbrev pub tail_slot : State → ChName → List Object
-tail_slot s c = slot_of c (capacity_at (s.gates c)) (s.tails c)
+abbrev pub slot_at_tail : State → ChName → List Object
+slot_at_tail s c = slot_numbered c (capacity_at (s.gates c)) (s.tails c)
 
-abbrev pub head_slot : State → ChName → List Object
-head_slot s c = slot_of c (capacity_at (s.gates c)) (s.heads c)
+abbrev pub slot_at_head : State → ChName → List Object
+slot_at_head s c = slot_numbered c (capacity_at (s.gates c)) (s.heads c)
 
 abbrev pub waits_at : Option Goroutine → List Wait
 waits_at None = []
@@ -62,10 +62,10 @@ woken s c names = map Go names ++ map Gate (channels_but (c ∷ []) (flat_map (�
 
 -- what a wait looks at
 abbrev pub send_side : State → ChName → List Object
-send_side s c = Gate c ∷ Tail c ∷ tail_slot s c
+send_side s c = Gate c ∷ Tail c ∷ slot_at_tail s c
 
 abbrev pub receive_side : State → ChName → List Object
-receive_side s c = Gate c ∷ Head c ∷ head_slot s c
+receive_side s c = Gate c ∷ Head c ∷ slot_at_head s c
 
 abbrev pub side : State → Communication → List Object
 side s (Sending (Some c) v) = send_side s c
@@ -74,12 +74,12 @@ side s _ = []
 
 -- a receive from the buffer, by who waits to send
 abbrev pub taken : State → ChName → List (List ℕ) → Touches
-taken s c [] = touches (Gate c ∷ []) (Head c ∷ head_slot s c)
-taken s c (n ∷ ns) = touches [] (Gate c ∷ Head c ∷ Tail c ∷ head_slot s c ++ woken s c (n ∷ []))
+taken s c [] = touches (Gate c ∷ []) (Head c ∷ slot_at_head s c)
+taken s c (n ∷ ns) = touches [] (Gate c ∷ Head c ∷ Tail c ∷ slot_at_head s c ++ woken s c (n ∷ []))
 
 abbrev pub with_channel : State → Operation → Kind → Touches
 with_channel s (sends_on c) kinds.Hand = touches [] (Gate c ∷ woken s c (take 1 (receivers_at (s.gates c))))
-with_channel s (sends_on c) kinds.Buffer = touches (Gate c ∷ []) (Tail c ∷ tail_slot s c)
+with_channel s (sends_on c) kinds.Buffer = touches (Gate c ∷ []) (Tail c ∷ slot_at_tail s c)
 with_channel s (sends_on c) kinds.SendWait = touches (send_side s c) (Gate c ∷ [])
 with_channel s (receives_from c) kinds.Take = taken s c (senders_at (s.gates c))
 with_channel s (receives_from c) kinds.Meet = touches (receive_side s c) (Gate c ∷ woken s c (take 1 (senders_at (s.gates c))))

@@ -1,5 +1,6 @@
 -- What attempts at steps come to in a state whose values have sorts: refusals of some kinds, or cells whose values have sorts.
 use Rattle.std.proofs.Common.{◌≡◌, ℕ, ◌+◌, List, [], ◌∷◌, ◌++◌, Some, None}
+use Rattle.std.specs.List.{AllByRecursion}
 use Rattle.gr_base.specs.declared.names.ChName.{ChName}
 use Rattle.gr_base.specs.declared.values.Value.{Value}
 use Rattle.gr_causal.specs.Sequences.{In}
@@ -10,7 +11,6 @@ use Rattle.gr_rules.specs.Operators.{same_channel}
 use Rattle.gr_rules.specs.Goroutines.{Goroutine}
 use Rattle.gr_rules.specs.States.{Cell, run_has, go_has, gate_has, tail_has, head_has, slot_has, State, look, updated}
 use Rattle.gr_rules.specs.Attempts.{Refusal, Attempt, refuse, perform, ask}
-use Rattle.gr_laws.proofs.WaitLemmas.{All}
 use Rattle.type_safety.proofs.Sorts.{Sort, Made, HasSort}
 use Rattle.type_safety.proofs.Running.{SortedGoroutine}
 
@@ -34,7 +34,7 @@ with_channel made c k = updated same_channel made c (Some k)
 
 -- what a step writes
 pub data SortedCells (fs : List Signature) (made : Made) (s : State) : List Cell → Type 0 where
-  plain : {cells : List Cell} → All (SortedCell fs made s) cells → SortedCells fs made s cells
+  plain : {cells : List Cell} → AllByRecursion (SortedCell fs made s) cells → SortedCells fs made s cells
   makes : {n : List ℕ} {g h : Goroutine} {c : ChName} {gate : GateContent} {k : Sort}
       → made c ≡ None
       → SortedGoroutine fs (with_channel made c k) g

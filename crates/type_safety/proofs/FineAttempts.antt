@@ -1,5 +1,6 @@
 -- Attempts that end in one of some refusals, or write cells whose values have sorts: ways of asking, and ways to end.
 use Rattle.std.proofs.Common.{◌≡◌, ℕ, ◌%◌, ◌==◌, Bool, true, false, if◌then◌else◌, List, ◌∷◌, Option, Some, None, option_map, refl, sym, subst}
+use Rattle.std.specs.List.{AllByRecursion}
 use Rattle.std.proofs.lemmas.Option.{none-some}
 use Rattle.gr_base.specs.declared.names.ChName.{ChName}
 use Rattle.gr_base.specs.declared.values.Value.{Value}
@@ -14,7 +15,6 @@ use Rattle.gr_rules.specs.Goroutines.{Goroutine}
 use Rattle.gr_rules.specs.States.{Run, Cell, go_has, State, look}
 use Rattle.gr_rules.specs.Attempts.{Refusal, Operation, Attempt, ask, ask_run, ask_go, ask_tail, ask_head, ask_slot, if_there, ask_gate, room_for, ask_room, ask_item}
 use Rattle.gr_rules.specs.Actors.{Actor, onward, does, fault, given}
-use Rattle.gr_laws.proofs.WaitLemmas.{All}
 use Rattle.type_safety.proofs.Sorts.{Sort, Made}
 use Rattle.type_safety.proofs.Running.{SortedFrame, GoesOn, on_as, SortedBelow, SortedFrames, is_ready, SortedGoroutine}
 use Rattle.type_safety.proofs.Attempting.{SortedCell, plain, Fine}
@@ -110,13 +110,13 @@ module _ {P : Refusal → Type 0} {fs : List Signature} {made : Made} {s : State
   module _ {a : Actor} {k : Sort} (acting : Acting fs made s a k) where
     pub does_fine : {clause : Option ℕ} {operation : Option Operation} {kind : Kind} {g : Goroutine}
         {cells : List Cell}
-        → SortedGoroutine fs made g → g.children ≡ a.before.children → All (SortedCell fs made s) cells
+        → SortedGoroutine fs made g → g.children ≡ a.before.children → AllByRecursion (SortedCell fs made s) cells
         → IsFine P fs made s (does a clause operation kind g cells)
     does_fine {g = g} h e o = record { fine = plain (own_sorted acting g h e, o) }
 
     -- a step after which its innermost frame is this one
     pub goes_fine : {clause : Option ℕ} {operation : Option Operation} {kind : Kind} {f : Frame} {cells : List Cell}
-        → f.function ≡ a.frame.function → SortedFrame fs made k f → All (SortedCell fs made s) cells
+        → f.function ≡ a.frame.function → SortedFrame fs made k f → AllByRecursion (SortedCell fs made s) cells
         → IsFine P fs made s (does a clause operation kind (onward a f) cells)
     goes_fine {f = f} e h o = does_fine (onward_sorted acting f e h) refl o
 

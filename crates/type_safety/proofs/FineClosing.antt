@@ -1,6 +1,6 @@
 -- Closing a channel in a state whose values have sorts: all that wait on it are woken.
 use Rattle.std.proofs.Common.{◌≡◌, ℕ, Bool, true, false, if◌then◌else◌, List, [], ◌∷◌, ◌++◌, map, Option, Some, None, refl, sym, ◌∙◌, ap, subst, inl, inr}
-use Rattle.std.specs.List.{list_any, flat_map}
+use Rattle.std.specs.List.{AllByRecursion, list_any, flat_map}
 use Rattle.gr_base.specs.declared.names.ChName.{ChName}
 use Rattle.gr_base.specs.declared.kinds.Fault.TheVariants.{CloseOfClosed, CloseOfNil}
 use Rattle.gr_causal.specs.Sequences.{In}
@@ -14,7 +14,7 @@ use Rattle.gr_rules.specs.Attempts.{Refusal, closes, Attempt}
 use Rattle.gr_rules.specs.Actors.{Actor, channels_but}
 use Rattle.gr_rules.specs.Communications.{once, ask_waiters, close_open, close}
 use Rattle.gr_laws.specs.Soundness.{Stands}
-use Rattle.gr_laws.proofs.WaitLemmas.{All, all_append, some_wait}
+use Rattle.gr_laws.proofs.WaitLemmas.{all_append, some_wait}
 use Rattle.type_safety.proofs.Sorts.{Sort, Made}
 use Rattle.type_safety.proofs.Running.{SortedFrame, SortedFrames, is_ready, IsMade}
 use Rattle.type_safety.proofs.Attempting.{SortedCell}
@@ -54,12 +54,12 @@ module _ {fs : List Signature} {made : Made} {s : State} {a : Actor} {k : Sort} 
       let r = standing fs made w.1.frames w.1.status w.2 h.1 (acting.sorted.goroutines w.0 w.1 h.0) in
       (subst (SortedFrames fs made ready) (sym r.are) (is_ready r.sorted_frame r.sorted_below), w.1, h.0, refl)
 
-  all_woken : (ws : List (List ℕ × Goroutine × List Wait)) → All (Waiting s) ws
-      → All (SortedCell fs made s) (map (λ w. go_has w.0 (Some (record (w.1) { status = ready }))) ws)
+  all_woken : (ws : List (List ℕ × Goroutine × List Wait)) → AllByRecursion (Waiting s) ws
+      → AllByRecursion (SortedCell fs made s) (map (λ w. go_has w.0 (Some (record (w.1) { status = ready }))) ws)
   all_woken [] h = tt
   all_woken (w ∷ ws) h = (woken w h.0, all_woken ws h.1)
 
-  gate_of_one : (ws : List (List ℕ × Goroutine × List Wait)) (w : Wait) → All (Waiting s) ws
+  gate_of_one : (ws : List (List ℕ × Goroutine × List Wait)) (w : Wait) → AllByRecursion (Waiting s) ws
       → In w (flat_map (λ x. x.2) ws) → (gate : GateContent) × (s.gates (channel_of w) ≡ Some gate)
   gate_of_one [] w h i = absurd i
   gate_of_one (x ∷ ws) w h i = elim (In-append_cases w x.2 (flat_map (λ x. x.2) ws) i) [
@@ -70,7 +70,7 @@ module _ {fs : List Signature} {made : Made} {s : State} {a : Actor} {k : Sort} 
 module _ {P : Refusal → Type 0} {fs : List Signature} {made : Made} {s : State} {a : Actor} {k : Sort} (acting : Acting fs made s a k) where
   waiters_fine : (names : List (List ℕ)) (next : List (List ℕ × Goroutine × List Wait) → Attempt)
       → ((n : List ℕ) → In n names → (w : Wait) × Waits s n w)
-      → ((ws : List (List ℕ × Goroutine × List Wait)) → All (Waiting s) ws → IsFine P fs made s (next ws))
+      → ((ws : List (List ℕ × Goroutine × List Wait)) → AllByRecursion (Waiting s) ws → IsFine P fs made s (next ws))
       → IsFine P fs made s (ask_waiters names next)
   waiters_fine [] next l h = h [] tt
   waiters_fine (n ∷ ns) next l h =

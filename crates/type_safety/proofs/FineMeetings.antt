@@ -1,5 +1,6 @@
 -- Goroutines that wait are met at the operation for which they wait, and go past it with values of their sorts.
 use Rattle.std.proofs.Common.{◌≡◌, ℕ, Bool, true, false, if◌then◌else◌, List, [], ◌∷◌, Option, Some, None, not, filter, refl, sym, ◌∙◌, ap, subst, inl, inr}
+use Rattle.std.specs.List.{AllByRecursion}
 use Rattle.std.proofs.lemmas.Option.{same_Some}
 use Rattle.gr_base.specs.declared.names.ChName.{ChName}
 use Rattle.gr_base.specs.declared.values.Value.{Value}
@@ -20,7 +21,7 @@ use Rattle.gr_rules.specs.Communications.{waits_for, all_waits}
 use Rattle.gr_rules.specs.Selects.{numbered}
 use Rattle.gr_rules.specs.Touches.{waits_at}
 use Rattle.gr_laws.specs.Soundness.{Stands, SoundWaits}
-use Rattle.gr_laws.proofs.WaitLemmas.{All, some_wait}
+use Rattle.gr_laws.proofs.WaitLemmas.{some_wait}
 use Rattle.type_safety.specs.Standing.{StandsAt, at_operation, at_select}
 use Rattle.type_safety.proofs.Sorts.{Sort, Made, HasSort}
 use Rattle.type_safety.proofs.Running.{SortedFrame, GoesOn, on_as, SortedBelow, SortedFrames, is_ready, waits, is_finished, SortedState, SortedTransfer, sends_nil, sends, receives_nil, receives, SortedClause, transfers, otherwise, SortedNumbered, SortedDeed, communicates, chooses, Comes, to}
@@ -209,7 +210,7 @@ module _ {P : Refusal → Type 0} {fs : List Signature} {made : Made} {s : State
   pub withdrawn_fine : (sorted : SortedState fs made s) (names : List (List ℕ)) (cs : List ChName)
       (k : List Cell → Attempt)
       → ((d : ChName) → In d cs → (gate : GateContent) × (s.gates d ≡ Some gate))
-      → ((cells : List Cell) → All (SortedCell fs made s) cells → IsFine P fs made s (k cells))
+      → ((cells : List Cell) → AllByRecursion (SortedCell fs made s) cells → IsFine P fs made s (k cells))
       → IsFine P fs made s (ask_withdrawn names cs k)
   withdrawn_fine sorted names [] k l h = h [] tt
   withdrawn_fine sorted names (c ∷ cs) k l h =
@@ -231,7 +232,7 @@ module _ {P : Refusal → Type 0} {fs : List Signature} {made : Made} {s : State
       → channel_of x ≡ c → Stands (s.gates c) w.go x
       → ((l : Sort) (f : Frame) (ws : List Wait) → SortedFrame fs made l f → StandsAt f ws → In x ws
       → GoesOn fs made l f.function (past f w.case got))
-      → ((cells : List Cell) → All (SortedCell fs made s) cells → IsFine P fs made s (next cells))
+      → ((cells : List Cell) → AllByRecursion (SortedCell fs made s) cells → IsFine P fs made s (next cells))
       → IsFine P fs made s (ask_met c w got next)
   met_fine queues sorted c w got x next e there passes h =
       let p = waiter s queues w.go x c e there in

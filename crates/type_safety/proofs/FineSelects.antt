@@ -18,8 +18,8 @@ use Rattle.gr_rules.specs.Attempts.{Refusal, no_such_choice, Attempt, refuse}
 use Rattle.gr_rules.specs.Actors.{Actor, onward, simply, fault, given, clause_at}
 use Rattle.gr_rules.specs.Communications.{wait}
 use Rattle.gr_rules.specs.Selects.{values_of, if_none_ready, pick, default_from, numbered, default, park, choose}
-use Rattle.std.specs.List.{range_with_len}
-use Rattle.gr_laws.proofs.WaitLemmas.{All, Known, known_values}
+use Rattle.std.specs.List.{AllByRecursion, range_with_len}
+use Rattle.gr_laws.proofs.WaitLemmas.{Known, known_values}
 use Rattle.type_safety.specs.Standing.{at_select}
 use Rattle.type_safety.proofs.Sorts.{Sort, Made, Yields, yields, faulty}
 use Rattle.type_safety.proofs.Running.{GoesOn, SortedNumbered, sends_nil, sends, SortedClause, transfers, otherwise}
@@ -53,7 +53,7 @@ in_range xs i x e =
     let one : 1 + i ≡ suc i = omega arith in
     subst (λ k. In k (range_with_len 1 (length xs))) one (below 1 (length xs) i (slice_get_within xs i x e))
 
-known_at : (cs : List Communication) (i : ℕ) (c : Communication) → All Known cs → clause_at cs i ≡ Some c → Known c
+known_at : (cs : List Communication) (i : ℕ) (c : Communication) → AllByRecursion Known cs → clause_at cs i ≡ Some c → Known c
 known_at cs zero c h e = absurd (none-some _ e)
 known_at [] (suc n) c h e = absurd (none-some _ e)
 known_at (d ∷ cs) (suc zero) c h e = subst Known (same_Some _ _ e) h.0

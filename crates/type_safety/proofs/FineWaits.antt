@@ -1,5 +1,6 @@
 -- Goroutines that come to wait, in a state whose values have sorts; sends and receives that are statements of their own.
 use Rattle.std.proofs.Common.{fold, ◌≡◌, ℕ, ◌+◌, Bool, true, false, if◌then◌else◌, List, [], ◌∷◌, ◌++◌, Option, Some, None, option_map, refl, sym, ◌∙◌, ap, subst, inl, inr}
+use Rattle.std.specs.List.{AllByRecursion}
 use Rattle.std.proofs.lemmas.Option.{same_Some}
 use Rattle.gr_base.specs.declared.names.ChName.{ChName}
 use Rattle.gr_base.specs.declared.values.Value.{Value}
@@ -20,7 +21,7 @@ use Rattle.gr_rules.specs.Attempts.{Refusal, Operation, sends_on, receives_from,
 use Rattle.gr_rules.specs.Actors.{Actor, channels_but, does}
 use Rattle.gr_rules.specs.Communications.{waits_for, all_waits, enqueued, ask_enqueued, wait, proceed_or_wait}
 use Rattle.gr_laws.proofs.CellLemmas.{channel_is}
-use Rattle.gr_laws.proofs.WaitLemmas.{All, some_wait}
+use Rattle.gr_laws.proofs.WaitLemmas.{some_wait}
 use Rattle.type_safety.specs.Standing.{StandsAt, at_operation}
 use Rattle.type_safety.proofs.Sorts.{Sort, Made, HasSort, yields, faulty}
 use Rattle.type_safety.proofs.Running.{SortedFrames, waits, SortedTransfer, sends_nil, sends, receives_nil, receives, SortedClause, transfers, otherwise, SortedNumbered}
@@ -111,7 +112,7 @@ module _ {P : Refusal → Type 0} {fs : List Signature} {made : Made} {s : State
   enqueued_fine : (ws : List (Option ℕ × Communication)) (cs : List ChName) (next : List Cell → Attempt)
       → SortedNumbered fs made k a.frame ws
       → ((d : ChName) → In d cs → (e : Sort) × (made d ≡ Some e))
-      → ((cells : List Cell) → All (SortedCell fs made s) cells → IsFine P fs made s (next cells))
+      → ((cells : List Cell) → AllByRecursion (SortedCell fs made s) cells → IsFine P fs made s (next cells))
       → IsFine P fs made s (ask_enqueued a.name ws cs next)
   enqueued_fine ws [] next h l f = f [] tt
   enqueued_fine ws (c ∷ cs) next h l f =

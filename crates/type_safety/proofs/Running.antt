@@ -1,6 +1,7 @@
 -- The preserved invariant: running programs whose values have sorts, in what remains of a body, in points, frames,
 -- goroutines and states.
 use Rattle.std.proofs.Common.{◌≡◌, ℕ, ℤ, pos, Bool, true, false, List, [], ◌∷◌, ◌++◌, map, Option, Some, None}
+use Rattle.std.specs.List.{AllByRecursion}
 use Rattle.gr_scan.specs.declared.token.Place.{Place}
 use Rattle.gr_tree.specs.declared.expr.BinaryOp.{BinaryOp}
 use Rattle.gr_base.specs.declared.names.ChName.{ChName}
@@ -22,7 +23,6 @@ use Rattle.gr_rules.specs.Goroutines.{Wait, Status, ready, waiting, finished, Go
 use Rattle.gr_rules.specs.Deeds.{Communication, Sending, Receiving, Otherwise, Deed, Moves, Prints, Enters, Leaves, Starts, Makes, TakesLen, TakesCap, Closes, Communicates, Chooses, deed, resumed, past}
 use Rattle.gr_rules.specs.States.{State}
 use Rattle.gr_rules.specs.Selects.{numbered}
-use Rattle.gr_laws.proofs.WaitLemmas.{All}
 use Rattle.type_safety.proofs.Sorts.{Sort, IntSort, BoolSort, ChanSort, sort_of, result_sort, sort_at, Made, More, HasSort, HaveSorts, Yields, is_arithmetic, Setting, SortedOperand, SortedOperands, Holding, AreTargets, numbers_of, Sub}
 use Rattle.type_safety.proofs.Bodies.{Nest, Loops, Chooses, ArePieces, SortedStmts, SortedClauses}
 use Rattle.type_safety.specs.Standing.{StandsAt, AreFresh}
@@ -214,7 +214,7 @@ pub data SortedClause (fs : List Signature) (made : Made) (k : Sort) (f : Frame)
 
 -- clauses with their numbers
 abbrev pub SortedNumbered : List Signature → Made → Sort → Frame → List (Option ℕ × Communication) → Type 0
-SortedNumbered fs made k f ws = All (λ (w : Option ℕ × Communication). SortedClause fs made k f w.0 w.1) ws
+SortedNumbered fs made k f ws = AllByRecursion (λ (w : Option ℕ × Communication). SortedClause fs made k f w.0 w.1) ws
 
 -- a channel that was made, or nil
 abbrev pub IsMade : Made → Option ChName → Type 0

@@ -1,5 +1,6 @@
 -- Preservation: what a step writes leaves a state whose values have sorts.
 use Rattle.std.proofs.Common.{fold, ◌≡◌, ◌⊎◌, if◌then◌else◌, ℕ, ◌+◌, ◌<◌, ◌≤◌, arith, List, [], ◌∷◌, ◌++◌, Option, Some, None, refl, sym, ◌∙◌, ap, subst, inl, inr}
+use Rattle.std.specs.List.{AllByRecursion}
 use Rattle.std.proofs.lemmas.Bool.{cases_Bool}
 use Rattle.std.proofs.lemmas.Option.{same_Some, none-some}
 use Rattle.gr_base.specs.declared.names.ChName.{ChName}
@@ -17,7 +18,7 @@ use Rattle.gr_rules.specs.Goroutines.{Goroutine}
 use Rattle.gr_rules.specs.States.{Cell, run_has, go_has, gate_has, tail_has, head_has, slot_has, State, same_go, look, updated, put}
 use Rattle.gr_laws.specs.Soundness.{SoundChannel, Sound}
 use Rattle.gr_laws.proofs.CellLemmas.{go_is, go_self, channel_is, channel_self, updated_here, updated_else}
-use Rattle.gr_laws.proofs.WaitLemmas.{All, all_map, which_go, settled}
+use Rattle.gr_laws.proofs.WaitLemmas.{all_map, which_go, settled}
 use Rattle.type_safety.specs.Standing.{children_of, AreFresh}
 use Rattle.type_safety.proofs.Sorts.{Sort, Made, More, HasSort}
 use Rattle.type_safety.proofs.Running.{SortedGoroutine, SortedState}
@@ -164,7 +165,7 @@ module _ (fs : List Signature) (made : Made) (s : State) (sound : Sound s) (sort
   same_cell (head_has c n) h = tt
   same_cell (slot_has c i x) h = tt
 
-  plain_sorted : (cells : List Cell) → All (SortedCell fs made s) cells → SortedState fs made (fold put s cells)
+  plain_sorted : (cells : List Cell) → AllByRecursion (SortedCell fs made s) cells → SortedState fs made (fold put s cells)
   plain_sorted cells h =
       let t = fold put s cells in
       let same : (o : Object) → Same s (look t o) =
