@@ -75,6 +75,7 @@ impl<R: Read> Counted<R> {
         ensures failures { OnErr result (failures_of self.new ≡ one_more (failures_of self.old)) }
         ensures left { OnOk result (left_of self.new + 1 ≡ left_of self.old) }
         ensures spent { IsErrOf result Failed.Spent ↔ (left_of self.old ≡ 0) }
+        ensures stays_spent { IsErrOf result Failed.Spent → left_of self.new ≡ 0 }
         ensures device { IsErrOf result Failed.Device → left_of self.new + 1 ≡ left_of self.old }
     {
         if self.left == 0 {
@@ -129,6 +130,7 @@ impl<W: Write> Counted<W> {
             (Begins (W.contents (device_of self.old)) (W.contents (device_of self.new)) bytes.now) }
         ensures same { OnOk result (failures_of self.new ≡ failures_of self.old) }
         ensures failures { OnErr result (failures_of self.new ≡ one_more (failures_of self.old)) }
+        ensures left { left_of self.new ≡ left_of self.old }
     {
         match put_all(&mut self.inner, bytes) {
             Ok(()) => Ok(()),
