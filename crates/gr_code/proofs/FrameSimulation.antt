@@ -18,6 +18,7 @@ use Rattle.gr_rules.specs.Deeds as deeds
 use Rattle.gr_code.specs.Filling.{Temporaries, with_value, keeping, fill, fill_all, fill_ask, fill_rest, fill_work, fill_point, ClearAll}
 use Rattle.gr_code.specs.Instructions.{Arm, Action, Instruction, Part, Decide, Perform, Choose, Spot, Doing, Goes, asked, clauses_of, perform, on_with, decided_to, on_after, on_past, on_past_part, on_past_action, on_past_arm}
 use Rattle.gr_code.specs.Code.{Meanings, Means, Continues, point_filled, is_decision, FitArms, no_arm, default_arm, send_arm, receive_arm, frame_at, Holds, deed_of, IfGiven, HasClause, Simulates}
+use Rattle.gr_code.specs.Bounds.{NoneBelow}
 use Rattle.gr_code.proofs.Fills.{evaluate_fill, evaluate_all_fill, Fills, to_plain, next_of_fill}
 
 -- what follows is told in another way
@@ -41,7 +42,7 @@ asks_filled : (ts : Temporaries) (ask : Ask) (k : Value → Operands) (n : Next 
 asks_filled ts ask k Plain e = absurd e
 asks_filled ts ask k (Asks ask' k') e = (k', ap (λ a. Asks a k') e.0, e.1)
 
-module _ (means : Meanings) (function : ℕ) (s : Spot) (all : Variables) (holds : Holds s all) where
+module _ (n : ℕ) (means : Meanings) (function : ℕ) (s : Spot) (all : Variables) (holds : Holds s all) (none : NoneBelow n s.temporaries) where
   abbrev pub ts : Temporaries
   ts = s.temporaries
 
@@ -182,12 +183,12 @@ module _ (means : Meanings) (function : ℕ) (s : Spot) (all : Variables) (holds
       plain_clause is (Some number) got h = absurd h
 
   -- what remains comes next
-  pub comes : (es : Operands) (rest : Rest) (on : ℕ) → Continues means es rest on → ClearAll ts es → point_after (fill_rest ts rest) ≡ fill_point ts (means on)
-  comes es rest on continues clear = sym (continues ts clear).0
+  pub comes : (es : Operands) (rest : Rest) (on : ℕ) → Continues n means es rest on → ClearAll ts es → point_after (fill_rest ts rest) ≡ fill_point ts (means on)
+  comes es rest on continues clear = sym (continues ts none clear).0
 
   -- the clauses of a select
   arms_fill : (f : Frame) (place : Place) (whole : Operands) (rest : Rest) (number : ℕ) (cases : Cases) (es : Operands) (arms : List Arm) → f.variables ≡ s.variables
-      → FitArms means place whole rest number cases es arms → deeds.clauses_of f cases (fill_all ts es) ≡ clauses_of all arms
+      → FitArms n means place whole rest number cases es arms → deeds.clauses_of f cases (fill_all ts es) ≡ clauses_of all arms
   arms_fill f place whole rest _ _ _ _ e (no_arm number) = refl
   arms_fill f place whole rest _ _ _ _ e (default_arm number body others es arms on continues fit) = rw (arms_fill f place whole rest _ others es arms e fit) refl
   arms_fill f place whole rest _ _ _ _ e (send_arm number channel value body others c v es arms on continues fit) = rw (e, same c, same v, arms_fill f place whole rest _ others es arms e fit) refl
@@ -197,7 +198,7 @@ module _ (means : Meanings) (function : ℕ) (s : Spot) (all : Variables) (holds
     abbrev at_select : Frame
     at_select = frame (at place (Select cases_in_all) whole rest)
 
-    entered : (body : Stmts) (m number on : ℕ) → m ≡ number → Continues means whole (onto body (chosen number rest)) on
+    entered : (body : Stmts) (m number on : ℕ) → m ≡ number → Continues n means whole (onto body (chosen number rest)) on
         → to (point_after (onto body (chosen m (fill_rest ts rest)))) ≡ frame (means on)
     entered body m number on e continues =
         ap (λ n. to (point_after (onto body (chosen n (fill_rest ts rest))))) e
@@ -205,7 +206,7 @@ module _ (means : Meanings) (function : ℕ) (s : Spot) (all : Variables) (holds
         ∙ ap to (comes whole (onto body (chosen number rest)) on continues clear)
 
     arm_past : (got : Option (Value × Bool)) (i m number : ℕ) (cases : Cases) (es : Operands) (arms : List Arm) → m ≡ number + i
-        → FitArms means place whole rest number cases es arms → past_case at_select m (cases_from i cases) got ≡ (on_past_arm s (slice_get arms i) got >>= stands)
+        → FitArms n means place whole rest number cases es arms → past_case at_select m (cases_from i cases) got ≡ (on_past_arm s (slice_get arms i) got >>= stands)
     arm_past got zero m _ _ _ _ e (no_arm number) = refl
     arm_past got (suc i) m _ _ _ _ e (no_arm number) = refl
     arm_past None zero m _ _ _ _ e (default_arm number body others es arms on continues fit) = ap (λ f. gives f) (entered body m number on (omega arith) continues)
@@ -218,15 +219,15 @@ module _ (means : Meanings) (function : ℕ) (s : Spot) (all : Variables) (holds
     arm_past (Some got) zero m _ _ _ _ e (receive_arm number targets channel initial body others c es arms into on goes fit) =
         let same_number : m ≡ number = omega arith in
         ap (λ n. gives (to (clause_point place targets (onto body (chosen n (fill_rest ts rest))) got))) same_number
-        ∙ ap (λ q. gives (to q)) (sym (goes ts got clear).0)
+        ∙ ap (λ q. gives (to q)) (sym (goes ts got none clear).0)
     arm_past got (suc i) m _ _ _ _ e (receive_arm number targets channel initial body others c es arms into on goes fit) = arm_past got i m _ others es arms (omega arith) fit
 
-    select_passes : (es : Operands) (arms : List Arm) → next_of (fill_all ts whole) ≡ Plain → FitArms means place whole rest 1 cases_in_all es arms
+    select_passes : (es : Operands) (arms : List Arm) → next_of (fill_all ts whole) ≡ Plain → FitArms n means place whole rest 1 cases_in_all es arms
         → (clause : Option ℕ) (got : Option (Value × Bool)) → HasClause (Choose arms) clause → past at_select clause got ≡ (on_past s (Choose arms) clause got >>= stands)
     select_passes es arms is fit None got h = ap (λ n. past_next at_select n got) is
     select_passes es arms is fit (Some number) got h = arm_past got (number - 1) number 1 cases_in_all es arms (omega arith) fit
 
-    pub select_simulates : (arms : List Arm) → next_of whole ≡ Plain → FitArms means place whole rest 1 cases_in_all whole arms → Simulated (at place (Select cases_in_all) whole rest) (Choose arms)
+    pub select_simulates : (arms : List Arm) → next_of whole ≡ Plain → FitArms n means place whole rest 1 cases_in_all whole arms → Simulated (at place (Select cases_in_all) whole rest) (Choose arms)
     select_simulates arms plain fit =
         let is : next_of (fill_all ts whole) ≡ Plain = plain_filled whole plain clear in
         record {

@@ -10,3 +10,9 @@ pub mod VectorLemmas
 pub mod ExampleLemmas
 pub mod Beginning
 pub mod Bounding
+pub mod CellLemmas
+pub mod Places
+pub mod Standing
+pub mod Entering
+pub mod ProgramExampleLemmas
+pub mod Choices

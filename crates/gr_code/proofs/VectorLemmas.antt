@@ -11,7 +11,7 @@ use Rattle.gr_code.specs.Instructions.{spot}
 use Rattle.gr_code.specs.Code.{value_or, Holds}
 use Rattle.gr_code.specs.Vectors.{value_at, temporaries_in, spot_in, TargetsBelow}
 
-get_take : (n : ℕ) (xs : Variables) (x : ℕ) → x < n → slice_get (take n xs) x ≡ slice_get xs x
+pub get_take : (n : ℕ) (xs : Variables) (x : ℕ) → x < n → slice_get (take n xs) x ≡ slice_get xs x
 get_take zero xs x h = absurd (omega arith)
 get_take (suc n) [] x h = refl
 get_take (suc n) (v ∷ vs) zero h = refl

@@ -13,6 +13,7 @@ use Rattle.gr_rules.specs.Points.{Rest, ranging, chosen, Piece, Work, Assign, As
 use Rattle.gr_rules.specs.Frames.{Frame, goes_on, is_over}
 use Rattle.gr_rules.specs.Deeds.{Deed, Moves, deed, resumed, assigning, clause_point, past}
 use Rattle.gr_code.specs.Filling.{Temporaries, with_value, keeping, fill, fill_all, fill_rest, fill_point, ClearAll}
+use Rattle.gr_code.specs.Bounds.{NoneBelow}
 use Rattle.gr_code.specs.Instructions.{Arm, DefaultArm, SendArm, ReceiveArm, Assigns, AssignsReceived, Updates, ClosesChannel, PrintsLine, Sends, StartsFunction, Returns, GoesOn, Fails, Tests, Ranges, Turns, Instruction, Part, Decide, Perform, Choose, Spot, Doing, Goes, Does, receiving, run, on_after, on_resumed, on_past}
 
 -- the points that instructions mean, by their numbers
@@ -23,9 +24,9 @@ Meanings = ℕ → Point
 abbrev pub Means : Meanings → Temporaries → ℕ → Point → Type 0
 Means means ts on p = (fill_point ts (means on) ≡ p) × ClearAll ts (means on).operands
 
--- what remains comes next
-abbrev pub Continues : Meanings → Operands → Rest → ℕ → Type 0
-Continues means es rest on = (ts : Temporaries) → ClearAll ts es → Means means ts on (point_after (fill_rest ts rest))
+-- what remains comes next, whatever the temporaries are, which have the numbers from n on
+abbrev pub Continues : ℕ → Meanings → Operands → Rest → ℕ → Type 0
+Continues n means es rest on = (ts : Temporaries) → NoneBelow n ts → ClearAll ts es → Means means ts on (point_after (fill_rest ts rest))
 
 -- the point with these operands, one part more being done
 abbrev pub point_filled : Point → Operands → Point
@@ -35,78 +36,79 @@ abbrev pub is_decision : Ask → Bool
 is_decision ask = elim ask [ Decides op left ↦ true | _ ↦ false ]
 
 -- the arms of a select with these operands in all are those of its clauses from a number on
-pub data FitArms (means : Meanings) (place : Place) (all : Operands) (rest : Rest) : ℕ → Cases → Operands → List Arm → Type 0 where
-  no_arm : (number : ℕ) → FitArms means place all rest number no_case nothing []
+pub data FitArms (n : ℕ) (means : Meanings) (place : Place) (all : Operands) (rest : Rest) : ℕ → Cases → Operands → List Arm → Type 0 where
+  no_arm : (number : ℕ) → FitArms n means place all rest number no_case nothing []
   default_arm : (number : ℕ) (body : Stmts) (others : Cases) (es : Operands) (arms : List Arm) (on : ℕ)
-      → Continues means all (onto body (chosen number rest)) on
-      → FitArms means place all rest (number + 1) others es arms
-      → FitArms means place all rest number (default_case body others) es (DefaultArm on ∷ arms)
+      → Continues n means all (onto body (chosen number rest)) on
+      → FitArms n means place all rest (number + 1) others es arms
+      → FitArms n means place all rest number (default_case body others) es (DefaultArm on ∷ arms)
   send_arm : (number : ℕ) (channel value : Expr) (body : Stmts) (others : Cases)
       → (c e : Operand) (es : Operands) (arms : List Arm) (on : ℕ)
-      → Continues means all (onto body (chosen number rest)) on
-      → FitArms means place all rest (number + 1) others es arms
-      → FitArms means place all rest number (send_case channel value body others) (also c (also e es)) (SendArm c e on ∷ arms)
+      → Continues n means all (onto body (chosen number rest)) on
+      → FitArms n means place all rest (number + 1) others es arms
+      → FitArms n means place all rest number (send_case channel value body others) (also c (also e es)) (SendArm c e on ∷ arms)
   receive_arm : (number : ℕ) (targets : List (Option ℕ)) (channel : Expr) (zero : Literal) (body : Stmts) (others : Cases)
       → (c : Operand) (es : Operands) (arms : List Arm) (into : Option (ℕ × ℕ)) (on : ℕ)
-      → ((ts : Temporaries) (got : Value × Bool) → ClearAll ts all
+      → ((ts : Temporaries) (got : Value × Bool) → NoneBelow n ts → ClearAll ts all
       → Means means (receiving ts into got) on (clause_point place targets (onto body (chosen number (fill_rest ts rest))) got))
-      → FitArms means place all rest (number + 1) others es arms
-      → FitArms means place all rest number (receive_case targets channel zero body others) (also c es)
+      → FitArms n means place all rest (number + 1) others es arms
+      → FitArms n means place all rest number (receive_case targets channel zero body others) (also c es)
       (ReceiveArm c (value_of zero) into on ∷ arms)
 
 -- the instruction does what the rules do at the point
-pub data Fits (means : Meanings) : Point → Instruction → Type 0 where
+pub data Fits (n : ℕ) (means : Meanings) : Point → Instruction → Type 0 where
   part : (place : Place) (work : Work) (es : Operands) (rest : Rest) (ask : Ask) (k : Value → Operands) (slot : Option ℕ) (on : ℕ)
       → next_of es ≡ Asks ask k → is_decision ask ≡ false
-      → ((ts : Temporaries) (v : Value) → ClearAll ts es
+      → ((ts : Temporaries) (v : Value) → NoneBelow n ts → ClearAll ts es
       → Means means (keeping ts slot v) on (point_filled (fill_point ts (at place work es rest)) (fill_all ts (k v))))
-      → Fits means (at place work es rest) (Part ask slot on)
+      → Fits n means (at place work es rest) (Part ask slot on)
   decision : (place : Place) (work : Work) (es : Operands) (rest : Rest)
       → (op : BinaryOp) (left : Operand) (k : Value → Operands) (slot settled right : ℕ)
       → next_of es ≡ Asks (Decides op left) k
-      → ((ts : Temporaries) (v : Value) → ClearAll ts es
+      → ((ts : Temporaries) (v : Value) → NoneBelow n ts → ClearAll ts es
       → Means means (with_value ts slot v) (if settles op v then settled else right) (point_filled (fill_point ts (at place work es rest)) (fill_all ts (k v))))
-      → Fits means (at place work es rest) (Decide op left slot settled right)
+      → Fits n means (at place work es rest) (Decide op left slot settled right)
   assignment : (place : Place) (targets : List (Option ℕ)) (es : Operands) (rest : Rest) (on : ℕ)
-      → next_of es ≡ Plain → Continues means es rest on → Fits means (at place (Assign targets) es rest) (Perform (Assigns targets on) es)
+      → next_of es ≡ Plain → Continues n means es rest on → Fits n means (at place (Assign targets) es rest) (Perform (Assigns targets on) es)
   assignment_received : (place : Place) (x y : Option ℕ) (zero : Value) (es : Operands) (rest : Rest) (value ok on : ℕ) → next_of es ≡ Plain
-      → ((ts : Temporaries) (got : Value × Bool) → ClearAll ts es
+      → ((ts : Temporaries) (got : Value × Bool) → NoneBelow n ts → ClearAll ts es
       → Means means (receiving ts (Some (value, ok)) got) on (assigning place (x ∷ y ∷ []) (fill_rest ts rest) got))
-      → Fits means (at place (AssignReceive x y zero) es rest) (Perform (AssignsReceived zero value ok on) es)
+      → Fits n means (at place (AssignReceive x y zero) es rest) (Perform (AssignsReceived zero value ok on) es)
   update : (place : Place) (x : ℕ) (op : BinaryOp) (es : Operands) (rest : Rest) (on : ℕ)
-      → next_of es ≡ Plain → Continues means es rest on → Fits means (at place (Update x op) es rest) (Perform (Updates x op on) es)
-  expression : (place : Place) (es : Operands) (rest : Rest) → next_of es ≡ Plain → Fits means (at place Eval es rest) (Perform Fails es)
+      → next_of es ≡ Plain → Continues n means es rest on → Fits n means (at place (Update x op) es rest) (Perform (Updates x op on) es)
+  expression : (place : Place) (es : Operands) (rest : Rest) → next_of es ≡ Plain → Fits n means (at place Eval es rest) (Perform Fails es)
   closing_channel : (place : Place) (es : Operands) (rest : Rest) (on : ℕ)
-      → next_of es ≡ Plain → Continues means es rest on → Fits means (at place Close es rest) (Perform (ClosesChannel on) es)
+      → next_of es ≡ Plain → Continues n means es rest on → Fits n means (at place Close es rest) (Perform (ClosesChannel on) es)
   printing : (place : Place) (pieces : List Piece) (es : Operands) (rest : Rest) (on : ℕ)
-      → next_of es ≡ Plain → Continues means es rest on → Fits means (at place (Print pieces) es rest) (Perform (PrintsLine pieces on) es)
+      → next_of es ≡ Plain → Continues n means es rest on → Fits n means (at place (Print pieces) es rest) (Perform (PrintsLine pieces on) es)
   sending : (place : Place) (es : Operands) (rest : Rest) (on : ℕ)
-      → next_of es ≡ Plain → Continues means es rest on → Fits means (at place Send es rest) (Perform (Sends on) es)
+      → next_of es ≡ Plain → Continues n means es rest on → Fits n means (at place Send es rest) (Perform (Sends on) es)
   starting : (place : Place) (f : ℕ) (es : Operands) (rest : Rest) (on : ℕ)
-      → next_of es ≡ Plain → Continues means es rest on → Fits means (at place (Go f) es rest) (Perform (StartsFunction f on) es)
-  returning : (place : Place) (es : Operands) (rest : Rest) → next_of es ≡ Plain → Fits means (at place Return es rest) (Perform Returns es)
+      → next_of es ≡ Plain → Continues n means es rest on → Fits n means (at place (Go f) es rest) (Perform (StartsFunction f on) es)
+  returning : (place : Place) (es : Operands) (rest : Rest) → next_of es ≡ Plain → Fits n means (at place Return es rest) (Perform Returns es)
   going_on : (place : Place) (es : Operands) (rest : Rest) (on : ℕ)
-      → next_of es ≡ Plain → Continues means es rest on → Fits means (at place GoOn es rest) (Perform (GoesOn on) es)
-  astray : (place : Place) (es : Operands) (rest : Rest) → next_of es ≡ Plain → Fits means (at place Astray es rest) (Perform Fails es)
+      → next_of es ≡ Plain → Continues n means es rest on → Fits n means (at place GoOn es rest) (Perform (GoesOn on) es)
+  astray : (place : Place) (es : Operands) (rest : Rest) → next_of es ≡ Plain → Fits n means (at place Astray es rest) (Perform Fails es)
   test : (place : Place) (holds : Rest) (es : Operands) (rest : Rest) (holds_on fails_on : ℕ) → next_of es ≡ Plain
-      → Continues means es holds holds_on → Continues means es rest fails_on
-      → Fits means (at place (Test holds) es rest) (Perform (Tests holds_on fails_on) es)
+      → Continues n means es holds holds_on → Continues n means es rest fails_on
+      → Fits n means (at place (Test holds) es rest) (Perform (Tests holds_on fails_on) es)
   range : (place : Place) (target : Option ℕ) (body : Stmts) (es : Operands) (rest : Rest) (slot on : ℕ) → next_of es ≡ Plain
-      → ((ts : Temporaries) (c : Value) → ClearAll ts es
+      → ((ts : Temporaries) (c : Value) → NoneBelow n ts → ClearAll ts es
       → Means means (with_value ts slot c) on (at place (Turn target body) (one (Done c)) (fill_rest ts rest)))
-      → Fits means (at place (Range target body) es rest) (Perform (Ranges slot on) es)
+      → Fits n means (at place (Range target body) es rest) (Perform (Ranges slot on) es)
   range_turn : (place : Place) (target : Option ℕ) (body : Stmts) (channel : Operand) (rest : Rest) (slot into after : ℕ)
       → next_of (one channel) ≡ Plain
-      → ((ts : Temporaries) (v : Value) → ClearAll ts (one channel)
-      → Means means (with_value ts slot v) into (at place (Assign (target ∷ [])) (one (Done v)) (onto body (ranging place target (fill ts channel) body (fill_rest ts rest)))))
-      → ((ts : Temporaries) → ClearAll ts (one channel) → Means means ts after (at place GoOn nothing (fill_rest ts rest)))
-      → Fits means (at place (Turn target body) (one channel) rest) (Perform (Turns slot into after) (one channel))
+      → ((ts : Temporaries) (v : Value) → NoneBelow n ts → ClearAll ts (one channel)
+      → Means means (with_value ts slot v) into
+      (at place (Assign (target ∷ [])) (one (Done v)) (onto body (ranging place target (fill ts channel) body (fill_rest ts rest)))))
+      → ((ts : Temporaries) → NoneBelow n ts → ClearAll ts (one channel) → Means means ts after (at place GoOn nothing (fill_rest ts rest)))
+      → Fits n means (at place (Turn target body) (one channel) rest) (Perform (Turns slot into after) (one channel))
   select : (place : Place) (cases : Cases) (es : Operands) (rest : Rest) (arms : List Arm)
-      → next_of es ≡ Plain → FitArms means place es rest 1 cases es arms → Fits means (at place (Select cases) es rest) (Choose arms)
+      → next_of es ≡ Plain → FitArms n means place es rest 1 cases es arms → Fits n means (at place (Select cases) es rest) (Choose arms)
 
--- each instruction fits the point that it means
-abbrev pub IsCode : Meanings → (ℕ → Option Instruction) → Type 0
-IsCode means code = (on : ℕ) (i : Instruction) → code on ≡ Some i → Fits means (means on) i
+-- each instruction fits the point that it means, the temporaries having the numbers from n on
+abbrev pub IsCode : ℕ → Meanings → (ℕ → Option Instruction) → Type 0
+IsCode n means code = (on : ℕ) (i : Instruction) → code on ≡ Some i → Fits n means (means on) i
 
 -- the frame of a function at a spot of its code
 abbrev pub frame_at : Meanings → ℕ → Spot → Frame

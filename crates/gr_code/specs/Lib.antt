@@ -6,4 +6,8 @@ pub mod Bounds
 pub mod Plugging
 pub mod Passing
 pub mod Vectors
+pub mod CodeFrames
+pub mod CodeViews
+pub mod Programs
 pub mod Examples
+pub mod ProgramExamples

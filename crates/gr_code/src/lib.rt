@@ -1,40 +1,52 @@
 //! Code and the rules: an instruction means a point at which a frame may stand, filled in with the values of temporaries, and
-//! does there what the rules do. Definitions and laws; nothing here runs.
+//! does there what the rules do. Types, definitions and laws; nothing here runs.
 #![tactic(auto)]
 
-ghost use Rattle.std.specs.Prelude.{◌≡◌, ◌<◌, ◌≤◌, ℕ, suc, List, length, take, slice_set, Option, Some};
+pub mod code;
+
+ghost use Rattle.std.specs.Prelude.{◌≡◌, ◌<◌, ◌≤◌, ℕ, suc, List, length, take, slice_get, slice_set, Bool, Option, Some};
 ghost use Rattle.gr_base.specs.declared.values.Value.{Value};
+ghost use Rattle.gr_program.specs.Programs.{Function, Program};
+ghost use Rattle.gr_rules.specs.Outcomes.{gives};
 ghost use Rattle.gr_rules.specs.Operands.{Operands};
 ghost use Rattle.gr_rules.specs.Evaluation.{Variables};
 ghost use Rattle.gr_rules.specs.Parts.{next_of};
 ghost use Rattle.gr_rules.specs.Points.{Rest, point_after};
+ghost use Rattle.gr_rules.specs.Frames.{goes_on};
+ghost use Rattle.gr_rules.specs.Deeds.{Communication, Chooses, deed, resumed, past};
+ghost use Rattle.gr_rules.specs.States.{call_of};
 ghost use Rattle.gr_code.specs.Filling.{Temporaries, with_value, fill_all, fill_rest, fill_point, ClearAll};
 ghost use Rattle.gr_code.specs.Instructions.{Instruction, Spot, spot};
-ghost use Rattle.gr_code.specs.Code.{Meanings, IsCode, IsClear, Holds, Simulates, StaysClear, frame_at};
+ghost use Rattle.gr_code.specs.Code.{Meanings, IsCode, IsClear, Holds, IfGiven, HasClause, Simulates, StaysClear, frame_at};
 ghost use Rattle.gr_code.specs.Bounds.{AllBelow, RestBelow, NoneBelow};
 ghost use Rattle.gr_code.specs.Plugging.{plug_all, IsPlugged, IsCleared, IsBounded};
 ghost use Rattle.gr_code.specs.Passing.{parts_in, IsOneLess, passed_by_in, AllPassing, BeginsToPass, KeepsPassing};
 ghost use Rattle.gr_code.specs.Vectors.{spot_in, temporaries_in, TargetsBelow, assigned_in, assigned_at};
+ghost use Rattle.gr_code.specs.CodeFrames.{FunctionCode, ProgramCode, CodeFrame, instruction_at, task, after_in, resumed_in, past_in, entered};
+ghost use Rattle.gr_code.specs.Programs.{InBounds, FunctionFits, ProgramFits, IsClause, Stands, KeepsStanding, functions_in, variables_in, instructions_in, line_at, frame_of, frame_meant, deed_meant};
 ghost use Rattle.gr_code.specs.Examples.{joining, joining_code, looping, looping_code, choosing, choosing_code};
+ghost use Rattle.gr_code.specs.ProgramExamples.{copying, main_code, program_of_two, code_of_two, meaning_of_two};
 
 /// An instruction of code does what the rules do in the frame at its spot: it has the same deed, and past the deed it goes on
 /// as that frame. Wherever it goes on, right operands that are not wanted have no parts. What remains has the same point after
-/// it before and after temporaries are filled in. There is code: of a statement where two ways join, of a loop, of a
-/// select.
+/// it before and after temporaries are filled in. There is code: of statements one after the
+/// other, of a statement where two ways join, of a loop, of a select.
 pub fn law_of_code()
-    ensures simulates { (means : Meanings) (code : ℕ → Option Instruction) (function : ℕ) (s : Spot) (all : Variables)
-        → (i : Instruction)
-        → IsCode means code → code s.number ≡ Some i → IsClear means s → Holds s all
+    ensures simulates { (n : ℕ) (means : Meanings) (code : ℕ → Option Instruction) (function : ℕ) (s : Spot)
+        → (all : Variables) (i : Instruction)
+        → IsCode n means code → code s.number ≡ Some i → NoneBelow n s.temporaries → IsClear means s → Holds s all
         → Simulates means function s all i (frame_at means function s) }
-    ensures stays { (means : Meanings) (code : ℕ → Option Instruction) (s : Spot) (all : Variables) (i : Instruction)
-        → IsCode means code → code s.number ≡ Some i → IsClear means s
+    ensures stays { (n : ℕ) (means : Meanings) (code : ℕ → Option Instruction) (s : Spot) (all : Variables)
+        → (i : Instruction)
+        → IsCode n means code → code s.number ≡ Some i → NoneBelow n s.temporaries → IsClear means s
         → StaysClear means s all i }
     ensures continues { (n : ℕ) (ts : Temporaries) (rest : Rest)
         → NoneBelow n ts → RestBelow n rest
         → point_after (fill_rest ts rest) ≡ fill_point ts (point_after rest) }
-    ensures joins { IsCode joining joining_code }
-    ensures loops { IsCode looping looping_code }
-    ensures chooses { IsCode choosing choosing_code }
+    ensures copies { IsCode 2 copying (slice_get main_code.instructions) }
+    ensures joins { IsCode 2 joining joining_code }
+    ensures loops { IsCode 2 looping looping_code }
+    ensures chooses { IsCode 2 choosing choosing_code }
 {}
 
 /// With a temporary in place of their next part, operands are those of the rules past the part, once the temporary has the
@@ -73,4 +85,72 @@ pub fn law_of_vectors()
     ensures assigns { (n : ℕ) (targets : List (Option ℕ)) (values : List Value) (all : Variables) (on : ℕ)
         → TargetsBelow n targets
         → assigned_in n targets values all on ≡ assigned_at targets values (spot_in n all on) }
+{}
+
+/// Code of a program, and a frame of it that stands at an instruction: the instruction comes to the deed of the rules in the
+/// frame that is meant, and after the deed, with the value of a part, and past a communication, the frames of code are those
+/// that mean the frames of the rules. Where code goes past a clause, so do the rules; a deed that chooses among clauses is that
+/// of a select. Each frame so reached stands at an instruction again. A call begins as by the rules, in a frame that stands.
+/// There is a program with code.
+pub fn law_of_frames()
+    ensures does { (means : ℕ → Meanings) (p : Program) (code : ProgramCode) (f : CodeFrame) (i : Instruction)
+        → ProgramFits means p code → Stands means code f → instruction_at code f ≡ Some i
+        → deed (frame_of means code f) ≡ deed_meant means code (task f i) }
+    ensures after { (means : ℕ → Meanings) (p : Program) (code : ProgramCode) (f : CodeFrame) (i : Instruction)
+        → ProgramFits means p code → Stands means code f → instruction_at code f ≡ Some i
+        → IfGiven (λ g. goes_on (frame_of means code f) ≡ frame_of means code g) (after_in f i) }
+    ensures resumes { (means : ℕ → Meanings) (p : Program) (code : ProgramCode) (f : CodeFrame) (i : Instruction) (v : Value)
+        → ProgramFits means p code → Stands means code f → instruction_at code f ≡ Some i
+        → resumed (frame_of means code f) v ≡ frame_meant means code (resumed_in f i v) }
+    ensures passes { (means : ℕ → Meanings) (p : Program) (code : ProgramCode) (f : CodeFrame) (i : Instruction)
+        → (clause : Option ℕ) (got : Option (Value × Bool))
+        → ProgramFits means p code → Stands means code f → instruction_at code f ≡ Some i
+        → HasClause i clause
+        → past (frame_of means code f) clause got ≡ frame_meant means code (past_in f i clause got) }
+    ensures goes_past { (means : ℕ → Meanings) (p : Program) (code : ProgramCode) (f : CodeFrame) (i : Instruction)
+        → (clause : Option ℕ) (got : Option (Value × Bool))
+        → ProgramFits means p code → Stands means code f → instruction_at code f ≡ Some i
+        → IsClause clause
+        → IfGiven (λ g. past (frame_of means code f) clause got ≡ gives (frame_of means code g)) (past_in f i clause got) }
+    ensures chooses { (means : ℕ → Meanings) (p : Program) (code : ProgramCode) (f : CodeFrame) (i : Instruction)
+        → (clauses : List Communication) (number : ℕ)
+        → ProgramFits means p code → Stands means code f → instruction_at code f ≡ Some i
+        → deed (frame_of means code f) ≡ gives (Chooses clauses) → 0 < number
+        → HasClause i (Some number) }
+    ensures stays { (means : ℕ → Meanings) (p : Program) (code : ProgramCode) (f : CodeFrame) (i : Instruction)
+        → ProgramFits means p code → Stands means code f → instruction_at code f ≡ Some i
+        → KeepsStanding means code f i }
+    ensures enters { (means : ℕ → Meanings) (p : Program) (code : ProgramCode) (number : ℕ) (vs : List Value)
+        → ProgramFits means p code
+        → call_of p number vs ≡ frame_meant means code (entered code number vs) }
+    ensures begins { (means : ℕ → Meanings) (p : Program) (code : ProgramCode) (number : ℕ) (vs : List Value)
+        → ProgramFits means p code
+        → IfGiven (Stands means code) (entered code number vs) }
+    ensures fits { ProgramFits meaning_of_two program_of_two code_of_two }
+{}
+
+/// What is read off a frame of code that stands: there is an instruction, which names variables, temporaries and instructions
+/// that there are; the line is that of the statement by the rules; the first cells are the variables by the rules. Each
+/// function of the code is one of the program.
+pub fn law_of_shown_frames()
+    ensures has { (means : ℕ → Meanings) (p : Program) (code : ProgramCode) (f : CodeFrame)
+        → ProgramFits means p code → Stands means code f
+        → (i : Instruction) × (instruction_at code f ≡ Some i) }
+    ensures bounded { (means : ℕ → Meanings) (p : Program) (code : ProgramCode) (f : CodeFrame) (i : Instruction)
+        → ProgramFits means p code → Stands means code f → instruction_at code f ≡ Some i
+        → InBounds (variables_in code f.function) (length f.cells) (instructions_in code f.function) i }
+    ensures line { (means : ℕ → Meanings) (p : Program) (code : ProgramCode) (f : CodeFrame)
+        → ProgramFits means p code → Stands means code f
+        → line_at code f ≡ Some ((frame_of means code f).point.place.line) }
+    ensures variables { (means : ℕ → Meanings) (code : ProgramCode) (f : CodeFrame)
+        → (frame_of means code f).variables ≡ take (variables_in code f.function) f.cells }
+    ensures variable { (means : ℕ → Meanings) (code : ProgramCode) (f : CodeFrame) (x : ℕ)
+        → x < variables_in code f.function
+        → slice_get ((frame_of means code f).variables) x ≡ slice_get f.cells x }
+    ensures function { (means : ℕ → Meanings) (code : ProgramCode) (f : CodeFrame)
+        → (frame_of means code f).function ≡ f.function }
+    ensures functions { (means : ℕ → Meanings) (p : Program) (code : ProgramCode) (number : ℕ) (c : FunctionCode)
+        → ProgramFits means p code → slice_get code.functions number ≡ Some c
+        → (function : Function) × (slice_get (functions_in p) number ≡ Some function)
+        × FunctionFits (means number) function c }
 {}

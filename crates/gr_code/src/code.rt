@@ -1,0 +1,181 @@
+//! The code of a program: instructions, one for each step, with operands that have no parts, and with the numbers of the
+//! instructions that may follow.
+
+use gr_program::program::Literal;
+use gr_tree::{BinaryOp, UnaryOp};
+
+/// An expression without calls, receives, `make`, `len` and `cap`.
+#[derive(Debug, Drop)]
+pub enum Operand {
+    Literal(Literal),
+    /// A variable or temporary, by its place in the frame.
+    Variable(usize),
+    Unary(UnaryOp, Box<Operand>),
+    Binary(BinaryOp, Box<Operand>, Box<Operand>),
+    /// `&&` or `||` whose left operand is decided and stands in a temporary.
+    Decided(BinaryOp, usize, Box<Operand>),
+}
+
+/// A part of a statement: what it asks for.
+#[derive(Debug, Drop)]
+pub enum Ask {
+    /// A call of the function with a number.
+    Call {
+        function: usize,
+        arguments: Vec<Operand>,
+    },
+    /// A receive, and the zero value that a closed channel gives.
+    Receive {
+        channel: Operand,
+        zero: Literal,
+    },
+    /// `make` of a channel.
+    Make {
+        size: Operand,
+    },
+    /// `len` of a channel.
+    Len {
+        channel: Operand,
+    },
+    /// `cap` of a channel.
+    Cap {
+        channel: Operand,
+    },
+}
+
+/// What `println` prints at a place: the bytes of a string, or the next value.
+#[derive(Debug, Drop)]
+pub enum Piece {
+    Text(Vec<u8>),
+    Value,
+}
+
+/// What a statement does with its operands, all its parts being done, and the instruction with which it goes on.
+#[derive(Debug, Drop)]
+pub enum Action {
+    /// Assigns the values; a target that is `None` is the blank identifier.
+    Assign {
+        targets: Vec<Option<usize>>,
+        on: usize,
+    },
+    /// A receive whose value, and whether it was sent, go to temporaries.
+    AssignReceived {
+        zero: Literal,
+        value: usize,
+        ok: usize,
+        on: usize,
+    },
+    /// An assignment with an operator.
+    Update {
+        variable: usize,
+        op: BinaryOp,
+        on: usize,
+    },
+    /// `close` of a channel.
+    Close {
+        on: usize,
+    },
+    Print {
+        pieces: Vec<Piece>,
+        on: usize,
+    },
+    Send {
+        on: usize,
+    },
+    /// A call of the function with a number in a new goroutine.
+    Start {
+        function: usize,
+        on: usize,
+    },
+    Return,
+    GoOn {
+        on: usize,
+    },
+    /// What no checked program comes to.
+    Fail,
+    Test {
+        holds: usize,
+        fails: usize,
+    },
+    /// The start of a loop over a channel, which a temporary keeps.
+    Range {
+        slot: usize,
+        on: usize,
+    },
+    /// A turn of a loop over a channel: a value that was sent goes to a temporary, and on to the body.
+    Turn {
+        slot: usize,
+        body: usize,
+        after: usize,
+    },
+}
+
+/// A clause of a select, and the instruction with which it goes on.
+#[derive(Debug, Drop)]
+pub enum Arm {
+    Default {
+        on: usize,
+    },
+    Send {
+        channel: Operand,
+        value: Operand,
+        on: usize,
+    },
+    /// A receive; where it assigns, the temporaries for the value and for whether it was sent.
+    Receive {
+        channel: Operand,
+        zero: Literal,
+        into: Option<(usize, usize)>,
+        on: usize,
+    },
+}
+
+/// One step of a goroutine.
+#[derive(Debug, Drop)]
+pub enum Instruction {
+    /// A part of a statement. Its value goes to a temporary, unless the part is the whole statement.
+    Part {
+        ask: Ask,
+        slot: Option<usize>,
+        on: usize,
+    },
+    /// The left operand of `&&` or `||`. It goes to a temporary; where it settles, the right one is passed by.
+    Decide {
+        op: BinaryOp,
+        left: Operand,
+        slot: usize,
+        settled: usize,
+        right: usize,
+    },
+    Perform {
+        action: Action,
+        operands: Vec<Operand>,
+    },
+    Choose {
+        arms: Vec<Arm>,
+    },
+}
+
+/// The code of a function. A frame of it has the cells of the variables, by their numbers, and then of the temporaries.
+#[derive(Debug, Drop)]
+pub struct FunctionCode {
+    /// The variables of the parameters; `None` for the blank identifier.
+    pub parameters: Vec<Option<usize>>,
+    /// How many variables there are.
+    pub variables: usize,
+    /// How many cells a frame has.
+    pub cells: usize,
+    /// The instructions by their numbers; a call begins with the first.
+    pub instructions: Vec<Instruction>,
+    /// The line on which the statement of each instruction begins.
+    pub lines: Vec<usize>,
+}
+
+/// The code of a program.
+#[derive(Debug, Drop)]
+pub struct Code {
+    /// The functions by their numbers.
+    pub functions: Vec<FunctionCode>,
+    /// The number of `main`.
+    pub main: usize,
+}
