@@ -6,7 +6,7 @@
 set -eu
 crate=$(cd "$(dirname "${BASH_SOURCE[0]}")/../crates/tests" && pwd)
 first=${1:-1}
-last=${2:-15}
+last=${2:-36}
 log=$(mktemp)
 trap 'rm -f "$log"' EXIT
 cd "$crate"

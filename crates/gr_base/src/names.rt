@@ -14,42 +14,44 @@ use std::alloc::Global;
 use std::cmp::Ordering;
 use std::hash::{Hash, Hasher};
 use std::marker::Model;
+use std::sync::ArcSlice;
 
 /// A goroutine, named by the counts of children that lead to it from the goroutine of `main`, whose own name has none:
 /// the third child of the first child of `main`'s goroutine has the counts 1 and 3. Each count is from 1 to
-/// 4,294,967,295, and there may be any number of them. A name comes before the names of its descendants.
+/// 4,294,967,295, and there may be any number of them. A name comes before the names of its descendants. The counts are
+/// shared by all copies of a name.
 #[derive(Debug, Drop)]
 pub struct GoName {
-    counts: Vec<u32>,
+    counts: ArcSlice<u32>,
 }
 
 impl Model for GoName {
     ghost use Rattle.std.specs.Prelude.{List, ℕ};
+    ghost use Rattle.std.specs.Arc.{arc_slice_items};
     ghost use Rattle.gr_base.specs.Counts.{IsGoName};
 
     ghost Value = { List ℕ };
 
-    ghost view = { λ name. name.counts.items };
+    ghost view = { λ name. arc_slice_items name.counts };
 
-    ghost invariant = { λ name. IsGoName name.counts.items };
+    ghost invariant = { λ name. IsGoName (arc_slice_items name.counts) };
 }
 
 impl GoName {
     /// The goroutine of `main`, `g0`.
-    pub fn main(alloc: Global) -> GoName
-        ensures { result ≡ [] }
+    pub fn main(alloc: Global) -> Result<GoName, NoMemory>
+        ensures { IfOk result (λ name. name ≡ []) }
     {
-        GoName {
-            counts: Vec::new(alloc),
-        }
+        GoName::from_counts(Vec::new(alloc))
     }
 
     /// The name with these counts.
-    pub(crate) fn from_counts(counts: Vec<u32>) -> GoName
+    pub(crate) fn from_counts(counts: Vec<u32>) -> Result<GoName, NoMemory>
         requires { IsGoName counts.items }
-        ensures { result ≡ counts.items }
+        ensures { IfOk result (λ name. name ≡ counts.items) }
     {
-        GoName { counts }
+        let counts = ArcSlice::from_vec(counts)?;
+        Ok(GoName { counts })
     }
 
     /// The counts, the first child's first.
@@ -64,7 +66,7 @@ impl GoName {
     pub fn is_main(&self) -> bool
         ensures { IsTrue result ↔ (self.now ≡ []) }
     {
-        self.counts.is_empty()
+        self.counts().is_empty()
     }
 
     /// The name of the goroutine's `n`-th child.
@@ -75,14 +77,14 @@ impl GoName {
         let mut counts = Vec::with_capacity(alloc, self.counts.len().saturating_add(1))?;
         counts.extend_from_slice(self.counts())?;
         counts.push(n)?;
-        Ok(GoName { counts })
+        GoName::from_counts(counts)
     }
 
-    /// The same name once more.
-    pub fn copy(&self, alloc: Global) -> Result<GoName, NoMemory>
+    /// The same name once more. It shares the counts, takes no memory, and is refused only where 2^63 - 1 names share them.
+    pub fn copy(&self, _alloc: Global) -> Result<GoName, NoMemory>
         ensures { IfOk result (λ name. name ≡ self.now) }
     {
-        let counts = Vec::from_slice(alloc, self.counts())?;
+        let counts = self.counts.clone()?;
         Ok(GoName { counts })
     }
 }

@@ -18,7 +18,7 @@ pub fn read_go(alloc: Global, text: &[u8]) -> Result<Option<GoName>, NoMemory>
         return Ok(None);
     };
     match counts.split_first() {
-        None => Ok(Some(GoName::main(alloc))),
+        None => Ok(Some(GoName::main(alloc)?)),
         Some((b'.', counts)) => read_counts(alloc, counts),
         Some(_) => Ok(None),
     }
@@ -99,7 +99,7 @@ fn read_counts(alloc: Global, text: &[u8]) -> Result<Option<GoName>, NoMemory>
         return Ok(None);
     }
     counts.push(count as u32)?;
-    Ok(Some(GoName::from_counts(counts)))
+    Ok(Some(GoName::from_counts(counts)?))
 }
 
 // The number from 1 to `largest` that the digits spell, if they spell one with no leading zero.

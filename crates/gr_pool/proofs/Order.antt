@@ -22,6 +22,15 @@ greater_back a b e = total.antisymm b a ∙ ap ordering_reverse e
 pub less_back : (a b : List ℕ) → go_cmp a b ≡ Less → go_cmp b a ≡ Greater
 less_back a b e = total.antisymm b a ∙ ap ordering_reverse e
 
+reversed : (r : Ordering) → r ≡ ordering_reverse r → r ≡ Equal
+reversed Less e = cc
+reversed Equal e = refl
+reversed Greater e = cc
+
+-- a name ties with itself
+pub ties_itself : (name : List ℕ) → go_cmp name name ≡ Equal
+ties_itself name = reversed (go_cmp name name) (total.antisymm name name)
+
 any_default : {X : Type 0} → (xs : List X) (k : ℕ) (d e : X) → k < length xs → slice_index_or xs k d ≡ slice_index_or xs k e
 any_default [] k d e less = absurd (omega arith)
 any_default (x ∷ xs) zero d e less = refl

@@ -16,7 +16,7 @@ use Rattle.std.proofs.lemmas.Map.Steps.{length-le_from_distinct_below}
 use Rattle.indexmap.specs.IndexSet.{insert_key}
 use Rattle.gr_base.specs.Names.{go_cmp}
 use Rattle.gr_pool.specs.Goroutines.{is_among, IsInOrder, lesser, greater, with_name, without_name, next_name, names_at, StandsAt, BelongsAt}
-use Rattle.gr_pool.proofs.Order.{length_names, less_trans, greater_back, less_back}
+use Rattle.gr_pool.proofs.Order.{length_names, less_trans, greater_back, less_back, ties_itself, compared, stands}
 
 -- in order, by recursion
 Chain : List (List ℕ) → Type 0
@@ -148,6 +148,13 @@ same_name (x ∷ xs) (y ∷ ys) e = elim (cases_Bool (eqb x y)) [
   | inl t ↦ let heads : x ≡ y = eqb-true x y t in let tails : xs ≡ ys = same_name xs ys (rw t at e) in cc
   | inr f ↦ let no : false ≡ true = rw f at e in cc
 ]
+
+-- a name stands where it was found the same
+pub stands_same : (known : List (List ℕ)) (ready : List ℕ) (m : ℕ) (name x : List ℕ) → IsInOrder (names_at known ready) → m < length ready → slice_index_or ready m 0 < length known
+    → x ≡ slice_index_or known (slice_index_or ready m 0) x → pointwise nat_eq x name ≡ true → StandsAt name (names_at known ready) m
+stands_same known ready m name x ordered less within is same =
+    let tie : Equal ≡ go_cmp x name = sym (ap (λ y. go_cmp y name) (same_name x name same) ∙ ties_itself name) in
+    stands (names_at known ready) name m ordered (omega (arith, less, length_names known ready)) (compared known ready m name x Equal less within is tie)
 
 own_name : (a : List ℕ) → pointwise nat_eq a a ≡ true
 own_name a = nat_list_eq_equiv.refl a

@@ -1,6 +1,6 @@
 //! Where a name stands, or belongs, in a list of names in order, which is kept as places in a list of known names.
 
-ghost use Rattle.std.specs.Prelude.{◌≡◌, ◌<◌, ◌≤◌, length, drop, All, slice_get, IfOk, IfErr};
+ghost use Rattle.std.specs.Prelude.{◌≡◌, ◌<◌, ◌≤◌, length, drop, All, slice_get, IfOk, IfErr, IsTrue};
 ghost use Rattle.gr_pool.specs.Goroutines.{IsInOrder, names_at, greater, next_name, StandsAt, BelongsAt};
 
 use gr_base::GoName;
@@ -26,26 +26,42 @@ pub fn place_of(known: &[GoName], ready: &[usize], name: &GoName) -> Result<usiz
     Err(low)
 }
 
-/// Where the names after this one begin.
-fn place_after(known: &[GoName], ready: &[usize], name: &GoName) -> usize
+/// Whether the name stands at the place.
+fn stands_at(known: &[GoName], ready: &[usize], name: &GoName, place: usize) -> bool
+    requires within { All (λ place. place < length known.now) ready.now }
+    requires ordered { IsInOrder (names_at known.now ready.now) }
+    ensures { IsTrue result → StandsAt name.now (names_at known.now ready.now) place }
+{
+    if place >= ready.len() {
+        return false;
+    }
+    known[ready[place]] == *name
+}
+
+/// Where the names after this one begin. The time is constant where the name stands at the guess.
+fn place_after(known: &[GoName], ready: &[usize], name: &GoName, guess: usize) -> usize
     requires within { All (λ place. place < length known.now) ready.now }
     requires ordered { IsInOrder (names_at known.now ready.now) }
     ensures within { result ≤ length ready.now }
     ensures after { drop result (names_at known.now ready.now) ≡ greater name.now (names_at known.now ready.now) }
 {
+    if stands_at(known, ready, name, guess) {
+        return guess + 1;
+    }
     match place_of(known, ready, name) {
         Ok(place) => place + 1,
         Err(place) => place,
     }
 }
 
-/// Where the first name after this one stands, else the first of all.
-pub fn next_place(known: &[GoName], ready: &[usize], name: &GoName) -> usize
+/// Where the first name after this one stands, else the first of all. The time is constant where the name stands at the
+/// guess, and else logarithmic.
+pub fn next_place(known: &[GoName], ready: &[usize], name: &GoName, guess: usize) -> usize
     requires within { All (λ place. place < length known.now) ready.now }
     requires ordered { IsInOrder (names_at known.now ready.now) }
     ensures { slice_get (names_at known.now ready.now) result ≡ next_name name.now (names_at known.now ready.now) }
 {
-    let place = place_after(known, ready, name);
+    let place = place_after(known, ready, name, guess);
     if place < ready.len() {
         return place;
     }

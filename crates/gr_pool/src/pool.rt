@@ -7,6 +7,7 @@ use crate::places::{next_place, place_of};
 use gr_base::{GoName, NoMemory};
 use indexmap::IndexSet;
 use std::alloc::Global;
+use std::cell::Cell;
 use std::marker::Model;
 
 /// Goroutines, each known from a time on, and at each time ready or not. The ready ones stand in the order of their names.
@@ -16,6 +17,8 @@ pub struct Pool {
     known: IndexSet<GoName>,
     /// The places of the ready names among the known ones, in the order of the names.
     ready: Vec<usize>,
+    /// Where the last answer of `next_after` stood among the ready ones: a guess of where its next question begins.
+    last: Cell<usize>,
 }
 
 impl Model for Pool {
@@ -39,6 +42,7 @@ impl Pool {
             alloc,
             known: IndexSet::new(alloc),
             ready: Vec::new(alloc),
+            last: Cell::new(0),
         }
     }
 
@@ -108,12 +112,15 @@ impl Pool {
         let _ = self.ready.remove(place);
     }
 
-    /// The first ready goroutine after this one in name order, else the first of all.
+    /// The first ready goroutine after this one in name order, else the first of all. The time is constant where this one
+    /// was the last answer and the ready ones are the same since, and else logarithmic.
     pub fn next_after(&self, name: &GoName) -> Option<&GoName>
         ensures { option_copied result ≡ next_name name.now self.now.ready }
     {
-        let place = next_place(self.known.as_slice(), self.ready.as_slice(), name);
+        let guess = self.last.get();
+        let place = next_place(self.known.as_slice(), self.ready.as_slice(), name, guess);
         if place < self.ready.len() {
+            self.last.set(place);
             return self.known.get_index(self.ready[place]);
         }
         None

@@ -26,7 +26,7 @@ fn show_kind(rt: &impl Abort, alloc: Global, kind: Kind, text: &[u8]) -> Result<
 #[test]
 fn names_are_printed_and_read_back(rt: HostRuntime) -> Result<(), Fail> {
     let alloc = rt.alloc();
-    let main = GoName::main(alloc);
+    let main = GoName::main(alloc)?;
     assert!(rt; main.is_main());
     let go = main.child(alloc, 2)?.child(alloc, u32::MAX)?;
     assert!(rt; main < go);
@@ -56,7 +56,7 @@ fn names_are_printed_and_read_back(rt: HostRuntime) -> Result<(), Fail> {
 #[test]
 fn other_texts_are_no_names(rt: HostRuntime) -> Result<(), Fail> {
     let alloc = rt.alloc();
-    assert!(rt; read_go(alloc, b"g0")? == Some(GoName::main(alloc)));
+    assert!(rt; read_go(alloc, b"g0")? == Some(GoName::main(alloc)?));
     assert!(rt; read_go(alloc, b"g0.4294967296")?.is_none());
     assert!(rt; read_go(alloc, b"g00")?.is_none());
     assert!(rt; read_go(alloc, b"g0.")?.is_none());
@@ -75,7 +75,7 @@ fn values_and_kinds_are_printed(rt: HostRuntime) -> Result<(), Fail> {
     show_value(&rt, alloc, Value::Bool(true), b"true")?;
     show_value(&rt, alloc, Value::Unit, b"{}")?;
     show_value(&rt, alloc, Value::Chan(None), b"nil")?;
-    let go = GoName::main(alloc);
+    let go = GoName::main(alloc)?;
     show_value(&rt, alloc, Value::Chan(Some(ChName { go, n: 1 })), b"g0/c1")?;
     show_kind(&rt, alloc, Kind::SendWait, b"send-wait")?;
     show_kind(&rt, alloc, Kind::Pick(2), b"pick 2")?;
@@ -93,7 +93,7 @@ fn names_are_keys(rt: HostRuntime) -> Result<(), Fail> {
     let alloc = rt.alloc();
     let mut made = BTreeMap::new(alloc);
     let channel = ChName {
-        go: GoName::main(alloc).child(alloc, 1)?,
+        go: GoName::main(alloc)?.child(alloc, 1)?,
         n: 1,
     };
     made.insert(channel.copy(alloc)?, 5)?;

@@ -7,16 +7,22 @@ ghost use Rattle.std.specs.Prelude.{◌≡◌, ◌<◌};
 ghost use Rattle.gr_base.specs.declared.values.Value.TheVariants.{Int};
 ghost use Rattle.gr_channels.specs.Changes.{undone, Fits, Undoes, OfferRule, OfferUndone};
 
-use gr_base::{GoName, Value};
+use gr_base::{GoName, NoMemory, Value};
 use gr_channels::{ChanUndo, Channel, Offered, Taken, Waiter};
 use std::alloc::Global;
 use std::process::Abort;
 
+/// The child of `main`'s goroutine with this count.
+fn child_of_main(alloc: Global, go: u32) -> Result<GoName, NoMemory>
+    requires { 0 < go }
+{
+    GoName::main(alloc)?.child(alloc, go)
+}
+
 fn child(rt: &impl Abort, alloc: Global, go: u32) -> GoName
     requires { 0 < go }
 {
-    let name = GoName::main(alloc).child(alloc, go);
-    name.expect(rt, "memory for a name")
+    child_of_main(alloc, go).expect(rt, "memory for a name")
 }
 
 /// Has a goroutine wait to receive.

@@ -7,7 +7,7 @@ use std::process::Abort;
 
 /// The goroutine that these counts lead to.
 fn named(rt: &impl Abort, alloc: Global, counts: &[u32]) -> GoName {
-    let mut name = GoName::main(alloc);
+    let mut name = GoName::main(alloc).expect(rt, "memory for a name");
     for count in counts {
         assert!(rt; *count > 0);
         name = name.child(alloc, *count).expect(rt, "memory for a name");
@@ -59,7 +59,8 @@ fn the_next_after_the_last_is_the_first(rt: HostRuntime) {
 fn goroutines_leave_and_come_back(rt: HostRuntime) {
     let alloc = rt.alloc();
     let mut pool = Pool::new(alloc);
-    assert!(rt; pool.next_after(&GoName::main(alloc)).is_none());
+    let main = named(&rt, alloc, &[]);
+    assert!(rt; pool.next_after(&main).is_none());
     wake(&rt, alloc, &mut pool, &[]);
     wake(&rt, alloc, &mut pool, &[1]);
     wake(&rt, alloc, &mut pool, &[1]);

@@ -3,6 +3,7 @@
 ghost use Rattle.std.specs.Prelude.{◌≡◌, ◌<◌};
 ghost use Rattle.gr_channels.specs.Changes.{Fits};
 
+use crate::channels::child_of_main;
 use gr_base::{ChName, GoName, Value};
 use gr_channels::{ChanUndo, Channel, Offered, Taken, Waiter};
 use std::alloc::Global;
@@ -22,14 +23,13 @@ pub(super) struct Shown<'a> {
 pub(super) fn child(rt: &impl Abort, alloc: Global, go: u32) -> GoName
     requires { 0 < go }
 {
-    if let Ok(name) = GoName::main(alloc).child(alloc, go) {
+    if let Ok(name) = child_of_main(alloc, go) {
         return name;
     }
-    let name = GoName::main(alloc).child(alloc, go);
-    name.expect(rt, "memory for a name")
+    child_of_main(alloc, go).expect(rt, "memory for a name")
 }
 
-/// The value with this number. A copy of it takes memory.
+/// The value with this number: a channel.
 fn value(rt: &impl Abort, alloc: Global, n: u32) -> Value {
     let go = child(rt, alloc, 1);
     Value::Chan(Some(ChName { go, n }))
