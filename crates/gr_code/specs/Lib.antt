@@ -7,6 +7,7 @@ pub mod Plugging
 pub mod Passing
 pub mod Vectors
 pub mod CodeFrames
+pub mod Goroutines
 pub mod CodeViews
 pub mod Programs
 pub mod Examples

@@ -42,6 +42,11 @@ pub mod CheckedScopes
 pub mod CheckedGrowth
 pub mod CheckedBodies
 pub mod CheckedPrograms
+-- Checked programs have code.
+pub mod NamedVariables
+pub mod CodeOfActs
+pub mod CodeOfBodies
+pub mod CodeOfPrograms
 -- Runs.
 pub mod SortedRuns
 pub mod StandingFrames

@@ -184,7 +184,7 @@ set_else (y ∷ xs) (suc i) zero x n = refl
 set_else (y ∷ xs) (suc i) (suc j) x n = set_else xs i j x (λ e. n (ap suc e))
 
 -- a variable that has a sort is one of the function's
-within_length : (ds : List Declared) (x : ℕ) (k : Sort) → sort_at ds x ≡ Some k → x < length ds
+pub within_length : (ds : List Declared) (x : ℕ) (k : Sort) → sort_at ds x ≡ Some k → x < length ds
 within_length [] x k e = absurd (none-some _ e)
 within_length (v ∷ ds) zero k e = omega arith
 within_length (v ∷ ds) (suc x) k e = let h = within_length ds x k e in omega arith

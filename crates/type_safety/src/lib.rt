@@ -1,4 +1,5 @@
-//! Type safety: progress and preservation. What holds of every state that a run of a checked program reaches.
+//! Type safety: progress and preservation. What holds of every state that a run of a checked program reaches. And checked
+//! programs have code.
 #![tactic(auto)]
 
 ghost use Rattle.std.specs.Prelude.{◌≡◌, ℕ, List, [], Some, None};
@@ -14,6 +15,9 @@ ghost use Rattle.gr_rules.specs.States.{live, State, call_of, main_of, start};
 ghost use Rattle.gr_rules.specs.Steps.{refusal};
 ghost use Rattle.gr_rules.specs.Tells.{usual_choice};
 ghost use Rattle.gr_laws.specs.Reached.{Reached};
+ghost use Rattle.gr_code.specs.Programs.{ProgramFits};
+ghost use Rattle.gr_lower.specs.CanLower.{CanLower};
+ghost use Rattle.gr_lower.specs.Lowered.{lowered, meaning};
 ghost use Rattle.type_safety.specs.Standing.{StandsAs, AreFresh};
 
 /// Progress: in every state that a run of a checked program reaches, while the program runs, a goroutine that is ready has a
@@ -49,4 +53,11 @@ pub fn law_of_checked_states()
     ensures begins { (file : FileTree) (p : Program)
         → ProgramOf file p
         → (f : Frame) × (call_of p (main_of p) [] ≡ gives f) × ((start p).goroutines [] ≡ Some (started f)) }
+{}
+
+/// Checked programs have code: the variables that a checked program names are those of its functions, and its expression
+/// statements are calls and receives, also where control never comes. So its layout is its code.
+pub fn law_of_checked_code()
+    ensures can_lower { (file : FileTree) (p : Program) → ProgramOf file p → CanLower p }
+    ensures fits { (file : FileTree) (p : Program) → ProgramOf file p → ProgramFits (meaning p) p (lowered p) }
 {}

@@ -1,0 +1,7 @@
+pub mod Words
+pub mod Commands
+pub mod Replies
+pub mod Texts
+pub mod Room
+pub mod Examples
+pub mod Laws

@@ -1,0 +1,65 @@
+//! What may be asked of a session.
+
+ghost use Rattle.std.specs.Prelude.{◌≡◌, IfOk, OnErr};
+
+use gr_base::{ChName, GoName, NoMemory};
+use std::alloc::Global;
+
+/// What an asker asks.
+#[derive(Debug, Drop)]
+pub enum Command {
+    /// One step of the goroutine. At a select it takes the clause with this number, counted from 1, or the usual choice
+    /// where no number is given.
+    Step { go: GoName, case: Option<u32> },
+    /// Up to this many steps, from 1 to 1,000,000, by turns of the goroutines that are ready.
+    Run { count: u32 },
+    /// To take the last step back.
+    Undo,
+    /// How the goroutine stands: its status, its steps, its line and its frames.
+    Show(GoName),
+    /// How the channel stands: its capacity, its items and who waits on it.
+    Chan(ChName),
+    /// The lines that the goroutine printed.
+    Text(GoName),
+    /// The lines that all goroutines printed, in the order of the steps.
+    Console,
+    /// The steps that are kept, with their kinds.
+    Log,
+}
+
+impl Command {
+    ghost use Rattle.gr_command.specs.Commands.{Names};
+
+    /// The same command once more. The one error is want of memory for a name.
+    pub fn copy(&self, alloc: Global) -> Result<Command, NoMemory>
+        ensures ok { IfOk result (λ command. command ≡ self.now) }
+        ensures needed { OnErr result (Names self.now) }
+    {
+        match self {
+            Command::Step { go, case } => {
+                let go = go.copy(alloc)?;
+                Ok(Command::Step { go, case: *case })
+            }
+            Command::Run { count } => Ok(Command::Run { count: *count }),
+            Command::Undo => Ok(Command::Undo),
+            Command::Show(go) => Ok(Command::Show(go.copy(alloc)?)),
+            Command::Chan(channel) => Ok(Command::Chan(channel.copy(alloc)?)),
+            Command::Text(go) => Ok(Command::Text(go.copy(alloc)?)),
+            Command::Console => Ok(Command::Console),
+            Command::Log => Ok(Command::Log),
+        }
+    }
+}
+
+/// What a line of a command stream says.
+#[derive(Debug, Drop)]
+pub enum Line {
+    /// To ask this of the session.
+    Command(Command),
+    /// To end the stream.
+    Quit,
+    /// Nothing: the line has no word.
+    Blank,
+    /// No command, or the line is too long.
+    Rejected,
+}

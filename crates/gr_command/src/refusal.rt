@@ -1,0 +1,24 @@
+//! Why commands are not carried out.
+
+/// Why a command was not carried out, by the code that a reply tells.
+#[derive(Clone, Copy, Debug, PartialEq, Eq)]
+pub enum Refusal {
+    /// N1: the program has ended, or a fault stopped it.
+    Ended,
+    /// N2: there is no such goroutine or channel.
+    NotThere,
+    /// N3: the goroutine waits.
+    Waits,
+    /// N4: the goroutine is done.
+    Done,
+    /// N5: the choice is not possible here.
+    NoChoice,
+    /// N6: a growth for the step was refused.
+    NoMemory,
+    /// B1: no step is kept.
+    NothingToUndo,
+    /// B6: a growth for taking the step back was refused, and the step stands.
+    NotUndone,
+    /// Q1: the log has no room for the step.
+    LogFull,
+}

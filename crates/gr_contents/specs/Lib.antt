@@ -1,0 +1,27 @@
+-- The state of a store, and when a change of it is a step of the rules.
+pub mod Contents
+pub mod Leaves
+pub mod Machines
+pub mod Changes
+pub mod Gates
+pub mod Looks
+pub mod Partners
+pub mod Presence
+pub mod Performing
+pub mod Meetings
+pub mod Sending
+pub mod Receiving
+pub mod Waiting
+pub mod Closing
+pub mod Choosing
+pub mod Making
+pub mod Going
+pub mod TakingBack
+pub mod Attempting
+pub mod NamedBack
+pub mod Written
+pub mod Standing
+pub mod Tasks
+pub mod Local
+pub mod Arriving
+pub mod Starting

@@ -1,0 +1,80 @@
+//! What goroutines of code do is what the rules do: laws, each the contract of a function that does nothing.
+
+ghost use Rattle.std.specs.Prelude.{ℕ};
+ghost use Rattle.gr_code.specs.Code.{Meanings};
+ghost use Rattle.gr_code.specs.CodeFrames.{ProgramCode};
+ghost use Rattle.gr_contents.specs.Tasks.{OfEachGoroutine, AttemptIsOfTheTask, TaskIsAStep, TaskIsSound, AttemptIsOfTheRule, RuleIsAStep, RuleIsSound};
+ghost use Rattle.gr_contents.specs.Tasks.{TaskHasNoChoice, TaskWantsAChoice, TaskIsThere, LocalStepIsThere, LocalStaysWithin};
+ghost use Rattle.gr_contents.specs.Local.{LocalStepIsAStep};
+ghost use Rattle.gr_contents.specs.Arriving.{OfEachStep, ValueArrives, ChannelArrives, CompletionArrives, ChildArrives, PassingArrives};
+ghost use Rattle.gr_contents.specs.Arriving.{ValueCanArrive, CompletionCanArrive, ChildCanArrive, PassingCanArrive, SelectHasClauses};
+ghost use Rattle.gr_contents.specs.Arriving.{ParkedIsRuled, FinishedIsRuled, FaultedIsRuled};
+ghost use Rattle.gr_contents.specs.Arriving.{OfEachProgram, MeetingArrives, MeetingCanArrive, RetriedIsRuled, EnteredIsRuled, CanBeEntered, StartedIsRuled};
+ghost use Rattle.gr_contents.specs.Starting.{BegunIsTheStart, BegunStands, MainIsEntered};
+ghost use Rattle.gr_contents.specs.Standing.{OfEachCode, LocalStepKeepsStanding, ArrivalKeepsStanding, ChangeKeepsStanding, GoneKeepsStanding};
+ghost use Rattle.gr_contents.specs.Standing.{WakingKeepsStanding, SameGoroutinesStand};
+
+/// The attempt of a goroutine of code is that of the deed that its task means.
+pub fn law_of_tasks()
+    ensures attempt { OfEachGoroutine AttemptIsOfTheTask }
+    ensures step { OfEachGoroutine TaskIsAStep }
+    ensures sound { OfEachGoroutine TaskIsSound }
+    ensures rule { OfEachGoroutine AttemptIsOfTheRule }
+    ensures rule_step { OfEachGoroutine RuleIsAStep }
+    ensures rule_sound { OfEachGoroutine RuleIsSound }
+    ensures no_choice { OfEachGoroutine TaskHasNoChoice }
+    ensures select { OfEachGoroutine TaskWantsAChoice }
+    ensures is_there { OfEachGoroutine TaskIsThere }
+{}
+
+/// A step of a goroutine of code that reaches no further than itself is the step of the rules. Where the rules have such a step,
+/// so has code.
+pub fn law_of_local_steps()
+    ensures step { OfEachGoroutine LocalStepIsAStep }
+    ensures is_there { OfEachGoroutine LocalStepIsThere }
+    ensures within { LocalStaysWithin }
+{}
+
+/// What arrives for a goroutine of code leaves it as the rules leave theirs; where the rules go on, so does code.
+pub fn law_of_arrivals()
+    ensures value { OfEachStep ValueArrives }
+    ensures channel { OfEachStep ChannelArrives }
+    ensures completion { OfEachStep CompletionArrives }
+    ensures child { OfEachStep ChildArrives }
+    ensures passing { OfEachStep PassingArrives }
+    ensures meeting { OfEachProgram MeetingArrives }
+    ensures value_can { OfEachStep ValueCanArrive }
+    ensures completion_can { OfEachStep CompletionCanArrive }
+    ensures child_can { OfEachStep ChildCanArrive }
+    ensures passing_can { OfEachStep PassingCanArrive }
+    ensures meeting_can { OfEachProgram MeetingCanArrive }
+    ensures clauses { OfEachStep SelectHasClauses }
+{}
+
+/// A goroutine of code that comes to wait, is done, faults, is ready again or starts is as by the rules.
+pub fn law_of_statuses()
+    ensures parked { OfEachStep ParkedIsRuled }
+    ensures finished { OfEachStep FinishedIsRuled }
+    ensures faulted { OfEachStep FaultedIsRuled }
+    ensures retried { OfEachProgram RetriedIsRuled }
+    ensures started { OfEachProgram StartedIsRuled }
+{}
+
+/// A call of code begins as by the rules, and so does a program.
+pub fn law_of_beginnings()
+    ensures entered { OfEachProgram EnteredIsRuled }
+    ensures can_be_entered { OfEachProgram CanBeEntered }
+    ensures begun { OfEachProgram BegunIsTheStart }
+    ensures stands { OfEachProgram BegunStands }
+    ensures main { OfEachProgram MainIsEntered }
+{}
+
+/// The frames of goroutines of code stand at instructions, wherever they go.
+pub fn law_of_standing()
+    ensures locally { OfEachCode LocalStepKeepsStanding }
+    ensures arriving { OfEachCode ArrivalKeepsStanding }
+    ensures changing { OfEachCode ChangeKeepsStanding }
+    ensures gone { OfEachCode GoneKeepsStanding }
+    ensures waking { OfEachCode WakingKeepsStanding }
+    ensures same { OfEachCode SameGoroutinesStand }
+{}

@@ -1,0 +1,6 @@
+pub mod Digits
+pub mod Wrapping
+pub mod Words
+pub mod Shifts
+pub mod Turns
+pub mod Lines

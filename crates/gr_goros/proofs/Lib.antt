@@ -1,0 +1,5 @@
+mod CellLemmas
+mod CodeLemmas
+mod NeedLemmas
+mod TaskLemmas
+mod TextLemmas

@@ -1,0 +1,154 @@
+//! What arrives at a goroutine, and how it comes to an end.
+
+ghost use Rattle.std.specs.Prelude.{◌≡◌, ◌+◌, ◌<◌, ◌^◌, IfOk, OnErr};
+ghost use Rattle.gr_rules.specs.Outcomes.{gives, wrong};
+ghost use Rattle.gr_rules.specs.Goroutines.{ready};
+ghost use Rattle.gr_code.specs.CodeViews.{program_code_of};
+ghost use Rattle.gr_code.specs.Goroutines.{arrived, parked, retried, CanCount};
+ghost use Rattle.gr_goros.specs.Undoing.{IsLive, Undoes};
+ghost use Rattle.gr_goros.specs.Views.{arrival_of, waits_of, CanHalt, halted};
+
+use crate::frame::Frame;
+use crate::goroutine::Goroutine;
+use crate::undo::{Former, FrameUndo, GoUndo, Met};
+use crate::wait::{Status, Wait};
+use gr_base::{NoMemory, Value};
+use gr_code::code::Code;
+use std::alloc::Global;
+use std::mem;
+
+/// What arrives at a goroutine for its instruction.
+#[derive(Debug, Drop)]
+pub enum Arrival {
+    /// The value of `len` or `cap`.
+    Value(Value),
+    /// The channel that it made.
+    Channel(Value),
+    /// The end of its `close`.
+    Completion,
+    /// The goroutine that it started.
+    Child,
+    /// The end of its own communication: of the clause of its select with this number, counted from 1, with what a receive
+    /// got and whether that was sent.
+    Passes {
+        clause: Option<u32>,
+        got: Option<(Value, bool)>,
+    },
+    /// The end of its communication by a step of its partner.
+    IsMet {
+        clause: Option<u32>,
+        got: Option<(Value, bool)>,
+    },
+}
+
+/// How a goroutine comes to an end.
+#[derive(Clone, Copy, Debug, PartialEq, Eq)]
+pub enum Halt {
+    /// It returns from its outermost frame, or ends the program.
+    Finished,
+    /// It stops the program.
+    Faulted,
+}
+
+impl Goroutine {
+    /// Goes on past its instruction with what arrives. Refused, nothing has changed.
+    pub fn deliver(
+        &mut self,
+        alloc: Global,
+        code: &Code,
+        arrival: Arrival,
+    ) -> Result<GoUndo, NoMemory>
+        requires right { ¬ (arrived (program_code_of code.now) (arrival_of arrival) self.old.content ≡ wrong) }
+        requires counted { CanCount (arrival_of arrival) self.old.content }
+        ensures after { IfOk result (λ _. arrived (program_code_of code.now) (arrival_of arrival) self.old.content ≡ gives self.new.content) }
+        ensures undone { IfOk result (λ undo. Undoes undo self.old self.new) }
+        ensures err { OnErr result (self.new ≡ self.old) }
+    {
+        let instruction = self.top.instruction(code);
+        match arrival {
+            Arrival::Value(value) => {
+                let undo = self.top.resume(instruction, value);
+                self.steps += 1;
+                Ok(GoUndo::Went(undo))
+            }
+            Arrival::Channel(value) => {
+                let undo = self.top.resume(instruction, value);
+                self.steps += 1;
+                self.channels += 1;
+                Ok(GoUndo::Made(undo))
+            }
+            Arrival::Completion => {
+                let number = self.top.complete(instruction);
+                self.steps += 1;
+                Ok(GoUndo::Went(FrameUndo {
+                    number,
+                    cells: Former::Same,
+                }))
+            }
+            Arrival::Child => {
+                let number = self.top.complete(instruction);
+                self.steps += 1;
+                self.children += 1;
+                Ok(GoUndo::Began(number))
+            }
+            Arrival::Passes { clause, got } => {
+                let undo = self.top.pass(alloc, instruction, clause, got)?;
+                self.steps += 1;
+                Ok(GoUndo::Went(undo))
+            }
+            Arrival::IsMet { clause, got } => {
+                let mut met = Box::new(
+                    alloc,
+                    Met {
+                        status: Status::Ready,
+                        frame: FrameUndo {
+                            number: 0,
+                            cells: Former::Same,
+                        },
+                    },
+                )?;
+                met.frame = self.top.pass(alloc, instruction, clause, got)?;
+                met.status = mem::replace(&mut self.status, Status::Ready);
+                Ok(GoUndo::Met(met))
+            }
+        }
+    }
+
+    /// Begins to wait, for one of these.
+    pub fn park(&mut self, waits: Vec<Wait>) -> GoUndo
+        requires waiting { self.old.content.status ≡ ready }
+        requires counted { self.old.content.steps + 1 < 2 ^ 64 }
+        ensures after { self.new.content ≡ parked (waits_of waits.items) self.old.content }
+        ensures undone { Undoes result self.old self.new }
+    {
+        self.status = Status::Waiting(waits);
+        self.steps += 1;
+        GoUndo::Parked
+    }
+
+    /// Comes to an end: from its outermost frame, or by a fault.
+    pub fn halt(&mut self, alloc: Global, how: Halt) -> GoUndo
+        requires at_the_end { CanHalt how self.old.content }
+        requires counted { self.old.content.steps + 1 < 2 ^ 64 }
+        ensures after { self.new.content ≡ halted how self.old.content }
+        ensures undone { Undoes result self.old self.new }
+    {
+        self.steps += 1;
+        match how {
+            Halt::Finished => {
+                self.status = Status::Finished;
+                GoUndo::Finished(mem::replace(&mut self.top, Frame::unseen(alloc)))
+            }
+            Halt::Faulted => GoUndo::Faulted,
+        }
+    }
+
+    /// Is ready at its instruction again.
+    pub fn retry(&mut self) -> GoUndo
+        requires { IsLive self.old.content }
+        ensures after { self.new.content ≡ retried self.old.content }
+        ensures undone { Undoes result self.old self.new }
+    {
+        GoUndo::Retried(mem::replace(&mut self.status, Status::Ready))
+    }
+}

@@ -1,0 +1,165 @@
+//! The cells of a frame: how they are written to, and put back.
+
+ghost use Rattle.std.specs.Prelude.{◌≡◌, ◌+◌, ◌<◌, ◌≤◌, IfOk, OnErr, replicate, slice_set, vec_len, vec_capacity};
+ghost use Rattle.gr_rules.specs.Outcomes.{gives, wrong};
+ghost use Rattle.gr_rules.specs.Evaluation.{Variables};
+ghost use Rattle.gr_rules.specs.Frames.{assigned};
+ghost use Rattle.gr_goros.specs.Undoing.{each_restored, restored};
+
+use crate::undo::Former;
+use gr_base::{NoMemory, Value};
+use std::alloc::Global;
+use std::mem;
+
+/// What a cell held, from which it is put back.
+#[inline]
+fn kept(slot: usize, held: Option<Value>) -> Former
+    ensures { (cells : Variables) → restored result cells ≡ slice_set cells slot held }
+{
+    match held {
+        None => Former::Nothing(slot),
+        Some(Value::Int(n)) => Former::Int(slot, n),
+        Some(Value::Bool(b)) => Former::Bool(slot, b),
+        Some(Value::Unit) => Former::Unit(slot),
+        Some(Value::Chan(None)) => Former::Nil(slot),
+        Some(Value::Chan(Some(name))) => Former::Channel(slot, name),
+    }
+}
+
+/// Writes to a cell, if there is one with the number, and answers what it held.
+#[inline]
+pub(crate) fn write(cells: &mut Vec<Option<Value>>, slot: usize, value: Value) -> Former
+    ensures after { cells.new.items ≡ slice_set cells.old.items slot (Some value) }
+    ensures back { restored result cells.new.items ≡ cells.old.items }
+{
+    if slot < cells.len() {
+        return kept(slot, mem::replace(&mut cells[slot], Some(value)));
+    }
+    Former::Same
+}
+
+/// Writes to a cell, if there is one with the number, and notes what it held.
+fn note(
+    cells: &mut Vec<Option<Value>>,
+    written: &mut Vec<(usize, Option<Value>)>,
+    slot: usize,
+    value: Value,
+)
+    requires { vec_len written.old < vec_capacity written.old }
+    ensures after { cells.new.items ≡ slice_set cells.old.items slot (Some value) }
+    ensures back { each_restored written.new.items cells.new.items ≡ each_restored written.old.items cells.old.items }
+    ensures len { vec_len written.new ≤ vec_len written.old + 1 }
+    ensures capacity { vec_capacity written.new ≡ vec_capacity written.old }
+{
+    if slot < cells.len() {
+        let held = mem::replace(&mut cells[slot], Some(value));
+        written.push_reserved((slot, held));
+    }
+}
+
+/// Puts what a cell held back into it, if there is one with the number.
+#[inline]
+fn put(cells: &mut Vec<Option<Value>>, slot: usize, held: Option<Value>)
+    ensures { cells.new.items ≡ slice_set cells.old.items slot held }
+{
+    if slot < cells.len() {
+        cells[slot] = held;
+    }
+}
+
+/// Puts back what each of these cells held, the last first.
+fn put_each(cells: &mut Vec<Option<Value>>, mut written: Vec<(usize, Option<Value>)>)
+    ensures { cells.new.items ≡ each_restored written.items cells.old.items }
+{
+    while let Some((slot, held)) = written.pop() {
+        put(cells, slot, held);
+    }
+}
+
+/// Puts back what the cells held before a change.
+#[inline]
+pub(crate) fn put_back(cells: &mut Vec<Option<Value>>, former: Former)
+    ensures { cells.new.items ≡ restored former cells.old.items }
+{
+    match former {
+        Former::Same => {}
+        Former::Nothing(slot) => put(cells, slot, None),
+        Former::Int(slot, n) => put(cells, slot, Some(Value::Int(n))),
+        Former::Bool(slot, b) => put(cells, slot, Some(Value::Bool(b))),
+        Former::Unit(slot) => put(cells, slot, Some(Value::Unit)),
+        Former::Nil(slot) => put(cells, slot, Some(Value::Chan(None))),
+        Former::Channel(slot, name) => put(cells, slot, Some(Value::Chan(Some(name)))),
+        Former::Each(written) => put_each(cells, written),
+    }
+}
+
+/// Assigns values to cells, from left to right, and answers what those held. Refused, nothing has changed.
+pub(crate) fn assign(
+    alloc: Global,
+    cells: &mut Vec<Option<Value>>,
+    targets: &[Option<usize>],
+    values: Vec<Value>,
+) -> Result<Vec<(usize, Option<Value>)>, NoMemory>
+    requires { ¬ (assigned targets.now values.items cells.old.items ≡ wrong) }
+    ensures after { IfOk result (λ _. assigned targets.now values.items cells.old.items ≡ gives cells.new.items) }
+    ensures back { IfOk result (λ written. each_restored written.items cells.new.items ≡ cells.old.items) }
+    ensures err { OnErr result (cells.new.items ≡ cells.old.items) }
+{
+    let mut written = Vec::with_capacity(alloc, targets.len())?;
+    let mut values = values.into_iter();
+    for target in targets {
+        let Some(value) = values.next() else {
+            unreachable!();
+        };
+        let Some(slot) = *target else {
+            continue;
+        };
+        note(cells, &mut written, slot, value);
+    }
+    Ok(written)
+}
+
+/// Writes to two cells, one after the other, and answers what they held. Refused, nothing has changed.
+pub(crate) fn write_two(
+    alloc: Global,
+    cells: &mut Vec<Option<Value>>,
+    first: (usize, Value),
+    second: (usize, Value),
+) -> Result<Vec<(usize, Option<Value>)>, NoMemory>
+    ensures after { IfOk result (λ _. cells.new.items ≡ slice_set (slice_set cells.old.items first.0 (Some first.1)) second.0 (Some second.1)) }
+    ensures back { IfOk result (λ written. each_restored written.items cells.new.items ≡ cells.old.items) }
+    ensures err { OnErr result (cells.new.items ≡ cells.old.items) }
+{
+    let mut written = Vec::with_capacity(alloc, 2)?;
+    note(cells, &mut written, first.0, first.1);
+    note(cells, &mut written, second.0, second.1);
+    Ok(written)
+}
+
+/// So many cells without a value.
+pub(crate) fn empty(alloc: Global, count: usize) -> Result<Vec<Option<Value>>, NoMemory>
+    ensures { IfOk result (λ cells. cells.items ≡ replicate count None) }
+{
+    let mut cells = Vec::with_capacity(alloc, count)?;
+    for _ in 0..count {
+        cells.push_reserved(None);
+    }
+    Ok(cells)
+}
+
+/// Gives values to parameters.
+pub(crate) fn fill(cells: &mut Vec<Option<Value>>, targets: &[Option<usize>], values: Vec<Value>)
+    requires { ¬ (assigned targets.now values.items cells.old.items ≡ wrong) }
+    ensures { assigned targets.now values.items cells.old.items ≡ gives cells.new.items }
+{
+    let mut values = values.into_iter();
+    for target in targets {
+        let Some(value) = values.next() else {
+            unreachable!();
+        };
+        let Some(slot) = *target else {
+            continue;
+        };
+        put(cells, slot, Some(value));
+    }
+}

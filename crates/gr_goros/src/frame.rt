@@ -1,0 +1,362 @@
+//! Frames of code, and how they go on.
+
+ghost use Rattle.std.specs.Prelude.{◌≡◌, IfOk, OnErr};
+ghost use Rattle.gr_rules.specs.Outcomes.{gives, wrong};
+ghost use Rattle.gr_rules.specs.Frames.{assigned};
+ghost use Rattle.gr_code.specs.CodeFrames.{Steps, acted, at_number, with_cell, with_part, with_received, entered, after_in, resumed_in, past_in, past_part_in, past_action_in, past_arm_in};
+ghost use Rattle.gr_code.specs.Instructions.{Assigns};
+ghost use Rattle.gr_code.specs.CodeViews.{action_of, arm_of, ask_of, instruction_of, program_code_of};
+ghost use Rattle.gr_code.specs.Goroutines.{instruction_in, line_of};
+ghost use Rattle.gr_goros.specs.Undoing.{frame_before};
+
+use crate::cells;
+use crate::copying::copy_all;
+use crate::lookups::{arm_at, code_of, function_at, instruction_at, line_at};
+use crate::undo::{Former, FrameUndo};
+use gr_base::{NoMemory, Value};
+use gr_code::code::{Action, Arm, Ask, Code, Instruction};
+use gr_eval::settles;
+use std::alloc::Global;
+use std::marker::Model;
+use std::mem;
+
+/// A function that was called and has not returned.
+#[derive(Debug, Drop)]
+pub struct Frame {
+    function: usize,
+    number: usize,
+    cells: Vec<Option<Value>>,
+}
+
+impl Model for Frame {
+    ghost use Rattle.gr_code.specs.CodeFrames.{CodeFrame};
+
+    ghost Value = { CodeFrame };
+
+    ghost view = { λ f. record { function = f.function; number = f.number; cells = f.cells.items } };
+}
+
+impl Frame {
+    /// A frame that nobody sees.
+    pub(crate) fn unseen(alloc: Global) -> Frame {
+        Frame {
+            function: 0,
+            number: 0,
+            cells: Vec::new(alloc),
+        }
+    }
+
+    /// The function before its first instruction, its parameters having these values.
+    pub(crate) fn enter(
+        alloc: Global,
+        code: &Code,
+        function: usize,
+        values: Vec<Value>,
+    ) -> Result<Frame, NoMemory>
+        requires { ¬ (entered (program_code_of code.now) function values.items ≡ wrong) }
+        ensures { IfOk result (λ f. entered (program_code_of code.now) function values.items ≡ gives f) }
+    {
+        let function_code = code_of(code, function);
+        let mut cells = cells::empty(alloc, function_code.cells)?;
+        cells::fill(&mut cells, &function_code.parameters, values);
+        Ok(Frame {
+            function,
+            number: 0,
+            cells,
+        })
+    }
+
+    /// The same once more.
+    pub fn copy(&self, alloc: Global) -> Result<Frame, NoMemory>
+        ensures { IfOk result (λ copy. copy ≡ self.now) }
+    {
+        let cells = copy_all(alloc, &self.cells)?;
+        Ok(Frame {
+            function: self.function,
+            number: self.number,
+            cells,
+        })
+    }
+
+    /// The number of the function.
+    #[inline]
+    pub fn function(&self) -> usize
+        ensures { result ≡ self.now.function }
+    {
+        self.function
+    }
+
+    /// The number of the next instruction.
+    #[inline]
+    pub fn number(&self) -> usize
+        ensures { result ≡ self.now.number }
+    {
+        self.number
+    }
+
+    /// The variables by their numbers, and then the temporaries; `None` has no value yet.
+    #[inline]
+    pub fn cells(&self) -> &[Option<Value>]
+        ensures { result.now ≡ self.now.cells }
+    {
+        self.cells.as_slice()
+    }
+
+    /// The next instruction.
+    #[inline]
+    #[tactic(auto, using(crate::proofs::CodeLemmas::found_instruction, crate::proofs::CodeLemmas::no_instruction, crate::proofs::CodeLemmas::no_function_in))]
+    pub(crate) fn instruction<'a>(&self, code: &'a Code) -> &'a Instruction
+        requires { ¬ (instruction_in (program_code_of code.now) self.now ≡ wrong) }
+        ensures { instruction_in (program_code_of code.now) self.now ≡ gives (instruction_of result.now) }
+    {
+        match function_at(code, self.function) {
+            Some(function_code) => match instruction_at(function_code, self.number) {
+                Some(instruction) => instruction,
+                None => unreachable!(),
+            },
+            None => unreachable!(),
+        }
+    }
+
+    /// The line on which the statement of the next instruction begins.
+    #[tactic(auto, using(crate::proofs::CodeLemmas::found_line, crate::proofs::CodeLemmas::no_function_line))]
+    pub fn line(&self, code: &Code) -> usize
+        requires { ¬ (line_of (program_code_of code.now) self.now ≡ None) }
+        ensures { line_of (program_code_of code.now) self.now ≡ Some result }
+    {
+        match function_at(code, self.function) {
+            Some(function_code) => match line_at(function_code, self.number) {
+                Some(line) => *line,
+                None => unreachable!(),
+            },
+            None => unreachable!(),
+        }
+    }
+
+    /// Goes on at another instruction.
+    #[inline]
+    pub(crate) fn go_on(&mut self, on: usize) -> FrameUndo
+        ensures after { self.new ≡ at_number self.old on }
+        ensures back { frame_before result self.new ≡ self.old }
+    {
+        let number = mem::replace(&mut self.number, on);
+        FrameUndo {
+            number,
+            cells: Former::Same,
+        }
+    }
+
+    /// Goes on with a value in a cell.
+    #[inline]
+    pub(crate) fn keep(&mut self, slot: usize, value: Value, on: usize) -> FrameUndo
+        ensures after { self.new ≡ with_cell self.old slot value on }
+        ensures back { frame_before result self.new ≡ self.old }
+    {
+        let number = mem::replace(&mut self.number, on);
+        let cells = cells::write(&mut self.cells, slot, value);
+        FrameUndo { number, cells }
+    }
+
+    /// Goes on with the value of its part, which is kept nowhere where the part is the whole statement.
+    pub(crate) fn keep_part(&mut self, slot: Option<usize>, value: Value, on: usize) -> FrameUndo
+        ensures after { self.new ≡ with_part self.old slot value on }
+        ensures back { frame_before result self.new ≡ self.old }
+    {
+        match slot {
+            Some(slot) => self.keep(slot, value, on),
+            None => self.go_on(on),
+        }
+    }
+
+    /// Goes on with values assigned to cells. Refused, nothing has changed.
+    pub(crate) fn assign(
+        &mut self,
+        alloc: Global,
+        targets: &[Option<usize>],
+        values: Vec<Value>,
+        on: usize,
+    ) -> Result<FrameUndo, NoMemory>
+        requires { ¬ (assigned targets.now values.items self.old.cells ≡ wrong) }
+        ensures after { IfOk result (λ _. acted self.old (Assigns targets.now on) values.items ≡ gives (Steps self.new)) }
+        ensures back { IfOk result (λ u. frame_before u self.new ≡ self.old) }
+        ensures err { OnErr result (self.new ≡ self.old) }
+    {
+        let written = cells::assign(alloc, &mut self.cells, targets, values)?;
+        let number = mem::replace(&mut self.number, on);
+        Ok(FrameUndo {
+            number,
+            cells: Former::Each(written),
+        })
+    }
+
+    /// Goes on with a value that was received, and with whether it was sent. Refused, nothing has changed.
+    pub(crate) fn keep_received(
+        &mut self,
+        alloc: Global,
+        into: Option<(usize, usize)>,
+        got: (Value, bool),
+        on: usize,
+    ) -> Result<FrameUndo, NoMemory>
+        ensures after { IfOk result (λ _. self.new ≡ with_received self.old into got on) }
+        ensures back { IfOk result (λ u. frame_before u self.new ≡ self.old) }
+        ensures err { OnErr result (self.new ≡ self.old) }
+    {
+        let Some((value_slot, sent_slot)) = into else {
+            return Ok(self.go_on(on));
+        };
+        let (value, sent) = got;
+        let written = cells::write_two(
+            alloc,
+            &mut self.cells,
+            (value_slot, value),
+            (sent_slot, Value::Bool(sent)),
+        )?;
+        let number = mem::replace(&mut self.number, on);
+        Ok(FrameUndo {
+            number,
+            cells: Former::Each(written),
+        })
+    }
+
+    /// Goes on after it printed, closed or started something.
+    pub(crate) fn complete(&mut self, instruction: &Instruction) -> usize
+        requires { ¬ (after_in self.old (instruction_of instruction.now) ≡ wrong) }
+        ensures after { after_in self.old (instruction_of instruction.now) ≡ gives self.new }
+        ensures back { at_number self.new result ≡ self.old }
+    {
+        match instruction {
+            Instruction::Perform {
+                action: Action::Print { on, .. } | Action::Close { on } | Action::Start { on, .. },
+                ..
+            } => mem::replace(&mut self.number, *on),
+            _ => unreachable!(),
+        }
+    }
+
+    /// Goes on with the value of its part.
+    pub(crate) fn resume(&mut self, instruction: &Instruction, value: Value) -> FrameUndo
+        requires { ¬ (resumed_in self.old (instruction_of instruction.now) value ≡ wrong) }
+        ensures after { resumed_in self.old (instruction_of instruction.now) value ≡ gives self.new }
+        ensures back { frame_before result self.new ≡ self.old }
+    {
+        match instruction {
+            Instruction::Part { slot, on, .. } => self.keep_part(*slot, value, *on),
+            Instruction::Decide {
+                op,
+                slot,
+                settled,
+                right,
+                ..
+            } => {
+                let on = if settles(*op, &value) {
+                    *settled
+                } else {
+                    *right
+                };
+                self.keep(*slot, value, on)
+            }
+            _ => unreachable!(),
+        }
+    }
+
+    /// Goes on past its communication, with what that got. Refused, nothing has changed.
+    #[tactic(auto, using(crate::proofs::CodeLemmas::found_arm, crate::proofs::CodeLemmas::no_arm))]
+    pub(crate) fn pass(
+        &mut self,
+        alloc: Global,
+        instruction: &Instruction,
+        clause: Option<u32>,
+        got: Option<(Value, bool)>,
+    ) -> Result<FrameUndo, NoMemory>
+        requires { ¬ (past_in self.old (instruction_of instruction.now) clause got ≡ wrong) }
+        ensures after { IfOk result (λ _. past_in self.old (instruction_of instruction.now) clause got ≡ gives self.new) }
+        ensures back { IfOk result (λ u. frame_before u self.new ≡ self.old) }
+        ensures err { OnErr result (self.new ≡ self.old) }
+    {
+        match (instruction, clause) {
+            (Instruction::Part { ask, slot, on }, None) => Ok(self.pass_part(ask, *slot, *on, got)),
+            (Instruction::Perform { action, .. }, None) => self.pass_action(alloc, action, got),
+            (Instruction::Choose { arms }, Some(number)) => {
+                match arm_at(arms, number) {
+                    Some(arm) => self.pass_arm(alloc, arm, got),
+                    None => unreachable!(),
+                }
+            }
+            _ => unreachable!(),
+        }
+    }
+
+    /// .. past a receive that is a part.
+    fn pass_part(
+        &mut self,
+        ask: &Ask,
+        slot: Option<usize>,
+        on: usize,
+        got: Option<(Value, bool)>,
+    ) -> FrameUndo
+        requires { ¬ (past_part_in self.old (ask_of ask.now) slot on got ≡ wrong) }
+        ensures after { past_part_in self.old (ask_of ask.now) slot on got ≡ gives self.new }
+        ensures back { frame_before result self.new ≡ self.old }
+    {
+        match (ask, got) {
+            (Ask::Receive { .. }, Some((value, _))) => self.keep_part(slot, value, on),
+            _ => unreachable!(),
+        }
+    }
+
+    /// .. past a statement that sends or receives.
+    fn pass_action(
+        &mut self,
+        alloc: Global,
+        action: &Action,
+        got: Option<(Value, bool)>,
+    ) -> Result<FrameUndo, NoMemory>
+        requires { ¬ (past_action_in self.old (action_of action.now) got ≡ wrong) }
+        ensures after { IfOk result (λ _. past_action_in self.old (action_of action.now) got ≡ gives self.new) }
+        ensures back { IfOk result (λ u. frame_before u self.new ≡ self.old) }
+        ensures err { OnErr result (self.new ≡ self.old) }
+    {
+        match (action, got) {
+            (Action::Send { on }, None) => Ok(self.go_on(*on)),
+            (Action::AssignReceived { value, ok, on, .. }, Some(got)) => {
+                self.keep_received(alloc, Some((*value, *ok)), got, *on)
+            }
+            (Action::Turn { slot, body, .. }, Some((value, true))) => {
+                Ok(self.keep(*slot, value, *body))
+            }
+            (Action::Turn { after, .. }, Some((_, false))) => Ok(self.go_on(*after)),
+            _ => unreachable!(),
+        }
+    }
+
+    /// .. past a clause of a select.
+    fn pass_arm(
+        &mut self,
+        alloc: Global,
+        arm: &Arm,
+        got: Option<(Value, bool)>,
+    ) -> Result<FrameUndo, NoMemory>
+        requires { ¬ (past_arm_in self.old (Some (arm_of arm.now)) got ≡ wrong) }
+        ensures after { IfOk result (λ _. past_arm_in self.old (Some (arm_of arm.now)) got ≡ gives self.new) }
+        ensures back { IfOk result (λ u. frame_before u self.new ≡ self.old) }
+        ensures err { OnErr result (self.new ≡ self.old) }
+    {
+        match (arm, got) {
+            (Arm::Default { on } | Arm::Send { on, .. }, None) => Ok(self.go_on(*on)),
+            (Arm::Receive { into, on, .. }, Some(got)) => {
+                self.keep_received(alloc, *into, got, *on)
+            }
+            _ => unreachable!(),
+        }
+    }
+
+    /// Takes the change back.
+    #[inline]
+    pub(crate) fn undo(&mut self, undo: FrameUndo)
+        ensures { self.new ≡ frame_before undo self.old }
+    {
+        let FrameUndo { number, cells } = undo;
+        self.number = number;
+        cells::put_back(&mut self.cells, cells);
+    }
+}

@@ -1,0 +1,148 @@
+//! Steps of a goroutine that reach no further than itself.
+
+ghost use Rattle.std.specs.Prelude.{◌≡◌, ◌+◌, ◌<◌, ◌≤◌, ◌^◌, true, drop, IfOk, OnErr};
+ghost use Rattle.gr_base.specs.declared.kinds.Kind.TheVariants as kinds;
+ghost use Rattle.gr_rules.specs.Outcomes.{wrong};
+ghost use Rattle.gr_code.specs.CodeViews.{program_code_of};
+ghost use Rattle.gr_code.specs.Goroutines.{enters, faulted, leaves, local, printing, task_of};
+ghost use Rattle.gr_goros.specs.Undoing.{IsLive, Undoes};
+ghost use Rattle.gr_code.specs.Goroutines.{is_local as is_local_now};
+ghost use Rattle.gr_goros.specs.Tasks.{IsStep};
+
+use crate::frame::Frame;
+use crate::goroutine::Goroutine;
+use crate::needs::asks_nothing;
+use crate::tasks::Task;
+use crate::undo::{Former, FrameUndo, GoUndo, Left};
+use gr_base::{Fault, Kind, NoMemory, Value};
+use gr_code::code::Code;
+use gr_eval::Stop;
+use std::alloc::Global;
+use std::mem;
+
+/// How many frames a goroutine may have.
+const MOST_FRAMES: usize = 1000;
+
+impl Goroutine {
+    /// Whether the next instruction asks for nothing beyond the goroutine: its step is local, unless it is a call that is too
+    /// deep or has a fault, which is local too.
+    #[inline]
+    pub fn is_local(&self, code: &Code) -> bool
+        requires { ¬ (task_of (program_code_of code.now) self.now.content ≡ wrong) }
+        ensures { result ≡ is_local_now (program_code_of code.now) self.now.content }
+    {
+        asks_nothing(self.top.instruction(code), !self.below.is_empty())
+    }
+
+    /// Takes the next step, which reaches no further than the goroutine. Refused, nothing has changed.
+    #[inline]
+    pub fn local_step(&mut self, alloc: Global, code: &Code) -> Result<(Kind, GoUndo), NoMemory>
+        requires right { ¬ (local (program_code_of code.now) self.old.content ≡ wrong) }
+        requires here { is_local_now (program_code_of code.now) self.old.content ≡ true }
+        requires counted { self.old.content.steps + 1 < 2 ^ 64 }
+        ensures step { IfOk result (λ r. IsStep r (local (program_code_of code.now) self.old.content) self.old self.new) }
+        ensures err { OnErr result (self.new.content ≡ self.old.content) }
+        ensures err_room { OnErr result (self.old.room ≤ self.new.room) }
+    {
+        let instruction = self.top.instruction(code);
+        let has_caller = !self.below.is_empty();
+        match self.top.task(alloc, instruction, has_caller) {
+            Ok(Task::Steps(undo)) => {
+                self.steps += 1;
+                Ok((Kind::Pure, GoUndo::Went(undo)))
+            }
+            Ok(Task::Prints(line)) => self.print(code, line),
+            Ok(Task::Enters(function, arguments)) => self.enter(alloc, code, function, arguments),
+            Ok(Task::Leaves(value)) => self.leave(alloc, code, value),
+            Err(Stop::Fault(fault)) => Ok(self.stop(fault)),
+            Err(Stop::NoMemory) => Err(NoMemory),
+        }
+    }
+}
+
+impl Goroutine {
+    /// A fault.
+    fn stop(&mut self, fault: Fault) -> (Kind, GoUndo)
+        requires { self.old.content.steps + 1 < 2 ^ 64 }
+        ensures kind { result.0 ≡ kinds.Fault fault }
+        ensures after { self.new.content ≡ faulted self.old.content }
+        ensures undone { Undoes result.1 self.old self.new }
+    {
+        self.steps += 1;
+        (Kind::Fault(fault), GoUndo::Faulted)
+    }
+
+    /// Prints a line. Refused, nothing has changed.
+    #[tactic(auto, using(crate::proofs::TextLemmas::lines_last, crate::proofs::TextLemmas::front_last))]
+    fn print(&mut self, code: &Code, line: Vec<u8>) -> Result<(Kind, GoUndo), NoMemory>
+        requires right { ¬ (printing (program_code_of code.now) self.old.content line.items self.old.content.frames ≡ wrong) }
+        requires counted { self.old.content.steps + 1 < 2 ^ 64 }
+        ensures step { IfOk result (λ r.
+            IsStep r (printing (program_code_of code.now) self.old.content line.items self.old.content.frames) self.old self.new) }
+        ensures err { OnErr result (self.new ≡ self.old) }
+    {
+        self.text.push(line)?;
+        let number = self.top.complete(self.top.instruction(code));
+        self.steps += 1;
+        Ok((Kind::Pure, GoUndo::Printed(number)))
+    }
+
+    /// Calls a function. Refused, nothing has changed.
+    fn enter(
+        &mut self,
+        alloc: Global,
+        code: &Code,
+        function: usize,
+        arguments: Vec<Value>,
+    ) -> Result<(Kind, GoUndo), NoMemory>
+        requires right { ¬ (enters (program_code_of code.now) self.old.content function arguments.items self.old.content.frames ≡ wrong) }
+        requires live { IsLive self.old.content }
+        requires counted { self.old.content.steps + 1 < 2 ^ 64 }
+        ensures step { IfOk result (λ r.
+            IsStep r (enters (program_code_of code.now) self.old.content function arguments.items self.old.content.frames) self.old self.new) }
+        ensures err { OnErr result (self.new.content ≡ self.old.content) }
+        ensures err_room { OnErr result (self.old.room ≤ self.new.room) }
+    {
+        if self.below.len() >= MOST_FRAMES - 1 {
+            return Ok(self.stop(Fault::CallDepth));
+        }
+        let frame = Frame::enter(alloc, code, function, arguments)?;
+        self.below.reserve(1)?;
+        let caller = mem::replace(&mut self.top, frame);
+        self.below.push_reserved(caller);
+        self.steps += 1;
+        Ok((Kind::Call, GoUndo::Entered))
+    }
+
+    /// Returns a value to the caller. Refused, nothing has changed.
+    fn leave(
+        &mut self,
+        alloc: Global,
+        code: &Code,
+        value: Value,
+    ) -> Result<(Kind, GoUndo), NoMemory>
+        requires right { ¬ (leaves (program_code_of code.now) self.old.content value (drop 1 self.old.content.frames) ≡ wrong) }
+        requires counted { self.old.content.steps + 1 < 2 ^ 64 }
+        ensures step { IfOk result (λ r.
+            IsStep r (leaves (program_code_of code.now) self.old.content value (drop 1 self.old.content.frames)) self.old self.new) }
+        ensures err { OnErr result (self.new ≡ self.old) }
+    {
+        let mut left = Box::new(
+            alloc,
+            Left {
+                frame: Frame::unseen(alloc),
+                caller: FrameUndo {
+                    number: 0,
+                    cells: Former::Same,
+                },
+            },
+        )?;
+        let Some(mut caller) = self.below.pop() else {
+            unreachable!();
+        };
+        left.caller = caller.resume(caller.instruction(code), value);
+        left.frame = mem::replace(&mut self.top, caller);
+        self.steps += 1;
+        Ok((Kind::Return, GoUndo::Left(left)))
+    }
+}

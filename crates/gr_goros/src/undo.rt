@@ -1,0 +1,174 @@
+//! What a change of a goroutine replaced, by which it is undone.
+
+ghost use Rattle.std.specs.Prelude.{◌≡◌, ◌≤◌, ◌+◌, IfErr, OnErr, OnOk, IsOk};
+ghost use Rattle.gr_goros.specs.Undoing.{Fits, entered, front, need, undone};
+ghost use Rattle.gr_goros.specs.Views.{lines_of};
+
+use crate::frame::Frame;
+use crate::goroutine::Goroutine;
+use crate::wait::Status;
+use gr_base::{ChName, NoMemory, Value};
+use std::mem;
+
+/// What was in the cells of a frame to which a change wrote.
+#[derive(Debug, Drop)]
+pub enum Former {
+    /// It wrote to none.
+    Same,
+    /// The cell with this number had no value.
+    Nothing(usize),
+    Int(usize, i64),
+    Bool(usize, bool),
+    Unit(usize),
+    /// A channel that is nil.
+    Nil(usize),
+    Channel(usize, ChName),
+    /// Each cell that was written to, in the order of the writes, with what was in it before.
+    Each(Vec<(usize, Option<Value>)>),
+}
+
+/// A frame before it went on.
+#[derive(Debug, Drop)]
+pub struct FrameUndo {
+    /// The number of its instruction.
+    pub number: usize,
+    pub cells: Former,
+}
+
+/// A frame that returned, and its caller before it went on.
+#[derive(Debug, Drop)]
+pub struct Left {
+    pub frame: Frame,
+    pub caller: FrameUndo,
+}
+
+/// A goroutine before a partner met it.
+#[derive(Debug, Drop)]
+pub struct Met {
+    pub status: Status,
+    pub frame: FrameUndo,
+}
+
+/// What a change of a goroutine replaced, by which it is undone.
+#[derive(Debug, Drop)]
+pub enum GoUndo {
+    /// The innermost frame went on, in a step.
+    Went(FrameUndo),
+    /// It printed a line, at the instruction with this number.
+    Printed(usize),
+    /// A function was called.
+    Entered,
+    /// A function returned to its caller.
+    Left(Box<Left>),
+    /// A channel was made.
+    Made(FrameUndo),
+    /// A goroutine was started, at the instruction with this number.
+    Began(usize),
+    /// A partner met it.
+    Met(Box<Met>),
+    /// It began to wait.
+    Parked,
+    /// It returned from its outermost frame, or ended the program, in this frame.
+    Finished(Frame),
+    /// It stopped the program.
+    Faulted,
+    /// It was made ready again.
+    Retried(Status),
+}
+
+/// Takes the last line off.
+#[tactic(auto, using(crate::proofs::TextLemmas::lines_front))]
+fn drop_line(text: &mut Vec<Vec<u8>>)
+    ensures { lines_of text.new.items ≡ front (lines_of text.old.items) }
+{
+    let _ = text.pop();
+}
+
+impl Goroutine {
+    /// Makes room for one more frame. No content changes.
+    fn make_room(&mut self) -> Result<(), NoMemory>
+        ensures content { self.new.content ≡ self.old.content }
+        ensures ok { OnOk result (1 ≤ self.new.room) }
+        ensures succeeds { 1 ≤ self.old.room → IsOk result }
+        ensures grows { self.old.room ≤ self.new.room }
+    {
+        self.below.reserve(1)?;
+        Ok(())
+    }
+
+    /// Takes a change back. It takes memory only where there is no room; refused, nothing has changed.
+    pub fn undo(&mut self, undo: GoUndo) -> Result<(), (GoUndo, NoMemory)>
+        requires { Fits undo self.old.content }
+        ensures ok { OnOk result (self.new.content ≡ undone undo self.old.content) }
+        ensures err { OnErr result (self.new.content ≡ self.old.content) }
+        ensures undo_returned { IfErr result (λ e. e.0 ≡ undo) }
+        ensures err_room { OnErr result (self.old.room ≤ self.new.room) }
+        ensures succeeds { need undo ≤ self.old.room → IsOk result }
+        ensures spends { OnOk result (self.old.room + entered undo ≤ self.new.room + need undo) }
+    {
+        if let GoUndo::Left(_) = undo {
+            if let Err(error) = self.make_room() {
+                return Err((undo, error));
+            }
+        }
+        self.take_back(undo);
+        Ok(())
+    }
+
+    /// Takes a change back, for which there is room.
+    fn take_back(&mut self, undo: GoUndo)
+        requires fits { Fits undo self.old.content }
+        requires room { need undo ≤ self.old.room }
+        ensures content { self.new.content ≡ undone undo self.old.content }
+        ensures spends { self.old.room + entered undo ≤ self.new.room + need undo }
+    {
+        match undo {
+            GoUndo::Went(undo) => {
+                self.top.undo(undo);
+                self.steps -= 1;
+            }
+            GoUndo::Printed(number) => {
+                let _ = self.top.go_on(number);
+                drop_line(&mut self.text);
+                self.steps -= 1;
+            }
+            GoUndo::Entered => {
+                self.top = self.below.pop().unwrap();
+                self.steps -= 1;
+            }
+            GoUndo::Left(left) => {
+                let Left { frame, caller } = Box::into_inner(left);
+                self.top.undo(caller);
+                let caller = mem::replace(&mut self.top, frame);
+                self.below.push_reserved(caller);
+                self.steps -= 1;
+            }
+            GoUndo::Made(undo) => {
+                self.top.undo(undo);
+                self.steps -= 1;
+                self.channels -= 1;
+            }
+            GoUndo::Began(number) => {
+                let _ = self.top.go_on(number);
+                self.steps -= 1;
+                self.children -= 1;
+            }
+            GoUndo::Met(met) => {
+                let Met { status, frame } = Box::into_inner(met);
+                self.top.undo(frame);
+                self.status = status;
+            }
+            GoUndo::Parked => {
+                self.status = Status::Ready;
+                self.steps -= 1;
+            }
+            GoUndo::Finished(frame) => {
+                self.status = Status::Ready;
+                self.top = frame;
+                self.steps -= 1;
+            }
+            GoUndo::Faulted => self.steps -= 1,
+            GoUndo::Retried(status) => self.status = status,
+        }
+    }
+}

@@ -1,0 +1,21 @@
+//! Whether a goroutine is ready, and what it waits for.
+
+use gr_base::ChName;
+
+/// What a goroutine waits for, with the number of the clause, counted from 1, where it waits in a select.
+#[derive(Debug, Drop)]
+pub enum Wait {
+    Send(ChName, Option<u32>),
+    Receive(ChName, Option<u32>),
+}
+
+/// What a goroutine does next.
+#[derive(Debug, Drop)]
+pub enum Status {
+    /// It takes a step.
+    Ready,
+    /// It waits for one of these; forever, where there is none.
+    Waiting(Vec<Wait>),
+    /// It has returned from its outermost frame, or ended the program.
+    Finished,
+}

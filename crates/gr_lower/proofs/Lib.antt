@@ -1,0 +1,15 @@
+pub mod PartsRead
+pub mod PartsLeft
+pub mod Meant
+pub mod Bounded
+pub mod Walks
+pub mod Rests
+pub mod Entries
+pub mod Sites
+pub mod ActsFit
+pub mod LoopsFit
+pub mod ArmsFit
+pub mod StatementsFit
+pub mod LinesFit
+pub mod FunctionsFit
+pub mod CodeSizes

@@ -1,0 +1,4 @@
+//! From checked programs to code.
+#![tactic(auto)]
+
+pub mod laws;

@@ -1,0 +1,11 @@
+mod ChannelNames
+mod RoomLemmas
+mod BackInOrder
+mod Joining
+mod SeenLemmas
+mod AnswerLemmas
+mod SuffixLemmas
+mod Returning
+mod Reserving
+mod Withdrawals
+mod Validity
