@@ -18,11 +18,13 @@ pub mod GoingLemmas
 pub mod StateLemmas
 pub mod BackLemmas
 pub mod AttemptLemmas
-pub mod NamedBackLemmas
-pub mod WrittenLemmas
 pub mod TaskLemmas
 pub mod LocalLemmas
 pub mod StandingLemmas
 pub mod WithinLemmas
 pub mod ArrivingLemmas
 pub mod StartingLemmas
+pub mod CodeStepLemmas
+pub mod CodeFaultLemmas
+pub mod NamedBackLemmas
+pub mod WrittenLemmas

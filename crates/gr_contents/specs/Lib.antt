@@ -18,10 +18,12 @@ pub mod Making
 pub mod Going
 pub mod TakingBack
 pub mod Attempting
-pub mod NamedBack
-pub mod Written
 pub mod Standing
 pub mod Tasks
 pub mod Local
 pub mod Arriving
 pub mod Starting
+pub mod CodeSteps
+pub mod CodeFaults
+pub mod NamedBack
+pub mod Written

@@ -10,6 +10,10 @@ ghost use Rattle.gr_contents.specs.Arriving.{OfEachStep, ValueArrives, ChannelAr
 ghost use Rattle.gr_contents.specs.Arriving.{ValueCanArrive, CompletionCanArrive, ChildCanArrive, PassingCanArrive, SelectHasClauses};
 ghost use Rattle.gr_contents.specs.Arriving.{ParkedIsRuled, FinishedIsRuled, FaultedIsRuled};
 ghost use Rattle.gr_contents.specs.Arriving.{OfEachProgram, MeetingArrives, MeetingCanArrive, RetriedIsRuled, EnteredIsRuled, CanBeEntered, StartedIsRuled};
+ghost use Rattle.gr_contents.specs.CodeSteps.{MakeOfCode, MakeCanArrive, GoOfCode, GoIsNew, LenOfCode, CapOfCode};
+ghost use Rattle.gr_contents.specs.CodeSteps.{CloseOfCode, CloseFindsWaiters, FinishOfCode, ExitOfCode};
+ghost use Rattle.gr_contents.specs.CodeFaults.{MakeOfNegative, MakeOfGreat, MakeOfTooMany, GoTooDeep, GoTooMany, CloseNil, CloseTwice};
+ghost use Rattle.gr_contents.specs.CodeFaults.{LenOfNil, CapOfNil, LenCanArrive, CapCanArrive};
 ghost use Rattle.gr_contents.specs.Starting.{BegunIsTheStart, BegunStands, MainIsEntered};
 ghost use Rattle.gr_contents.specs.Standing.{OfEachCode, LocalStepKeepsStanding, ArrivalKeepsStanding, ChangeKeepsStanding, GoneKeepsStanding};
 ghost use Rattle.gr_contents.specs.Standing.{WakingKeepsStanding, SameGoroutinesStand};
@@ -67,6 +71,37 @@ pub fn law_of_beginnings()
     ensures begun { OfEachProgram BegunIsTheStart }
     ensures stands { OfEachProgram BegunStands }
     ensures main { OfEachProgram MainIsEntered }
+{}
+
+/// The steps of goroutines of code that make channels, start goroutines, count, close and end. Where the rules have such a step,
+/// code goes on, names are new and those that wait are there.
+pub fn law_of_code_steps()
+    ensures makes { OfEachGoroutine MakeOfCode }
+    ensures makes_on { OfEachGoroutine MakeCanArrive }
+    ensures starts { OfEachGoroutine GoOfCode }
+    ensures starts_on { OfEachGoroutine GoIsNew }
+    ensures items { OfEachGoroutine LenOfCode }
+    ensures places { OfEachGoroutine CapOfCode }
+    ensures closes { OfEachGoroutine CloseOfCode }
+    ensures closes_on { OfEachGoroutine CloseFindsWaiters }
+    ensures finishes { OfEachGoroutine FinishOfCode }
+    ensures exits { OfEachGoroutine ExitOfCode }
+{}
+
+/// The faults of goroutines of code that the rules find beyond the goroutine, and counts of nil. Where the count of a channel is a
+/// step of the rules, code goes on with it.
+pub fn law_of_code_faults()
+    ensures negative { OfEachGoroutine MakeOfNegative }
+    ensures great { OfEachGoroutine MakeOfGreat }
+    ensures channels { OfEachGoroutine MakeOfTooMany }
+    ensures deep { OfEachGoroutine GoTooDeep }
+    ensures children { OfEachGoroutine GoTooMany }
+    ensures nil { OfEachGoroutine CloseNil }
+    ensures twice { OfEachGoroutine CloseTwice }
+    ensures items_of_nil { OfEachGoroutine LenOfNil }
+    ensures places_of_nil { OfEachGoroutine CapOfNil }
+    ensures items_on { OfEachGoroutine LenCanArrive }
+    ensures places_on { OfEachGoroutine CapCanArrive }
 {}
 
 /// The frames of goroutines of code stand at instructions, wherever they go.
