@@ -13,3 +13,9 @@ pub mod StatementsFit
 pub mod LinesFit
 pub mod FunctionsFit
 pub mod CodeSizes
+pub mod Emits
+pub mod ActEmits
+pub mod StatementEmits
+pub mod ArmEmits
+pub mod LineMarks
+pub mod FunctionEmits

@@ -6,4 +6,6 @@ pub mod Lines
 pub mod StatementPoints
 pub mod Lowered
 pub mod CanLower
+pub mod Headings
+pub mod TurnHeadings
 pub mod Examples

@@ -1,0 +1,388 @@
+//! The code of statements with no statements in them.
+ghost use Rattle.std.specs.Prelude.{◌≡◌, ◌+◌, ◌++◌, ◌∷◌, [], IfOk, OnOk, vec_len};
+ghost use Rattle.gr_tree.specs.Statements.{optional};
+ghost use Rattle.gr_program.specs.TypeViews.{literal_of};
+ghost use Rattle.gr_program.specs.Views.{expr_of, exprs_of, prints_of, act_of, opening_of};
+ghost use Rattle.gr_rules.specs.Operands as rules;
+ghost use Rattle.gr_rules.specs.Points as points;
+ghost use Rattle.gr_code.specs.Instructions as spec;
+ghost use Rattle.gr_code.specs.CodeViews.{operand_of, operands_of, action_of, pieces_of, piece_of, instructions_of};
+ghost use Rattle.gr_code.specs.Passing.{parts_in};
+ghost use Rattle.gr_lower.specs.PartCode.{left_in, code_in};
+ghost use Rattle.gr_lower.specs.Sizes.{whole_size, returned, act_size, opening_size};
+ghost use Rattle.gr_lower.specs.StatementCode.{performed, whole_code, goes, act_code, opening_code};
+ghost use Rattle.gr_lower.specs.Headings.{ways_of};
+
+use crate::expressions::{lower_expr, lower_exprs, put};
+use crate::nesting::{Ways, leaving, turning};
+use crate::parts::{count, sum};
+use gr_base::NoMemory;
+use gr_code::code::{Action, Ask, Instruction, Operand, Piece};
+use gr_program::program::{Opening, Printed};
+use gr_program::{Act, Expr, Literal};
+use std::alloc::Global;
+
+/// What is done with operands.
+pub fn perform(
+    out: &mut Vec<Instruction>,
+    action: Action,
+    operands: Vec<Operand>,
+) -> Result<(), NoMemory>
+    ensures code { OnOk result (instructions_of out.new.items
+        ≡ instructions_of out.old.items ++ spec.Perform (action_of action) (operands_of operands.items) ∷ []) }
+    ensures grown { OnOk result (vec_len out.new ≡ vec_len out.old + 1) }
+{
+    put(out, Instruction::Perform { action, operands })
+}
+
+/// One operand.
+pub fn single(alloc: Global, operand: Operand) -> Result<Vec<Operand>, NoMemory>
+    ensures { IfOk result (λ xs. operands_of xs.items ≡ rules.one (operand_of operand)) }
+{
+    let mut operands = Vec::new(alloc);
+    operands.push(operand)?;
+    Ok(operands)
+}
+
+fn pair(alloc: Global, first: Operand, second: Operand) -> Result<Vec<Operand>, NoMemory>
+    ensures { IfOk result (λ xs. operands_of xs.items ≡ rules.two (operand_of first) (operand_of second)) }
+{
+    let mut operands = Vec::new(alloc);
+    operands.push(first)?;
+    operands.push(second)?;
+    Ok(operands)
+}
+
+/// The same targets once more.
+pub fn copies(alloc: Global, targets: &[Option<usize>]) -> Result<Vec<Option<usize>>, NoMemory>
+    ensures { IfOk result (λ xs. xs.items ≡ targets.now) }
+{
+    Ok(targets.iter().copied().collect(alloc)?)
+}
+
+/// The parts of expressions, and then what is done with what is left of them.
+fn perform_all(
+    alloc: Global,
+    out: &mut Vec<Instruction>,
+    exprs: &[Expr],
+    first: usize,
+    action: Action,
+) -> Result<(), NoMemory>
+    ensures code { OnOk result (instructions_of out.new.items
+        ≡ instructions_of out.old.items ++ performed (rules.operands_of (exprs_of exprs.now)) first (vec_len out.old) (action_of action)) }
+    ensures grown { OnOk result (vec_len out.new ≡ vec_len out.old + (parts_in (rules.operands_of (exprs_of exprs.now)) + 1)) }
+{
+    let operands = lower_exprs(alloc, out, exprs, first)?;
+    perform(out, action, operands)
+}
+
+/// .. of one expression.
+pub fn perform_one(
+    alloc: Global,
+    out: &mut Vec<Instruction>,
+    expr: &Expr,
+    first: usize,
+    action: Action,
+) -> Result<(), NoMemory>
+    ensures code { OnOk result (instructions_of out.new.items
+        ≡ instructions_of out.old.items ++ performed (rules.one (rules.operand_of (expr_of expr.now))) first (vec_len out.old) (action_of action)) }
+    ensures grown { OnOk result (vec_len out.new ≡ vec_len out.old + (parts_in (rules.one (rules.operand_of (expr_of expr.now))) + 1)) }
+{
+    let operand = lower_expr(alloc, out, expr, first)?;
+    let operands = single(alloc, operand)?;
+    perform(out, action, operands)
+}
+
+// .. of two.
+fn perform_two(
+    alloc: Global,
+    out: &mut Vec<Instruction>,
+    channel: &Expr,
+    value: &Expr,
+    first: usize,
+    action: Action,
+) -> Result<(), NoMemory>
+    ensures code { OnOk result (instructions_of out.new.items ≡ instructions_of out.old.items
+        ++ performed (rules.two (rules.operand_of (expr_of channel.now)) (rules.operand_of (expr_of value.now))) first (vec_len out.old) (action_of action)) }
+    ensures grown { OnOk result (vec_len out.new ≡ vec_len out.old
+        + (parts_in (rules.two (rules.operand_of (expr_of channel.now)) (rules.operand_of (expr_of value.now))) + 1)) }
+{
+    let begins = out.len();
+    let channel = lower_expr(alloc, out, channel, first)?;
+    let next = sum(first, out.len() - begins)?;
+    let value = lower_expr(alloc, out, value, next)?;
+    let operands = pair(alloc, channel, value)?;
+    perform(out, action, operands)
+}
+
+/// .. of none.
+pub fn perform_none(
+    alloc: Global,
+    out: &mut Vec<Instruction>,
+    action: Action,
+) -> Result<(), NoMemory>
+    ensures code { OnOk result (instructions_of out.new.items ≡ instructions_of out.old.items ++ spec.Perform (action_of action) rules.nothing ∷ []) }
+    ensures grown { OnOk result (vec_len out.new ≡ vec_len out.old + 1) }
+{
+    perform(out, action, Vec::new(alloc))
+}
+
+// A `return`, which may have no value.
+fn give_back(
+    alloc: Global,
+    out: &mut Vec<Instruction>,
+    value: &Option<Expr>,
+    first: usize,
+) -> Result<(), NoMemory>
+    ensures code { OnOk result (instructions_of out.new.items
+        ≡ instructions_of out.old.items ++ performed (returned (optional expr_of value.now)) first (vec_len out.old) spec.Returns) }
+    ensures grown { OnOk result (vec_len out.new ≡ vec_len out.old + (parts_in (returned (optional expr_of value.now)) + 1)) }
+{
+    match value {
+        Some(value) => perform_one(alloc, out, value, first, Action::Return),
+        None => perform_none(alloc, out, Action::Return),
+    }
+}
+
+// A call or a receive that is a statement.
+fn whole(
+    alloc: Global,
+    out: &mut Vec<Instruction>,
+    value: &Expr,
+    first: usize,
+    on: usize,
+) -> Result<(), NoMemory>
+    ensures code { OnOk result (instructions_of out.new.items
+        ≡ instructions_of out.old.items ++ whole_code (rules.operand_of (expr_of value.now)) first (vec_len out.old) on) }
+    ensures grown { OnOk result (vec_len out.new ≡ vec_len out.old + whole_size (rules.operand_of (expr_of value.now))) }
+{
+    let slot = None;
+    match value {
+        Expr::Call(function, arguments) => {
+            let arguments = lower_exprs(alloc, out, arguments, first)?;
+            let function = *function;
+            let ask = Ask::Call {
+                function,
+                arguments,
+            };
+            put(out, Instruction::Part { ask, slot, on })
+        }
+        Expr::Receive(channel, zero) => {
+            let channel = lower_expr(alloc, out, channel, first)?;
+            let zero = *zero;
+            let ask = Ask::Receive { channel, zero };
+            put(out, Instruction::Part { ask, slot, on })
+        }
+        _ => perform_one(alloc, out, value, first, Action::Fail),
+    }
+}
+
+/// Assigns what two temporaries hold.
+pub fn assign_pair(
+    alloc: Global,
+    out: &mut Vec<Instruction>,
+    targets: Vec<Option<usize>>,
+    first: usize,
+    on: usize,
+) -> Result<(), NoMemory>
+    ensures code { OnOk result (instructions_of out.new.items ≡ instructions_of out.old.items
+        ++ spec.Perform (spec.Assigns targets.items on) (rules.two (rules.Variable first) (rules.Variable (first + 1))) ∷ []) }
+    ensures grown { OnOk result (vec_len out.new ≡ vec_len out.old + 1) }
+{
+    let second = sum(first, 1)?;
+    let operands = pair(alloc, Operand::Variable(first), Operand::Variable(second))?;
+    perform(out, Action::Assign { targets, on }, operands)
+}
+
+fn two_targets(
+    alloc: Global,
+    value: Option<usize>,
+    ok: Option<usize>,
+) -> Result<Vec<Option<usize>>, NoMemory>
+    ensures { IfOk result (λ xs. xs.items ≡ value ∷ ok ∷ []) }
+{
+    let mut targets = Vec::new(alloc);
+    targets.push(value)?;
+    targets.push(ok)?;
+    Ok(targets)
+}
+
+// A receive of two values, which are assigned by a step of its own.
+fn receive_two(
+    alloc: Global,
+    out: &mut Vec<Instruction>,
+    targets: Vec<Option<usize>>,
+    channel: &Expr,
+    zero: Literal,
+    first: usize,
+    on: usize,
+) -> Result<(), NoMemory>
+    ensures code { OnOk result (instructions_of out.new.items ≡ instructions_of out.old.items
+        ++ (performed (rules.one (rules.operand_of (expr_of channel.now))) first (vec_len out.old)
+        (spec.AssignsReceived (rules.value_of (literal_of zero)) first (first + 1) (vec_len out.old + parts_in (rules.one (rules.operand_of (expr_of channel.now))) + 1))
+        ++ spec.Perform (spec.Assigns targets.items on) (rules.two (rules.Variable first) (rules.Variable (first + 1))) ∷ [])) }
+    ensures grown { OnOk result (vec_len out.new ≡ vec_len out.old + (parts_in (rules.one (rules.operand_of (expr_of channel.now))) + 2)) }
+{
+    let value = first;
+    let ok = sum(first, 1)?;
+    let next = sum(sum(out.len(), count(channel)?)?, 1)?;
+    let action = Action::AssignReceived {
+        zero,
+        value,
+        ok,
+        on: next,
+    };
+    perform_one(alloc, out, channel, first, action)?;
+    assign_pair(alloc, out, targets, first, on)
+}
+
+fn piece(alloc: Global, printed: &Printed) -> Result<Piece, NoMemory>
+    ensures { IfOk result (λ p. piece_of p ∷ [] ≡ points.pieces_of (prints_of (printed.now ∷ []))) }
+{
+    match printed {
+        Printed::Value(_) => Ok(Piece::Value),
+        Printed::Text(bytes) => Ok(Piece::Text(bytes.iter().copied().collect(alloc)?)),
+    }
+}
+
+fn pieces(alloc: Global, values: &[Printed]) -> Result<Vec<Piece>, NoMemory>
+    ensures { IfOk result (λ ps. pieces_of ps.items ≡ points.pieces_of (prints_of values.now)) }
+{
+    let mut found = Vec::new(alloc);
+    for printed in values {
+        let next = piece(alloc, printed)?;
+        found.push(next)?;
+    }
+    Ok(found)
+}
+
+// The parts of what is printed, and what is left of it.
+fn lower_printed(
+    alloc: Global,
+    out: &mut Vec<Instruction>,
+    values: &[Printed],
+    first: usize,
+) -> Result<Vec<Operand>, NoMemory>
+    ensures code { OnOk result (instructions_of out.new.items
+        ≡ instructions_of out.old.items ++ code_in (points.printed_operands (prints_of values.now)) first (vec_len out.old)) }
+    ensures grown { OnOk result (vec_len out.new ≡ vec_len out.old + parts_in (points.printed_operands (prints_of values.now))) }
+    ensures value { IfOk result (λ xs. operands_of xs.items ≡ left_in (points.printed_operands (prints_of values.now)) first) }
+{
+    let begins = out.len();
+    let mut operands = Vec::new(alloc);
+    for printed in values {
+        let next = sum(first, out.len() - begins)?;
+        let Printed::Value(value) = printed else {
+            continue
+        };
+        let operand = lower_expr(alloc, out, value, next)?;
+        operands.push(operand)?;
+    }
+    Ok(operands)
+}
+
+fn print(
+    alloc: Global,
+    out: &mut Vec<Instruction>,
+    values: &[Printed],
+    first: usize,
+    on: usize,
+) -> Result<(), NoMemory>
+    ensures code { OnOk result (instructions_of out.new.items ≡ instructions_of out.old.items
+        ++ performed (points.printed_operands (prints_of values.now)) first (vec_len out.old) (spec.PrintsLine (points.pieces_of (prints_of values.now)) on)) }
+    ensures grown { OnOk result (vec_len out.new ≡ vec_len out.old + (parts_in (points.printed_operands (prints_of values.now)) + 1)) }
+{
+    let pieces = pieces(alloc, values)?;
+    let operands = lower_printed(alloc, out, values, first)?;
+    perform(out, Action::Print { pieces, on }, operands)
+}
+
+// A jump; one that leads nowhere is in no checked program.
+fn go_on(alloc: Global, out: &mut Vec<Instruction>, to: Option<usize>) -> Result<(), NoMemory>
+    ensures code { OnOk result (instructions_of out.new.items ≡ instructions_of out.old.items ++ goes to ∷ []) }
+    ensures grown { OnOk result (vec_len out.new ≡ vec_len out.old + 1) }
+{
+    match to {
+        Some(on) => perform_none(alloc, out, Action::GoOn { on }),
+        None => perform_none(alloc, out, Action::Fail),
+    }
+}
+
+/// The code of a statement with no statements in it, before `on`; `first` is the first free temporary.
+pub fn lower_act(
+    alloc: Global,
+    out: &mut Vec<Instruction>,
+    act: &Act,
+    first: usize,
+    on: usize,
+    ways: &Ways,
+) -> Result<(), NoMemory>
+    ensures code { OnOk result (instructions_of out.new.items
+        ≡ instructions_of out.old.items ++ act_code (act_of act.now) first (vec_len out.old) on (ways_of ways.now)) }
+    ensures grown { OnOk result (vec_len out.new ≡ vec_len out.old + act_size (act_of act.now)) }
+{
+    match act {
+        Act::Assign { targets, values } => {
+            let targets = copies(alloc, targets)?;
+            perform_all(alloc, out, values, first, Action::Assign { targets, on })
+        }
+        Act::AssignReceive {
+            value,
+            ok,
+            channel,
+            zero,
+        } => {
+            let targets = two_targets(alloc, *value, *ok)?;
+            receive_two(alloc, out, targets, channel, *zero, first, on)
+        }
+        Act::Update {
+            variable,
+            op,
+            value,
+        } => {
+            let (variable, op) = (*variable, *op);
+            perform_one(
+                alloc,
+                out,
+                value,
+                first,
+                Action::Update { variable, op, on },
+            )
+        }
+        Act::Eval(value) => whole(alloc, out, value, first, on),
+        Act::Close(channel) => perform_one(alloc, out, channel, first, Action::Close { on }),
+        Act::Print(values) => print(alloc, out, values, first, on),
+        Act::Send { channel, value } => {
+            perform_two(alloc, out, channel, value, first, Action::Send { on })
+        }
+        Act::Go {
+            function,
+            arguments,
+        } => {
+            let function = *function;
+            perform_all(alloc, out, arguments, first, Action::Start { function, on })
+        }
+        Act::Return(value) => give_back(alloc, out, value, first),
+        Act::Break(depth) => go_on(alloc, out, leaving(*depth, ways)),
+        Act::Continue(depth) => go_on(alloc, out, turning(*depth, ways)),
+    }
+}
+
+/// The code of the statement in a heading, if there is one.
+pub fn lower_opening(
+    alloc: Global,
+    out: &mut Vec<Instruction>,
+    opening: &Option<Opening>,
+    first: usize,
+    on: usize,
+    ways: &Ways,
+) -> Result<(), NoMemory>
+    ensures code { OnOk result (instructions_of out.new.items
+        ≡ instructions_of out.old.items ++ opening_code (optional opening_of opening.now) first (vec_len out.old) on (ways_of ways.now)) }
+    ensures grown { OnOk result (vec_len out.new ≡ vec_len out.old + opening_size (optional opening_of opening.now)) }
+{
+    match opening {
+        Some(opening) => lower_act(alloc, out, &opening.act, first, on, ways),
+        None => Ok(()),
+    }
+}

@@ -1,0 +1,142 @@
+//! The arms of a select.
+ghost use Rattle.std.specs.Prelude.{◌≡◌, ◌+◌, ◌-◌, ◌≤◌, ◌++◌, ◌∷◌, ℕ, IfOk, OnOk, vec_len};
+ghost use Rattle.gr_program.specs.Programs.{Cases};
+ghost use Rattle.gr_program.specs.Views.{case_on, cases_of};
+ghost use Rattle.gr_rules.specs.Points.{case_operands};
+ghost use Rattle.gr_code.specs.CodeViews.{arm_of, arms_of, instructions_of};
+ghost use Rattle.gr_code.specs.Passing.{parts_in};
+ghost use Rattle.gr_lower.specs.PartCode.{code_in};
+ghost use Rattle.gr_lower.specs.Sizes.{size_among};
+ghost use Rattle.gr_lower.specs.StatementCode.{entry as spec_entry, into as spec_into, arms};
+ghost use Rattle.gr_lower.specs.TurnHeadings.{select_heading};
+
+use crate::expressions::{lower_expr, put};
+use crate::parts::sum;
+use crate::sizing::{count_cases, size_of_all, size_of_case, size_of_targets};
+use gr_base::NoMemory;
+use gr_code::code::{Arm, Instruction};
+use gr_program::program::Case;
+use std::alloc::Global;
+
+/// The first of so many instructions, if there are any, and else what follows.
+pub fn entry(many: usize, first: usize, on: usize) -> usize
+    ensures { result ≡ spec_entry many first on }
+{
+    if many == 0 { on } else { first }
+}
+
+// Where a clause lays what it receives, if it assigns it.
+fn into(targets: &[Option<usize>], first: usize) -> Result<Option<(usize, usize)>, NoMemory>
+    ensures { IfOk result (λ x. x ≡ spec_into targets.now first) }
+{
+    if targets.is_empty() {
+        return Ok(None);
+    }
+    Ok(Some((first, sum(first, 1)?)))
+}
+
+// The parts of the operands of a clause, the first with the temporary `next`, and its arm; its instructions begin at `begins`.
+fn lower_arm(
+    alloc: Global,
+    out: &mut Vec<Instruction>,
+    case: &Case,
+    next: usize,
+    first: usize,
+    begins: usize,
+    on: usize,
+) -> Result<Arm, NoMemory>
+    ensures code { OnOk result ((others : Cases)
+        → instructions_of out.new.items ++ code_in (case_operands others) (next + (vec_len out.new - vec_len out.old)) (vec_len out.new)
+        ≡ instructions_of out.old.items ++ code_in (case_operands (case_on case.now others)) next (vec_len out.old)) }
+    ensures grown { OnOk result ((others : Cases)
+        → vec_len out.new + parts_in (case_operands others) ≡ vec_len out.old + parts_in (case_operands (case_on case.now others))) }
+    ensures more { OnOk result (vec_len out.old ≤ vec_len out.new) }
+    ensures value { IfOk result (λ a. (others : Cases) (n : ℕ) → size_among (case_on case.now others) ≡ n + size_among others
+        → arms (case_on case.now others) next first begins on
+        ≡ arm_of a ∷ arms others (next + (vec_len out.new - vec_len out.old)) first (begins + n) on) }
+{
+    match case {
+        Case::Default(body) => {
+            let many = size_of_all(body)?;
+            let on = entry(many, begins, on);
+            Ok(Arm::Default { on })
+        }
+        Case::Send {
+            channel,
+            value,
+            body,
+        } => {
+            let many = size_of_all(body)?;
+            let on = entry(many, begins, on);
+            let start = out.len();
+            let channel = lower_expr(alloc, out, channel, next)?;
+            let next = sum(next, out.len() - start)?;
+            let value = lower_expr(alloc, out, value, next)?;
+            Ok(Arm::Send { channel, value, on })
+        }
+        Case::Receive {
+            targets,
+            channel,
+            zero,
+            body,
+        } => {
+            let many = size_of_all(body)?;
+            let all = sum(size_of_targets(targets), many)?;
+            let on = entry(all, begins, on);
+            let channel = lower_expr(alloc, out, channel, next)?;
+            let into = into(targets, first)?;
+            let zero = *zero;
+            Ok(Arm::Receive {
+                channel,
+                zero,
+                into,
+                on,
+            })
+        }
+    }
+}
+
+/// The parts of the operands of the clauses of a select, and its arms, whose instructions begin at `begins`.
+pub fn lower_arms(
+    alloc: Global,
+    out: &mut Vec<Instruction>,
+    cases: &[Case],
+    first: usize,
+    begins: usize,
+    on: usize,
+) -> Result<Vec<Arm>, NoMemory>
+    ensures code { OnOk result (instructions_of out.new.items
+        ≡ instructions_of out.old.items ++ code_in (case_operands (cases_of cases.now)) first (vec_len out.old)) }
+    ensures grown { OnOk result (vec_len out.new ≡ vec_len out.old + parts_in (case_operands (cases_of cases.now))) }
+    ensures value { IfOk result (λ xs. arms_of xs.items ≡ arms (cases_of cases.now) first first begins on) }
+{
+    let start = out.len();
+    let mut found = Vec::new(alloc);
+    let mut place = begins;
+    for case in cases {
+        let next = sum(first, out.len() - start)?;
+        let many = size_of_case(case)?;
+        let arm = lower_arm(alloc, out, case, next, first, place, on)?;
+        found.push(arm)?;
+        let after = sum(place, many)?;
+        place = after;
+    }
+    Ok(found)
+}
+
+/// A select before its clauses.
+pub fn head_select(
+    alloc: Global,
+    out: &mut Vec<Instruction>,
+    cases: &[Case],
+    first: usize,
+    on: usize,
+) -> Result<(), NoMemory>
+    ensures code { OnOk result (instructions_of out.new.items
+        ≡ instructions_of out.old.items ++ select_heading (cases_of cases.now) first (vec_len out.old) on) }
+    ensures grown { OnOk result (vec_len out.new ≡ vec_len out.old + (parts_in (case_operands (cases_of cases.now)) + 1)) }
+{
+    let begins = sum(sum(out.len(), count_cases(cases)?)?, 1)?;
+    let arms = lower_arms(alloc, out, cases, first, begins, on)?;
+    put(out, Instruction::Choose { arms })
+}

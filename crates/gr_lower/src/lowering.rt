@@ -1,0 +1,77 @@
+//! The code of functions and programs.
+ghost use Rattle.std.specs.Prelude.{◌≡◌, length, map, IfOk};
+ghost use Rattle.gr_program.specs.TypeViews.{declared_of};
+ghost use Rattle.gr_program.specs.Views.{stmts_of, parameters_of, function_of, functions_of, program_of};
+ghost use Rattle.gr_rules.specs.Frames.{variable_of};
+ghost use Rattle.gr_code.specs.CodeViews.{instructions_of, function_code_of, program_code_of};
+ghost use Rattle.gr_lower.specs.Lowered.{body_code, lowered_function, lowered};
+
+use crate::acts::perform_none;
+use crate::frames::cells_of;
+use crate::nesting::Ways;
+use crate::placing::lines_of;
+use crate::sizing::size_of_all;
+use crate::statements::lower_stmts;
+use gr_base::NoMemory;
+use gr_code::code::{Action, Code, FunctionCode, Instruction};
+use gr_program::{Function, Parameter, Program, Stmt, Variable};
+use std::alloc::Global;
+
+fn variables_of(alloc: Global, parameters: &[Parameter]) -> Result<Vec<Option<usize>>, NoMemory>
+    ensures { IfOk result (λ xs. xs.items ≡ map variable_of (parameters_of parameters.now)) }
+{
+    let mut found = Vec::new(alloc);
+    for parameter in parameters {
+        found.push(parameter.variable)?;
+    }
+    Ok(found)
+}
+
+fn count_variables(variables: &[Variable]) -> usize
+    ensures { result ≡ length (declared_of variables.now) }
+{
+    variables.len()
+}
+
+// The instructions of a body, in a function with so many variables; its closing brace comes last.
+fn lower_body(alloc: Global, body: &[Stmt], variables: usize) -> Result<Vec<Instruction>, NoMemory>
+    ensures { IfOk result (λ xs. instructions_of xs.items ≡ body_code variables (stmts_of body.now)) }
+{
+    let mut out = Vec::new(alloc);
+    let many = size_of_all(body)?;
+    lower_stmts(alloc, &mut out, body, many, variables, many, &Ways::Outside)?;
+    perform_none(alloc, &mut out, Action::Return)?;
+    Ok(out)
+}
+
+fn lower_function(alloc: Global, function: &Function) -> Result<FunctionCode, NoMemory>
+    ensures { IfOk result (λ f. function_code_of f ≡ lowered_function (function_of function.now)) }
+{
+    let variables = count_variables(&function.variables);
+    let parameters = variables_of(alloc, &function.parameters)?;
+    let instructions = lower_body(alloc, &function.body, variables)?;
+    let cells = cells_of(variables, &instructions)?;
+    let lines = lines_of(alloc, &function.body, function.closing)?;
+    Ok(FunctionCode {
+        parameters,
+        variables,
+        cells,
+        instructions,
+        lines,
+    })
+}
+
+/// The code of a program: one instruction for each step. Its only error is that memory ran out.
+pub fn lower(alloc: Global, program: &Program) -> Result<Code, NoMemory>
+    ensures { IfOk result (λ code. program_code_of code ≡ lowered (program_of program.now)) }
+{
+    let mut functions = Vec::new(alloc);
+    for function in &program.functions {
+        let code = lower_function(alloc, function)?;
+        functions.push(code)?;
+    }
+    Ok(Code {
+        functions,
+        main: program.main,
+    })
+}

@@ -1,0 +1,68 @@
+//! How many parts expressions have.
+ghost use Rattle.std.specs.Prelude.{◌≡◌, ◌+◌, IfOk};
+ghost use Rattle.gr_program.specs.Views.{expr_of, exprs_of};
+ghost use Rattle.gr_rules.specs.Operands.{operand_of, operands_of};
+ghost use Rattle.gr_rules.specs.Parts.{is_logical};
+ghost use Rattle.gr_code.specs.Passing.{parts, parts_in, with_decision};
+
+use gr_base::NoMemory;
+use gr_program::Expr;
+use gr_tree::BinaryOp;
+
+/// The sum, where there is such a number: no memory holds more instructions.
+pub fn sum(a: usize, b: usize) -> Result<usize, NoMemory>
+    ensures { IfOk result (λ n. n ≡ a + b) }
+{
+    a.checked_add(b).ok_or(NoMemory)
+}
+
+/// Whether the operator is `&&` or `||`.
+pub fn is_logic(op: BinaryOp) -> bool
+    ensures { result ≡ is_logical op }
+{
+    match op {
+        BinaryOp::LogicalAnd | BinaryOp::LogicalOr => true,
+        _ => false,
+    }
+}
+
+// The parts of a right operand, with the decision before them.
+fn decided(op: BinaryOp, right: usize) -> Result<usize, NoMemory>
+    ensures { IfOk result (λ n. n ≡ with_decision op right) }
+{
+    if right > 0 && is_logic(op) {
+        return sum(right, 1);
+    }
+    Ok(right)
+}
+
+/// How many parts the expression has, with those of right operands that may be passed by.
+#[cycle(counting)]
+pub fn count(expr: &Expr) -> Result<usize, NoMemory>
+    ensures { IfOk result (λ n. n ≡ parts (operand_of (expr_of expr.now))) }
+{
+    match expr {
+        Expr::Literal(_) | Expr::Variable(_) => Ok(0),
+        Expr::Make => Ok(1),
+        Expr::Unary(_, operand) => count(operand),
+        Expr::Binary(op, left, right) => sum(count(left)?, decided(*op, count(right)?)?),
+        Expr::Receive(operand, _) | Expr::Len(operand) | Expr::Cap(operand) => sum(
+            count(operand)?,
+            1,
+        ),
+        Expr::MakeSized(operand) => sum(count(operand)?, 1),
+        Expr::Call(_, arguments) => sum(count_all(arguments)?, 1),
+    }
+}
+
+/// .. and those of several expressions.
+#[cycle(counting)]
+pub fn count_all(exprs: &[Expr]) -> Result<usize, NoMemory>
+    ensures { IfOk result (λ n. n ≡ parts_in (operands_of (exprs_of exprs.now))) }
+{
+    let mut found = 0usize;
+    for expr in exprs {
+        found = sum(found, count(expr)?)?;
+    }
+    Ok(found)
+}

@@ -1,0 +1,190 @@
+//! How many instructions statements have.
+ghost use Rattle.std.specs.Prelude.{◌≡◌, ◌+◌, ◌∷◌, [], IfOk};
+ghost use Rattle.gr_tree.specs.Statements.{optional};
+ghost use Rattle.gr_program.specs.Programs.{Cases};
+ghost use Rattle.gr_program.specs.Views.{expr_of, prints_of, act_of, opening_of, stmt_of, stmts_of, case_on, cases_of};
+ghost use Rattle.gr_rules.specs.Operands.{operand_of};
+ghost use Rattle.gr_rules.specs.Points.{printed_operands, case_operands};
+ghost use Rattle.gr_code.specs.Passing.{parts_in};
+ghost use Rattle.gr_lower.specs.Sizes.{whole_size as spec_whole, returned, tested, act_size, opening_size, targets_size, size, size_in, size_among};
+
+use crate::parts::{count, count_all, sum};
+use gr_base::NoMemory;
+use gr_program::program::{Case, Opening, Printed};
+use gr_program::{Act, Expr, Stmt};
+
+// A call or a receive is over with its last part.
+fn whole_size(value: &Expr) -> Result<usize, NoMemory>
+    ensures { IfOk result (λ n. n ≡ spec_whole (operand_of (expr_of value.now))) }
+{
+    match value {
+        Expr::Call(_, _) | Expr::Receive(_, _) => count(value),
+        _ => sum(count(value)?, 1),
+    }
+}
+
+fn count_one_printed(printed: &Printed) -> Result<usize, NoMemory>
+    ensures { IfOk result (λ n. n ≡ parts_in (printed_operands (prints_of (printed.now ∷ [])))) }
+{
+    match printed {
+        Printed::Value(value) => count(value),
+        Printed::Text(_) => Ok(0),
+    }
+}
+
+/// How many parts what is printed has.
+pub fn count_printed(values: &[Printed]) -> Result<usize, NoMemory>
+    ensures { IfOk result (λ n. n ≡ parts_in (printed_operands (prints_of values.now))) }
+{
+    let mut found = 0usize;
+    for printed in values {
+        found = sum(found, count_one_printed(printed)?)?;
+    }
+    Ok(found)
+}
+
+/// How many parts a condition has that may be missing.
+pub fn count_tested(condition: &Option<Expr>) -> Result<usize, NoMemory>
+    ensures { IfOk result (λ n. n ≡ parts_in (tested (optional expr_of condition.now))) }
+{
+    match condition {
+        Some(condition) => count(condition),
+        None => Ok(0),
+    }
+}
+
+fn count_returned(value: &Option<Expr>) -> Result<usize, NoMemory>
+    ensures { IfOk result (λ n. n ≡ parts_in (returned (optional expr_of value.now))) }
+{
+    match value {
+        Some(value) => count(value),
+        None => Ok(0),
+    }
+}
+
+/// How many instructions a statement without statements in it has.
+pub fn size_of_act(act: &Act) -> Result<usize, NoMemory>
+    ensures { IfOk result (λ n. n ≡ act_size (act_of act.now)) }
+{
+    match act {
+        Act::Assign { values, .. } => sum(count_all(values)?, 1),
+        Act::AssignReceive { channel, .. } => sum(count(channel)?, 2),
+        Act::Update { value, .. } => sum(count(value)?, 1),
+        Act::Eval(value) => whole_size(value),
+        Act::Close(channel) => sum(count(channel)?, 1),
+        Act::Print(values) => sum(count_printed(values)?, 1),
+        Act::Send { channel, value } => sum(sum(count(channel)?, count(value)?)?, 1),
+        Act::Go { arguments, .. } => sum(count_all(arguments)?, 1),
+        Act::Return(value) => sum(count_returned(value)?, 1),
+        Act::Break(_) | Act::Continue(_) => Ok(1),
+    }
+}
+
+/// .. and the statement in a heading.
+pub fn size_of_opening(opening: &Option<Opening>) -> Result<usize, NoMemory>
+    ensures { IfOk result (λ n. n ≡ opening_size (optional opening_of opening.now)) }
+{
+    match opening {
+        Some(opening) => size_of_act(&opening.act),
+        None => Ok(0),
+    }
+}
+
+/// How many instructions assign what a clause received.
+pub fn size_of_targets(targets: &[Option<usize>]) -> usize
+    ensures { result ≡ targets_size targets.now }
+{
+    if targets.is_empty() { 0 } else { 1 }
+}
+
+/// How many instructions a statement has.
+#[cycle(sizing)]
+pub fn size_of(stmt: &Stmt) -> Result<usize, NoMemory>
+    ensures { IfOk result (λ n. n ≡ size (stmt_of stmt.now)) }
+{
+    match stmt {
+        Stmt::Act { act, .. } => size_of_act(act),
+        Stmt::Block(body) => size_of_all(body),
+        Stmt::If {
+            init,
+            condition,
+            body,
+            otherwise,
+            ..
+        } => {
+            let test = sum(count(condition)?, 1)?;
+            let heading = sum(size_of_opening(init)?, test)?;
+            sum(sum(heading, size_of_all(body)?)?, size_of_all(otherwise)?)
+        }
+        Stmt::For {
+            init,
+            condition,
+            post,
+            body,
+            ..
+        } => {
+            let test = sum(count_tested(condition)?, 1)?;
+            let heading = sum(size_of_opening(init)?, test)?;
+            sum(sum(heading, size_of_all(body)?)?, size_of_opening(post)?)
+        }
+        Stmt::Range { channel, body, .. } => sum(sum(count(channel)?, 4)?, size_of_all(body)?),
+        Stmt::Select { cases, .. } => sum(sum(count_cases(cases)?, 1)?, size_of_cases(cases)?),
+    }
+}
+
+/// .. and how many have several.
+#[cycle(sizing)]
+pub fn size_of_all(stmts: &[Stmt]) -> Result<usize, NoMemory>
+    ensures { IfOk result (λ n. n ≡ size_in (stmts_of stmts.now)) }
+{
+    let mut found = 0usize;
+    for stmt in stmts {
+        found = sum(found, size_of(stmt)?)?;
+    }
+    Ok(found)
+}
+
+/// How many instructions a clause has after the select, before those of others.
+#[cycle(sizing)]
+pub fn size_of_case(case: &Case) -> Result<usize, NoMemory>
+    ensures { IfOk result (λ n. (others : Cases) → size_among (case_on case.now others) ≡ n + size_among others) }
+{
+    match case {
+        Case::Default(body) => size_of_all(body),
+        Case::Send { body, .. } => size_of_all(body),
+        Case::Receive { targets, body, .. } => sum(size_of_targets(targets), size_of_all(body)?),
+    }
+}
+
+#[cycle(sizing)]
+fn size_of_cases(cases: &[Case]) -> Result<usize, NoMemory>
+    ensures { IfOk result (λ n. n ≡ size_among (cases_of cases.now)) }
+{
+    let mut found = 0usize;
+    for case in cases {
+        found = sum(found, size_of_case(case)?)?;
+    }
+    Ok(found)
+}
+
+// How many parts the operands of a clause have, before those of others.
+fn count_case(case: &Case) -> Result<usize, NoMemory>
+    ensures { IfOk result (λ n. (others : Cases) → parts_in (case_operands (case_on case.now others)) ≡ n + parts_in (case_operands others)) }
+{
+    match case {
+        Case::Default(_) => Ok(0),
+        Case::Send { channel, value, .. } => sum(count(channel)?, count(value)?),
+        Case::Receive { channel, .. } => count(channel),
+    }
+}
+
+/// How many parts the operands of clauses have.
+pub fn count_cases(cases: &[Case]) -> Result<usize, NoMemory>
+    ensures { IfOk result (λ n. n ≡ parts_in (case_operands (cases_of cases.now))) }
+{
+    let mut found = 0usize;
+    for case in cases {
+        found = sum(found, count_case(case)?)?;
+    }
+    Ok(found)
+}
