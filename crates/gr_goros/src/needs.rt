@@ -9,9 +9,8 @@ ghost use Rattle.gr_code.specs.Instructions as instructions;
 ghost use Rattle.gr_code.specs.CodeFrames as frames;
 ghost use Rattle.gr_code.specs.CodeViews.{action_of, arm_of, arms_of, ask_of, instruction_of, operand_of, operands_of, program_code_of};
 ghost use Rattle.gr_eval.specs.Stops.{Stops};
-ghost use Rattle.gr_code.specs.Goroutines.{task_of};
+ghost use Rattle.gr_code.specs.Goroutines.{task_of, is_call, is_local_action, is_local_instruction};
 ghost use Rattle.gr_goros.specs.Needs.{clause_by, one_channel, AllCanSend, CanSend, NeedIs, SendsAt, SendsIn, Wanted};
-ghost use Rattle.gr_code.specs.Goroutines.{is_call, is_local_action, is_local_instruction};
 ghost use Rattle.gr_goros.specs.Tasks.{channel_of, performed};
 ghost use Rattle.gr_goros.specs.Views.{communication_of, communications_of, outcome_of};
 

@@ -4,9 +4,8 @@ ghost use Rattle.std.specs.Prelude.{◌≡◌, ◌+◌, ◌<◌, ◌≤◌, ◌^
 ghost use Rattle.gr_base.specs.declared.kinds.Kind.TheVariants as kinds;
 ghost use Rattle.gr_rules.specs.Outcomes.{wrong};
 ghost use Rattle.gr_code.specs.CodeViews.{program_code_of};
-ghost use Rattle.gr_code.specs.Goroutines.{enters, faulted, leaves, local, printing, task_of};
+ghost use Rattle.gr_code.specs.Goroutines.{enters, faulted, leaves, local, printing, task_of, is_local as is_local_now};
 ghost use Rattle.gr_goros.specs.Undoing.{IsLive, Undoes};
-ghost use Rattle.gr_code.specs.Goroutines.{is_local as is_local_now};
 ghost use Rattle.gr_goros.specs.Tasks.{IsStep};
 
 use crate::frame::Frame;

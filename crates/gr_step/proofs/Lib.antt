@@ -9,3 +9,4 @@ mod Returning
 mod Reserving
 mod Withdrawals
 mod Validity
+mod ByNumber
