@@ -4,8 +4,7 @@ use Rattle.indexmap.specs.IndexMap.{get, keys, values}
 use Rattle.gr_rules.specs.States.{same_go, updated}
 use Rattle.gr_rules.specs.Outcomes.{gives, wrong}
 use Rattle.gr_code.specs.CodeFrames.{ProgramCode}
-use Rattle.gr_code.specs.Goroutines.{CodeGoroutine, Arrival, CanCount, arrived, local}
-use Rattle.gr_goros.specs.Needs.{is_local}
+use Rattle.gr_code.specs.Goroutines.{CodeGoroutine, Arrival, CanCount, arrived, local, is_local}
 use Rattle.gr_goros.specs.Undoing.{Undoes, undone, entered, need}
 use Rattle.gr_goros.specs.Views.{Seen, CanHalt}
 use Rattle.gr_goros.specs.declared.arrivals.Halt.{Halt}
