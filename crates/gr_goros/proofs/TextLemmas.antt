@@ -16,6 +16,9 @@ last_length : {A : Type 0} → (xs : List A) (x : A) → length (xs ++ x ∷ [])
 last_length [] x = refl
 last_length (y ∷ xs) x = ap suc (last_length xs x)
 
+pub last_counts : {A : Type 0} → (xs : List A) (x : A) → 0 < length (xs ++ x ∷ [])
+last_counts xs x = omega (arith, last_length xs x)
+
 pub front_last : {A : Type 0} → (xs : List A) (x : A) → front (xs ++ x ∷ []) ≡ xs
 front_last xs x =
     let e : length (xs ++ x ∷ []) - 1 ≡ length xs = omega (arith, last_length xs x) in

@@ -1,5 +1,5 @@
 -- What the next step of a goroutine asks for.
-use Rattle.std.specs.Prelude.{◌≡◌, true, false, List, [], ◌∷◌, Option}
+use Rattle.std.specs.Prelude.{◌≡◌, Bool, true, false, List, [], ◌∷◌, Option}
 use Rattle.gr_base.specs.declared.names.ChName.{ChName}
 use Rattle.gr_base.specs.declared.values.Value.{Value}
 use Rattle.gr_rules.specs.Outcomes.{Outcome, gives, faults, wrong, ◌>>=◌}
@@ -74,3 +74,16 @@ SendsHere cells o = elim o [ gives i ↦ SendsAt cells i | _ ↦ Unit {0} ]
 abbrev pub SendsIn : ProgramCode → List CodeFrame → Type 0
 SendsIn code [] = Unit {0}
 SendsIn code (f ∷ below) = SendsHere f.cells (instruction_in code f)
+
+-- whether the next instruction is that of a select
+abbrev pub is_choice : Outcome Instruction → Bool
+is_choice o = elim o [ gives (Choose arms) ↦ true | _ ↦ false ]
+
+abbrev pub is_select_in : ProgramCode → List CodeFrame → Bool
+is_select_in code [] = false
+is_select_in code (f ∷ below) = is_choice (instruction_in code f)
+
+-- .. and it has these clauses
+abbrev pub SelectsIn : ProgramCode → List CodeFrame → List Arm → Type 0
+SelectsIn code [] arms = ⊥
+SelectsIn code (f ∷ below) arms = instruction_in code f ≡ gives (Choose arms)

@@ -67,7 +67,7 @@ IsLive g = is_finished g.status ≡ false
 -- what taking a change back needs of the content: counts that were raised can be lowered, what came in is there
 abbrev pub Fits : GoUndo → CodeGoroutine → Type 0
 Fits (undos.Went u) g = IsLive g × (0 < g.steps)
-Fits (undos.Printed n) g = IsLive g × (0 < g.steps)
+Fits (undos.Printed n) g = IsLive g × (0 < g.steps) × (0 < length g.text)
 Fits undos.Entered g = IsLive g × (0 < g.steps) × (1 < length g.frames)
 Fits (undos.Left l) g = IsLive g × (0 < g.steps)
 Fits (undos.Made u) g = IsLive g × (0 < g.steps) × (0 < g.channels)

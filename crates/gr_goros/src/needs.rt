@@ -1,6 +1,6 @@
 //! What the next step of a goroutine asks for.
 
-ghost use Rattle.std.specs.Prelude.{◌≡◌, false, IfOk, IfErr};
+ghost use Rattle.std.specs.Prelude.{◌≡◌, false, IfOk, IfErr, MatchOption};
 ghost use Rattle.gr_program.specs.TypeViews.{literal_of};
 ghost use Rattle.gr_rules.specs.Outcomes.{gives, wrong};
 ghost use Rattle.gr_rules.specs.Operands.{value_of};
@@ -10,7 +10,7 @@ ghost use Rattle.gr_code.specs.CodeFrames as frames;
 ghost use Rattle.gr_code.specs.CodeViews.{action_of, arm_of, arms_of, ask_of, instruction_of, operand_of, operands_of, program_code_of};
 ghost use Rattle.gr_eval.specs.Stops.{Stops};
 ghost use Rattle.gr_code.specs.Goroutines.{task_of, is_call, is_local_action, is_local_instruction};
-ghost use Rattle.gr_goros.specs.Needs.{clause_by, one_channel, AllCanSend, CanSend, NeedIs, SendsAt, SendsIn, Wanted};
+ghost use Rattle.gr_goros.specs.Needs.{clause_by, one_channel, is_select_in, AllCanSend, CanSend, NeedIs, SelectsIn, SendsAt, SendsIn, Wanted};
 ghost use Rattle.gr_goros.specs.Tasks.{channel_of, performed};
 ghost use Rattle.gr_goros.specs.Views.{communication_of, communications_of, outcome_of};
 
@@ -299,6 +299,27 @@ pub(crate) fn need_of(alloc: Global, frame: &Frame, instruction: &Instruction) -
 }
 
 impl Goroutine {
+    /// Whether the next step is that of a select, which leaves a choice.
+    #[inline]
+    pub fn is_select(&self, code: &Code) -> bool
+        requires { ¬ (task_of (program_code_of code.now) self.now.content ≡ wrong) }
+        ensures { result ≡ is_select_in (program_code_of code.now) self.now.content.frames }
+    {
+        matches!(self.top.instruction(code), Instruction::Choose { .. })
+    }
+
+    /// The clauses of the select at which it stands, if it stands at one.
+    #[inline]
+    pub fn arms<'a>(&self, code: &'a Code) -> Option<&'a [Arm]>
+        requires { ¬ (task_of (program_code_of code.now) self.now.content ≡ wrong) }
+        ensures { MatchOption result (is_select_in (program_code_of code.now) self.now.content.frames ≡ false) (λ arms. SelectsIn (program_code_of code.now) self.now.content.frames (arms_of arms.now)) }
+    {
+        match self.top.instruction(code) {
+            Instruction::Choose { arms } => Some(arms.as_slice()),
+            _ => None,
+        }
+    }
+
     /// What the next step asks for beyond the goroutine.
     pub fn next_need(&self, alloc: Global, code: &Code) -> Result<Need, NoMemory>
         requires right { ¬ (task_of (program_code_of code.now) self.now.content ≡ wrong) }

@@ -72,7 +72,7 @@ impl Goroutine {
     }
 
     /// Prints a line. Refused, nothing has changed.
-    #[tactic(auto, using(crate::proofs::TextLemmas::lines_last, crate::proofs::TextLemmas::front_last))]
+    #[tactic(auto, using(crate::proofs::TextLemmas::lines_last, crate::proofs::TextLemmas::front_last, crate::proofs::TextLemmas::last_counts))]
     fn print(&mut self, code: &Code, line: Vec<u8>) -> Result<(Kind, GoUndo), NoMemory>
         requires right { ¬ (printing (program_code_of code.now) self.old.content line.items self.old.content.frames ≡ wrong) }
         requires counted { self.old.content.steps + 1 < 2 ^ 64 }

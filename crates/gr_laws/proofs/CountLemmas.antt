@@ -1,6 +1,6 @@
 -- Each step raises the count of its goroutine by one, notes the new count, and prints to the text of its goroutine; it leaves
--- the counts and the texts of all others.
-use Rattle.std.proofs.Common.{fold, ◌≡◌, ℕ, ◌+◌, ◌%◌, ◌==◌, Bool, true, false, if◌then◌else◌, List, [], ◌∷◌, ◌++◌, Option, Some, None, option_map, refl, sym, ◌∙◌, ap, inl, inr}
+-- the counts and the texts of all others. Each end of a buffer goes on by one place at most.
+use Rattle.std.proofs.Common.{fold, ◌≡◌, ℕ, ◌+◌, ◌%◌, ◌==◌, Bool, true, false, if◌then◌else◌, List, [], ◌∷◌, ◌++◌, Option, Some, None, option_map, refl, sym, ◌∙◌, ap, subst, inl, inr, ◌≤◌, arith}
 use Rattle.gr_base.specs.declared.names.ChName.{ChName}
 use Rattle.gr_base.specs.declared.values.Value.{Value}
 use Rattle.gr_base.specs.declared.kinds.Fault.{Fault}
@@ -10,15 +10,16 @@ use Rattle.gr_causal.proofs.ListLemmas.{true_or_false, some_is}
 use Rattle.gr_channels.specs.declared.waiter.Waiter.{Waiter}
 use Rattle.gr_channels.specs.Objects.{GateContent}
 use Rattle.gr_rules.specs.Outcomes.{Outcome, gives, faults, wrong, ◌>>=◌}
+use Rattle.gr_rules.specs.Operators.{same_channel}
 use Rattle.gr_rules.specs.Frames.{Frame}
 use Rattle.gr_rules.specs.Deeds.{past}
 use Rattle.gr_rules.specs.Goroutines.{Wait, Status, ready, waiting, finished, Goroutine}
-use Rattle.gr_rules.specs.States.{Cell, run_has, go_has, gate_has, tail_has, head_has, slot_has, State, same_go, look, put}
+use Rattle.gr_rules.specs.States.{Cell, run_has, go_has, gate_has, tail_has, head_has, slot_has, State, same_go, look, updated, put}
 use Rattle.gr_rules.specs.Attempts.{Refusal, Operation, Attempt, refuse, perform, ask, if_there, ask_gate, room_for, ask_room, ask_item}
 use Rattle.gr_rules.specs.Actors.{Actor, does, fault, given, if_gives, without, channels_but, if_waiting, ask_waiter, ask_withdrawn, met, ask_met}
 use Rattle.gr_rules.specs.Steps.{steps_of, count}
 use Rattle.gr_laws.specs.Consoles.{text_of}
-use Rattle.gr_laws.proofs.CellLemmas.{go_is, go_self, updated_here, updated_else}
+use Rattle.gr_laws.proofs.CellLemmas.{go_is, go_self, channel_is, updated_here, updated_else}
 
 -- how many steps a goroutine took, and what it printed
 abbrev pub Tally : Type 0
@@ -36,14 +37,14 @@ abbrev pub stepped_on : Option (List ℕ) → Tally → Tally
 stepped_on printed t = (t.0 + 1, with_line printed t.1)
 
 module _ (s : State) (me : List ℕ) where
-  -- none of these cells is of the goroutine, and none changes the tally of another
+  -- none of these cells is of the goroutine, none changes the tally of another, and ends of buffers go on by one place at most
   abbrev pub Others : List Cell → Type 0
   Others [] = Unit {0}
   Others (go_has n x ∷ cs) = (n ≡ me → ⊥) × (tally x ≡ tally (s.goroutines n)) × Others cs
   Others (run_has r ∷ cs) = Others cs
   Others (gate_has c x ∷ cs) = Others cs
-  Others (tail_has c n ∷ cs) = Others cs
-  Others (head_has c n ∷ cs) = Others cs
+  Others (tail_has c n ∷ cs) = (n ≤ s.tails c + 1) × Others cs
+  Others (head_has c n ∷ cs) = (n ≤ s.heads c + 1) × Others cs
   Others (slot_has c i x ∷ cs) = Others cs
 
   -- the attempt, where it is a step, writes its goroutine first, with one step more, which it notes, and what it printed
@@ -63,6 +64,8 @@ module _ (s : State) (me : List ℕ) where
   pub record Raised (printed : Option (List ℕ)) (t : State) : Type 0 where
     pub mine : tally (t.goroutines me) ≡ stepped_on printed (tally (s.goroutines me))
     pub others : (n : List ℕ) → (n ≡ me → ⊥) → tally (t.goroutines n) ≡ tally (s.goroutines n)
+    pub tails : (c : ChName) → t.tails c ≤ s.tails c + 1
+    pub heads : (c : ChName) → t.heads c ≤ s.heads c + 1
 
   put_other : {line : Option (List ℕ)} (t : State) (n : List ℕ) (x : Option Goroutine) → (n ≡ me → ⊥)
       → tally x ≡ tally (s.goroutines n)
@@ -73,28 +76,52 @@ module _ (s : State) (me : List ℕ) where
       | inl e ↦ let q = go_is o n e in rw e (same ∙ ap (λ m. tally (s.goroutines m)) (sym q))
       | inr e ↦ rw e (r.others o k)
     ];
+    tails = r.tails;
+    heads = r.heads;
   }
 
-  put_same : {line : Option (List ℕ)} (t u : State) → u.goroutines ≡ t.goroutines → Raised line t → Raised line u
-  put_same t u e r = record {
-    mine = ap (λ (g : List ℕ → Option Goroutine). tally (g me)) e ∙ r.mine;
-    others = λ o k. ap (λ (g : List ℕ → Option Goroutine). tally (g o)) e ∙ r.others o k;
+  -- the place of an end, where that of one channel changes
+  end_within : (f old : ChName → ℕ) (c : ChName) (n : ℕ) → n ≤ old c + 1 → ((d : ChName) → f d ≤ old d + 1)
+      → (d : ChName) → updated same_channel f c n d ≤ old d + 1
+  end_within f old c n le h d = elim (true_or_false (same_channel d c)) [
+    | inl e ↦ rw e (subst (λ m. n ≤ old m + 1) (sym (channel_is d c e)) le)
+    | inr e ↦ rw e (h d)
+  ]
+
+  -- where neither goroutines nor ends change
+  put_beside : {line : Option (List ℕ)} (t u : State) → u.goroutines ≡ t.goroutines → u.tails ≡ t.tails → u.heads ≡ t.heads
+      → Raised line t → Raised line u
+  put_beside t u goroutines tails heads r = record {
+    mine = ap (λ (g : List ℕ → Option Goroutine). tally (g me)) goroutines ∙ r.mine;
+    others = λ o k. ap (λ (g : List ℕ → Option Goroutine). tally (g o)) goroutines ∙ r.others o k;
+    tails = λ c. subst (λ (f : ChName → ℕ). f c ≤ s.tails c + 1) (sym tails) (r.tails c);
+    heads = λ c. subst (λ (f : ChName → ℕ). f c ≤ s.heads c + 1) (sym heads) (r.heads c);
   }
+
+  put_tail : {line : Option (List ℕ)} (t : State) (c : ChName) (n : ℕ) → n ≤ s.tails c + 1 → Raised line t
+      → Raised line (put t (tail_has c n))
+  put_tail t c n le r = record { mine = r.mine; others = r.others; tails = end_within t.tails s.tails c n le r.tails; heads = r.heads }
+
+  put_head : {line : Option (List ℕ)} (t : State) (c : ChName) (n : ℕ) → n ≤ s.heads c + 1 → Raised line t
+      → Raised line (put t (head_has c n))
+  put_head t c n le r = record { mine = r.mine; others = r.others; tails = r.tails; heads = end_within t.heads s.heads c n le r.heads }
 
   pub put_others : {line : Option (List ℕ)} (t : State) (cs : List Cell) → Others cs → Raised line t → Raised line (fold put t cs)
   put_others t [] o r = r
   put_others t (go_has n x ∷ cs) o r = put_others (put t (go_has n x)) cs o.2 (put_other t n x o.0 o.1 r)
-  put_others t (run_has q ∷ cs) o r = put_others _ cs o (put_same t _ refl r)
-  put_others t (gate_has c x ∷ cs) o r = put_others _ cs o (put_same t _ refl r)
-  put_others t (tail_has c n ∷ cs) o r = put_others _ cs o (put_same t _ refl r)
-  put_others t (head_has c n ∷ cs) o r = put_others _ cs o (put_same t _ refl r)
-  put_others t (slot_has c i x ∷ cs) o r = put_others _ cs o (put_same t _ refl r)
+  put_others t (tail_has c n ∷ cs) o r = put_others (put t (tail_has c n)) cs o.1 (put_tail t c n o.0 r)
+  put_others t (head_has c n ∷ cs) o r = put_others (put t (head_has c n)) cs o.1 (put_head t c n o.0 r)
+  put_others t (run_has q ∷ cs) o r = put_others (put t (run_has q)) cs o (put_beside t _ refl refl refl r)
+  put_others t (gate_has c x ∷ cs) o r = put_others (put t (gate_has c x)) cs o (put_beside t _ refl refl refl r)
+  put_others t (slot_has c i x ∷ cs) o r = put_others (put t (slot_has c i x)) cs o (put_beside t _ refl refl refl r)
 
   pub put_mine : {line : Option (List ℕ)} (x : Option Goroutine) → tally x ≡ stepped_on line (tally (s.goroutines me))
       → Raised line (put s (go_has me x))
   put_mine x e = record {
     mine = ap tally (updated_here same_go go_self s.goroutines me x) ∙ e;
     others = λ o k. ap tally (updated_else same_go go_is s.goroutines me o x k);
+    tails = λ c. omega arith;
+    heads = λ c. omega arith;
   }
 
 not_both : (ws : List Wait) → ready ≡ waiting ws → ⊥
@@ -152,13 +179,20 @@ module _ (s : State) (a : Actor) where
   gate_counts {c} h = asked (there_counts (s.gates c) h)
 
   pub room_counts : (c : ChName) (gate : GateContent) (k : Option ℕ → Attempt)
-      → ((x : Option ℕ) → C (k x)) → C (ask_room c gate k)
-  room_counts c gate k h = asked (if_counts (gate.capacity == 0) (h None) (asked (h (room_for (s.tails c) (s.slots c (s.tails c % gate.capacity))))))
+      → C (k None) → C (k (Some (s.tails c))) → C (ask_room c gate k)
+  room_counts c gate k none some = asked (if_counts (gate.capacity == 0) none (asked (by_slot (s.slots c (s.tails c % gate.capacity)))))
+    where
+      by_slot : (x : Option (ℕ × Value)) → C (k (room_for (s.tails c) x))
+      by_slot None = some
+      by_slot (Some x) = none
 
   pub item_counts : (c : ChName) (gate : GateContent) (k : Option (ℕ × Value) → Attempt)
-      → ((x : Option (ℕ × Value)) → C (k x)) → C (ask_item c gate k)
-  item_counts c gate k h =
-      asked (if_counts (gate.capacity == 0) (h None) (asked (h (option_map (λ x. (s.heads c, x.1)) (s.slots c (s.heads c % gate.capacity))))))
+      → C (k None) → ((v : Value) → C (k (Some (s.heads c, v)))) → C (ask_item c gate k)
+  item_counts c gate k none some = asked (if_counts (gate.capacity == 0) none (asked (by_slot (s.slots c (s.heads c % gate.capacity)))))
+    where
+      by_slot : (x : Option (ℕ × Value)) → C (k (option_map (λ x. (s.heads c, x.1)) x))
+      by_slot None = none
+      by_slot (Some x) = some x.1
 
   pub withdrawn_counts : (names : List (List ℕ)) (cs : List ChName) (k : List Cell → Attempt)
       → ((cells : List Cell) → O cells → C (k cells)) → C (ask_withdrawn names cs k)

@@ -9,13 +9,26 @@ use Rattle.gr_rules.specs.Goroutines.{Wait, channel_of}
 use Rattle.gr_rules.specs.States.{Cell, run_has, go_has, gate_has, tail_has, head_has, slot_has, State, object_of, look, put}
 use Rattle.gr_rules.specs.Actors.{without}
 use Rattle.gr_rules.specs.Touches.{waits_at}
-use Rattle.gr_laws.specs.Soundness.{Stands, SoundWaits}
+use Rattle.gr_laws.specs.Soundness.{Stands, SoundWaits, SoundQueue, SoundQueues}
 use Rattle.gr_laws.proofs.CellLemmas.{gate_is}
 use Rattle.gr_laws.proofs.WaitLemmas.{all_map, which_go, known_go, known_object, settled, stands_without}
+use Rattle.gr_laws.proofs.QueueLemmas.{without_once}
 
 -- the content of the cell is another than in the state
 abbrev pub Changed : State → Cell → Type 0
 Changed s x = look s (object_of x) ≡ x → ⊥
+
+-- nobody stands twice in a queue of the cell for one clause, where nobody did in the state
+abbrev pub Once : State → Cell → Type 0
+Once s (gate_has d y) = SoundQueues s → SoundQueue y
+Once s (go_has m y) = Unit {0}
+Once s (run_has r) = Unit {0}
+Once s (tail_has d n) = Unit {0}
+Once s (head_has d n) = Unit {0}
+Once s (slot_has d i x) = Unit {0}
+
+abbrev pub Written : State → Cell → Type 0
+Written s x = Changed s x × Once s x
 
 module _ (s : State) (names : List (List ℕ)) where
   -- goroutines other than these wait as before
@@ -37,7 +50,7 @@ module _ (s : State) (names : List (List ℕ)) where
   Freed (slot_has d i x) = Unit {0}
 
   abbrev pub Fit : Cell → Type 0
-  Fit x = Kept x × Freed x × Changed s x
+  Fit x = Kept x × Freed x × Written s x
 
 -- a goroutine comes to wait for these
 module _ (s : State) (me : List ℕ) (ws : List Wait) where
@@ -106,5 +119,12 @@ module _ (s : State) (waits : SoundWaits s) where
       λ z. (stands_without names gate m v).1 (subst (λ x. Stands x m v) at z, k),
     ),
     λ m v e j z. ((stands_without names gate m v).0 z).1 j,
-    λ e. ((stands_without names gate n w).0 (subst (λ x. Stands x n w) (gate_is d _ _ e) st)).1 i,
+    (
+      λ e. ((stands_without names gate n w).0 (subst (λ x. Stands x n w) (gate_is d _ _ e) st)).1 i,
+      λ q. without_once names gate (subst SoundQueue at (q d)),
+    ),
   )
+
+-- nobody comes to stand twice in a queue
+pub queues_after : (s : State) (cells : List Cell) → AllByRecursion (Written s) cells → SoundQueues s → SoundQueues (fold put s cells)
+queues_after s cells h q c = settled (Once s) (Gate c) s cells (all_map (Written s) (Once s) cells (λ x w. w.1) h) (inr (λ k. k c)) q

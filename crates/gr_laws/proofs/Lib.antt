@@ -4,6 +4,7 @@ pub mod SureLemmas
 pub mod CountLemmas
 pub mod RuleCounts
 pub mod RunLemmas
+pub mod BoundLemmas
 pub mod TouchLemmas
 pub mod RuleTouches
 pub mod AttemptTouches
@@ -20,6 +21,7 @@ pub mod SoundCommunications
 pub mod SoundSelects
 pub mod RuleSound
 pub mod WaitLemmas
+pub mod QueueLemmas
 pub mod LeafLemmas
 pub mod WaitAttempts
 pub mod WaitCommunications

@@ -57,38 +57,37 @@ module _ (s : State) (a : Actor) (it : Ready s a) where
   send_to_counts clause c gate v otherwise [] h = room_counts s a c gate (elim [
     | Some n ↦ proceeds a clause (sends_on c) Buffer None (tail_has c (n + 1) ∷ slot_has c (n % gate.capacity) (Some (n, v)) ∷ [])
     | None ↦ otherwise
-  ]) (elim [ Some n ↦ proceeds_counts clause (sends_on c) Buffer None (tail_has c (n + 1) ∷ slot_has c (n % gate.capacity) (Some (n, v)) ∷ []) tt | None ↦ h ])
+  ]) h (proceeds_counts clause (sends_on c) Buffer None _ (omega arith, tt))
 
   send_counts : (clause : Option ℕ) (c : ChName) (v : Value) (otherwise : Attempt) → C s a otherwise
       → C s a (send a clause c v otherwise)
   send_counts clause c v otherwise h = gate_counts s a (λ gate.
       if_counts s a gate.closed (fault_counts s a it (Some _) SendOnClosed) (send_to_counts clause c gate v otherwise gate.receivers h))
 
-  take_counts : (clause : Option ℕ) (c : ChName) (gate : GateContent) (item : ℕ × Value) (ws : List (Waiter Value))
-      → C s a (take a clause c gate item ws)
-  take_counts clause c gate item [] = proceeds_counts clause (receives_from c) Take _ _ tt
-  take_counts clause c gate item (w ∷ ws) = asked s a (met_counts s a it c w None
-      (λ cells. proceeds a clause (receives_from c) Take (Some (item.1, true)) (
-      gate_has c (Some (without (w.go ∷ []) gate)) ∷ head_has c (item.0 + 1) ∷ tail_has c (s.tails c + 1)
-      ∷ slot_has c (item.0 % gate.capacity) (Some (s.tails c, w.value)) ∷ cells))
-      (λ cells o. proceeds_counts clause (receives_from c) Take (Some (item.1, true)) (
-      gate_has c (Some (without (w.go ∷ []) gate)) ∷ head_has c (item.0 + 1) ∷ tail_has c (s.tails c + 1)
-      ∷ slot_has c (item.0 % gate.capacity) (Some (s.tails c, w.value)) ∷ cells) o))
+  take_counts : (clause : Option ℕ) (c : ChName) (gate : GateContent) (v : Value) (ws : List (Waiter Value))
+      → C s a (take a clause c gate (s.heads c, v) ws)
+  take_counts clause c gate v [] = proceeds_counts clause (receives_from c) Take _ _ (omega arith, tt)
+  take_counts clause c gate v (w ∷ ws) = asked s a (met_counts s a it c w None
+      (λ cells. proceeds a clause (receives_from c) Take (Some (v, true)) (
+      gate_has c (Some (without (w.go ∷ []) gate)) ∷ head_has c (s.heads c + 1) ∷ tail_has c (s.tails c + 1)
+      ∷ slot_has c (s.heads c % gate.capacity) (Some (s.tails c, w.value)) ∷ cells))
+      (λ cells o. proceeds_counts clause (receives_from c) Take (Some (v, true)) (
+      gate_has c (Some (without (w.go ∷ []) gate)) ∷ head_has c (s.heads c + 1) ∷ tail_has c (s.tails c + 1)
+      ∷ slot_has c (s.heads c % gate.capacity) (Some (s.tails c, w.value)) ∷ cells) (omega arith, (omega arith, o))))
 
-  receive_from_counts : (clause : Option ℕ) (c : ChName) (gate : GateContent) (zero : Value) (otherwise : Attempt) (item : Option (ℕ × Value)) (ws : List (Waiter Value))
-      → C s a otherwise → C s a (receive_from a clause c gate zero otherwise item ws)
-  receive_from_counts clause c gate zero otherwise (Some item) ws h = take_counts clause c gate item ws
-  receive_from_counts clause c gate zero otherwise None (w ∷ ws) h = met_counts s a it c w None
+  receive_from_counts : (clause : Option ℕ) (c : ChName) (gate : GateContent) (zero : Value) (otherwise : Attempt) (ws : List (Waiter Value))
+      → C s a otherwise → C s a (receive_from a clause c gate zero otherwise None ws)
+  receive_from_counts clause c gate zero otherwise (w ∷ ws) h = met_counts s a it c w None
       (λ cells. proceeds a clause (receives_from c) Meet (Some (w.value, true)) (gate_has c (Some (without (w.go ∷ []) gate)) ∷ cells))
       (λ cells o. proceeds_counts clause (receives_from c) Meet (Some (w.value, true)) (gate_has c (Some (without (w.go ∷ []) gate)) ∷ cells) o)
-  receive_from_counts clause c gate zero otherwise None [] h =
+  receive_from_counts clause c gate zero otherwise [] h =
       if_counts s a gate.closed (proceeds_counts clause (receives_from c) kinds.Closed (Some (zero, false)) [] tt) h
 
   receive_counts : (clause : Option ℕ) (c : ChName) (zero : Value) (otherwise : Attempt) → C s a otherwise
       → C s a (receive a clause c zero otherwise)
   receive_counts clause c zero otherwise h =
       gate_counts s a (λ gate. item_counts s a c gate (λ item. receive_from a clause c gate zero otherwise item gate.senders)
-      (λ item. receive_from_counts clause c gate zero otherwise item gate.senders h))
+      (receive_from_counts clause c gate zero otherwise gate.senders h) (λ v. take_counts clause c gate v gate.senders))
 
   communicate_counts : (clause : Option ℕ) (x : Communication) (otherwise : Attempt) → C s a otherwise
       → C s a (communicate a clause x otherwise)
@@ -147,9 +146,11 @@ module _ (s : State) (a : Actor) (it : Ready s a) where
       (close_open_counts c gate (once (map (λ w. w.go) gate.senders ++ map (λ w. w.go) gate.receivers))))
 
   ready_counts : (x : Communication) (k : Bool → Attempt) → ((b : Bool) → C s a (k b)) → C s a (ask_ready x k)
-  ready_counts (Sending (Some c) v) k h = gate_counts s a (λ gate. room_counts s a c gate (λ room. k (gate.closed || has_any gate.receivers || is_some room)) (λ room. h _))
+  ready_counts (Sending (Some c) v) k h = gate_counts s a (λ gate.
+      room_counts s a c gate (λ room. k (gate.closed || has_any gate.receivers || is_some room)) (h _) (h _))
   ready_counts (Sending None v) k h = h false
-  ready_counts (Receiving (Some c) zero) k h = gate_counts s a (λ gate. item_counts s a c gate (λ item. k (gate.closed || has_any gate.senders || is_some item)) (λ item. h _))
+  ready_counts (Receiving (Some c) zero) k h = gate_counts s a (λ gate.
+      item_counts s a c gate (λ item. k (gate.closed || has_any gate.senders || is_some item)) (h _) (λ v. h _))
   ready_counts (Receiving None zero) k h = h false
   ready_counts Otherwise k h = h false
 
@@ -279,8 +280,8 @@ module _ (p : Program) (s : State) (e : Event) where
   not_among (go_has n x ∷ cs) o i = elim i [ inl q ↦ o.0 (go_name n e.go (sym q)) | inr j ↦ not_among cs o.2 j ]
   not_among (run_has r ∷ cs) o i = elim i [ inl q ↦ cc | inr j ↦ not_among cs o j ]
   not_among (gate_has d x ∷ cs) o i = elim i [ inl q ↦ cc | inr j ↦ not_among cs o j ]
-  not_among (tail_has d n ∷ cs) o i = elim i [ inl q ↦ cc | inr j ↦ not_among cs o j ]
-  not_among (head_has d n ∷ cs) o i = elim i [ inl q ↦ cc | inr j ↦ not_among cs o j ]
+  not_among (tail_has d n ∷ cs) o i = elim i [ inl q ↦ cc | inr j ↦ not_among cs o.1 j ]
+  not_among (head_has d n ∷ cs) o i = elim i [ inl q ↦ cc | inr j ↦ not_among cs o.1 j ]
   not_among (slot_has d k x ∷ cs) o i = elim i [ inl q ↦ cc | inr j ↦ not_among cs o j ]
 
   -- what an attempt that counts comes to

@@ -25,12 +25,12 @@ use Rattle.gr_rules.specs.Attempts.{Operation, takes_len_of, takes_cap_of, Repor
 use Rattle.gr_rules.specs.Actors.{Actor, onward, simply, given}
 use Rattle.gr_rules.specs.States.{object_of, Run, live, ended, faulted, Cell, go_has, State, same_go, look, put, call_of, main_of, started_in, start}
 use Rattle.gr_rules.specs.Touches.{waits_at}
-use Rattle.gr_laws.specs.Soundness.{made_by, Sound, Stands, SoundWaits}
+use Rattle.gr_laws.specs.Soundness.{made_by, Sound, Stands, SoundWaits, SoundQueues}
 use Rattle.gr_rules.specs.Steps.{enter, finish, leave, child, if_absent, go, new_channel, make, counted, take_len, take_cap, print, act, act_by, act_in, if_ready, if_known, if_live, attempt, rulebook, machine}
 use Rattle.gr_laws.proofs.CellLemmas.{run_is, goroutine_is, gate_is, name-look, machine_laws}
 use Rattle.gr_laws.proofs.RuleSound.{after_sound, started_sound}
 use Rattle.gr_laws.proofs.WaitLemmas.{known_object, settled}
-use Rattle.gr_laws.proofs.LeafLemmas.{Changed, freeing}
+use Rattle.gr_laws.proofs.LeafLemmas.{Written, freeing, queues_after}
 use Rattle.gr_laws.proofs.WaitAttempts.{Keeps, K, Acts, calm_is, refused, asked, if_keeps, gate_keeps, stays, own_changed, own_fit, does_keeps, fault_keeps, given_keeps}
 use Rattle.gr_laws.proofs.WaitCommunications.{alone_keeps, close_keeps}
 use Rattle.gr_laws.proofs.WaitSelects.{choose_keeps}
@@ -48,7 +48,7 @@ module _ {s : State} {a : Actor} (acts : Acts s a) where
       (λ e. given_keeps acts (call_of a.program function vs) (λ f e. does_keeps acts (calm_is a.before acts.calm) refl tt))
 
   finish_keeps : (name : List ℕ) → K s (finish a name)
-  finish_keeps [] = does_keeps acts refl refl ((tt, tt, λ q. not_ended (sym acts.lives ∙ run_is _ _ q)), tt)
+  finish_keeps [] = does_keeps acts refl refl ((tt, tt, ((λ q. not_ended (sym acts.lives ∙ run_is _ _ q)), tt)), tt)
   finish_keeps (n ∷ ns) = does_keeps acts refl refl tt
 
   leave_keeps : (v : Value) (fs : List Frame) → K s (leave a v fs)
@@ -62,7 +62,7 @@ module _ {s : State} {a : Actor} (acts : Acts s a) where
       by_child : (x : Option Goroutine) → s.goroutines (child a) ≡ x → K s (if_absent (given a (call_of a.program function vs) (λ f.
           simply a kinds.Go (record (onward a (goes_on a.frame)) { children = a.before.children + 1 }) (go_has (child a) (Some (started f)) ∷ []))) x)
       by_child None e = given_keeps acts (call_of a.program function vs) (λ f d. does_keeps acts (calm_is a.before acts.calm) refl
-          (((λ k. sym (ap waits_at e)), (λ i. absurd i), (λ q. none-some _ (sym e ∙ goroutine_is (child a) _ _ q))), tt))
+          (((λ k. sym (ap waits_at e)), (λ i. absurd i), ((λ q. none-some _ (sym e ∙ goroutine_is (child a) _ _ q)), tt)), tt))
       by_child (Some g) e = refused
 
   make_keeps : (n : ℤ) → K s (make a n)
@@ -75,7 +75,7 @@ module _ {s : State} {a : Actor} (acts : Acts s a) where
         (
           (λ m w z k. ((λ st. absurd (nobody n m w st)), (λ st. absurd (subst (λ x. Stands x m w) none st)))),
           (λ m w z i st. absurd i),
-          (λ q. none-some _ (sym none ∙ gate_is (new_channel a) _ _ q)),
+          ((λ q. none-some _ (sym none ∙ gate_is (new_channel a) _ _ q)), (λ q. (tt, tt))),
         ),
         tt,
       ))))
@@ -96,7 +96,7 @@ module _ {s : State} {a : Actor} (acts : Acts s a) where
       let g : Goroutine = record (onward a (goes_on a.frame)) { text = a.before.text ++ line ∷ [] } in record {
         keeps = (
           freeing s acts.waits [] (go_has a.name (Some g) ∷ []) (own_fit acts [] g (calm_is g acts.calm) refl, tt) (λ n i. absurd i) (λ n w i. absurd i),
-          (own_changed acts g refl, tt),
+          ((own_changed acts g refl, tt), tt),
         );
       }
 
@@ -150,22 +150,33 @@ module _ (p : Program) (s : State) (sound : Sound s) (waits : SoundWaits s) (e :
   -- what a step's attempt comes to
   record Went (y : Plan Object Cell Report) : Type 0 where
     queues : SoundWaits (fold put s y.cells)
-    changed : AllByRecursion (Changed s) y.cells
+    written : AllByRecursion (Written s) y.cells
 
   went : (x : Attempt) (y : Plan Object Cell Report) → Keeps s x → plan (rulebook p) s (rule_of x) ≡ Some y → Went y
   went (refuse r) y c h = absurd (none-some _ h)
-  went (perform report cells) y c h = subst Went (same_Some _ _ h) (record { queues = c.0; changed = c.1 })
+  went (perform report cells) y c h = subst Went (same_Some _ _ h) (record { queues = c.0; written = c.1 })
   went (ask o f) y c h = by_rest (λ z. went (f (look s o)) z c) (plan (rulebook p) s (rule_of (f (look s o)))) refl h
     where
       by_rest : ((z : Plan Object Cell Report) → plan (rulebook p) s (rule_of (f (look s o))) ≡ Some z → Went z)
           → (x : Option (Plan Object Cell Report)) → plan (rulebook p) s (rule_of (f (look s o))) ≡ x → with_read o x ≡ Some y → Went y
       by_rest ih None d g = absurd (none-some _ g)
-      by_rest ih (Some z) d g = let w = ih z d in subst Went (same_Some _ _ g) (record { queues = w.queues; changed = w.changed })
+      by_rest ih (Some z) d g = let w = ih z d in subst Went (same_Some _ _ g) (record { queues = w.queues; written = w.written })
 
   -- what was written has changed
-  all_changed : (cells : List Cell) → AllByRecursion (Changed s) cells → (o : Object) → In o (map object_of cells) → look (fold put s cells) o ≡ look s o → ⊥
+  all_changed : (cells : List Cell) → AllByRecursion (Written s) cells
+      → (o : Object) → In o (map object_of cells) → look (fold put s cells) o ≡ look s o → ⊥
   all_changed cells h o i q =
-      settled (Changed s) o s cells h (inl i) (ap (look s) (name-look (fold put s cells) o) ∙ sym q)
+      (settled (Written s) o s cells h (inl i)).0 (ap (look s) (name-look (fold put s cells) o) ∙ sym q)
+
+  pub stepped_queues : (t : State) (n : Note Object Report) → (machine p).step s e ≡ Some (t, n) → SoundQueues s → SoundQueues t
+  stepped_queues t n h q = by_plan (plan (rulebook p) s (rule_of (attempt p e))) refl h
+    where
+      by_plan : (x : Option (Plan Object Cell Report)) → plan (rulebook p) s (rule_of (attempt p e)) ≡ x
+          → carried (rulebook p) s x ≡ Some (t, n) → SoundQueues t
+      by_plan None d g = absurd (none-some _ g)
+      by_plan (Some y) d g =
+          let w = went (attempt p e) y (by_run s.run refl) d in
+          subst (λ (r : State × Note Object Report). SoundQueues r.0) (same_Some _ _ g) (queues_after s y.cells w.written q)
 
   pub stepped : (t : State) (n : Note Object Report) → (machine p).step s e ≡ Some (t, n) → SoundWaits t × ((o : Object) → In o n.writes → look t o ≡ look s o → ⊥)
   stepped t n h = by_plan (plan (rulebook p) s (rule_of (attempt p e))) refl h
@@ -175,7 +186,7 @@ module _ (p : Program) (s : State) (sound : Sound s) (waits : SoundWaits s) (e :
       by_plan None d g = absurd (none-some _ g)
       by_plan (Some y) d g =
           let w = went (attempt p e) y (by_run s.run refl) d in
-          subst (λ (r : State × Note Object Report). SoundWaits r.0 × ((o : Object) → In o r.1.writes → look r.0 o ≡ look s o → ⊥)) (same_Some _ _ g) (w.queues, all_changed y.cells w.changed)
+          subst (λ (r : State × Note Object Report). SoundWaits r.0 × ((o : Object) → In o r.1.writes → look r.0 o ≡ look s o → ⊥)) (same_Some _ _ g) (w.queues, all_changed y.cells w.written)
 
 module _ (p : Program) where
   -- nobody waits at the start
@@ -191,20 +202,35 @@ module _ (p : Program) where
   start_waits : SoundWaits (start p)
   start_waits n w = ((λ i. absurd (subst (In w) (start_calm n) i)), (λ st. absurd st))
 
-  along : (s t : State) (log : List (StepOf (machine p))) → Sound s → SoundWaits s → Path (machine p) s log t → Sound t × SoundWaits t
-  along s t [] h w q = (subst Sound q h, subst SoundWaits q w)
-  along s t (r ∷ log) h w q = along q.0 t log (after_sound p s h r.event q.0 r.note q.1.does) ((stepped p s h w r.event q.0 r.note q.1.does).0) q.2
+  -- what holds of every state of a run
+  record Holds (s : State) : Type 0 where
+    sound : Sound s
+    waits : SoundWaits s
+    queues : SoundQueues s
 
-  both : (t : State) (log : List (StepOf (machine p))) → IsLog (machine p) (start p) log t → Sound t × SoundWaits t
-  both t log l = along (start p) t log (started_sound p) start_waits (path_of (machine p) (start p) log t l)
+  along : (s t : State) (log : List (StepOf (machine p))) → Holds s → Path (machine p) s log t → Holds t
+  along s t [] h q = subst Holds q h
+  along s t (r ∷ log) h q =
+      along q.0 t log (record {
+        sound = after_sound p s h.sound r.event q.0 r.note q.1.does;
+        waits = (stepped p s h.sound h.waits r.event q.0 r.note q.1.does).0;
+        queues = stepped_queues p s h.sound h.waits r.event q.0 r.note q.1.does h.queues;
+      }) q.2
+
+  all_hold : (t : State) (log : List (StepOf (machine p))) → IsLog (machine p) (start p) log t → Holds t
+  all_hold t log l =
+      along (start p) t log (record { sound = started_sound p; waits = start_waits; queues = λ c. tt }) (path_of (machine p) (start p) log t l)
 
   pub reached_waits : (t : State) (log : List (StepOf (machine p))) → IsLog (machine p) (start p) log t → SoundWaits t
-  reached_waits t log l = (both t log l).1
+  reached_waits t log l = (all_hold t log l).waits
+
+  pub reached_queues : (t : State) (log : List (StepOf (machine p))) → IsLog (machine p) (start p) log t → SoundQueues t
+  reached_queues t log l = (all_hold t log l).queues
 
   pub reached_writes : (t u : State) (log : List (StepOf (machine p))) (e : Event) (n : Note Object Report) → IsLog (machine p) (start p) log t → (machine p).step t e ≡ Some (u, n)
       → (o : Object) → In o n.writes ↔ (look u o ≡ look t o → ⊥)
   reached_writes t u log e n l h o =
-      let b = both t log l in (
-        λ i. (stepped p t b.0 b.1 e u n h).1 o i,
+      let b = all_hold t log l in (
+        λ i. (stepped p t b.sound b.waits e u n h).1 o i,
         λ k. elim (known_object o n.writes) [ inl i ↦ i | inr z ↦ absurd (k ((machine_laws p).only_writes t u e n h o z)) ],
       )

@@ -23,7 +23,7 @@ use Rattle.gr_rules.specs.Touches.{waits_at}
 use Rattle.gr_laws.specs.Soundness.{Sound, Stands, SoundWaits}
 use Rattle.gr_laws.proofs.CellLemmas.{run_is, goroutine_is}
 use Rattle.gr_laws.proofs.WaitLemmas.{all_map, covered, some_wait}
-use Rattle.gr_laws.proofs.LeafLemmas.{Changed, Fit, freeing, thin_fit}
+use Rattle.gr_laws.proofs.LeafLemmas.{Changed, Written, Fit, freeing, thin_fit}
 
 pub calm_is : (g : Goroutine) → g.status ≡ ready → waits_at (Some g) ≡ []
 calm_is g e = ap (λ (x : Status). elim x [ waiting ws ↦ ws | _ ↦ [] ]) e
@@ -34,9 +34,9 @@ not_ready ws e = cc
 not_live : (f : Fault) → live ≡ faulted f → ⊥
 not_live f e = cc
 
--- what is written leaves each goroutine in the queues of what it waits for, and is not as it was
+-- what is written leaves each goroutine in the queues of what it waits for, once for each clause, and is not as it was
 abbrev Leaf : State → List Cell → Type 0
-Leaf s cells = SoundWaits (fold put s cells) × AllByRecursion (Changed s) cells
+Leaf s cells = SoundWaits (fold put s cells) × AllByRecursion (Written s) cells
 
 abbrev pub Keeps : State → Attempt → Type 0
 Keeps s (refuse r) = Unit {0}
@@ -113,7 +113,7 @@ module _ (s : State) where
   woken_fit names n g q ws i at r c = (
     λ k. absurd (k i),
     λ j. calm_is q c,
-    λ e. not_ready ws (sym r ∙ ap (λ (x : Goroutine). x.status) (same_Some _ _ (sym at ∙ goroutine_is n _ _ e)) ∙ c),
+    (λ e. not_ready ws (sym r ∙ ap (λ (x : Goroutine). x.status) (same_Some _ _ (sym at ∙ goroutine_is n _ _ e)) ∙ c), tt),
   )
 
 module _ (s : State) (waits : SoundWaits s) where
@@ -172,7 +172,7 @@ module _ {s : State} {a : Actor} (acts : Acts s a) where
       omega arith
 
   pub own_fit : (names : List (List ℕ)) (g : Goroutine) → waits_at (Some g) ≡ [] → g.steps ≡ a.before.steps + 1 → Fit s names (go_has a.name (Some g))
-  own_fit names g c e = ((λ k. c ∙ sym idle), (λ i. c), own_changed g e)
+  own_fit names g c e = ((λ k. c ∙ sym idle), (λ i. c), (own_changed g e, tt))
 
   -- a step after which these wait no more
   pub frees : {clause : Option ℕ} {operation : Option Operation} {kind : Kind} {g : Goroutine} {cells : List Cell} (names : List (List ℕ)) → waits_at (Some g) ≡ [] → g.steps ≡ a.before.steps + 1
@@ -182,7 +182,7 @@ module _ {s : State} {a : Actor} (acts : Acts s a) where
       let all : AllByRecursion (Fit s names) (go_has a.name (Some g) ∷ cells) = (own_fit names g c e, o) in record {
         keeps = (
           freeing s acts.waits names (go_has a.name (Some g) ∷ cells) all (λ n i. inr (gos n i)) (λ n w i j. inr (gates n w i j)),
-          all_map (Fit s names) (Changed s) (go_has a.name (Some g) ∷ cells) (λ x p. p.2) all,
+          all_map (Fit s names) (Written s) (go_has a.name (Some g) ∷ cells) (λ x p. p.2) all,
         );
       }
 
@@ -191,7 +191,7 @@ module _ {s : State} {a : Actor} (acts : Acts s a) where
   does_keeps c e o = frees [] c e o (λ n i. absurd i) (λ n w i. absurd i)
 
   pub fault_keeps : (operation : Option Operation) (e : Fault) → K s (fault a operation e)
-  fault_keeps operation e = does_keeps (calm_is a.before acts.calm) refl ((tt, tt, λ q. not_live e (sym acts.lives ∙ run_is _ _ q)), tt)
+  fault_keeps operation e = does_keeps (calm_is a.before acts.calm) refl ((tt, tt, ((λ q. not_live e (sym acts.lives ∙ run_is _ _ q)), tt)), tt)
 
   pub given_keeps : {A : Type 0} (x : Outcome A) {k : A → Attempt} → ((v : A) → x ≡ gives v → K s (k v)) → K s (given a x k)
   given_keeps (gives v) h = h v refl

@@ -8,7 +8,7 @@ use Rattle.gr_base.specs.declared.kinds.Fault.TheVariants.{SendOnClosed, CloseOf
 use Rattle.gr_base.specs.declared.kinds.Kind.{Kind}
 use Rattle.gr_base.specs.declared.kinds.Kind.TheVariants.{Hand, Buffer, Take, Meet, Closed, SendWait, RecvWait}
 use Rattle.gr_base.specs.declared.objects.Object.{Object}
-use Rattle.gr_causal.specs.Sequences.{In}
+use Rattle.gr_causal.specs.Sequences.{In, Distinct}
 use Rattle.std.proofs.lemmas.Bool.{or_cases}
 use Rattle.std.proofs.lemmas.Option.{none-some, same_Some}
 use Rattle.gr_causal.proofs.ListLemmas.{In-append_cases, In-append_left, In-append_right, In-map}
@@ -22,13 +22,14 @@ use Rattle.gr_rules.specs.Attempts.{Operation, sends_on, receives_from, closes, 
 use Rattle.gr_rules.specs.Actors.{Actor, does, without, channels_but}
 use Rattle.gr_rules.specs.States.{object_of, Cell, go_has, gate_has, tail_has, head_has, slot_has, State, same_go}
 use Rattle.gr_rules.specs.Touches.{waits_at}
-use Rattle.gr_laws.specs.Soundness.{Stands}
+use Rattle.gr_laws.specs.Soundness.{Stands, SoundQueue}
 use Rattle.gr_rules.specs.Communications.{proceeds, send_to, send, take, receive_from, receive, communicate, all_waits, enqueued, ask_enqueued, wait, proceed_or_wait, once, ask_waiters, close_open, close}
 use Rattle.gr_laws.proofs.CellLemmas.{gate_is, tail_is, head_is, slot_is, go_is}
 use Rattle.gr_laws.proofs.SoundLemmas.{buffer}
 use Rattle.gr_laws.proofs.BufferLemmas.{item, number_is}
 use Rattle.gr_laws.proofs.WaitLemmas.{Known, stands_all, covered, some_wait}
-use Rattle.gr_laws.proofs.LeafLemmas.{Changed, Fit, Queued, queueing, thin_fit}
+use Rattle.gr_laws.proofs.QueueLemmas.{all_once}
+use Rattle.gr_laws.proofs.LeafLemmas.{Written, Fit, Queued, queueing, thin_fit}
 use Rattle.gr_laws.proofs.WaitAttempts.{K, Acts, refused, asked, if_keeps, gate_keeps, room_keeps, item_keeps, withdrawn_keeps, waiter_keeps, waits_of, stands_there, woken_fit, met_keeps, idle, stays, own_changed, frees, fault_keeps, given_keeps}
 
 nobody_shut : (gate : GateContent) (name : List ℕ) (w : Wait) → Stands (Some (record gate { closed = true; senders = []; receivers = [] })) name w → ⊥
@@ -73,8 +74,8 @@ module _ {s : State} {a : Actor} (acts : Acts s a) where
     | Some n ↦ proceeds a clause (sends_on c) Buffer None (tail_has c (n + 1) ∷ slot_has c (n % gate.capacity) (Some (n, v)) ∷ [])
     | None ↦ otherwise
   ]) h (λ e. passes_keeps clause (sends_on c) Buffer None _ (
-    (tt, tt, λ q. let n = tail_is c _ _ q in omega arith),
-    ((tt, tt, λ q. none-some _ (sym e ∙ slot_is c _ _ _ q)), tt),
+    (tt, tt, ((λ q. let n = tail_is c _ _ q in omega arith), tt)),
+    ((tt, tt, ((λ q. none-some _ (sym e ∙ slot_is c _ _ _ q)), tt)), tt),
   ))
 
   send_keeps : (clause : Option ℕ) (c : ChName) (v : Value) (otherwise : Attempt) → K s otherwise → K s (send a clause c v otherwise)
@@ -84,8 +85,8 @@ module _ {s : State} {a : Actor} (acts : Acts s a) where
   take_keeps : (clause : Option ℕ) (c : ChName) (gate : GateContent) (n : ℕ) (v : Value) (ws : List (Waiter Value))
       → s.gates c ≡ Some gate → gate.senders ≡ ws → s.slots c (s.heads c % gate.capacity) ≡ Some (n, v) → K s (take a clause c gate (s.heads c, v) ws)
   take_keeps clause c gate n v [] at r e = passes_keeps clause (receives_from c) Take (Some (v, true)) _ (
-    (tt, tt, λ q. let n = head_is c _ _ q in omega arith),
-    ((tt, tt, λ q. none-some _ (sym (slot_is c _ _ _ q) ∙ e)), tt),
+    (tt, tt, ((λ q. let n = head_is c _ _ q in omega arith), tt)),
+    ((tt, tt, ((λ q. none-some _ (sym (slot_is c _ _ _ q) ∙ e)), tt)), tt),
   )
   take_keeps clause c gate n v (w ∷ ws) at r e = asked (met_keeps s acts.waits c w None
       (λ cells. proceeds a clause (receives_from c) Take (Some (v, true)) (
@@ -94,10 +95,10 @@ module _ {s : State} {a : Actor} (acts : Acts s a) where
       (λ cells o go gates. proceeds_keeps clause (receives_from c) Take (Some (v, true)) _ (w.go ∷ []) (
         thin_fit s acts.waits (w.go ∷ []) c gate w.go (ToSend c w.case) at (inl refl) (subst (λ x. Stands x w.go (ToSend c w.case)) (sym at) (w, subst (In w) (sym r) (inl refl), refl, refl)),
         (
-          (tt, tt, λ q. let n = head_is c _ _ q in omega arith),
+          (tt, tt, ((λ q. let n = head_is c _ _ q in omega arith), tt)),
           (
-            (tt, tt, λ q. let n = tail_is c _ _ q in omega arith),
-            ((tt, tt, λ q. older (sym e ∙ slot_is c _ _ _ q)), o),
+            (tt, tt, ((λ q. let n = tail_is c _ _ q in omega arith), tt)),
+            ((tt, tt, ((λ q. older (sym e ∙ slot_is c _ _ _ q)), tt)), o),
           ),
         ),
       )
@@ -136,43 +137,55 @@ module _ {s : State} {a : Actor} (acts : Acts s a) where
   communicate_keeps clause (Receiving None initial) otherwise h = h tt
   communicate_keeps clause Otherwise otherwise h = h tt
 
-  enqueued_keeps : (ws : List (Option ℕ × Communication)) (cs : List ChName) (k : List Cell → Attempt) → AllByRecursion (λ w. Known w.1) ws
+  -- it stands in no queue yet
+  stands_nowhere : (c : ChName) (w : Wait) → channel_of w ≡ c → Stands (s.gates c) a.name w → ⊥
+  stands_nowhere c w e st = subst (In w) (idle acts) ((acts.waits a.name w).1 (subst (λ d. Stands (s.gates d) a.name w) (sym e) st))
+
+  enqueued_keeps : (ws : List (Option ℕ × Communication)) (cs : List ChName) (k : List Cell → Attempt)
+      → AllByRecursion (λ w. Known w.1) ws → Distinct (map (λ w. w.0) ws)
       → ((d : ChName) → In d cs → (w : Wait) × In w (all_waits ws) × (channel_of w ≡ d))
-      → ((cells : List Cell) → AllByRecursion (Queued s a.name (all_waits ws)) cells → AllByRecursion (Changed s) cells → map object_of cells ≡ map Gate cs → K s (k cells)) → K s (ask_enqueued a.name ws cs k)
-  enqueued_keeps ws [] k b l h = h [] tt tt refl
-  enqueued_keeps ws (c ∷ cs) k b l h = gate_keeps (λ gate at.
+      → ((cells : List Cell) → AllByRecursion (Queued s a.name (all_waits ws)) cells → AllByRecursion (Written s) cells
+      → map object_of cells ≡ map Gate cs → K s (k cells)) → K s (ask_enqueued a.name ws cs k)
+  enqueued_keeps ws [] k b m l h = h [] tt tt refl
+  enqueued_keeps ws (c ∷ cs) k b m l h = gate_keeps (λ gate at.
       let after : GateContent = fold (λ gate w. enqueued a.name c gate w.0 w.1) gate ws in
       let cell = gate_has c (Some after) in
-      enqueued_keeps ws cs (λ cells. k (cell ∷ cells)) b (λ d i. l d (inr i)) (λ cells o p e. h (cell ∷ cells)
+      enqueued_keeps ws cs (λ cells. k (cell ∷ cells)) b m (λ d i. l d (inr i)) (λ cells o p e. h (cell ∷ cells)
       ((λ n w q. subst (λ x. Stands (Some after) n w ↔ (Stands x n w ⊎ ((n ≡ a.name) × In w (all_waits ws)))) (sym at) (stands_all a.name c gate ws b n w q)), o) (
-        (λ q.
-            let x = l c (inl refl) in
-            let now : Stands (Some after) a.name x.0 = (stands_all a.name c gate ws b a.name x.0 x.2).1 (inr (refl, x.1)) in
-            let before : Stands (s.gates (channel_of x.0)) a.name x.0 = subst (λ d. Stands (s.gates d) a.name x.0) (sym x.2) (subst (λ z. Stands z a.name x.0) (sym (gate_is c _ _ q)) now) in
-            absurd (subst (In x.0) (idle acts) ((acts.waits a.name x.0).1 before))),
+        (
+          λ q.
+              let x = l c (inl refl) in
+              let now : Stands (Some after) a.name x.0 = (stands_all a.name c gate ws b a.name x.0 x.2).1 (inr (refl, x.1)) in
+              stands_nowhere c x.0 x.2 (subst (λ z. Stands z a.name x.0) (sym (gate_is c _ _ q)) now),
+          λ q. all_once a.name c gate ws b m (subst SoundQueue at (q c))
+              (λ w e i st. stands_nowhere c w e (subst (λ z. Stands z a.name w) (sym at) st)),
+        ),
         p,
       )
       (ap (◌∷◌ (Gate c)) e)))
 
-  pub wait_keeps : (operation : Option Operation) (kind : Kind) (ws : List (Option ℕ × Communication)) → AllByRecursion (λ w. Known w.1) ws → K s (wait a operation kind ws)
-  wait_keeps operation kind ws b =
+  pub wait_keeps : (operation : Option Operation) (kind : Kind) (ws : List (Option ℕ × Communication))
+      → AllByRecursion (λ w. Known w.1) ws → Distinct (map (λ w. w.0) ws) → K s (wait a operation kind ws)
+  wait_keeps operation kind ws b m =
       enqueued_keeps ws (channels_but [] (all_waits ws))
-      (does a None operation kind (record (a.before) { status = waiting (all_waits ws); steps = a.before.steps + 1 })) b (λ d i. some_wait [] (all_waits ws) d i)
+      (does a None operation kind (record (a.before) { status = waiting (all_waits ws); steps = a.before.steps + 1 })) b m
+      (λ d i. some_wait [] (all_waits ws) d i)
       (λ cells o p e. record {
         keeps = (
           queueing s acts.waits a.name (all_waits ws) (go_has a.name (Some (record (a.before) { status = waiting (all_waits ws); steps = a.before.steps + 1 })) ∷ cells) (idle acts)
               (((λ q. refl), (λ k. absurd (k refl))), o) (inl refl)
               (λ w i. elim (covered [] (all_waits ws) w i) [ inl z ↦ absurd z | inr t ↦ inr (subst (In (Gate (channel_of w))) (sym e) (In-map Gate (channel_of w) (channels_but [] (all_waits ws)) t)) ]),
-          (own_changed acts _ refl, p),
+          ((own_changed acts _ refl, tt), p),
         );
       })
 
   pub alone_keeps : (x : Communication) → K s (proceed_or_wait a x)
   alone_keeps (Sending c v) =
-      communicate_keeps None (Sending c v) (wait a (option_map sends_on c) SendWait ((None, Sending c v) ∷ [])) (λ b. wait_keeps (option_map sends_on c) SendWait ((None, Sending c v) ∷ []) (b, tt))
+      communicate_keeps None (Sending c v) (wait a (option_map sends_on c) SendWait ((None, Sending c v) ∷ []))
+      (λ b. wait_keeps (option_map sends_on c) SendWait ((None, Sending c v) ∷ []) (b, tt) ((λ i. i), tt))
   alone_keeps (Receiving c initial) =
       communicate_keeps None (Receiving c initial) (wait a (option_map receives_from c) RecvWait ((None, Receiving c initial) ∷ []))
-      (λ b. wait_keeps (option_map receives_from c) RecvWait ((None, Receiving c initial) ∷ []) (b, tt))
+      (λ b. wait_keeps (option_map receives_from c) RecvWait ((None, Receiving c initial) ∷ []) (b, tt) ((λ i. i), tt))
   alone_keeps Otherwise = refused
 
   -- goroutines that wait, with their waits
@@ -234,7 +247,10 @@ module _ {s : State} {a : Actor} (acts : Acts s a) where
         (
           λ n w z k. ((λ st. absurd (nobody_shut gate n w st)), (λ st. absurd (k (all n w (subst (λ x. Stands x n w) at st))))),
           λ n w z i st. nobody_shut gate n w st,
-          λ z. let f : gate.closed ≡ true = ap (λ (g : GateContent). g.closed) (same_Some _ _ (sym at ∙ gate_is c _ _ z)) in let g : false ≡ true = sym opened ∙ f in absurd cc,
+          (
+            λ z. let f : gate.closed ≡ true = ap (λ (g : GateContent). g.closed) (same_Some _ _ (sym at ∙ gate_is c _ _ z)) in let g : false ≡ true = sym opened ∙ f in absurd cc,
+            λ q. (tt, tt),
+          ),
         ),
         awake_fit names ws cells o (λ n i. subst (In n) e i) q,
       )

@@ -60,11 +60,11 @@ settled P o s (x ∷ cells) h q = settled P o (put s x) cells h.1 (elim (which_o
 ])
 
 -- the waiters of other goroutines
-others_step : {X : Type 0} (name : List ℕ) (y : Waiter X) (ys : List (Waiter X)) (b : Bool) → same_go y.go name ≡ b → others name (y ∷ ys) ≡ (if b then others name ys else y ∷ others name ys)
+pub others_step : {X : Type 0} (name : List ℕ) (y : Waiter X) (ys : List (Waiter X)) (b : Bool) → same_go y.go name ≡ b → others name (y ∷ ys) ≡ (if b then others name ys else y ∷ others name ys)
 others_step name y ys true e = rw e refl
 others_step name y ys false e = rw e refl
 
-in_others : {X : Type 0} (name : List ℕ) (ys : List (Waiter X)) (x : Waiter X) → In x (others name ys) → In x ys × (x.go ≡ name → ⊥)
+pub in_others : {X : Type 0} (name : List ℕ) (ys : List (Waiter X)) (x : Waiter X) → In x (others name ys) → In x ys × (x.go ≡ name → ⊥)
 in_others name [] x i = absurd i
 in_others {X} name (y ∷ ys) x i = elim (cases_Bool (same_go y.go name)) [
   | inl e ↦ let r = in_others name ys x (subst (In x) (others_step name y ys true e) i) in (inr r.0, r.1)
@@ -145,7 +145,7 @@ clause_is c d i j e = cc
 clause_is' : (c d : ChName) (i j : Option ℕ) → ToReceive c i ≡ ToReceive d j → i ≡ j
 clause_is' c d i j e = cc
 
-stands_enqueued : (name : List ℕ) (c : ChName) (gate : GateContent) (clause : Option ℕ) (x : Communication) → Known x → (n : List ℕ) (w : Wait) → channel_of w ≡ c
+pub stands_enqueued : (name : List ℕ) (c : ChName) (gate : GateContent) (clause : Option ℕ) (x : Communication) → Known x → (n : List ℕ) (w : Wait) → channel_of w ≡ c
     → Stands (Some (enqueued name c gate clause x)) n w ↔ (Stands (Some gate) n w ⊎ ((n ≡ name) × In w (waits_for clause x)))
 stands_enqueued name c gate clause (Sending (Some d) (gives v)) k n w at = by_same (same_channel c d) refl w at
   where

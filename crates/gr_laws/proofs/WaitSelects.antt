@@ -14,6 +14,7 @@ use Rattle.gr_rules.specs.States.{State}
 use Rattle.gr_rules.specs.Communications.{wait}
 use Rattle.gr_rules.specs.Selects.{values_of, ask_ready, if_none_ready, pick, default_from, numbered, default, park, choose}
 use Rattle.gr_laws.proofs.WaitLemmas.{Known, known_values}
+use Rattle.gr_laws.proofs.QueueLemmas.{numbers_once}
 use Rattle.gr_laws.proofs.WaitAttempts.{K, Acts, refused, if_keeps, gate_keeps, room_keeps, item_keeps, stays, does_keeps, fault_keeps, given_keeps}
 use Rattle.gr_laws.proofs.WaitCommunications.{communicate_keeps, wait_keeps}
 
@@ -47,7 +48,7 @@ module _ {s : State} {a : Actor} (acts : Acts s a) where
   park_keeps : (cs : List Communication) (o : Option ℕ) → K s (park a cs o)
   park_keeps cs (Some i) = refused
   park_keeps cs None = none_ready_keeps cs (given a (values_of cs) (λ vs. wait a None SelectWait (numbered 1 cs)))
-      (given_keeps acts (values_of cs) (λ vs e. wait_keeps acts None SelectWait (numbered 1 cs) (known_numbered 1 cs (known_values cs vs e))))
+      (given_keeps acts (values_of cs) (λ vs e. wait_keeps acts None SelectWait (numbered 1 cs) (known_numbered 1 cs (known_values cs vs e)) (numbers_once 1 cs)))
 
   pub choose_keeps : (cs : List Communication) (x : Choice) → K s (choose a cs x)
   choose_keeps cs choices.Plain = refused

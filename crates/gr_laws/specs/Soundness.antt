@@ -1,8 +1,8 @@
 -- What holds of every state that a program reaches.
-use Rattle.std.specs.Prelude.{◌≡◌, ◌↔◌, ◌⊎◌, ℕ, ◌+◌, ◌%◌, ◌<◌, ◌≤◌, true, List, [], Option, Some, None}
+use Rattle.std.specs.Prelude.{◌≡◌, ◌↔◌, ◌⊎◌, ℕ, ◌+◌, ◌%◌, ◌<◌, ◌≤◌, true, List, [], map, Option, Some, None}
 use Rattle.gr_base.specs.declared.names.ChName.{ChName}
 use Rattle.gr_base.specs.declared.values.Value.{Value}
-use Rattle.gr_causal.specs.Sequences.{In}
+use Rattle.gr_causal.specs.Sequences.{In, Distinct}
 use Rattle.gr_channels.specs.declared.waiter.Waiter.{Waiter}
 use Rattle.gr_channels.specs.Objects.{GateContent}
 use Rattle.gr_rules.specs.Goroutines.{Wait, ToSend, ToReceive, channel_of, Goroutine}
@@ -48,3 +48,15 @@ Stands (Some gate) n (ToReceive c clause) = (x : Waiter (Unit {0})) × In x gate
 -- a goroutine stands in the queues of what it waits for, and in no others
 abbrev pub SoundWaits : State → Type 0
 SoundWaits s = (n : List ℕ) (w : Wait) → In w (waits_at (s.goroutines n)) ↔ Stands (s.gates (channel_of w)) n w
+
+-- a waiter without its value: its goroutine, and the clause for which that waits
+abbrev pub entry : {X : Type 0} → Waiter X → List ℕ × Option ℕ
+entry w = (w.go, w.case)
+
+-- no goroutine stands twice among the senders of the gate for one clause, nor among its receivers
+abbrev pub SoundQueue : Option GateContent → Type 0
+SoundQueue None = Unit {0}
+SoundQueue (Some gate) = Distinct (map entry gate.senders) × Distinct (map entry gate.receivers)
+
+abbrev pub SoundQueues : State → Type 0
+SoundQueues s = (c : ChName) → SoundQueue (s.gates c)

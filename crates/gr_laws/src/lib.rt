@@ -31,7 +31,7 @@ ghost use Rattle.gr_rules.specs.Steps.{machine, refusal, owner, ordinal, count};
 ghost use Rattle.gr_rules.specs.Tells.{console};
 ghost use Rattle.gr_rules.specs.LocalSteps.{is_local};
 ghost use Rattle.gr_laws.specs.Reached.{Logged, IsRun, Reached};
-ghost use Rattle.gr_laws.specs.Soundness.{Sound, SoundWaits};
+ghost use Rattle.gr_laws.specs.Soundness.{Sound, SoundWaits, SoundQueues};
 ghost use Rattle.gr_laws.specs.Consoles.{text_of, steps_by};
 ghost use Rattle.gr_laws.specs.Dependence.{clash, AreTheDependents, AreTheCauses, StepName, step_name, ordered_by};
 ghost use Rattle.gr_laws.specs.TakingBack.{MayGoBack};
@@ -230,10 +230,24 @@ pub fn law_of_consoles()
         → In (g, k) (map (step_name p) log) ↔ ((0 < k) × (k ≤ count t g)) }
 {}
 
+/// Of every run: no count is greater than the number of its steps. So it is with the steps of a goroutine, and with the values
+/// that entered the buffer of a channel, and those that left it.
+pub fn law_of_counts()
+    ensures steps { (p : Program) (t : State) (log : List (Logged p)) (g : List ℕ)
+        → IsRun p log t
+        → count t g ≤ length log }
+    ensures entered { (p : Program) (t : State) (log : List (Logged p)) (c : ChName)
+        → IsRun p log t
+        → t.tails c ≤ length log }
+    ensures left { (p : Program) (t : State) (log : List (Logged p)) (c : ChName)
+        → IsRun p log t
+        → t.heads c ≤ length log }
+{}
+
 /// Of every state that a run reaches: the buffer of each channel holds just the values that entered and have not left, each
 /// in the slot of its number; who waits to send finds it full, who waits to receive finds it empty, and nobody waits on a
 /// closed channel; a channel that was not made is empty. A goroutine stands in the queues of what it waits for, and in no
-/// others. A step from there writes just the objects whose content it changes.
+/// others, and in none of them twice for one clause. A step from there writes just the objects whose content it changes.
 pub fn law_of_reached_states()
     ensures channels { (p : Program) (t : State)
         → Reached p t
@@ -241,6 +255,9 @@ pub fn law_of_reached_states()
     ensures queues { (p : Program) (t : State)
         → Reached p t
         → SoundWaits t }
+    ensures once { (p : Program) (t : State)
+        → Reached p t
+        → SoundQueues t }
     ensures changes { (p : Program) (t u : State) (e : Event) (n : (machine p).Note)
         → Reached p t
         → (machine p).step t e ≡ Some (u, n)

@@ -1,7 +1,37 @@
-//! What the store of a running program is made of: its channels by name and its goroutines by name and number, whose changes can
-//! be taken back.
+//! The store of a running program: its state, whose steps are those of the rules, and the records by which they are taken back.
 #![tactic(auto)]
 
-pub mod channel_laws;
-pub mod channels;
-pub mod goroutines;
+mod allowing;
+mod awaiting;
+mod beyond;
+mod channels_named;
+mod choosing;
+mod clauses;
+mod closing;
+mod communicating;
+mod ending;
+mod faults;
+pub mod listing;
+mod local;
+mod making;
+pub mod objects;
+mod partners;
+mod queues;
+mod receiving;
+pub mod record;
+pub mod refusal;
+mod selecting;
+mod sending;
+mod sides;
+mod stepping;
+pub mod store;
+mod touching;
+mod unstepping;
+mod waiting;
+mod waking;
+
+pub use listing::Listing;
+pub use objects::Run;
+pub use record::{Operation, Record};
+pub use refusal::StepRefused;
+pub use store::Store;

@@ -1,6 +1,6 @@
 -- Type safety of checked programs, progress and preservation: in every state that a run reaches a goroutine that is ready
 -- has a step, no event is unsound, and goroutines stand at operations and calls.
-use Rattle.std.proofs.Common.{◌≡◌, ℕ, List, [], Option, Some, None, refl, sym, subst}
+use Rattle.std.proofs.Common.{◌≡◌, ℕ, List, [], ◌∷◌, Option, Some, None, refl, sym, subst}
 use Rattle.gr_tree.specs.Files.{FileTree}
 use Rattle.gr_base.specs.declared.events.Event.{Event}
 use Rattle.gr_program.specs.Programs.{Program}
@@ -13,15 +13,15 @@ use Rattle.gr_rules.specs.Attempts.{unsound, Refusal, Attempt, refusal_in}
 use Rattle.gr_rules.specs.Steps.{attempt, refusal}
 use Rattle.gr_rules.specs.Tells.{how_many_clauses, usual_choice}
 use Rattle.gr_laws.specs.Reached.{Reached}
-use Rattle.type_safety.specs.Standing.{StandsAs, AreFresh}
+use Rattle.type_safety.specs.Standing.{StandsAs, FrameSends, AreFresh}
 use Rattle.type_safety.proofs.Sorts.{Sort, Made, nothing_made}
-use Rattle.type_safety.proofs.Running.{GoesOn, on_as}
+use Rattle.type_safety.proofs.Running.{SortedFrames, GoesOn, on_as}
 use Rattle.type_safety.proofs.Promises.{Going}
 use Rattle.type_safety.proofs.CheckedPrograms.{program_is_sorted}
 use Rattle.type_safety.proofs.FineSelects.{Within}
 use Rattle.type_safety.proofs.FineEvents.{Sounds, Never, ready_goes, attempt_fine}
 use Rattle.type_safety.proofs.SortedRuns.{refused_for, main_frame, reached_going}
-use Rattle.type_safety.proofs.StandingFrames.{frames_stand}
+use Rattle.type_safety.proofs.StandingFrames.{frame_sends, frames_stand}
 use Rattle.type_safety.proofs.UsualChoices.{usual_goes}
 
 -- an attempt that may not be refused is not
@@ -60,6 +60,13 @@ module _ (file : FileTree) (p : Program) (t : State) where
   checked_stands name g checked l here =
       let r = reached checked l in
       frames_stand (program_is_sorted file p checked).0 r.0 (r.1.sorted.goroutines name g here)
+
+  pub checked_sends : (name : List ℕ) (g : Goroutine) (f : Frame) (below : List Frame) → ProgramOf file p → Reached p t
+      → t.goroutines name ≡ Some g → g.frames ≡ f ∷ below → FrameSends f
+  checked_sends name g f below checked l here is =
+      let r = reached checked l in
+      let fs = (program_is_sorted file p checked).0 in
+      frame_sends fs r.0 f below (subst (SortedFrames fs r.0 g.status) is (r.1.sorted.goroutines name g here))
 
   pub checked_names : ProgramOf file p → Reached p t → AreFresh t
   checked_names checked l = (reached checked l).1.sorted.fresh

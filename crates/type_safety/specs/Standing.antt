@@ -1,7 +1,12 @@
 -- How goroutines stand in a state: at which statements and calls, and under which names.
 use Rattle.std.specs.Prelude.{◌≡◌, ◌<◌, ℕ, List, [], ◌∷◌, ◌++◌, Option, Some, None}
 use Rattle.gr_base.specs.declared.values.Value.{Value}
+use Rattle.gr_program.specs.Programs.{Cases, default_case, send_case, receive_case}
 use Rattle.gr_rules.specs.Outcomes.{gives, wrong}
+use Rattle.gr_rules.specs.Operands.{Operands, also}
+use Rattle.gr_rules.specs.Evaluation.{Variables, evaluate}
+use Rattle.gr_rules.specs.Parts.{Plain, next_of}
+use Rattle.gr_rules.specs.Points.{Work, Select}
 use Rattle.gr_rules.specs.Frames.{Frame}
 use Rattle.gr_rules.specs.Deeds.{Communication, Enters, Communicates, Chooses, deed, resumed}
 use Rattle.gr_rules.specs.Goroutines.{Wait, Status, ready, waiting, finished, Goroutine}
@@ -33,6 +38,22 @@ pub data StandsAs : Status → List Frame → Type 0 where
   waits : {f : Frame} {below : List Frame} {ws : List Wait}
       → ¬ (deed f ≡ wrong) → StandsAt f ws → AllAwait f.function below → StandsAs (waiting ws) (f ∷ below)
   is_finished : StandsAs finished []
+
+-- The values that the clauses of a select send, with the operands of its cases: each comes to one, or to a fault (Go: Select
+-- statements).
+abbrev pub ClausesSend : Variables → Cases → Operands → Type 0
+ClausesSend held (default_case body others) operands = ClausesSend held others operands
+ClausesSend held (send_case channel value body others) (also c (also e operands)) = (¬ (evaluate held e ≡ wrong)) × ClausesSend held others operands
+ClausesSend held (receive_case targets channel initial body others) (also c operands) = ClausesSend held others operands
+ClausesSend held _ _ = Unit {0}
+
+-- .. of the statement, where that is a select
+abbrev pub WorkSends : Variables → Work → Operands → Type 0
+WorkSends held work operands = elim work [ Select cases ↦ ClausesSend held cases operands | _ ↦ Unit {0} ]
+
+-- .. at which a frame stands, no part of it being left
+abbrev pub FrameSends : Frame → Type 0
+FrameSends f = next_of f.point.operands ≡ Plain → WorkSends f.variables f.point.work f.point.operands
 
 -- how many goroutines it started
 abbrev pub children_of : Option Goroutine → ℕ

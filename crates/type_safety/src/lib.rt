@@ -2,7 +2,7 @@
 //! programs have code.
 #![tactic(auto)]
 
-ghost use Rattle.std.specs.Prelude.{◌≡◌, ℕ, List, [], Some, None};
+ghost use Rattle.std.specs.Prelude.{◌≡◌, ℕ, List, [], ◌∷◌, Some, None};
 ghost use Rattle.gr_base.specs.declared.events.Event.{Event};
 ghost use Rattle.gr_tree.specs.Files.{FileTree};
 ghost use Rattle.gr_program.specs.Programs.{Program};
@@ -18,7 +18,7 @@ ghost use Rattle.gr_laws.specs.Reached.{Reached};
 ghost use Rattle.gr_code.specs.Programs.{ProgramFits};
 ghost use Rattle.gr_lower.specs.CanLower.{CanLower};
 ghost use Rattle.gr_lower.specs.Lowered.{lowered, meaning};
-ghost use Rattle.type_safety.specs.Standing.{StandsAs, AreFresh};
+ghost use Rattle.type_safety.specs.Standing.{StandsAs, FrameSends, AreFresh};
 
 /// Progress: in every state that a run of a checked program reaches, while the program runs, a goroutine that is ready has a
 /// step, the one with the usual choice; and no event is refused as unsound, since no value of a wrong kind is met.
@@ -39,13 +39,20 @@ pub fn law_of_checked_programs()
 /// Preservation, as far as the rules speak of it: in every state that a run of a checked program reaches, a goroutine has
 /// frames until it is finished; the innermost comes to a step or a fault, and where the goroutine waits it stands at just the
 /// operations that it waits for; each frame below stands at the call of the one above it and goes on with its result. The
-/// names of children that are not yet started are free. The run starts with a goroutine that is ready, in `main`.
+/// values that a select sends come to values or to faults. The names of children that are not yet started are free. The run
+/// starts with a goroutine that is ready, in `main`.
 pub fn law_of_checked_states()
     ensures standing { (file : FileTree) (p : Program) (t : State) (name : List ℕ) (g : Goroutine)
         → ProgramOf file p
         → Reached p t
         → t.goroutines name ≡ Some g
         → StandsAs g.status g.frames }
+    ensures sends { (file : FileTree) (p : Program) (t : State) (name : List ℕ) (g : Goroutine) (f : Frame) (below : List Frame)
+        → ProgramOf file p
+        → Reached p t
+        → t.goroutines name ≡ Some g
+        → g.frames ≡ f ∷ below
+        → FrameSends f }
     ensures names { (file : FileTree) (p : Program) (t : State)
         → ProgramOf file p
         → Reached p t

@@ -1,0 +1,4 @@
+pub mod Said
+pub mod Frames
+pub mod Kept
+pub mod Consoles

@@ -1,0 +1,9 @@
+//! What a session tells of a running program and changes nothing by: how its goroutines and channels stand, what was printed, and
+//! which steps are kept.
+#![tactic(auto)]
+
+pub mod showing;
+pub mod telling;
+
+pub use showing::{chan, show, text};
+pub use telling::{console, log};

@@ -1,0 +1,34 @@
+-- What is made ready for a communication with a goroutine that waits.
+use Rattle.std.proofs.Common.{◌≡◌, ℕ, Bool, true, false, not, ◌&&◌, ◌||◌, List, [], ◌∷◌, ◌++◌, Option, Some, None, refl, sym, ap, subst, ◌∙◌}
+use Rattle.std.specs.Prelude.{option_map}
+use Rattle.std.specs.List.{list_any}
+use Rattle.std.proofs.lemmas.List.Folds.{list_any-append}
+use Rattle.gr_base.specs.declared.names.ChName.{ChName}
+use Rattle.gr_rules.specs.Operators.{same_channel}
+use Rattle.gr_rules.specs.Goroutines.{Wait, Status, waiting, channel_of}
+use Rattle.gr_rules.specs.Actors.{channels_but}
+use Rattle.gr_contents.specs.Meetings.{NamesChannels}
+use Rattle.gr_contents.proofs.MeetingLemmas.{named}
+use Rattle.gr_goros.specs.Views.{Seen}
+use Rattle.gr_tables.specs.NamedGoroutines.{At, goroutines_of, seen_of}
+use Rattle.gr_tables.specs.declared.goroutines.Goroutines.{Goroutines}
+use Rattle.gr_step.specs.Preparing.{WaitsFor}
+
+last_or_first : (a b : Bool) → ((not (a || false) && b) || (a || false)) ≡ (a || b)
+last_or_first true b = refl
+last_or_first false true = refl
+last_or_first false false = refl
+
+-- the channels of the waits, and this one last
+pub names_at_last : (c : ChName) (ws : List Wait) → NamesChannels (channels_but (c ∷ []) ws ++ c ∷ []) c ws
+names_at_last c ws d =
+    list_any-append (same_channel d) (channels_but (c ∷ []) ws) (c ∷ [])
+    ∙ ap (λ b. b || (same_channel d c || false)) (named d (c ∷ []) ws)
+    ∙ last_or_first (same_channel d c) (list_any (λ w. same_channel d (channel_of w)) ws)
+
+-- what a goroutine waits for, as it was seen
+pub waits_alike : (o : Goroutines) (n : List ℕ) (g : Seen) (vs ws : List Wait) → Some g ≡ seen_of o n → waiting vs ≡ g.content.status
+    → At (WaitsFor ws) (goroutines_of o n) → vs ≡ ws
+waits_alike o n g vs ws seen status h =
+    let here : At (WaitsFor ws) (Some g.content) = subst {_, _} (λ x. At (WaitsFor ws) (option_map (λ (g : Seen). g.content) x)) (sym seen) h in
+    ap (λ (s : Status). elim s [ waiting l ↦ l | _ ↦ vs ]) (status ∙ here)

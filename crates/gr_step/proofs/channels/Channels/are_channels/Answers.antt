@@ -1,5 +1,0 @@
-use Rattle.gr_step.proofs.Validity.{contents_valid}
-use Rattle.gr_step.proofs.channels.Channels.are_channels.Goals as goal
-
-pub returns : goal.returns
-returns c = contents_valid c.args.self.now.map c.args.self.now.are_channels

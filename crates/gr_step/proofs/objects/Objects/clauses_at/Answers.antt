@@ -1,0 +1,36 @@
+use Rattle.std.proofs.Common.{◌≡◌, ap, ◌∙◌}
+use Rattle.gr_code.specs.CodeViews.{program_code_of}
+use Rattle.gr_lower.specs.Lowered.{lowered}
+use Rattle.gr_step.specs.Listings.{program_in}
+use Rattle.gr_step.specs.Objects.{contents_in}
+use Rattle.gr_step.proofs.ChoosingLemmas.{other_need, task_there}
+use Rattle.gr_step.proofs.NoChoiceLemmas.{none_other}
+use Rattle.gr_step.proofs.SendingLemmas.{sends_in}
+use Rattle.gr_step.proofs.objects.Objects.clauses_at.Goals as goal
+use Rattle.gr_step.proofs.objects.Objects.clauses_at.Goals.{After-deref}
+
+code : (c : After-deref) → program_code_of c.deref.result.now ≡ lowered (program_in c.args.listing.now)
+code c = ap program_code_of c.deref.ensures ∙ c.requires.coded
+
+pub next_need-requires-clause-right : goal.next_need-requires-clause-right
+next_need-requires-clause-right c =
+    let is = code (goal.at.next_need-requires-clause-right c).After-deref in
+    let at = c.in-Some.ensures in
+    rw is (task_there (program_in c.args.listing.now) (contents_in c.args.self.now) c.requires.running c.args.go.now
+    c.in-Some.goroutine.now.content at.runs at.there at.is_ready)
+
+pub next_need-requires-clause-sends : goal.next_need-requires-clause-sends
+next_need-requires-clause-sends c =
+    let is = code (goal.at.next_need-requires-clause-sends c).After-deref in
+    let at = c.in-Some.ensures in
+    rw is (sends_in (program_in c.args.listing.now) (contents_in c.args.self.now) c.requires.running c.args.go.now
+    c.in-Some.goroutine.now.content at.there at.is_ready)
+
+pub returns : goal.returns
+returns c =
+    let is = code (goal.at.returns c).After-deref in
+    let at = c.in-Some.ensures in
+    let g = c.in-Some.goroutine.now.content in
+    none_other (program_in c.args.listing.now) (contents_in c.args.self.now) c.args.go.now g c.requires.running at.runs at.there at.is_ready
+    (other_need (lowered (program_in c.args.listing.now)) g c.in_ok-clauses.field-0 (rw is at c.in_ok-clauses.ensures) at.select
+    c.in_default-2.not-Select)

@@ -1,0 +1,29 @@
+use Rattle.std.proofs.Common.{refl, ap, length, arith}
+use Rattle.gr_goros.specs.declared.arrivals.Halt.TheVariants.{Faulted}
+use Rattle.gr_goros.specs.Views.{halted}
+use Rattle.gr_rules.specs.States.{faulted}
+use Rattle.gr_step.proofs.FrameNeeds.{need_none}
+use Rattle.gr_step.proofs.PlacedLemmas.{placed, no_rooms}
+use Rattle.gr_tables.specs.NamedChannels.{contents_of, rooms_of}
+use Rattle.gr_step.proofs.objects.Objects.fault.Goals as goal
+
+pub returns-clause-ok : goal.returns-clause-ok
+returns-clause-ok c = λ n g named there.
+    let own = placed c.args.number n c.args.self.now.goroutines c.halt-own.new.self named g there (halted Faulted) c.halt-own.result
+    c.halt-own.ensures in
+    record {
+      after = λ j. record { run = faulted c.args.fault; goroutines = own.is j; channels = contents_of c.args.self.now.channels };
+      kind = refl;
+      beyond = c.in_ok-beyond.ensures;
+      back = own.back;
+      fits = own.fits;
+    }
+
+pub returns-clause-room : goal.returns-clause-room
+returns-clause-room c = λ n.
+    let h = c.halt-own.ensures in
+    let none = need_none h.0.content h.1.content c.halt-own.result h.3.1.back (ap (λ g. length g.frames) h.3.0) in
+    record {
+      frames = rw none (omega arith);
+      places = no_rooms c.in_ok-beyond.beyond.value.channels.items (rooms_of c.args.self.now.channels) c.in_ok-beyond.ensures.channels;
+    }

@@ -1,0 +1,82 @@
+use Rattle.std.proofs.Common.{◌≡◌, ◌∙◌, ◌∷◌, [], ◌++◌, map, true, Some, None, sym, ap, subst}
+use Rattle.gr_base.specs.declared.objects.Object.TheVariants.{Go, Gate, Head, Tail}
+use Rattle.gr_rules.specs.Attempts.{receives_from}
+use Rattle.gr_rules.specs.Actors.{channels_but}
+use Rattle.gr_rules.specs.Touches.{slot_numbered}
+use Rattle.gr_code.specs.CodeViews.{program_code_of}
+use Rattle.gr_step.specs.Listings.{program_in}
+use Rattle.gr_step.proofs.Encounters.{as_before, same_seen}
+use Rattle.gr_step.proofs.Meeting.{item, its_mover, can_meet_mover, mover_was_met, moving_room}
+use Rattle.gr_step.proofs.Results.{if_ok, if_err, on_err}
+use Rattle.gr_step.proofs.objects.Objects.move_up.Goals as goal
+
+pub prepare-requires : goal.prepare-requires
+prepare-requires c =
+    (its_mover (program_in c.args.listing.now) c.args.event.now c.args.number c.args.self.now c.requires.acting c.args.clause c.requires.clause
+    c.args.channel.now c.args.zero c.requires.sound c.in-Some.found.now c.in-Some.ensures c.in-Some-sender.sender.now
+    c.in-Some-sender.ensures c.requires.filled).waits
+
+pub exchange-requires : goal.exchange-requires
+exchange-requires c =
+    let its = its_mover (program_in c.args.listing.now) c.args.event.now c.args.number c.args.self.now c.requires.acting c.args.clause c.requires.clause
+    c.args.channel.now c.args.zero c.requires.sound c.in-Some.found.now c.in-Some.ensures c.in-Some-sender.sender.now
+    c.in-Some-sender.ensures c.requires.filled in
+    let ready = rw (c.in_ok-copy.ensures, c.new-nothing.ensures.items, c.in_ok-touched.ensures) at (c.in_ok-prepared.ensures its.m.waits its.waits_for) in
+    can_meet_mover (program_in c.args.listing.now) c.args.event.now c.args.number c.args.self.now c.requires.acting c.args.clause c.requires.clause
+    c.args.channel.now c.args.zero c.requires.sound c.in-Some.found.now c.in-Some.ensures c.in-Some-sender.sender.now
+    c.in-Some-sender.ensures c.requires.filled c.in_ok-prepared.prepared ready (program_code_of c.deref.result.now)
+    (ap program_code_of c.deref.ensures ∙ c.requires.coded) c.in-Moved.value c.in-Moved.undo c.take.new.self
+    (rw c.in-Moved.is at c.in_ok-value.ensures.rule) (rw c.in-Moved.is at c.in_ok-value.ensures.back)
+
+pub returns-clause-ok : goal.returns-clause-ok
+returns-clause-ok c =
+    let its = its_mover (program_in c.args.listing.now) c.args.event.now c.args.number c.args.self.now c.requires.acting c.args.clause c.requires.clause
+    c.args.channel.now c.args.zero c.requires.sound c.in-Some.found.now c.in-Some.ensures c.in-Some-sender.sender.now
+    c.in-Some-sender.ensures c.requires.filled in
+    let ready = rw (c.in_ok-copy.ensures, c.new-nothing.ensures.items, c.in_ok-touched.ensures) at (c.in_ok-prepared.ensures its.m.waits its.waits_for) in
+    if_ok c.exchange.result (rw c.kind_by-kind.ensures at (c.exchange.ensures.ok (receives_from c.args.channel.now) []
+    ((Gate c.args.channel.now ∷ Head c.args.channel.now ∷ Tail c.args.channel.now
+    ∷ slot_numbered c.args.channel.now c.in-Some.found.now.content.capacity c.in-Some.found.now.content.head) ++ Go c.in-Some-sender.sender.now.go ∷ map Gate (channels_but (c.args.channel.now ∷ []) its.m.waits)) ready.reached))
+    (λ change done. mover_was_met (program_in c.args.listing.now) c.args.event.now c.args.number c.args.self.now c.requires.acting c.args.clause c.requires.clause
+    c.args.channel.now c.args.zero c.requires.sound c.in-Some.found.now c.in-Some.ensures c.in-Some-sender.sender.now
+    c.in-Some-sender.ensures c.requires.filled c.in_ok-prepared.prepared ready (program_code_of c.deref.result.now)
+    (ap program_code_of c.deref.ensures ∙ c.requires.coded) c.in-Moved.value c.in-Moved.undo c.take.new.self
+    (rw c.in-Moved.is at c.in_ok-value.ensures.rule) (rw c.in-Moved.is at c.in_ok-value.ensures.back) change c.exchange.new.self done)
+
+pub returns-clause-room : goal.returns-clause-room
+returns-clause-room c =
+    let its = its_mover (program_in c.args.listing.now) c.args.event.now c.args.number c.args.self.now c.requires.acting c.args.clause c.requires.clause
+    c.args.channel.now c.args.zero c.requires.sound c.in-Some.found.now c.in-Some.ensures c.in-Some-sender.sender.now
+    c.in-Some-sender.ensures c.requires.filled in
+    let ready = rw (c.in_ok-copy.ensures, c.new-nothing.ensures.items, c.in_ok-touched.ensures) at (c.in_ok-prepared.ensures its.m.waits its.waits_for) in
+    if_ok c.exchange.result (rw c.kind_by-kind.ensures at (c.exchange.ensures.ok (receives_from c.args.channel.now) []
+    ((Gate c.args.channel.now ∷ Head c.args.channel.now ∷ Tail c.args.channel.now
+    ∷ slot_numbered c.args.channel.now c.in-Some.found.now.content.capacity c.in-Some.found.now.content.head) ++ Go c.in-Some-sender.sender.now.go ∷ map Gate (channels_but (c.args.channel.now ∷ []) its.m.waits)) ready.reached))
+    (λ change done. moving_room (program_in c.args.listing.now) c.args.event.now c.args.number c.args.self.now c.requires.acting c.args.clause c.requires.clause
+    c.args.channel.now c.args.zero c.requires.sound c.in-Some.found.now c.in-Some.ensures c.in-Some-sender.sender.now
+    c.in-Some-sender.ensures c.requires.filled c.in_ok-prepared.prepared ready (program_code_of c.deref.result.now)
+    (ap program_code_of c.deref.ensures ∙ c.requires.coded) c.in-Moved.value c.in-Moved.undo c.take.new.self
+    (rw c.in-Moved.is at c.in_ok-value.ensures.rule) (rw c.in-Moved.is at c.in_ok-value.ensures.back) change c.exchange.new.self done)
+
+pub returns-clause-err : goal.returns-clause-err
+returns-clause-err c =
+    let its = its_mover (program_in c.args.listing.now) c.args.event.now c.args.number c.args.self.now c.requires.acting c.args.clause c.requires.clause
+    c.args.channel.now c.args.zero c.requires.sound c.in-Some.found.now c.in-Some.ensures c.in-Some-sender.sender.now
+    c.in-Some-sender.ensures c.requires.filled in
+    let ready = rw (c.in_ok-copy.ensures, c.new-nothing.ensures.items, c.in_ok-touched.ensures) at (c.in_ok-prepared.ensures its.m.waits its.waits_for) in
+    if_err c.exchange.result c.exchange.ensures.err_goroutines c.exchange.ensures.err_channels (λ gos took.
+    as_before (program_in c.args.listing.now) c.args.event.now c.args.number c.args.self.now c.requires.acting c.args.clause
+    (Some (
+      (item (program_in c.args.listing.now) c.args.event.now c.args.number c.args.self.now c.requires.acting c.args.clause c.requires.clause
+          c.args.channel.now c.args.zero c.requires.sound c.in-Some.found.now c.in-Some.ensures c.in-Some-sender.sender.now
+          c.in-Some-sender.ensures c.requires.filled).0,
+      true,
+    )) c.args.channel.now c.in-Some-sender.sender.now.go c.in-Some-sender.sender.now.case None its (receives_from c.args.channel.now) []
+    (Gate c.args.channel.now ∷ Head c.args.channel.now ∷ Tail c.args.channel.now
+    ∷ slot_numbered c.args.channel.now c.in-Some.found.now.content.capacity c.in-Some.found.now.content.head) c.in_ok-prepared.prepared ready (program_code_of c.deref.result.now)
+    (ap program_code_of c.deref.ensures ∙ c.requires.coded) c.take.new.self c.in-Moved.undo
+    (rw c.in-Moved.is at c.in_ok-value.ensures.back) c.exchange.new.self gos took c.exchange.ensures.run)
+
+pub returns-in_err-value-clause-err : goal.returns-in_err-value-clause-err
+returns-in_err-value-clause-err c =
+    on_err c.from_residual-in_err-value.result (same_seen c.args.self.now c.take.new.self c.in_err-value.ensures.err)

@@ -1,0 +1,42 @@
+use Rattle.std.proofs.Common.{◌≡◌, ◌<◌, ◌∙◌, false, true, length, [], Option, Some, None, refl, sym, ap, subst}
+use Rattle.gr_channels.specs.Channels.{Content}
+use Rattle.gr_tables.specs.NamedChannels.{At}
+use Rattle.gr_step.specs.Listings.{program_in}
+use Rattle.gr_step.proofs.OfferLemmas.{was_seen, none_in}
+use Rattle.gr_step.proofs.SendLooks.{counts_on, send_finds, closed_faults, cannot_send}
+use Rattle.gr_step.proofs.objects.Objects.send.Goals as goal
+
+pub unreachable-requires : goal.unreachable-requires
+unreachable-requires c =
+    send_finds (program_in c.args.listing.now) c.args.event.now c.args.number c.args.self.now c.requires.acting c.args.clause c.args.channel.now c.args.value
+    c.requires.sound c.in_default.ensures
+
+pub fault-requires : goal.fault-requires
+fault-requires c = counts_on (program_in c.args.listing.now) c.args.event.now c.args.number c.args.self.now c.requires.acting
+
+pub returns-then-is_closed-clause-ok : goal.returns-then-is_closed-clause-ok
+returns-then-is_closed-clause-ok c =
+    closed_faults (program_in c.args.listing.now) c.args.event.now c.args.number c.args.self.now c.requires.acting c.args.clause c.args.channel.now c.args.value
+    c.in-Some.found.now c.in-Some.ensures (sym c.is_closed.ensures ∙ c.if-is_closed.true) c.in_ok-copy.field-0 c.in_ok-copy.ensures
+    c.in_ok-reads.reads.items c.in_ok-reads.ensures c.in_ok-change.change _
+    (c.in_ok-change.ensures.ok c.args.event.now.go c.requires.acting.goroutine c.requires.acting.named c.requires.acting.there)
+
+pub returns-then-is_closed-clause-room : goal.returns-then-is_closed-clause-room
+returns-then-is_closed-clause-room c = c.in_ok-change.ensures.room c.args.event.now.go
+
+pub buffer-requires-clause-space : goal.buffer-requires-clause-space
+buffer-requires-clause-space c =
+    subst {_, _} (At (λ (x : Content). (x.closed ≡ false) × (x.receivers ≡ []) × (length x.items < x.capacity)))
+    (sym (was_seen c.args.self.now.channels c.args.channel.now c.in-Some.found.now c.in-Some.ensures)) (
+      sym c.is_closed.ensures ∙ c.if-is_closed.false,
+      none_in c.in-Some.found.now.content.receivers c.in_default-receiver.ensures,
+      rw (c.len.ensures, c.capacity.ensures.value) at c.if-len-capacity.true,
+    )
+
+pub returns-clause-ok : goal.returns-clause-ok
+returns-clause-ok c = (
+  refl,
+  cannot_send (program_in c.args.listing.now) c.args.event.now c.args.number c.args.self.now c.requires.acting c.args.clause c.args.channel.now c.args.value
+      c.in-Some.found.now c.in-Some.ensures (sym c.is_closed.ensures ∙ c.if-is_closed.false)
+      (none_in c.in-Some.found.now.content.receivers c.in_default-receiver.ensures) (rw (c.len.ensures, c.capacity.ensures.value) at c.if-len-capacity.false),
+)

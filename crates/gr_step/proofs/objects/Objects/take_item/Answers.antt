@@ -1,0 +1,57 @@
+use Rattle.std.proofs.Common.{◌≡◌, ◌∙◌, ◌∷◌, [], ◌++◌, sym, ap, subst}
+use Rattle.gr_base.specs.declared.objects.Object.TheVariants.{Gate, Head}
+use Rattle.gr_rules.specs.Attempts.{receives_from}
+use Rattle.gr_rules.specs.Touches.{slot_numbered}
+use Rattle.gr_code.specs.CodeViews.{program_code_of}
+use Rattle.gr_tables.specs.NamedChannels.{GoesBack}
+use Rattle.gr_step.specs.Listings.{program_in}
+use Rattle.gr_step.proofs.TakingItems.{can_take, was_taken, take_room}
+use Rattle.gr_step.proofs.Encounters.{before_these, same_seen}
+use Rattle.gr_step.proofs.Results.{if_ok, if_err, on_err}
+use Rattle.gr_step.proofs.objects.Objects.take_item.Goals as goal
+
+pub pass-requires : goal.pass-requires
+pass-requires c =
+    let done = c.push_reserved.ensures.items ∙ ap (λ l. l ++ (c.in_ok-name.name, c.in-Item.undo) ∷ []) c.in_ok-done.ensures.items
+    ∙ ap (λ k. (k, c.in-Item.undo) ∷ []) c.in_ok-name.ensures in
+    can_take (program_in c.args.listing.now) c.args.event.now c.args.number c.args.self.now c.requires.acting c.args.clause c.requires.clause
+    c.args.channel.now c.args.zero c.requires.sound c.in-Some.found.now c.in-Some.ensures (program_code_of c.deref.result.now)
+    (ap program_code_of c.deref.ensures ∙ c.requires.coded) c.push_reserved.new.self.items c.requires.item c.in-Item.value
+    c.in-Item.undo c.take.new.self (rw c.in-Item.is at c.in_ok-value.ensures.rule) (rw c.in-Item.is at c.in_ok-value.ensures.back) done
+
+pub returns-clause-ok : goal.returns-clause-ok
+returns-clause-ok c =
+    let done = c.push_reserved.ensures.items ∙ ap (λ l. l ++ (c.in_ok-name.name, c.in-Item.undo) ∷ []) c.in_ok-done.ensures.items
+    ∙ ap (λ k. (k, c.in-Item.undo) ∷ []) c.in_ok-name.ensures in
+    let told = rw (c.in_ok-copy.ensures, c.in_ok-reads.ensures, c.in_ok-writes.ensures) at c.in_ok-beyond.ensures.told in
+    if_ok c.pass.result (rw c.kind_by-kind.ensures at (c.pass.ensures.ok (receives_from c.args.channel.now) (Gate c.args.channel.now ∷ [])
+    (Head c.args.channel.now ∷ slot_numbered c.args.channel.now c.in-Some.found.now.content.capacity c.in-Some.found.now.content.head) told))
+    (λ change x. was_taken (program_in c.args.listing.now) c.args.event.now c.args.number c.args.self.now c.requires.acting c.args.clause c.requires.clause
+    c.args.channel.now c.args.zero c.requires.sound c.in-Some.found.now c.in-Some.ensures (program_code_of c.deref.result.now)
+    (ap program_code_of c.deref.ensures ∙ c.requires.coded) c.push_reserved.new.self.items c.requires.item c.in-Item.value
+    c.in-Item.undo c.take.new.self (rw c.in-Item.is at c.in_ok-value.ensures.rule) (rw c.in-Item.is at c.in_ok-value.ensures.back) done change c.pass.new.self x)
+
+pub returns-clause-room : goal.returns-clause-room
+returns-clause-room c =
+    let done = c.push_reserved.ensures.items ∙ ap (λ l. l ++ (c.in_ok-name.name, c.in-Item.undo) ∷ []) c.in_ok-done.ensures.items
+    ∙ ap (λ k. (k, c.in-Item.undo) ∷ []) c.in_ok-name.ensures in
+    let told = rw (c.in_ok-copy.ensures, c.in_ok-reads.ensures, c.in_ok-writes.ensures) at c.in_ok-beyond.ensures.told in
+    if_ok c.pass.result (rw c.kind_by-kind.ensures at (c.pass.ensures.ok (receives_from c.args.channel.now) (Gate c.args.channel.now ∷ [])
+    (Head c.args.channel.now ∷ slot_numbered c.args.channel.now c.in-Some.found.now.content.capacity c.in-Some.found.now.content.head) told))
+    (λ change x. take_room (program_in c.args.listing.now) c.args.event.now c.args.number c.args.self.now c.requires.acting c.args.clause c.requires.clause
+    c.args.channel.now c.args.zero c.requires.sound c.in-Some.found.now c.in-Some.ensures (program_code_of c.deref.result.now)
+    (ap program_code_of c.deref.ensures ∙ c.requires.coded) c.push_reserved.new.self.items c.requires.item c.in-Item.value
+    c.in-Item.undo c.take.new.self (rw c.in-Item.is at c.in_ok-value.ensures.rule) (rw c.in-Item.is at c.in_ok-value.ensures.back) done change c.pass.new.self x)
+
+pub returns-clause-err : goal.returns-clause-err
+returns-clause-err c =
+    let done = c.push_reserved.ensures.items ∙ ap (λ l. l ++ (c.in_ok-name.name, c.in-Item.undo) ∷ []) c.in_ok-done.ensures.items
+    ∙ ap (λ k. (k, c.in-Item.undo) ∷ []) c.in_ok-name.ensures in
+    if_err c.pass.result c.pass.ensures.err_goroutines c.pass.ensures.err_channels (λ gos took.
+    before_these c.args.self.now c.take.new.self c.push_reserved.new.self.items
+    (subst {_, _} (λ us. GoesBack us c.args.self.now.channels c.take.new.self) (sym done) (rw c.in-Item.is at c.in_ok-value.ensures.back))
+    c.pass.new.self gos took c.pass.ensures.run)
+
+pub returns-in_err-value-clause-err : goal.returns-in_err-value-clause-err
+returns-in_err-value-clause-err c =
+    on_err c.from_residual-in_err-value.result (same_seen c.args.self.now c.take.new.self c.in_err-value.ensures.err)

@@ -1,0 +1,78 @@
+-- What steps that meet no other goroutine reach beyond their own, and how a fault stops the program.
+use Rattle.std.specs.Prelude.{◌≡◌, ◌+◌, ◌≤◌, ℕ, ℤ, pos, negsuc, Bool, true, false, List, [], ◌∷◌, Option, Some, None, option_map}
+use Rattle.gr_base.specs.declared.names.ChName.{ChName}
+use Rattle.gr_base.specs.declared.kinds.Fault.{Fault}
+use Rattle.gr_base.specs.declared.kinds.Kind.TheVariants as kinds
+use Rattle.gr_base.specs.declared.objects.Object.{Object}
+use Rattle.gr_base.specs.declared.objects.Object.TheVariants as objects
+use Rattle.gr_rules.specs.Limits.{most_places}
+use Rattle.gr_rules.specs.States as rules
+use Rattle.gr_code.specs.Goroutines.{CodeGoroutine, faulted, finished}
+use Rattle.gr_goros.specs.Undoing.{undone, need, Fits}
+use Rattle.gr_contents.specs.Contents.{Contents, with_goroutine}
+use Rattle.gr_goros.specs.declared.undo.GoUndo.{GoUndo}
+use Rattle.gr_tables.specs.NamedGoroutines.{ChangesBy, ComesTo}
+use Rattle.gr_tables.specs.declared.goroutines.Goroutines.{Goroutines}
+use Rattle.gr_step.specs.declared.objects.Objects.{Objects}
+use Rattle.gr_step.specs.declared.objects.Run.{Run}
+use Rattle.gr_step.specs.declared.objects.Run.TheVariants.{Ended, Faulted}
+use Rattle.gr_step.specs.declared.record.Operation.{Operation}
+use Rattle.gr_step.specs.declared.record.Beyond.{Beyond}
+use Rattle.gr_step.specs.declared.record.Change.{Change}
+
+-- it did this with a channel, read these and wrote these, ended or stopped the program or not, and reached nothing else
+pub record Reaches (did : Option Operation) (read written : List Object) (stopped : Bool) (b : Beyond) : Type 0 where
+  pub operation : b.operation ≡ did
+  pub reads : b.reads.items ≡ read
+  pub writes : b.writes.items ≡ written
+  pub met : b.met.items ≡ []
+  pub channels : b.channels.items ≡ []
+  pub begins : b.begins ≡ None
+  pub makes : b.makes ≡ None
+  pub stops : b.stops ≡ stopped
+
+-- .. of a change that reaches beyond its goroutine
+abbrev pub ReachesBeyond : Option Operation → List Object → List Object → Bool → Change → Type 0
+ReachesBeyond did read written stopped c = elim c.beyond [ Some b ↦ Reaches did read written stopped b.value | None ↦ ⊥ ]
+
+-- .. and made a channel of this name, or started a goroutine of this name
+pub record ReachesChannel (name : ChName) (b : Beyond) : Type 0 where
+  pub rest : Reaches None [] (objects.Gate name ∷ []) false (record b { makes = None })
+  pub makes : b.makes ≡ Some name
+
+pub record ReachesChild (child : List ℕ) (b : Beyond) : Type 0 where
+  pub rest : Reaches None [] (objects.Go child ∷ []) false (record b { begins = None })
+  pub begins : b.begins ≡ Some child
+
+-- a size that no channel can have (Go: Making slices, maps and channels)
+abbrev pub IsBadSize : ℤ → Type 0
+IsBadSize (pos n) = most_places + 1 ≤ n
+IsBadSize (negsuc n) = Unit {0}
+
+-- the goroutine of this name stopped the program with a fault: what it did with a channel, and what it read
+pub record Stops (n : List ℕ) (fault : Fault) (did : Option Operation) (read : List Object) (s : Contents) (g : CodeGoroutine) (c : Change)
+    (t : Contents) : Type 0 where
+  pub after : t ≡ record (with_goroutine s n (Some (faulted g))) { run = rules.faulted fault }
+  pub kind : c.kind ≡ kinds.Fault fault
+  pub beyond : ReachesBeyond did read (objects.Run ∷ []) true c
+  pub back : undone c.own (faulted g) ≡ g
+  pub fits : Fits c.own (faulted g)
+
+-- the goroutines have changed so, and whether the program runs is this
+pub record ChangesObjects (change : Goroutines → Goroutines → Type 0) (run : Run) (old new : Objects) : Type 0 where
+  pub goroutines : change old.goroutines new.goroutines
+  pub runs : new.run ≡ run
+  pub channels : new.channels ≡ old.channels
+
+-- a step that was a fault stopped the program
+pub record HasStopped (fault : Fault) (undo : GoUndo) (c : Change) (old new : Objects) : Type 0 where
+  pub kind : c.kind ≡ kinds.Fault fault
+  pub own : c.own ≡ undo
+  pub beyond : ReachesBeyond None [] (objects.Run ∷ []) true c
+  pub after : new ≡ record old { run = Faulted fault }
+
+-- the goroutine with this number is done, and the program has ended
+pub record HasEnded (number : ℕ) (c : Change) (old new : Objects) : Type 0 where
+  pub kind : c.kind ≡ kinds.Exit
+  pub beyond : ReachesBeyond None [] (objects.Run ∷ []) true c
+  pub after : ChangesObjects (ChangesBy number (ComesTo finished c.own)) Ended old new

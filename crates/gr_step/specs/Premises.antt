@@ -1,0 +1,57 @@
+-- What is asked of a store and of what takes a step.
+use Rattle.std.specs.Prelude.{◌≡◌, ◌+◌, ◌<◌, ◌^◌, ℕ, List, [], ◌∷◌, Some}
+use Rattle.gr_base.specs.declared.names.ChName.{ChName}
+use Rattle.gr_base.specs.declared.events.Event.{Event}
+use Rattle.gr_channels.specs.Channels.{Content, CanEnter}
+use Rattle.gr_tree.specs.Files.{FileTree}
+use Rattle.gr_program.specs.Programs.{Program}
+use Rattle.gr_typing.specs.FileChecks.{ProgramOf}
+use Rattle.gr_rules.specs.Goroutines.{ready}
+use Rattle.gr_rules.specs.States.{live}
+use Rattle.gr_rules.specs.Actors.{Actor}
+use Rattle.gr_laws.specs.Reached.{Reached}
+use Rattle.gr_code.specs.CodeFrames.{CodeFrame}
+use Rattle.gr_code.specs.Goroutines.{CodeGoroutine}
+use Rattle.gr_contents.specs.Contents.{Contents}
+use Rattle.gr_contents.specs.Looks.{actor_of}
+use Rattle.gr_contents.specs.Standing.{ContentsStand}
+use Rattle.gr_lower.specs.Lowered.{lowered, meaning}
+use Rattle.gr_tables.specs.NamedGoroutines.{name_at}
+use Rattle.gr_step.specs.declared.objects.Objects.{Objects}
+use Rattle.gr_step.specs.Listings.{frame_in, state_in}
+use Rattle.gr_step.specs.Objects.{contents_in}
+
+-- the program of a file that meets the rules of the language
+pub record IsChecked (p : Program) : Type 0 where
+  pub file : FileTree
+  pub checked : ProgramOf file p
+
+-- contents to which some run of a checked program leads, in frames of its code
+pub record Running (p : Program) (s : Contents) : Type 0 where
+  pub program : IsChecked p
+  pub reached : Reached p (state_in p s)
+  pub stand : ContentsStand (meaning p) (lowered p) s
+
+-- no count of steps, and of values that entered or left a buffer, passes the greatest number of 64 bits in one more step
+pub record CanCount (s : Contents) : Type 0 where
+  pub steps : (n : List ℕ) (g : CodeGoroutine) → s.goroutines n ≡ Some g → g.steps + 1 < 2 ^ 64
+  pub values : (c : ChName) (x : Content) → s.channels c ≡ Some x → CanEnter x
+
+-- the goroutine of an event, which has this number, is ready, in a program that runs
+pub record Acting (p : Program) (e : Event) (number : ℕ) (o : Objects) : Type 0 where
+  pub running : Running p (contents_in o)
+  pub counted : CanCount (contents_in o)
+  pub runs : (contents_in o).run ≡ live
+  pub named : name_at o.goroutines number ≡ Some e.go
+  pub goroutine : CodeGoroutine
+  pub there : (contents_in o).goroutines e.go ≡ Some goroutine
+  pub is_ready : goroutine.status ≡ ready
+
+-- of the goroutine of an event
+abbrev pub OfGoroutine : Event → Contents → (CodeGoroutine → Type 0) → Type 0
+OfGoroutine e s P = (g : CodeGoroutine) → s.goroutines e.go ≡ Some g → P g
+
+-- of the goroutine of an event, as the rules see it at its next step
+abbrev pub OfActor : Program → Event → Contents → (Actor → Type 0) → Type 0
+OfActor p e s P = (g : CodeGoroutine) (f : CodeFrame) (below : List CodeFrame) → s.goroutines e.go ≡ Some g → g.frames ≡ f ∷ below
+    → P (actor_of (frame_in p) p e g f below)

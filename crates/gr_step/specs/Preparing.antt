@@ -1,0 +1,88 @@
+-- What a step has ready that reaches beyond its goroutine, before it changes anything.
+use Rattle.std.specs.Prelude.{◌≡◌, ◌<◌, ℕ, List, [], ◌∷◌, ◌++◌, map, false, vec_len, vec_capacity, Option, Some, None, option_map}
+use Rattle.gr_base.specs.declared.names.ChName.{ChName}
+use Rattle.gr_base.specs.declared.events.Event.{Event}
+use Rattle.gr_base.specs.declared.kinds.Kind.{Kind}
+use Rattle.gr_base.specs.declared.objects.Object.{Object}
+use Rattle.gr_base.specs.declared.objects.Object.TheVariants as objects
+use Rattle.gr_channels.specs.declared.changes.ChanUndo.{ChanUndo}
+use Rattle.gr_rules.specs.Goroutines.{Wait, waiting}
+use Rattle.gr_rules.specs.States.{same_go}
+use Rattle.gr_rules.specs.Attempts.{Operation}
+use Rattle.gr_rules.specs.Actors.{channels_but}
+use Rattle.gr_code.specs.CodeFrames.{ProgramCode}
+use Rattle.gr_code.specs.Goroutines.{CodeGoroutine, Arrival}
+use Rattle.gr_contents.specs.Meetings.{NamesChannels}
+use Rattle.gr_goros.specs.declared.undo.GoUndo.{GoUndo}
+use Rattle.gr_tables.specs.NamedChannels.{contents_of, rooms_of, ChansFit, HasRooms}
+use Rattle.gr_tables.specs.NamedGoroutines.{At, goroutines_of, name_at}
+use Rattle.gr_step.specs.declared.objects.Objects.{Objects}
+use Rattle.gr_step.specs.declared.record.Beyond.{Beyond}
+use Rattle.gr_step.specs.declared.record.Change.{Change}
+use Rattle.gr_step.specs.declared.partners.Prepared.{Prepared}
+use Rattle.gr_step.specs.Records.{operation_of}
+use Rattle.gr_step.specs.Passing.{CanArriveAt, ArrivesAt, Tells, Exchanges}
+
+-- it tells of these, and of no change yet
+pub record IsReached (operation : Operation) (reads writes : List Object) (b : Beyond) : Type 0 where
+  pub operation_is : option_map operation_of b.operation ≡ Some operation
+  pub reads_are : b.reads.items ≡ reads
+  pub writes_are : b.writes.items ≡ writes
+  pub met_none : b.met.items ≡ []
+  pub begins_none : b.begins ≡ None
+  pub makes_none : b.makes ≡ None
+  pub runs_on : b.stops ≡ false
+
+-- a goroutine that waits for these
+abbrev pub WaitsFor : List Wait → CodeGoroutine → Type 0
+WaitsFor ws g = g.status ≡ waiting ws
+
+-- it names the goroutine, which waits for these, and their channels, and tells what the step touches
+pub record IsPrepared (operation : Operation) (reads touched : List Object) (c : ChName) (n : List ℕ) (ws : List Wait) (o : Objects) (r : Prepared)
+    : Type 0 where
+  pub go_is : r.go ≡ n
+  pub channel_is : r.channel ≡ c
+  pub named : name_at o.goroutines r.number ≡ Some n
+  pub names_are : NamesChannels r.names.items c ws
+  pub reached : IsReached operation reads (touched ++ objects.Go n ∷ map objects.Gate (channels_but (c ∷ []) ws)) r.beyond.value
+  pub room : vec_len r.beyond.value.met < vec_capacity r.beyond.value.met
+  pub done_none : r.done.items ≡ []
+  pub done_room : vec_len r.done < vec_capacity r.done
+
+-- two goroutines can go past their communication, with all made ready for that, after a change of their channel
+pub record CanExchange (code : ProgramCode) (e : Event) (number : ℕ) (r : Prepared) (u : ChanUndo) (passes meets : Arrival) (o : Objects) : Type 0 where
+  pub named : name_at o.goroutines number ≡ Some e.go
+  pub partner_named : name_at o.goroutines r.number ≡ Some r.go
+  pub apart : same_go r.go e.go ≡ false
+  pub can : CanArriveAt code passes (goroutines_of o.goroutines e.go)
+  pub partner_can : CanArriveAt code meets (goroutines_of o.goroutines r.go)
+  pub fits : ChansFit ((r.channel, u) ∷ []) (contents_of o.channels)
+  pub room : HasRooms ((r.channel, u) ∷ []) (rooms_of o.channels)
+  pub met_room : vec_len r.beyond.value.met < vec_capacity r.beyond.value.met
+  pub done_none : r.done.items ≡ []
+  pub done_room : vec_len r.done < vec_capacity r.done
+
+-- two goroutines went past their communication, and the change tells of it
+pub record IsExchange (code : ProgramCode) (n m : List ℕ) (passes meets : Arrival) (names : List ChName) (kind : Kind) (operation : Operation)
+    (reads writes : List Object) (done : List (ChName × ChanUndo)) (c : Change) (old new : Objects) : Type 0 where
+  pub own : GoUndo
+  pub met : GoUndo
+  pub changed : List (ChName × ChanUndo)
+  pub tells : Tells c kind (Some operation) reads writes own ((m, met) ∷ []) changed
+  pub exchanges : Exchanges code n m passes meets names own met done changed old new
+
+-- a goroutine can go past its communication with nobody, after these changes of channels in the same step
+pub record CanPass (code : ProgramCode) (e : Event) (number : ℕ) (passes : Arrival) (done : List (ChName × ChanUndo)) (o : Objects) : Type 0 where
+  pub named : name_at o.goroutines number ≡ Some e.go
+  pub can : CanArriveAt code passes (goroutines_of o.goroutines e.go)
+  pub fits : ChansFit done (contents_of o.channels)
+  pub room : HasRooms done (rooms_of o.channels)
+
+-- it went past, and the change tells of it
+pub record IsPass (code : ProgramCode) (n : List ℕ) (passes : Arrival) (kind : Kind) (operation : Operation) (reads writes : List Object)
+    (done : List (ChName × ChanUndo)) (c : Change) (old new : Objects) : Type 0 where
+  pub own : GoUndo
+  pub tells : Tells c kind (Some operation) reads writes own [] done
+  pub goes : ArrivesAt code n passes own (goroutines_of old.goroutines) (goroutines_of new.goroutines)
+  pub channels : new.channels ≡ old.channels
+  pub run : new.run ≡ old.run

@@ -1,0 +1,51 @@
+//! The channels of waits.
+
+ghost use Rattle.std.specs.Prelude.{◌≡◌, IfOk};
+ghost use Rattle.std.specs.List.{list_any};
+ghost use Rattle.gr_rules.specs.Operators.{same_channel};
+ghost use Rattle.gr_rules.specs.Actors.{channels_but as ruled};
+ghost use Rattle.gr_rules.specs.Goroutines.{channel_of as channel_ruled};
+ghost use Rattle.gr_goros.specs.Views.{wait_of, waits_of};
+
+use gr_base::{ChName, NoMemory};
+use gr_goros::Wait;
+use std::alloc::Global;
+
+/// The channel of a wait.
+fn channel_of(wait: &Wait) -> &ChName
+    ensures { result.now ≡ channel_ruled (wait_of wait.now) }
+{
+    match wait {
+        Wait::Send(channel, _) => channel,
+        Wait::Receive(channel, _) => channel,
+    }
+}
+
+/// Whether the name is one of these.
+fn is_among(channel: &ChName, names: &[ChName]) -> bool
+    ensures { result ≡ list_any (same_channel channel.now) names.now }
+{
+    names.contains(channel)
+}
+
+/// The channels of these waits, each once, but for those that were seen.
+pub(crate) fn channels_but(
+    alloc: Global,
+    seen: &[ChName],
+    waits: &[Wait],
+) -> Result<Vec<ChName>, NoMemory>
+    ensures { IfOk result (λ names. names.items ≡ ruled seen.now (waits_of waits.now)) }
+{
+    let mut names = Vec::new(alloc);
+    for wait in waits {
+        let channel = channel_of(wait);
+        if is_among(channel, seen) {
+            continue;
+        }
+        if is_among(channel, &names) {
+            continue;
+        }
+        names.push(channel.copy(alloc)?)?;
+    }
+    Ok(names)
+}

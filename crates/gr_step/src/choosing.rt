@@ -1,0 +1,158 @@
+//! What a goroutine may choose (Go: Select statements).
+
+ghost use Rattle.std.specs.Prelude.{◌≡◌, IfOk, MatchOption};
+ghost use Rattle.std.specs.List.{list_any};
+ghost use Rattle.gr_rules.specs.Tells.{ready_clauses, usual_choice as usual_by_rules};
+ghost use Rattle.gr_contents.specs.Partners.{can_send as may_send, can_receive as may_receive, can_proceed as may_proceed};
+ghost use Rattle.gr_goros.specs.Views.{communication_of, communications_of};
+ghost use Rattle.gr_step.specs.Choices.{Selects, IsAtSelect, HasNoChoice, ready_from, choice_without, first_of};
+ghost use Rattle.gr_step.specs.Listings.{program_in, state_in, IsCoded};
+ghost use Rattle.gr_step.specs.Objects.{contents_in};
+ghost use Rattle.gr_step.specs.Premises.{Running};
+
+use crate::clauses::default_clause;
+use crate::listing::Listing;
+use crate::objects::{Objects, Run};
+use gr_base::{Choice, GoName, NoMemory};
+use gr_channels::Channel;
+use gr_goros::{Clause, Goroutine, Need, Status};
+
+/// Whether a send on the channel can proceed, which it can on a closed channel: it is a fault.
+pub(crate) fn can_send(channel: &Channel) -> bool
+    ensures { result ≡ may_send channel.now.content }
+{
+    channel.is_closed()
+        || channel.receiver(0).is_some()
+        || channel.len() < channel.capacity() as usize
+}
+
+/// Whether a receive from the channel can proceed.
+pub(crate) fn can_receive(channel: &Channel) -> bool
+    ensures { result ≡ may_receive channel.now.content }
+{
+    channel.is_closed() || channel.sender(0).is_some() || !channel.is_empty()
+}
+
+impl Objects {
+    /// Whether the communication of a clause can proceed; on nil it never can.
+    pub(crate) fn can_proceed(&self, clause: &Clause) -> bool
+        ensures { result ≡ may_proceed (contents_in self.now) (communication_of clause.now) }
+    {
+        match clause {
+            Clause::Send {
+                channel: Some(name),
+                ..
+            } => self.channels.get(name).is_some_and(can_send),
+            Clause::Receive {
+                channel: Some(name),
+                ..
+            } => self.channels.get(name).is_some_and(can_receive),
+            _ => false,
+        }
+    }
+
+    /// Whether any of the clauses can proceed.
+    pub(crate) fn any_can_proceed(&self, clauses: &[Clause]) -> bool
+        ensures { result ≡ list_any (may_proceed (contents_in self.now)) (communications_of clauses.now) }
+    {
+        for clause in clauses {
+            if self.can_proceed(clause) {
+                return true;
+            }
+        }
+        false
+    }
+
+    /// The numbers of the clauses that can proceed, counted from 1.
+    fn ready_numbers(&self, clauses: &[Clause]) -> Result<Vec<u32>, NoMemory>
+        ensures { IfOk result (λ numbers. numbers.items ≡ ready_from (contents_in self.now) 1 (communications_of clauses.now)) }
+    {
+        let mut numbers = Vec::new(self.alloc);
+        for (place, clause) in clauses.iter().enumerate() {
+            if self.can_proceed(clause) {
+                let Ok(number) = u32::try_from(place + 1) else {
+                    return Err(NoMemory);
+                };
+                numbers.push(number)?;
+            }
+        }
+        Ok(numbers)
+    }
+
+    /// The lowest clause that can proceed, else the default clause, else to wait.
+    fn usual_of(&self, clauses: &[Clause]) -> Result<Choice, NoMemory>
+        ensures { IfOk result (λ choice. choice ≡ first_of (ready_from (contents_in self.now) 1 (communications_of clauses.now)) (choice_without (communications_of clauses.now))) }
+    {
+        for (place, clause) in clauses.iter().enumerate() {
+            if self.can_proceed(clause) {
+                let Ok(number) = u32::try_from(place + 1) else {
+                    return Err(NoMemory);
+                };
+                return Ok(Choice::Pick(number));
+            }
+        }
+        Ok(match default_clause(clauses) {
+            Some(_) => Choice::Default,
+            None => Choice::Park,
+        })
+    }
+
+    /// The goroutine of a name, where it is ready at a select, in a program that runs.
+    fn at_select(&self, listing: &Listing, go: &GoName) -> Option<&Goroutine>
+        requires coded { IsCoded listing.now }
+        requires running { Running (program_in listing.now) (contents_in self.now) }
+        ensures { MatchOption result (HasNoChoice (program_in listing.now) (contents_in self.now) go.now) (λ g. IsAtSelect (program_in listing.now) (contents_in self.now) go.now g.now.content) }
+    {
+        let Run::Live = self.run else {
+            return None;
+        };
+        let goroutine = self.goroutines.get(self.goroutines.number(go)?)?;
+        let Status::Ready = goroutine.status() else {
+            return None;
+        };
+        if !goroutine.is_select(&listing.code) {
+            return None;
+        }
+        Some(goroutine)
+    }
+
+    /// The clauses of the select at which a goroutine is ready, if it is, in a program that runs.
+    fn clauses_at(&self, listing: &Listing, go: &GoName) -> Result<Option<Vec<Clause>>, NoMemory>
+        requires coded { IsCoded listing.now }
+        requires running { Running (program_in listing.now) (contents_in self.now) }
+        ensures { IfOk result (λ o. MatchOption o (HasNoChoice (program_in listing.now) (contents_in self.now) go.now) (λ clauses. Selects (program_in listing.now) (contents_in self.now) go.now (communications_of clauses.items))) }
+    {
+        let Some(goroutine) = self.at_select(listing, go) else {
+            return Ok(None);
+        };
+        match goroutine.next_need(self.alloc, &listing.code)? {
+            Need::Select { clauses } => Ok(Some(clauses)),
+            _ => Ok(None),
+        }
+    }
+
+    /// The clauses that a goroutine may pick, by their numbers from 1: none, where it is not ready at a select.
+    pub fn ready_cases(&self, listing: &Listing, go: &GoName) -> Result<Vec<u32>, NoMemory>
+        requires coded { IsCoded listing.now }
+        requires running { Running (program_in listing.now) (contents_in self.now) }
+        ensures { IfOk result (λ cases. cases.items ≡ ready_clauses (program_in listing.now) (state_in (program_in listing.now) (contents_in self.now)) go.now) }
+    {
+        match self.clauses_at(listing, go)? {
+            Some(clauses) => self.ready_numbers(&clauses),
+            None => Ok(Vec::new(self.alloc)),
+        }
+    }
+
+    /// The choice of a goroutine where none is asked for: at a select the lowest clause that can proceed, else the default
+    /// clause, else to wait. Elsewhere it takes no memory.
+    pub fn usual_choice(&self, listing: &Listing, go: &GoName) -> Result<Choice, NoMemory>
+        requires coded { IsCoded listing.now }
+        requires running { Running (program_in listing.now) (contents_in self.now) }
+        ensures { IfOk result (λ choice. choice ≡ usual_by_rules (program_in listing.now) (state_in (program_in listing.now) (contents_in self.now)) go.now) }
+    {
+        match self.clauses_at(listing, go)? {
+            Some(clauses) => self.usual_of(&clauses),
+            None => Ok(Choice::Plain),
+        }
+    }
+}

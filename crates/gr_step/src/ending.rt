@@ -1,0 +1,67 @@
+//! The step of a goroutine that returns from its outermost frame.
+
+ghost use Rattle.std.specs.Prelude.{◌≡◌, Some, None, IfOk, OnErr};
+ghost use Rattle.gr_base.specs.declared.events.Choice.TheVariants as choices;
+ghost use Rattle.gr_rules.specs.Outcomes.{faults};
+ghost use Rattle.gr_rules.specs.Steps.{attempt};
+ghost use Rattle.gr_goros.specs.Needs.{NeedIs};
+ghost use Rattle.gr_tables.specs.NamedGoroutines.{At, CanEnd, seen_at};
+ghost use Rattle.gr_step.specs.Beyonds.{HasEnded};
+ghost use Rattle.gr_lower.specs.Lowered.{lowered};
+ghost use Rattle.gr_step.specs.Listings.{program_in, IsCoded};
+ghost use Rattle.gr_step.specs.Objects.{contents_in};
+ghost use Rattle.gr_step.specs.Records.{HasRoom};
+ghost use Rattle.gr_step.specs.Premises.{Acting, OfGoroutine};
+ghost use Rattle.gr_step.specs.Taking.{Takes};
+
+use crate::faults::stopping;
+use crate::listing::Listing;
+use crate::objects::{Objects, Run};
+use crate::record::Change;
+use gr_base::{Event, Kind, NoMemory};
+use gr_goros::{Halt, Need};
+
+impl Objects {
+    /// The goroutine is done, and with that of `main` the program ends (Go: Program execution). Refused, nothing has changed.
+    pub fn exit(
+        &mut self,
+        listing: &Listing,
+        event: &Event,
+        number: usize,
+    ) -> Result<Change, NoMemory>
+        requires coded { IsCoded listing.now }
+        requires acting { Acting (program_in listing.now) event.now number self.old }
+        requires plain { event.now.choice ≡ choices.Plain }
+        requires task { OfGoroutine event.now (contents_in self.old) (λ g. NeedIs Need.Exit (lowered (program_in listing.now)) g) }
+        ensures ok { IfOk result (λ change. Takes (program_in listing.now) event.now (attempt (program_in listing.now) event.now) (contents_in self.old) change (contents_in self.new)) }
+        ensures room { IfOk result (λ change. HasRoom event.now.go change self.new) }
+        ensures err { OnErr result (contents_in self.new ≡ contents_in self.old) }
+    {
+        if event.go.is_main() {
+            return self.end(number);
+        }
+        let own = self.goroutines.halt(number, Halt::Finished);
+        Ok(Change {
+            kind: Kind::Return,
+            own,
+            beyond: None,
+        })
+    }
+
+    /// The goroutine with a number is done, and the program ends. Refused, nothing has changed.
+    fn end(&mut self, number: usize) -> Result<Change, NoMemory>
+        requires { At (CanEnd Halt.Finished) (seen_at self.old.goroutines number) }
+        ensures ok { IfOk result (λ change. HasEnded number change self.old self.new) }
+        ensures err { OnErr result (self.new ≡ self.old) }
+    {
+        let nothing = Vec::new(self.alloc);
+        let beyond = stopping(self.alloc, None, nothing)?;
+        let own = self.goroutines.halt(number, Halt::Finished);
+        self.run = Run::Ended;
+        Ok(Change {
+            kind: Kind::Exit,
+            own,
+            beyond: Some(beyond),
+        })
+    }
+}

@@ -1,0 +1,320 @@
+//! Steps that make a channel, start a goroutine and count (Go: Making slices, maps and channels, Go statements, Length and
+//! capacity).
+
+ghost use Rattle.std.specs.Prelude.{◌≡◌, ◌+◌, ◌<◌, ◌∷◌, [], pos, false, Some, None, length, MatchOption, IfOk, OnErr};
+ghost use Rattle.gr_base.specs.declared.events.Choice.TheVariants as choices;
+ghost use Rattle.gr_base.specs.declared.kinds.Kind.TheVariants as kinds;
+ghost use Rattle.gr_base.specs.declared.objects.Object.TheVariants as objects;
+ghost use Rattle.gr_base.specs.declared.values.Value.TheVariants.{Int};
+ghost use Rattle.gr_rules.specs.Limits.{most_places, most_counts, greatest_count};
+ghost use Rattle.gr_rules.specs.Outcomes.{gives};
+ghost use Rattle.gr_rules.specs.Deeds as deeds;
+ghost use Rattle.gr_rules.specs.Steps.{attempt};
+ghost use Rattle.gr_code.specs.CodeFrames.{Wants};
+ghost use Rattle.gr_code.specs.Goroutines.{task_of};
+ghost use Rattle.gr_code.specs.CodeViews.{program_code_of};
+ghost use Rattle.gr_code.specs.Goroutines as arrivals;
+ghost use Rattle.gr_tables.specs.NamedGoroutines.{At, Arrives, CanArrive, ChangesBy, seen_at};
+ghost use Rattle.gr_step.specs.Beyonds.{Reaches, ReachesChannel, ReachesChild, IsBadSize, ChangesObjects};
+ghost use Rattle.gr_lower.specs.Lowered.{lowered};
+ghost use Rattle.gr_step.specs.Listings.{program_in, IsCoded};
+ghost use Rattle.gr_step.specs.Objects.{contents_in};
+ghost use Rattle.gr_step.specs.Records.{HasRoom};
+ghost use Rattle.gr_step.specs.Premises.{Acting, OfGoroutine};
+ghost use Rattle.gr_step.specs.Taking.{Takes};
+
+use crate::listing::Listing;
+use crate::objects::Objects;
+use crate::record::{Beyond, Change, Operation};
+use gr_base::{ChName, Event, Fault, GoName, Kind, NoMemory, Object, Value};
+use gr_channels::Channel;
+use gr_goros::{Arrival, Goroutine};
+use std::alloc::Global;
+
+/// How many places a channel may have.
+const MOST_PLACES: u32 = 1_000_000;
+
+/// How many counts the name of a goroutine may have.
+const MOST_COUNTS: usize = 32;
+
+/// How many places that is, if a channel can have them.
+fn places_of(size: i64) -> Option<u32>
+    ensures { MatchOption result (IsBadSize size) (λ places. (size ≡ pos places) × (places < most_places + 1)) }
+{
+    let places = u32::try_from(size).ok()?;
+    if places > MOST_PLACES {
+        return None;
+    }
+    Some(places)
+}
+
+/// What a step reaches beyond its goroutine that makes a channel of this name.
+fn making(alloc: Global, name: &ChName) -> Result<Box<Beyond>, NoMemory>
+    ensures { IfOk result (λ beyond. ReachesChannel name.now beyond.value) }
+{
+    let gate = Object::Gate(name.copy(alloc)?);
+    let mut writes = Vec::new(alloc);
+    writes.push(gate)?;
+    let nothing = Vec::new(alloc);
+    let mut beyond = Beyond::new(alloc, None, nothing, writes, false);
+    beyond.makes = Some(name.copy(alloc)?);
+    let beyond = Box::new(alloc, beyond)?;
+    Ok(beyond)
+}
+
+/// What a step reaches beyond its goroutine that starts a goroutine of this name.
+fn starting(alloc: Global, child: GoName) -> Result<Box<Beyond>, NoMemory>
+    ensures { IfOk result (λ beyond. ReachesChild child beyond.value) }
+{
+    let go = Object::Go(child.copy(alloc)?);
+    let mut writes = Vec::new(alloc);
+    writes.push(go)?;
+    let nothing = Vec::new(alloc);
+    let mut beyond = Beyond::new(alloc, None, nothing, writes, false);
+    beyond.begins = Some(child);
+    let beyond = Box::new(alloc, beyond)?;
+    Ok(beyond)
+}
+
+/// How many items are in the buffer of a channel, of which it has at most as many as the channel has places.
+fn items_of(channel: &Channel) -> u32
+    ensures { result ≡ length channel.now.content.items }
+{
+    let places = channel.capacity() as usize;
+    channel.len().min(places) as u32
+}
+
+/// A count as a value.
+fn whole(count: u32) -> Value
+    ensures { result ≡ Int (pos count) }
+{
+    Value::Int(i64::from(count))
+}
+
+/// The objects that a count of the items of a channel reads: its gate, and the ends of its buffer.
+fn read_for_len(alloc: Global, channel: &ChName) -> Result<Vec<Object>, NoMemory>
+    ensures { IfOk result (λ reads. reads.items ≡ objects.Gate channel.now ∷ objects.Head channel.now ∷ objects.Tail channel.now ∷ []) }
+{
+    let mut reads = Vec::with_capacity(alloc, 3)?;
+    reads.push(Object::Gate(channel.copy(alloc)?))?;
+    reads.push(Object::Head(channel.copy(alloc)?))?;
+    reads.push(Object::Tail(channel.copy(alloc)?))?;
+    Ok(reads)
+}
+
+/// The one object that a count of the places of a channel reads: its gate.
+fn read_for_cap(alloc: Global, channel: &ChName) -> Result<Vec<Object>, NoMemory>
+    ensures { IfOk result (λ reads. reads.items ≡ objects.Gate channel.now ∷ []) }
+{
+    let mut reads = Vec::with_capacity(alloc, 1)?;
+    reads.push(Object::Gate(channel.copy(alloc)?))?;
+    Ok(reads)
+}
+
+/// What a step reaches beyond its goroutine that did this with a channel and read these.
+fn reading(alloc: Global, operation: Operation, reads: Vec<Object>) -> Result<Box<Beyond>, NoMemory>
+    ensures { IfOk result (λ beyond. Reaches (Some operation) reads.items [] false beyond.value) }
+{
+    let nothing = Vec::new(alloc);
+    let beyond = Beyond::new(alloc, Some(operation), reads, nothing, false);
+    let beyond = Box::new(alloc, beyond)?;
+    Ok(beyond)
+}
+
+impl Objects {
+    /// Makes a channel of this size; it may be a fault. Refused, nothing has changed.
+    pub fn make(
+        &mut self,
+        listing: &Listing,
+        event: &Event,
+        number: usize,
+        size: i64,
+    ) -> Result<Change, NoMemory>
+        requires coded { IsCoded listing.now }
+        requires acting { Acting (program_in listing.now) event.now number self.old }
+        requires plain { event.now.choice ≡ choices.Plain }
+        requires task { OfGoroutine event.now (contents_in self.old) (λ g. task_of (lowered (program_in listing.now)) g ≡ gives (Wants (deeds.Makes size))) }
+        ensures ok { IfOk result (λ change. Takes (program_in listing.now) event.now (attempt (program_in listing.now) event.now) (contents_in self.old) change (contents_in self.new)) }
+        ensures room { IfOk result (λ change. HasRoom event.now.go change self.new) }
+        ensures err { OnErr result (contents_in self.new ≡ contents_in self.old) }
+    {
+        let Some(places) = places_of(size) else {
+            return self.plain_fault(number, Fault::BadSize);
+        };
+        let made = self.goroutines.get(number).unwrap().channels();
+        if made == u32::MAX {
+            return self.plain_fault(number, Fault::NameCount);
+        }
+        self.make_next(listing, event, number, made + 1, places)
+    }
+
+    /// Makes the next channel of a goroutine, with this number of its own. Refused, nothing has changed.
+    fn make_next(
+        &mut self,
+        listing: &Listing,
+        event: &Event,
+        number: usize,
+        count: u32,
+        places: u32,
+    ) -> Result<Change, NoMemory>
+        requires coded { IsCoded listing.now }
+        requires acting { Acting (program_in listing.now) event.now number self.old }
+        requires plain { event.now.choice ≡ choices.Plain }
+        requires task { OfGoroutine event.now (contents_in self.old) (λ g. task_of (lowered (program_in listing.now)) g ≡ gives (Wants (deeds.Makes (pos places)))) }
+        requires small { places < most_places + 1 }
+        requires few { OfGoroutine event.now (contents_in self.old) (λ g. (g.channels + 1 ≡ count) × (g.channels < greatest_count)) }
+        ensures ok { IfOk result (λ change. Takes (program_in listing.now) event.now (attempt (program_in listing.now) event.now) (contents_in self.old) change (contents_in self.new)) }
+        ensures room { IfOk result (λ change. HasRoom event.now.go change self.new) }
+        ensures err { OnErr result (contents_in self.new ≡ contents_in self.old) }
+    {
+        let go = event.go.copy(self.alloc)?;
+        let name = ChName { go, n: count };
+        let beyond = making(self.alloc, &name)?;
+        let value = Value::Chan(Some(name.copy(self.alloc)?));
+        let own = self
+            .goroutines
+            .deliver(number, &listing.code, Arrival::Channel(value))?;
+        if let Err(error) = self.channels.add(name, places) {
+            self.goroutines.undo(number, own).unwrap();
+            return Err(error);
+        }
+        Ok(Change {
+            kind: Kind::Make,
+            own,
+            beyond: Some(beyond),
+        })
+    }
+
+    /// Starts a goroutine; it may be a fault. Refused, nothing has changed.
+    pub fn start(
+        &mut self,
+        listing: &Listing,
+        event: &Event,
+        number: usize,
+        function: usize,
+        arguments: Vec<Value>,
+    ) -> Result<Change, NoMemory>
+        requires coded { IsCoded listing.now }
+        requires acting { Acting (program_in listing.now) event.now number self.old }
+        requires plain { event.now.choice ≡ choices.Plain }
+        requires task { OfGoroutine event.now (contents_in self.old) (λ g. task_of (lowered (program_in listing.now)) g ≡ gives (Wants (deeds.Starts function arguments.items))) }
+        ensures ok { IfOk result (λ change. Takes (program_in listing.now) event.now (attempt (program_in listing.now) event.now) (contents_in self.old) change (contents_in self.new)) }
+        ensures room { IfOk result (λ change. HasRoom event.now.go change self.new) }
+        ensures err { OnErr result (contents_in self.new ≡ contents_in self.old) }
+    {
+        if event.go.counts().len() >= MOST_COUNTS {
+            return self.plain_fault(number, Fault::NameDepth);
+        }
+        let started = self.goroutines.get(number).unwrap().children();
+        if started == u32::MAX {
+            return self.plain_fault(number, Fault::NameCount);
+        }
+        self.start_next(listing, event, number, started + 1, function, arguments)
+    }
+
+    /// Starts the next child of a goroutine, with this number among its children. Refused, nothing has changed.
+    fn start_next(
+        &mut self,
+        listing: &Listing,
+        event: &Event,
+        number: usize,
+        count: u32,
+        function: usize,
+        arguments: Vec<Value>,
+    ) -> Result<Change, NoMemory>
+        requires coded { IsCoded listing.now }
+        requires acting { Acting (program_in listing.now) event.now number self.old }
+        requires plain { event.now.choice ≡ choices.Plain }
+        requires task { OfGoroutine event.now (contents_in self.old) (λ g. task_of (lowered (program_in listing.now)) g ≡ gives (Wants (deeds.Starts function arguments.items))) }
+        requires short { length event.now.go < most_counts }
+        requires few { OfGoroutine event.now (contents_in self.old) (λ g. (g.children + 1 ≡ count) × (g.children < greatest_count)) }
+        ensures ok { IfOk result (λ change. Takes (program_in listing.now) event.now (attempt (program_in listing.now) event.now) (contents_in self.old) change (contents_in self.new)) }
+        ensures room { IfOk result (λ change. HasRoom event.now.go change self.new) }
+        ensures err { OnErr result (contents_in self.new ≡ contents_in self.old) }
+    {
+        let child = event.go.child(self.alloc, count)?;
+        let goroutine = Goroutine::start(self.alloc, &listing.code, function, arguments)?;
+        let place = self.goroutines.know(&child)?;
+        let beyond = starting(self.alloc, child)?;
+        let own = self
+            .goroutines
+            .deliver(number, &listing.code, Arrival::Child)?;
+        self.goroutines.put(place, goroutine);
+        Ok(Change {
+            kind: Kind::Go,
+            own,
+            beyond: Some(beyond),
+        })
+    }
+
+    /// Counts the items of a channel. Refused, nothing has changed.
+    pub fn len(
+        &mut self,
+        listing: &Listing,
+        event: &Event,
+        number: usize,
+        channel: Option<ChName>,
+    ) -> Result<Change, NoMemory>
+        requires coded { IsCoded listing.now }
+        requires acting { Acting (program_in listing.now) event.now number self.old }
+        requires plain { event.now.choice ≡ choices.Plain }
+        requires task { OfGoroutine event.now (contents_in self.old) (λ g. task_of (lowered (program_in listing.now)) g ≡ gives (Wants (deeds.TakesLen channel))) }
+        ensures ok { IfOk result (λ change. Takes (program_in listing.now) event.now (attempt (program_in listing.now) event.now) (contents_in self.old) change (contents_in self.new)) }
+        ensures room { IfOk result (λ change. HasRoom event.now.go change self.new) }
+        ensures err { OnErr result (contents_in self.new ≡ contents_in self.old) }
+    {
+        let Some(channel) = channel else {
+            return self.count(listing, number, 0, None);
+        };
+        let items = items_of(self.channels.get(&channel).unwrap());
+        let reads = read_for_len(self.alloc, &channel)?;
+        let beyond = reading(self.alloc, Operation::TakesLenOf(channel), reads)?;
+        self.count(listing, number, items, Some(beyond))
+    }
+
+    /// Counts the places of a channel. Refused, nothing has changed.
+    pub fn cap(
+        &mut self,
+        listing: &Listing,
+        event: &Event,
+        number: usize,
+        channel: Option<ChName>,
+    ) -> Result<Change, NoMemory>
+        requires coded { IsCoded listing.now }
+        requires acting { Acting (program_in listing.now) event.now number self.old }
+        requires plain { event.now.choice ≡ choices.Plain }
+        requires task { OfGoroutine event.now (contents_in self.old) (λ g. task_of (lowered (program_in listing.now)) g ≡ gives (Wants (deeds.TakesCap channel))) }
+        ensures ok { IfOk result (λ change. Takes (program_in listing.now) event.now (attempt (program_in listing.now) event.now) (contents_in self.old) change (contents_in self.new)) }
+        ensures room { IfOk result (λ change. HasRoom event.now.go change self.new) }
+        ensures err { OnErr result (contents_in self.new ≡ contents_in self.old) }
+    {
+        let Some(channel) = channel else {
+            return self.count(listing, number, 0, None);
+        };
+        let places = self.channels.get(&channel).unwrap().capacity();
+        let reads = read_for_cap(self.alloc, &channel)?;
+        let beyond = reading(self.alloc, Operation::TakesCapOf(channel), reads)?;
+        self.count(listing, number, places, Some(beyond))
+    }
+
+    /// The goroutine with a number goes on with a count, which reached this beyond it. Refused, nothing has changed.
+    fn count(
+        &mut self,
+        listing: &Listing,
+        number: usize,
+        count: u32,
+        beyond: Option<Box<Beyond>>,
+    ) -> Result<Change, NoMemory>
+        requires { At (CanArrive (program_code_of listing.now.code.value) (arrivals.Value (Int (pos count)))) (seen_at self.old.goroutines number) }
+        ensures ok { IfOk result (λ change. (change.kind ≡ kinds.Length) × (change.beyond ≡ beyond) × ChangesObjects (ChangesBy number (Arrives (program_code_of listing.now.code.value) (arrivals.Value (Int (pos count))) change.own)) self.old.run self.old self.new) }
+        ensures err { OnErr result (contents_in self.new ≡ contents_in self.old) }
+    {
+        let arrival = Arrival::Value(whole(count));
+        let own = self.goroutines.deliver(number, &listing.code, arrival)?;
+        Ok(Change {
+            kind: Kind::Length,
+            own,
+            beyond,
+        })
+    }
+}

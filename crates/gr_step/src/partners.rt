@@ -1,0 +1,270 @@
+//! Communications with a goroutine that waits (Go: Send statements, Receive operator, Select statements).
+
+ghost use Rattle.std.specs.Prelude.{◌≡◌, ◌+◌, ◌<◌, ◌≤◌, ℕ, List, [], ◌∷◌, ◌++◌, map, false, true, Some, vec_len, vec_capacity, IsSome, IfOk, OnOk, OnErr};
+ghost use Rattle.gr_base.specs.declared.objects.Object.TheVariants as objects;
+ghost use Rattle.gr_rules.specs.Attempts as attempts;
+ghost use Rattle.gr_rules.specs.States.{same_go};
+ghost use Rattle.gr_rules.specs.Goroutines.{Wait};
+ghost use Rattle.gr_contents.specs.Partners.{is_waiting};
+ghost use Rattle.gr_code.specs.CodeViews.{program_code_of};
+ghost use Rattle.gr_goros.specs.Views.{arrival_of};
+ghost use Rattle.gr_tables.specs.NamedChannels.{contents_of, rooms_of, ChansFit, HasRooms, TookBack};
+ghost use Rattle.gr_tables.specs.NamedGoroutines.{At, goroutines_of, name_at, seen_at, CanArrive, Arrives, ChangesBy, KeepsContents};
+ghost use Rattle.gr_step.specs.Records.{operation_of};
+ghost use Rattle.gr_step.specs.Passing.{CanArriveAt, BothArrive, Tells};
+ghost use Rattle.gr_step.specs.Preparing.{IsReached, IsPrepared, CanPass, IsPass, CanExchange, IsExchange, WaitsFor};
+
+use crate::channels_named::channels_but;
+use crate::objects::Objects;
+use crate::record::{Beyond, Change, Operation};
+use crate::touching::with_woken;
+use gr_base::{ChName, Event, GoName, Kind, NoMemory, Object};
+use gr_channels::ChanUndo;
+use gr_code::code::Code;
+use gr_goros::{Arrival, GoUndo, Status};
+use std::alloc::Global;
+use std::slice;
+
+/// What a step tells beyond its goroutine, before it changes anything; with room for so many goroutines that it meets.
+pub(crate) fn reached(
+    alloc: Global,
+    operation: Operation,
+    reads: Vec<Object>,
+    writes: Vec<Object>,
+    met: usize,
+) -> Result<Box<Beyond>, NoMemory>
+    ensures told { IfOk result (λ beyond. IsReached (operation_of operation) reads.items writes.items beyond.value) }
+    ensures room { IfOk result (λ beyond. vec_len beyond.value.met + met ≤ vec_capacity beyond.value.met) }
+{
+    let met = Vec::with_capacity(alloc, met)?;
+    let beyond = Beyond {
+        operation: Some(operation),
+        reads,
+        writes,
+        met,
+        channels: Vec::new(alloc),
+        begins: None,
+        makes: None,
+        stops: false,
+    };
+    Ok(Box::new(alloc, beyond)?)
+}
+
+/// The change of a step that met nobody, and changed these channels.
+pub(crate) fn told(
+    kind: Kind,
+    own: GoUndo,
+    beyond: Box<Beyond>,
+    channels: Vec<(ChName, ChanUndo)>,
+) -> Change
+    ensures { (operation : attempts.Operation) (reads writes : List Object) → IsReached operation reads writes beyond.value
+        → Tells result kind (Some operation) reads writes own [] channels.items }
+{
+    let mut beyond = beyond;
+    beyond.channels = channels;
+    Change {
+        kind,
+        own,
+        beyond: Some(beyond),
+    }
+}
+
+/// The change of a step that met one goroutine, and changed these channels.
+fn told_with(
+    kind: Kind,
+    own: GoUndo,
+    beyond: Box<Beyond>,
+    met: (GoName, GoUndo),
+    channels: Vec<(ChName, ChanUndo)>,
+) -> Change
+    requires { vec_len beyond.value.met < vec_capacity beyond.value.met }
+    ensures { (operation : attempts.Operation) (reads writes : List Object) → IsReached operation reads writes beyond.value
+        → Tells result kind (Some operation) reads writes own (met ∷ []) channels.items }
+{
+    let mut beyond = beyond;
+    beyond.met.push_reserved(met);
+    beyond.channels = channels;
+    Change {
+        kind,
+        own,
+        beyond: Some(beyond),
+    }
+}
+
+/// What a step with a goroutine that waits has ready before it changes anything.
+#[derive(Drop)]
+pub(crate) struct Prepared {
+    pub(crate) go: GoName,
+    pub(crate) number: usize,
+    /// The channels on which it waits, that of the communication among them.
+    pub(crate) names: Vec<ChName>,
+    /// The channel of the communication.
+    pub(crate) channel: ChName,
+    /// No change of a channel yet, with room for one.
+    pub(crate) done: Vec<(ChName, ChanUndo)>,
+    pub(crate) beyond: Box<Beyond>,
+}
+
+impl Objects {
+    /// Makes all ready for a communication on a channel with a goroutine that waits there.
+    pub(crate) fn prepare(
+        &self,
+        operation: Operation,
+        reads: Vec<Object>,
+        touched: Vec<Object>,
+        channel: &ChName,
+        go: &GoName,
+    ) -> Result<Prepared, NoMemory>
+        requires { is_waiting (goroutines_of self.now.goroutines go.now) ≡ true }
+        ensures { (ws : List Wait) → At (WaitsFor ws) (goroutines_of self.now.goroutines go.now)
+            → IfOk result (λ r. IsPrepared (operation_of operation) reads.items touched.items channel.now go.now ws self.now r) }
+    {
+        let number = self.goroutines.number(go).unwrap();
+        let Some(goroutine) = self.goroutines.get(number) else {
+            unreachable!()
+        };
+        let Status::Waiting(waits) = goroutine.status() else {
+            unreachable!()
+        };
+        let mut names = channels_but(self.alloc, slice::from_ref(channel), waits)?;
+        let writes = with_woken(self.alloc, touched, go, &names)?;
+        names.push(channel.copy(self.alloc)?)?;
+        let beyond = reached(self.alloc, operation, reads, writes, 1)?;
+        let done = Vec::with_capacity(self.alloc, 1)?;
+        Ok(Prepared {
+            go: go.copy(self.alloc)?,
+            number,
+            names,
+            channel: channel.copy(self.alloc)?,
+            done,
+            beyond,
+        })
+    }
+
+    /// What arrives takes the goroutine with a number past its instruction, after `done` was done in the same step. Refused,
+    /// `done` is taken back.
+    pub(crate) fn arrive(
+        &mut self,
+        code: &Code,
+        number: usize,
+        arrival: Arrival,
+        done: Vec<(ChName, ChanUndo)>,
+    ) -> Result<(GoUndo, Vec<(ChName, ChanUndo)>), NoMemory>
+        requires can { At (CanArrive (program_code_of code.now) (arrival_of arrival)) (seen_at self.old.goroutines number) }
+        requires fits { ChansFit done.items (contents_of self.old.channels) }
+        requires room { HasRooms done.items (rooms_of self.old.channels) }
+        ensures after { IfOk result (λ r. ChangesBy number (Arrives (program_code_of code.now) (arrival_of arrival) r.0) self.old.goroutines self.new.goroutines) }
+        ensures returned { IfOk result (λ r. r.1 ≡ done) }
+        ensures channels { OnOk result (self.new.channels ≡ self.old.channels) }
+        ensures err_goroutines { OnErr result (KeepsContents self.old.goroutines self.new.goroutines) }
+        ensures err_channels { OnErr result (TookBack done.items self.old.channels self.new.channels) }
+        ensures run { self.new.run ≡ self.old.run }
+    {
+        match self.goroutines.deliver(number, code, arrival) {
+            Ok(undo) => Ok((undo, done)),
+            Err(error) => {
+                self.channels.put_all_back(done);
+                Err(error)
+            }
+        }
+    }
+    /// The goroutine with a number goes past its communication with nobody, after `done` was done in the same step. Refused,
+    /// `done` is taken back.
+    pub(crate) fn pass(
+        &mut self,
+        code: &Code,
+        event: &Event,
+        number: usize,
+        passes: Arrival,
+        kind: Kind,
+        beyond: Box<Beyond>,
+        done: Vec<(ChName, ChanUndo)>,
+    ) -> Result<Change, NoMemory>
+        requires { CanPass (program_code_of code.now) event.now number (arrival_of passes) done.items self.old }
+        ensures ok { (operation : attempts.Operation) (reads writes : List Object) → IsReached operation reads writes beyond.value
+            → IfOk result (λ change. IsPass (program_code_of code.now) event.now.go (arrival_of passes) kind operation reads writes done.items change
+            self.old self.new) }
+        ensures err_goroutines { OnErr result (goroutines_of self.new.goroutines ≡ goroutines_of self.old.goroutines) }
+        ensures err_channels { OnErr result (TookBack done.items self.old.channels self.new.channels) }
+        ensures run { self.new.run ≡ self.old.run }
+    {
+        let (own, done) = self.arrive(code, number, passes, done)?;
+        Ok(told(kind, own, beyond, done))
+    }
+
+    /// What arrives takes two goroutines past their communication, one after the other, after `done` was done in the same step.
+    /// Refused, neither has changed, and `done` is taken back.
+    fn both_arrive(
+        &mut self,
+        code: &Code,
+        event: &Event,
+        number: usize,
+        passes: Arrival,
+        go: &GoName,
+        partner: usize,
+        meets: Arrival,
+        done: Vec<(ChName, ChanUndo)>,
+    ) -> Result<(GoUndo, GoUndo, Vec<(ChName, ChanUndo)>), NoMemory>
+        requires named { name_at self.old.goroutines number ≡ Some event.now.go }
+        requires partner_named { name_at self.old.goroutines partner ≡ Some go.now }
+        requires apart { same_go go.now event.now.go ≡ false }
+        requires can { CanArriveAt (program_code_of code.now) (arrival_of passes) (goroutines_of self.old.goroutines event.now.go) }
+        requires partner_can { CanArriveAt (program_code_of code.now) (arrival_of meets) (goroutines_of self.old.goroutines go.now) }
+        requires fits { ChansFit done.items (contents_of self.old.channels) }
+        requires room { HasRooms done.items (rooms_of self.old.channels) }
+        ensures after { IfOk result (λ r. BothArrive (program_code_of code.now) event.now.go go.now (arrival_of passes) (arrival_of meets) r.0 r.1
+            (goroutines_of self.old.goroutines) (goroutines_of self.new.goroutines)) }
+        ensures returned { IfOk result (λ r. r.2 ≡ done) }
+        ensures channels { OnOk result (self.new.channels ≡ self.old.channels) }
+        ensures err_goroutines { OnErr result (goroutines_of self.new.goroutines ≡ goroutines_of self.old.goroutines) }
+        ensures err_channels { OnErr result (TookBack done.items self.old.channels self.new.channels) }
+        ensures run { self.new.run ≡ self.old.run }
+    {
+        let (own, done) = self.arrive(code, number, passes, done)?;
+        match self.arrive(code, partner, meets, done) {
+            Ok((met, done)) => Ok((own, met, done)),
+            Err(error) => {
+                self.goroutines.undo(number, own).unwrap();
+                Err(error)
+            }
+        }
+    }
+
+    /// The goroutine with a number goes past its communication, with all made ready for that, and its partner too, after a change
+    /// of their channel. Refused, that change is taken back.
+    pub(crate) fn exchange(
+        &mut self,
+        code: &Code,
+        event: &Event,
+        number: usize,
+        prepared: Prepared,
+        kind: Kind,
+        undo: ChanUndo,
+        passes: Arrival,
+        meets: Arrival,
+    ) -> Result<Change, NoMemory>
+        requires { CanExchange (program_code_of code.now) event.now number prepared undo (arrival_of passes) (arrival_of meets) self.old }
+        ensures ok { (operation : attempts.Operation) (reads writes : List Object) → IsReached operation reads writes prepared.beyond.value
+            → IfOk result (λ change. IsExchange (program_code_of code.now) event.now.go prepared.go (arrival_of passes) (arrival_of meets)
+            prepared.names.items kind operation reads writes ((prepared.channel, undo) ∷ []) change self.old self.new) }
+        ensures err_goroutines { OnErr result (goroutines_of self.new.goroutines ≡ goroutines_of self.old.goroutines) }
+        ensures err_channels { OnErr result (TookBack ((prepared.channel, undo) ∷ []) self.old.channels self.new.channels) }
+        ensures run { self.new.run ≡ self.old.run }
+    {
+        let Prepared {
+            go,
+            number: partner,
+            names,
+            channel,
+            done,
+            beyond,
+        } = prepared;
+        let mut done = done;
+        done.push_reserved((channel, undo));
+        let done = self.channels.withdraw_after(done, &names, &go)?;
+        let (own, met, done) = self.both_arrive(
+            code, event, number, passes, &go, partner, meets, done,
+        )?;
+        Ok(told_with(kind, own, beyond, (go, met), done))
+    }
+}

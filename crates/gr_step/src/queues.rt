@@ -1,0 +1,127 @@
+//! Queues of channels, in which a goroutine comes to stand.
+
+ghost use Rattle.std.specs.Prelude.{◌≡◌, ◌∷◌, [], Some, None, IfOk, IfSome, OnOk, OnErr, option_map};
+ghost use Rattle.gr_channels.specs.Channels.{each};
+ghost use Rattle.gr_channels.specs.Changes.{need};
+ghost use Rattle.gr_goros.specs.Views.{communication_of, wait_of, waits_of};
+ghost use Rattle.gr_rules.specs.Communications as rules;
+ghost use Rattle.gr_tables.specs.NamedChannels.{contents_of, GoesBack};
+ghost use Rattle.gr_step.specs.Parks.{pending_of, queued, queued_for, listed, AreMade, NeedNoRoom};
+
+use gr_base::{ChName, GoName, NoMemory};
+use gr_channels::{ChanUndo, Waiter};
+use gr_goros::{Clause, Wait};
+use gr_tables::channels::Channels;
+use std::alloc::Global;
+
+/// What a communication waits for, with the number of its clause where it is one of a select. On nil it waits for nothing.
+fn wait_for(
+    alloc: Global,
+    clause: Option<u32>,
+    communication: &Clause,
+) -> Result<Option<Wait>, NoMemory>
+    ensures { IfOk result (λ wait. listed (option_map wait_of wait) ≡ rules.waits_for clause (communication_of communication.now)) }
+{
+    match communication {
+        Clause::Send {
+            channel: Some(channel),
+            ..
+        } => Ok(Some(Wait::Send(channel.copy(alloc)?, clause))),
+        Clause::Receive {
+            channel: Some(channel),
+            ..
+        } => Ok(Some(Wait::Receive(channel.copy(alloc)?, clause))),
+        _ => Ok(None),
+    }
+}
+
+/// What these communications wait for, each with the number of its clause where it is one of a select.
+pub(crate) fn all_waits(
+    alloc: Global,
+    pending: &[(Option<u32>, Clause)],
+) -> Result<Vec<Wait>, NoMemory>
+    ensures { IfOk result (λ waits. waits_of waits.items ≡ rules.all_waits (pending_of pending.now)) }
+{
+    let mut waits = Vec::new(alloc);
+    for (clause, communication) in pending {
+        let Some(wait) = wait_for(alloc, *clause, communication)? else {
+            continue;
+        };
+        waits.push(wait)?;
+    }
+    Ok(waits)
+}
+
+/// Puts a goroutine at the end of the queue for a communication; on nil it stands in none. Refused, no content has changed.
+fn park_for(
+    channels: &mut Channels,
+    alloc: Global,
+    go: &GoName,
+    clause: Option<u32>,
+    communication: &Clause,
+) -> Result<Option<(ChName, ChanUndo)>, NoMemory>
+    requires { AreMade ((clause, communication_of communication.now) ∷ []) (contents_of channels.old) }
+    ensures contents { OnOk result (contents_of channels.new ≡ queued_for go.now (contents_of channels.old) (clause, communication_of communication.now)) }
+    ensures back { IfOk result (λ change. GoesBack (listed change) channels.old channels.new) }
+    ensures room { IfOk result (λ change. NeedNoRoom (listed change)) }
+    ensures err { OnErr result (contents_of channels.new ≡ contents_of channels.old) }
+{
+    match communication {
+        Clause::Send {
+            channel: Some(channel),
+            value: Ok(value),
+        } => {
+            let name = channel.copy(alloc)?;
+            let waiter = Waiter {
+                go: go.copy(alloc)?,
+                case: clause,
+                value: value.copy(alloc)?,
+            };
+            let undo = channels.park_sender(channel, waiter)?;
+            Ok(Some((name, undo)))
+        }
+        Clause::Receive {
+            channel: Some(channel),
+            ..
+        } => {
+            let name = channel.copy(alloc)?;
+            let waiter = Waiter {
+                go: go.copy(alloc)?,
+                case: clause,
+                value: (),
+            };
+            let undo = channels.park_receiver(channel, waiter)?;
+            Ok(Some((name, undo)))
+        }
+        _ => Ok(None),
+    }
+}
+
+/// Puts a goroutine at the end of the queues for these communications, one after the other. Refused, no content has changed.
+pub(crate) fn park_for_all(
+    channels: &mut Channels,
+    alloc: Global,
+    go: &GoName,
+    pending: &[(Option<u32>, Clause)],
+) -> Result<Vec<(ChName, ChanUndo)>, NoMemory>
+    requires { AreMade (pending_of pending.now) (contents_of channels.old) }
+    ensures contents { OnOk result (contents_of channels.new ≡ queued go.now (pending_of pending.now) (contents_of channels.old)) }
+    ensures back { IfOk result (λ undos. GoesBack undos.items channels.old channels.new) }
+    ensures err { OnErr result (contents_of channels.new ≡ contents_of channels.old) }
+{
+    let mut undos = Vec::with_capacity(alloc, pending.len())?;
+    for (clause, communication) in pending {
+        let change = match park_for(channels, alloc, go, *clause, communication) {
+            Ok(change) => change,
+            Err(error) => {
+                channels.put_all_back(undos);
+                return Err(error);
+            }
+        };
+        let Some(change) = change else {
+            continue;
+        };
+        undos.push_reserved(change);
+    }
+    Ok(undos)
+}

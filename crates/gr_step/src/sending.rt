@@ -1,0 +1,122 @@
+//! Sends that proceed (Go: Send statements).
+
+ghost use Rattle.std.specs.Prelude.{◌≡◌, ◌<◌, true, false, Some, None, length, IfOk, OnErr, [], ◌∷◌};
+ghost use Rattle.std.specs.Option.{option_map_or};
+ghost use Rattle.gr_base.specs.declared.kinds.Kind.TheVariants.{Pick};
+ghost use Rattle.gr_channels.specs.Objects.{has_any};
+ghost use Rattle.gr_rules.specs.Communications as rules;
+ghost use Rattle.gr_code.specs.Programs.{IsClause};
+ghost use Rattle.gr_contents.specs.Arriving.{HasClauseHere};
+ghost use Rattle.gr_lower.specs.Lowered.{lowered};
+ghost use Rattle.gr_tables.specs.NamedChannels.{At, contents_of};
+ghost use Rattle.gr_step.specs.Listings.{program_in, IsCoded};
+ghost use Rattle.gr_step.specs.Objects.{contents_in};
+ghost use Rattle.gr_step.specs.Records.{HasRoom};
+ghost use Rattle.gr_step.specs.Premises.{Acting, OfGoroutine};
+ghost use Rattle.gr_step.specs.Communicating.{TrialIsSound, Tried};
+
+use crate::listing::Listing;
+use crate::objects::Objects;
+use crate::partners::reached;
+use crate::record::{Change, Operation};
+use crate::touching::{gate_side, tail_side};
+use gr_base::{ChName, Event, Kind, NoMemory, Value};
+use gr_channels::Offered;
+use gr_goros::Arrival;
+
+/// The kind of a communication, which may be that of a clause.
+pub(crate) fn kind_by(clause: Option<u32>, kind: Kind) -> Kind
+    ensures { result ≡ option_map_or Pick clause kind }
+{
+    match clause {
+        Some(number) => Kind::Pick(number),
+        None => kind,
+    }
+}
+
+impl Objects {
+    /// Hands a value to the first goroutine that waits to receive it. Refused, nothing has changed.
+    pub(crate) fn hand(
+        &mut self,
+        listing: &Listing,
+        event: &Event,
+        number: usize,
+        clause: Option<u32>,
+        channel: &ChName,
+        value: Value,
+    ) -> Result<Change, NoMemory>
+        requires coded { IsCoded listing.now }
+        requires acting { Acting (program_in listing.now) event.now number self.old }
+        requires clause { OfGoroutine event.now (contents_in self.old) (λ g. IsClause clause × HasClauseHere (lowered (program_in listing.now)) g.frames clause) }
+        requires sound { TrialIsSound (program_in listing.now) event.now (contents_in self.old) (λ a otherwise. rules.send a clause channel.now value otherwise) }
+        requires waits { At (λ x. (x.closed ≡ false) × (has_any x.receivers ≡ true)) (contents_of self.old.channels channel.now) }
+        ensures ok { IfOk result (λ change. Tried (program_in listing.now) event.now (λ a otherwise. rules.send a clause channel.now value otherwise) (contents_in self.old) (Some change) (contents_in self.new)) }
+        ensures room { IfOk result (λ change. HasRoom event.now.go change self.new) }
+        ensures err { OnErr result (contents_in self.new ≡ contents_in self.old) }
+    {
+        let Some(found) = self.channels.get(channel) else {
+            unreachable!()
+        };
+        let Some(receiver) = found.receiver(0) else {
+            unreachable!()
+        };
+        let case = receiver.case;
+        let operation = Operation::SendsOn(channel.copy(self.alloc)?);
+        let touched = gate_side(self.alloc, channel)?;
+        let nothing = Vec::new(self.alloc);
+        let prepared = self.prepare(operation, nothing, touched, channel, &receiver.go)?;
+        let Ok(Offered::Handed(value, undo)) = self.channels.offer(channel, value) else {
+            unreachable!()
+        };
+        let kind = kind_by(clause, Kind::Hand);
+        let passes = Arrival::Passes { clause, got: None };
+        let got = Some((value, true));
+        let meets = Arrival::IsMet { clause: case, got };
+        self.exchange(
+            &listing.code,
+            event,
+            number,
+            prepared,
+            kind,
+            undo,
+            passes,
+            meets,
+        )
+    }
+    /// Puts a value into the buffer. Refused, nothing has changed.
+    pub(crate) fn buffer(
+        &mut self,
+        listing: &Listing,
+        event: &Event,
+        number: usize,
+        clause: Option<u32>,
+        channel: &ChName,
+        value: Value,
+    ) -> Result<Change, NoMemory>
+        requires coded { IsCoded listing.now }
+        requires acting { Acting (program_in listing.now) event.now number self.old }
+        requires clause { OfGoroutine event.now (contents_in self.old) (λ g. IsClause clause × HasClauseHere (lowered (program_in listing.now)) g.frames clause) }
+        requires sound { TrialIsSound (program_in listing.now) event.now (contents_in self.old) (λ a otherwise. rules.send a clause channel.now value otherwise) }
+        requires space { At (λ x. (x.closed ≡ false) × (x.receivers ≡ []) × (length x.items < x.capacity)) (contents_of self.old.channels channel.now) }
+        ensures ok { IfOk result (λ change. Tried (program_in listing.now) event.now (λ a otherwise. rules.send a clause channel.now value otherwise) (contents_in self.old) (Some change) (contents_in self.new)) }
+        ensures room { IfOk result (λ change. HasRoom event.now.go change self.new) }
+        ensures err { OnErr result (contents_in self.new ≡ contents_in self.old) }
+    {
+        let Some(found) = self.channels.get(channel) else {
+            unreachable!()
+        };
+        let operation = Operation::SendsOn(channel.copy(self.alloc)?);
+        let reads = gate_side(self.alloc, channel)?;
+        let writes = tail_side(self.alloc, channel, found)?;
+        let beyond = reached(self.alloc, operation, reads, writes, 0)?;
+        let name = channel.copy(self.alloc)?;
+        let mut done = Vec::with_capacity(self.alloc, 1)?;
+        let Offered::Buffered(undo) = self.channels.offer(channel, value)? else {
+            unreachable!()
+        };
+        done.push_reserved((name, undo));
+        let kind = kind_by(clause, Kind::Buffer);
+        let passes = Arrival::Passes { clause, got: None };
+        self.pass(&listing.code, event, number, passes, kind, beyond, done)
+    }
+}

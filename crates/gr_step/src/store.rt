@@ -1,0 +1,169 @@
+//! The store of a running program.
+
+ghost use Rattle.std.specs.Prelude.{◌≡◌, ◌+◌, ◌-◌, ◌<◌, ◌^◌, min, option_copied, option_map, Some, None, IfOk, IfErr, IfSome, OnOk, OnErr, IsOk};
+ghost use Rattle.gr_program.specs.Views.{program_of};
+ghost use Rattle.gr_code.specs.CodeViews.{program_code_of};
+ghost use Rattle.gr_rules.specs.Tells.{ready_clauses, usual_choice as usual_by_rules};
+ghost use Rattle.gr_step.specs.Premises.{IsChecked, CanCount};
+ghost use Rattle.gr_step.specs.Taking.{IsRecord, SaysWhy};
+ghost use Rattle.gr_step.specs.Records.{event_of, taken_back, CanGoBack};
+
+use crate::listing::Listing;
+use crate::objects::{Objects, Run};
+use crate::record::Record;
+use crate::refusal::StepRefused;
+use gr_base::{ChName, Choice, Event, GoName, NoMemory, StepId};
+use gr_channels::Channel;
+use gr_code::code::Code;
+use gr_goros::Goroutine;
+use gr_program::program::Program;
+use gr_tables::channels::Channels;
+use gr_tables::goroutines::Goroutines;
+use std::alloc::Global;
+use std::sync::Arc;
+
+/// The state of a running program, changed in place.
+#[derive(Drop)]
+pub struct Store {
+    listing: Listing,
+    objects: Objects,
+    taken: u64,
+}
+
+impl Store {
+    ghost use Rattle.gr_step.specs.Objects.{run_of};
+    ghost use Rattle.gr_step.specs.Stores.{program_at, contents_at, state_at, taken_at, IsRun, IsStart, HasRoomFor, SameListing};
+
+    /// A checked program before its first step. The one error is want of memory.
+    pub fn start(alloc: Global, program: Arc<Program>) -> Result<Store, NoMemory>
+        requires { IsChecked (program_of program.value) }
+        ensures { IfOk result (λ store. IsStart (program_of program.value) store) }
+    {
+        let listing = Listing::new(alloc, program)?;
+        let name = GoName::main(alloc)?;
+        let arguments = Vec::new(alloc);
+        let main = Goroutine::start(alloc, &listing.code, listing.code.main, arguments)?;
+        let mut goroutines = Goroutines::new(alloc);
+        let number = goroutines.know(&name)?;
+        goroutines.put(number, main);
+        let objects = Objects {
+            run: Run::Live,
+            goroutines,
+            channels: Channels::new(alloc),
+            alloc,
+        };
+        Ok(Store {
+            listing,
+            objects,
+            taken: 0,
+        })
+    }
+
+    /// Takes the step of an event, if it is one. Errors: the program is over; there is no such goroutine; it is done; it waits; the
+    /// choice is not possible here: the first of these that holds. Want of memory only where it is a step. Refused, nothing has
+    /// changed.
+    pub fn step(&mut self, event: Event) -> Result<Record, StepRefused>
+        requires run { IsRun self.old }
+        requires counted { CanCount (contents_at self.old) }
+        ensures step { IfOk result (λ r. IsRecord (program_at self.old) (contents_at self.old) r (contents_at self.new)) }
+        ensures event { IfOk result (λ r. event_of r ≡ event) }
+        ensures run { IsRun self.new }
+        ensures room { IfOk result (λ r. HasRoomFor r self.new) }
+        ensures why { IfErr result (SaysWhy (program_at self.old) (contents_at self.old) event) }
+        ensures err { OnErr result (contents_at self.new ≡ contents_at self.old) }
+        ensures taken { OnOk result (taken_at self.new ≡ min (taken_at self.old + 1) (2 ^ 64 - 1)) }
+        ensures not_taken { OnErr result (taken_at self.new ≡ taken_at self.old) }
+        ensures listing { SameListing self.old self.new }
+    {
+        let ready = self.objects.ready(&event)?;
+        let change = self.objects.take(&self.listing, &event, ready.number)?;
+        self.taken = self.taken.saturating_add(1);
+        Ok(Record {
+            id: StepId {
+                go: event.go,
+                n: ready.ordinal,
+            },
+            choice: event.choice,
+            change,
+        })
+    }
+
+    /// Takes the step of a record back, where what it wrote stands. It takes memory only where there is no room, as there is
+    /// directly after the step. Refused, nothing has changed, and the record is handed back.
+    pub fn unstep(&mut self, step: Record) -> Result<Event, (Record, NoMemory)>
+        requires { CanGoBack step.id.go step.change (contents_at self.old) }
+        ensures back { OnOk result (contents_at self.new ≡ taken_back step.id.go step.change (contents_at self.old)) }
+        ensures event { IfOk result (λ event. event ≡ event_of step) }
+        ensures err { OnErr result (contents_at self.new ≡ contents_at self.old) }
+        ensures returned { IfErr result (λ e. e.0 ≡ step) }
+        ensures succeeds { HasRoomFor step self.old → IsOk result }
+        ensures taken { taken_at self.new ≡ taken_at self.old }
+        ensures listing { SameListing self.old self.new }
+    {
+        let Record { id, choice, change } = step;
+        match self.objects.take_back(&id.go, change) {
+            Ok(()) => Ok(Event { go: id.go, choice }),
+            Err((change, error)) => Err((Record { id, choice, change }, error)),
+        }
+    }
+
+    /// The clauses that a goroutine may pick, by their numbers from 1: none, where it does not stand ready at a select.
+    pub fn ready_cases(&self, go: &GoName) -> Result<Vec<u32>, NoMemory>
+        requires { IsRun self.now }
+        ensures { IfOk result (λ cases. cases.items ≡ ready_clauses (program_at self.now) (state_at self.now) go.now) }
+    {
+        self.objects.ready_cases(&self.listing, go)
+    }
+
+    /// The choice of a goroutine where none is asked for: at a select the lowest clause that can proceed, else the default clause,
+    /// else to wait.
+    pub fn usual_choice(&self, go: &GoName) -> Result<Choice, NoMemory>
+        requires { IsRun self.now }
+        ensures { IfOk result (λ choice. choice ≡ usual_by_rules (program_at self.now) (state_at self.now) go.now) }
+    {
+        self.objects.usual_choice(&self.listing, go)
+    }
+
+    /// Whether the program runs.
+    pub fn run(&self) -> Run
+        ensures { run_of result ≡ (contents_at self.now).run }
+    {
+        self.objects.run
+    }
+
+    /// The goroutine of a name, if there is one.
+    pub fn goroutine(&self, go: &GoName) -> Option<&Goroutine>
+        ensures { option_map (λ g. g.content) (option_copied result) ≡ (contents_at self.now).goroutines go.now }
+    {
+        let number = self.objects.goroutines.number(go)?;
+        self.objects.goroutines.get(number)
+    }
+
+    /// The channel of a name, if there is one.
+    pub fn channel(&self, channel: &ChName) -> Option<&Channel>
+        ensures { option_map (λ c. c.content) (option_copied result) ≡ (contents_at self.now).channels channel.now }
+    {
+        self.objects.channels.get(channel)
+    }
+
+    /// The program that runs.
+    pub fn program(&self) -> &Program
+        ensures { program_of result.now ≡ program_at self.now }
+    {
+        &self.listing.program
+    }
+
+    /// The code that runs.
+    pub fn code(&self) -> &Code
+        ensures { program_code_of result.now ≡ program_code_of self.now.listing.code.value }
+    {
+        &self.listing.code
+    }
+
+    /// How many steps were taken; it stays at the greatest number of 64 bits.
+    pub fn taken(&self) -> u64
+        ensures { result ≡ taken_at self.now }
+    {
+        self.taken
+    }
+}

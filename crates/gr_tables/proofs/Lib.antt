@@ -1,0 +1,12 @@
+pub mod ChannelNames
+pub mod RoomLemmas
+pub mod BackInOrder
+pub mod Joining
+pub mod SeenLemmas
+pub mod AnswerLemmas
+pub mod SuffixLemmas
+pub mod Returning
+pub mod Reserving
+pub mod Withdrawals
+pub mod Validity
+pub mod ByNumber

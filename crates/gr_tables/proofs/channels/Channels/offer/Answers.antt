@@ -1,0 +1,50 @@
+use Rattle.std.proofs.Common.{◌∙◌, sym, ap, option_map}
+use Rattle.std.specs.Option.{option_copied_mut}
+use Rattle.gr_channels.specs.Changes.{OfferNeedsMemory}
+use Rattle.gr_tables.proofs.SeenLemmas.{lent}
+use Rattle.gr_tables.proofs.AnswerLemmas.{offer_at, offer_back, same_at_err, there_at_err}
+use Rattle.gr_tables.proofs.Validity.{lent_valid, offered_valid, can_enter}
+use Rattle.gr_tables.proofs.channels.Channels.offer.Goals as goal
+
+pub returns-clause-rule : goal.returns-clause-rule
+returns-clause-rule c =
+    let new = c.get_mut.follows.lender c.offer.new.self in
+    let writes = (c.get_mut.follows.holds c.offer.new.self).3 in
+    offer_at c.args.self.now _ (lent c.args.name.now c.get_mut.result c.unwrap.result c.offer.new.self c.args.self.now.map new c.get_mut.ensures.value
+    c.unwrap.ensures writes)
+    c.args.value c.offer.result c.offer.ensures.rule
+
+pub returns-clause-back : goal.returns-clause-back
+returns-clause-back c =
+    let new = c.get_mut.follows.lender c.offer.new.self in
+    let writes = (c.get_mut.follows.holds c.offer.new.self).3 in
+    offer_back c.args.self.now _ (lent c.args.name.now c.get_mut.result c.unwrap.result c.offer.new.self c.args.self.now.map new c.get_mut.ensures.value
+    c.unwrap.ensures writes)
+    c.args.value c.offer.result c.offer.ensures.rule c.offer.ensures.undone
+
+pub returns-clause-err : goal.returns-clause-err
+returns-clause-err c =
+    let new = c.get_mut.follows.lender c.offer.new.self in
+    let writes = (c.get_mut.follows.holds c.offer.new.self).3 in
+    same_at_err (lent c.args.name.now c.get_mut.result c.unwrap.result c.offer.new.self c.args.self.now.map new c.get_mut.ensures.value c.unwrap.ensures writes)
+    c.offer.result c.offer.ensures.err
+
+pub returns-clause-needed : goal.returns-clause-needed
+returns-clause-needed c =
+    let new = c.get_mut.follows.lender c.offer.new.self in
+    let writes = (c.get_mut.follows.holds c.offer.new.self).3 in
+    there_at_err (lent c.args.name.now c.get_mut.result c.unwrap.result c.offer.new.self c.args.self.now.map new c.get_mut.ensures.value
+    c.unwrap.ensures writes)
+    c.offer.result OfferNeedsMemory c.offer.ensures.needed
+
+pub invariant_of-self : goal.invariant_of-self
+invariant_of-self c =
+    let old = c.args.self.now in
+    let was = sym c.get_mut.ensures.value ∙ ap option_copied_mut c.unwrap.ensures in
+    let seen = ap (option_map (λ x. x.content)) was in
+    record {
+      are_channels = lent_valid old.map (c.get_mut.follows.lender c.offer.new.self) c.args.name.now c.unwrap.result.now
+          c.offer.new.self old.are_channels was (c.get_mut.follows.holds c.offer.new.self).3
+          (λ valid. offered_valid c.unwrap.result.now.content c.offer.new.self.content c.args.value c.offer.result valid
+          (can_enter _ _ c.requires seen) c.offer.ensures.rule c.offer.ensures.err);
+    }

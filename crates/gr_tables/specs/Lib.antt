@@ -1,0 +1,7 @@
+-- The channels and the goroutines of a store by name, and how several changes of channels are taken back.
+pub mod Back
+pub mod NamedChannels
+pub mod Places
+pub mod AreChannels
+pub mod NamedGoroutines
+pub mod Slots

@@ -1,0 +1,166 @@
+//! Changes of one goroutine of a store, in its place.
+
+ghost use Rattle.std.specs.Prelude.{◌≡◌, ◌≤◌, IsOk, IfOk, IfErr, OnOk, OnErr};
+ghost use Rattle.gr_code.specs.CodeViews.{program_code_of};
+ghost use Rattle.gr_code.specs.Goroutines.{local, parked, retried};
+ghost use Rattle.gr_goros.specs.Undoing.{Fits, IsLive, need};
+ghost use Rattle.gr_goros.specs.Views.{arrival_of, waits_of, halted};
+ghost use Rattle.gr_goros.specs.Tasks.{IsStep};
+ghost use Rattle.gr_tables.specs.NamedGoroutines.{seen_at, At, ChangesBy, KeepsContents, StepsAlone, CanArrive, CanPark, CanEnd, Arrives, ComesTo, TakenBack};
+ghost use Rattle.gr_tables.specs.Slots.{SlotChanges, SlotKeeps};
+
+use crate::goroutines::Goroutines;
+use gr_base::{Kind, NoMemory};
+use gr_code::code::Code;
+use gr_goros::{Arrival, GoUndo, Goroutine, Halt, Wait};
+use std::alloc::Global;
+
+/// The goroutine takes its next step. Refused, no content has changed.
+#[inline]
+fn step_in(
+    slot: &mut Option<Goroutine>,
+    alloc: Global,
+    code: &Code,
+) -> Result<(Kind, GoUndo), NoMemory>
+    requires { At (StepsAlone (program_code_of code.now)) slot.old }
+    ensures step { IfOk result (λ r. SlotChanges (λ a b. IsStep r (local (program_code_of code.now) a.content) a b) slot.old slot.new) }
+    ensures err { OnErr result (SlotKeeps slot.old slot.new) }
+{
+    let Some(goroutine) = slot else {
+        unreachable!()
+    };
+    goroutine.local_step(alloc, code)
+}
+
+/// Takes a change of the goroutine back. Refused, no content has changed.
+fn undo_in(slot: &mut Option<Goroutine>, undo: GoUndo) -> Result<(), (GoUndo, NoMemory)>
+    requires { At (λ g. Fits undo g.content) slot.old }
+    ensures ok { OnOk result (SlotChanges (TakenBack undo) slot.old slot.new) }
+    ensures err { OnErr result (SlotKeeps slot.old slot.new) }
+    ensures returned { IfErr result (λ e. e.0 ≡ undo) }
+    ensures succeeds { At (λ g. need undo ≤ g.room) slot.old → IsOk result }
+{
+    let Some(goroutine) = slot else {
+        unreachable!()
+    };
+    goroutine.undo(undo)
+}
+
+/// What arrives takes the goroutine past its instruction. Refused, no content has changed.
+fn deliver_in(
+    slot: &mut Option<Goroutine>,
+    alloc: Global,
+    code: &Code,
+    arrival: Arrival,
+) -> Result<GoUndo, NoMemory>
+    requires { At (CanArrive (program_code_of code.now) (arrival_of arrival)) slot.old }
+    ensures after { IfOk result (λ undo. SlotChanges (Arrives (program_code_of code.now) (arrival_of arrival) undo) slot.old slot.new) }
+    ensures err { OnErr result (SlotKeeps slot.old slot.new) }
+{
+    let Some(goroutine) = slot else {
+        unreachable!()
+    };
+    goroutine.deliver(alloc, code, arrival)
+}
+
+/// The goroutine begins to wait, for one of these.
+fn park_in(slot: &mut Option<Goroutine>, waits: Vec<Wait>) -> GoUndo
+    requires { At CanPark slot.old }
+    ensures { SlotChanges (ComesTo (parked (waits_of waits.items)) result) slot.old slot.new }
+{
+    let Some(goroutine) = slot else {
+        unreachable!()
+    };
+    goroutine.park(waits)
+}
+
+/// The goroutine comes to an end.
+fn halt_in(slot: &mut Option<Goroutine>, alloc: Global, how: Halt) -> GoUndo
+    requires { At (CanEnd how) slot.old }
+    ensures { SlotChanges (ComesTo (halted how) result) slot.old slot.new }
+{
+    let Some(goroutine) = slot else {
+        unreachable!()
+    };
+    goroutine.halt(alloc, how)
+}
+
+/// The goroutine is ready at its instruction again.
+fn retry_in(slot: &mut Option<Goroutine>) -> GoUndo
+    requires { At (λ g. IsLive g.content) slot.old }
+    ensures { SlotChanges (ComesTo retried result) slot.old slot.new }
+{
+    let Some(goroutine) = slot else {
+        unreachable!()
+    };
+    goroutine.retry()
+}
+
+impl Goroutines {
+    /// The goroutine with a number takes its next step, as `Goroutine::local_step` does. Refused, no content has changed.
+    #[inline]
+    pub fn local_step(&mut self, number: usize, code: &Code) -> Result<(Kind, GoUndo), NoMemory>
+        requires { At (StepsAlone (program_code_of code.now)) (seen_at self.old number) }
+        ensures step { IfOk result (λ r. ChangesBy number (λ a b. IsStep r (local (program_code_of code.now) a.content) a b) self.old self.new) }
+        ensures err { OnErr result (KeepsContents self.old self.new) }
+    {
+        let slot = self.map.get_index_mut(number).unwrap();
+        step_in(slot, self.alloc, code)
+    }
+
+    /// Takes a change of the goroutine with a number back, as `Goroutine::undo` does. It takes memory only where there is no
+    /// room; refused, no content has changed, and the change is handed back.
+    pub fn undo(&mut self, number: usize, undo: GoUndo) -> Result<(), (GoUndo, NoMemory)>
+        requires { At (λ g. Fits undo g.content) (seen_at self.old number) }
+        ensures ok { OnOk result (ChangesBy number (TakenBack undo) self.old self.new) }
+        ensures err { OnErr result (KeepsContents self.old self.new) }
+        ensures returned { IfErr result (λ e. e.0 ≡ undo) }
+        ensures succeeds { At (λ g. need undo ≤ g.room) (seen_at self.old number) → IsOk result }
+    {
+        let slot = self.map.get_index_mut(number).unwrap();
+        undo_in(slot, undo)
+    }
+
+    /// What arrives takes the goroutine with a number past its instruction, as `Goroutine::deliver` does. Refused, no content
+    /// has changed.
+    pub fn deliver(
+        &mut self,
+        number: usize,
+        code: &Code,
+        arrival: Arrival,
+    ) -> Result<GoUndo, NoMemory>
+        requires { At (CanArrive (program_code_of code.now) (arrival_of arrival)) (seen_at self.old number) }
+        ensures after { IfOk result (λ undo. ChangesBy number (Arrives (program_code_of code.now) (arrival_of arrival) undo) self.old self.new) }
+        ensures err { OnErr result (KeepsContents self.old self.new) }
+    {
+        let slot = self.map.get_index_mut(number).unwrap();
+        deliver_in(slot, self.alloc, code, arrival)
+    }
+
+    /// The goroutine with a number begins to wait, for one of these.
+    pub fn park(&mut self, number: usize, waits: Vec<Wait>) -> GoUndo
+        requires { At CanPark (seen_at self.old number) }
+        ensures { ChangesBy number (ComesTo (parked (waits_of waits.items)) result) self.old self.new }
+    {
+        let slot = self.map.get_index_mut(number).unwrap();
+        park_in(slot, waits)
+    }
+
+    /// The goroutine with a number comes to an end: from its outermost frame, or by a fault.
+    pub fn halt(&mut self, number: usize, how: Halt) -> GoUndo
+        requires { At (CanEnd how) (seen_at self.old number) }
+        ensures { ChangesBy number (ComesTo (halted how) result) self.old self.new }
+    {
+        let slot = self.map.get_index_mut(number).unwrap();
+        halt_in(slot, self.alloc, how)
+    }
+
+    /// The goroutine with a number is ready at its instruction again.
+    pub fn retry(&mut self, number: usize) -> GoUndo
+        requires { At (λ g. IsLive g.content) (seen_at self.old number) }
+        ensures { ChangesBy number (ComesTo retried result) self.old self.new }
+    {
+        let slot = self.map.get_index_mut(number).unwrap();
+        retry_in(slot)
+    }
+}
