@@ -37,6 +37,7 @@ bin/front_bench: FORCE
 # scanning, parsing and checking small and large sources.
 bench: bin/rewind bin/channel_bench bin/front_bench
 	bench/steps.py bin/rewind
+	bench/core.py bin/rewind
 	bench/channels.py bin/channel_bench
 	bench/front.py bin/front_bench
 

@@ -115,7 +115,8 @@ impl Pool {
     /// The first ready goroutine after this one in name order, else the first of all. The time is constant where this one
     /// was the last answer and the ready ones are the same since, and else logarithmic.
     pub fn next_after(&self, name: &GoName) -> Option<&GoName>
-        ensures { option_copied result ≡ next_name name.now self.now.ready }
+        ensures next { option_copied result ≡ next_name name.now self.now.ready }
+        ensures ordered { IsInOrder self.now.ready }
     {
         let guess = self.last.get();
         let place = next_place(self.known.as_slice(), self.ready.as_slice(), name, guess);

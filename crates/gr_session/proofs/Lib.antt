@@ -1,8 +1,12 @@
-pub mod Exchanges
-pub mod Journals
-pub mod Lists
-pub mod Outcomes
-pub mod Parts
-pub mod Paths
-pub mod Runs
-pub mod Sources
+mod PoolLemmas
+mod KeptLemmas
+mod OwnLemmas
+mod CourseLemmas
+mod StepLemmas
+mod UndoLemmas
+mod QueryLemmas
+mod StartLemmas
+mod TurnLemmas
+mod RunLemmas
+mod JournalLemmas
+mod Sources

@@ -17,7 +17,7 @@ use Rattle.gr_syntax.specs.Refused.{HasNoTree}
 use Rattle.gr_program.specs.Programs.{Program}
 use Rattle.gr_typing.specs.FileChecks.{ProgramOf}
 use Rattle.gr_types.specs.Refusals.{HasNoProgram}
-use Rattle.gr_session.specs.Source.{IsCheckedOf}
+use Rattle.gr_session.specs.Source.{IsFileOf, IsProgramOf}
 use Rattle.gr_session.specs.declared.open.OpenError.TheVariants.{Scan, Parse, Check}
 use Rattle.gr_session.specs.Refused.{NoProgram, SaysWhy, scan_position, parse_position, check_position}
 
@@ -32,7 +32,7 @@ scan_refused scanning.Memory text h f = refl
 scan_refused _ text h f = record { fault = f; place = refl; none = λ p q. h q.tokens q.scanned }
 
 -- the tree of a program of the text is one of these tokens
-same_tokens : OneList → (text : List ℕ) (ts : List Tok) → IsScan text ts → (p : Program) (q : IsCheckedOf text p) → IsTreeOf q.tree ts
+same_tokens : OneList → (text : List ℕ) (ts : List Tok) → IsScan text ts → (p : Program) (q : IsProgramOf text p) → IsTreeOf q.tree ts
 same_tokens one text ts s p q = subst (λ us. IsTreeOf q.tree us) (one text q.tokens ts q.scanned s) q.parsed
 
 no_tree : OneList → (text : List ℕ) (ts : List Tok) → IsScan text ts → ((f : FileTree) → IsTreeOf f ts → ⊥) → NoProgram text
@@ -53,11 +53,14 @@ no_program one tree text ts f s t h = λ p q.
     let parsed = same_tokens one text ts s p q in
     h p (subst (λ g. ProgramOf g p) (tree q.tree f ts parsed.spelled t.spelled) q.rules)
 
-pub check_refused : OneList → OneTree → (e : CheckError) (text : List ℕ) (ts : List Tok) (f : FileTree) → IsScan text ts → IsTreeOf f ts → HasNoProgram e f
+pub check_refused : OneList → OneTree → (e : CheckError) (text : List ℕ) (f : FileTree) → IsFileOf text f → HasNoProgram e f
     → SaysWhy (Check e (check_position text e)) text
-check_refused one tree checking.Memory text ts f s t h = refl
-check_refused one tree (checking.Refused code n) text ts f s t h =
-    record { tokens = ts; scanned = s; tree = f; parsed = t; place = refl; none = no_program one tree text ts f s t h }
+check_refused one tree checking.Memory text f i h = refl
+check_refused one tree (checking.Refused code n) text f i h =
+    record { tokens = i.tokens; scanned = i.scanned; tree = f; parsed = i.parsed; place = refl; none = no_program one tree text i.tokens f i.scanned i.parsed h }
+
+pub program_is : (text : List ℕ) (f : FileTree) (p : Program) → IsFileOf text f → ProgramOf f p → IsProgramOf text p
+program_is text f p i rules = record { tokens = i.tokens; scanned = i.scanned; tree = f; parsed = i.parsed; rules = rules }
 
 -- a token by its index
 pub token_there : (tokens : List Token) (i : ℕ) → slice_get (tokens_of tokens) i ≡ option_map token_of (slice_get tokens i)

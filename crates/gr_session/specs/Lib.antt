@@ -1,10 +1,6 @@
-pub mod PlainPrograms
-pub mod Values
-pub mod Run
-pub mod Records
 pub mod Journal
+pub mod Courses
+pub mod Carried
 pub mod Keeps
-pub mod Narrowing
-pub mod Narrowed
 pub mod Source
 pub mod Refused

@@ -14,22 +14,14 @@ use Rattle.gr_syntax.specs.FileGrammar.{IsTreeOf}
 use Rattle.gr_syntax.specs.Refused.{HasNoTree}
 use Rattle.gr_types.specs.declared.fault.CheckError.{CheckError}
 use Rattle.gr_types.specs.declared.fault.CheckError.TheVariants as checking
-use Rattle.gr_program.specs.Programs as checked
+use Rattle.gr_program.specs.Programs.{Program}
 use Rattle.gr_session.specs.declared.open.OpenError.{OpenError}
-use Rattle.gr_session.specs.declared.open.OpenError.TheVariants.{Scan, Parse, NotYet, Check, Memory}
-use Rattle.gr_session.specs.Narrowing.{plain_of}
-use Rattle.gr_session.specs.PlainPrograms.{Program}
-use Rattle.gr_session.specs.Source.{IsCheckedOf, IsProgramOf}
+use Rattle.gr_session.specs.declared.open.OpenError.TheVariants.{Scan, Parse, Check, Memory}
+use Rattle.gr_session.specs.Source.{IsProgramOf}
 
--- no checked program is this text's, and so no plain one
+-- no program is this text's
 abbrev pub NoProgram : List ℕ → Type 0
-NoProgram text = (p : checked.Program) → IsCheckedOf text p → ⊥
-
--- the text has this checked program, which has a form that no session can run yet
-pub record IsBeyond (text : List ℕ) : Type 0 where
-  pub program : checked.Program
-  pub checked : IsCheckedOf text program
-  pub beyond : plain_of program ≡ None
+NoProgram text = (p : Program) → IsProgramOf text p → ⊥
 
 -- the position of a fault of scanning, which names the bytes before it
 abbrev pub scan_position : List ℕ → ScanError → Option Position
@@ -79,13 +71,13 @@ pub record BreaksRule (error : CheckError) (at : Option Position) (text : List �
   pub place : at ≡ check_position text error
   pub none : NoProgram text
 
--- the text has a program that a session can run
-pub record HasPlain (text : List ℕ) : Type 0 where
+-- the text has a program
+pub record HasProgram (text : List ℕ) : Type 0 where
   pub program : Program
   pub is_program : IsProgramOf text program
 
--- what each error says: want of memory for tokens, for a tree or for a checked program says nothing and has no position; only
--- where there is a program that a session can run is memory wanted for it
+-- what each error says: want of memory for tokens, for a tree or for a program says nothing and has no position; only where
+-- there is a program is memory wanted for a session of it
 abbrev pub SaysWhy : OpenError → List ℕ → Type 0
 SaysWhy (Scan scanning.Memory at) text = at ≡ None
 SaysWhy (Scan error at) text = HasNoWords error at text
@@ -93,5 +85,4 @@ SaysWhy (Parse parsing.Memory at) text = at ≡ None
 SaysWhy (Parse error at) text = IsNoFile error at text
 SaysWhy (Check checking.Memory at) text = at ≡ None
 SaysWhy (Check error at) text = BreaksRule error at text
-SaysWhy NotYet text = IsBeyond text
-SaysWhy Memory text = HasPlain text
+SaysWhy Memory text = HasProgram text

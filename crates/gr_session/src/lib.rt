@@ -1,20 +1,18 @@
-//! A session: a program, its run so far, and the journal of what was asked.
+//! A session: a program, its course so far, and the journal of what was asked.
 #![tactic(auto)]
 
 mod carry;
-pub mod command;
-mod evaluate;
-mod narrow;
-mod open;
-pub mod plain;
-mod plainness;
-mod session;
-mod store;
+pub mod course;
+pub mod journal;
+pub mod open;
+mod readiness;
+mod running;
+pub mod session;
+mod stepping;
 
-pub use command::{
-    AskRefused, Command, DeskId, EnrolRefused, Entry, Memory, Receipt, Refusal, Reply,
-};
+pub use gr_command::{Command, Refusal, Reply};
 pub use gr_scan::position::Position;
+pub use journal::{AskRefused, DeskId, EnrolRefused, Entry, Memory, Receipt};
 pub use open::OpenError;
 pub use session::Session;
 

@@ -1,15 +1,12 @@
 //! From a source to a session.
 ghost use Rattle.std.specs.Prelude.{◌≡◌, ◌<◌, ◌↔◌, [], length, None, IfOk, IfErr, IsErrOf};
 ghost use Rattle.gr_scan.specs.Tokens.{tokens_of};
-ghost use Rattle.gr_program.specs.Views as checked;
-ghost use Rattle.gr_session.specs.PlainPrograms.{program_of};
-ghost use Rattle.gr_session.specs.Source.{IsCheckedOf, IsProgramOf};
+ghost use Rattle.gr_tree.specs.Files.{file_of};
+ghost use Rattle.gr_program.specs.Views.{program_of};
+ghost use Rattle.gr_session.specs.Source.{IsFileOf, IsProgramOf};
 ghost use Rattle.gr_session.specs.Refused.{SaysWhy};
 ghost use Rattle.gr_session.specs.Refused as spec;
 
-use crate::narrow::{PlainError, plain};
-use crate::plain::PlainProgram;
-use crate::plainness::is_plain;
 use crate::session::Session;
 use gr_base::NoMemory;
 use gr_program::Program;
@@ -17,6 +14,7 @@ use gr_scan::position::Position;
 use gr_scan::scan::{ScanError, TEXT_LIMIT, one_list, scan};
 use gr_scan::token::Token;
 use gr_syntax::parse::{ParseError, one_tree, parse};
+use gr_tree::File;
 use gr_types::check::check;
 use gr_types::fault::CheckError;
 use std::alloc::Global;
@@ -30,8 +28,6 @@ pub enum OpenError {
     Parse(ParseError, Option<Position>),
     /// The file breaks a rule of the language, or there is no memory for its program.
     Check(CheckError, Option<Position>),
-    /// U1: the file's program has a form that no session can run yet.
-    NotYet,
     /// There is no memory for a session of the program.
     Memory,
 }
@@ -78,42 +74,35 @@ fn check_error(text: &[u8], error: CheckError) -> OpenError
     OpenError::Check(error, at)
 }
 
-// The checked program of a source.
-fn read_checked(alloc: Global, text: &[u8]) -> Result<Program, OpenError>
-    ensures program { IfOk result (λ p. IsCheckedOf text.now (checked.program_of p)) }
+// The file of a source. Its tokens are let go.
+fn read_file(alloc: Global, text: &[u8]) -> Result<File, OpenError>
+    ensures file { IfOk result (λ file. IsFileOf text.now (file_of file)) }
+    ensures none { IfErr result (λ e. SaysWhy e text.now) }
+    ensures too_long { IsErrOf result (OpenError.Scan ScanError.TooLong None) ↔ (TEXT_LIMIT < length text.now) }
+{
+    one_list();
+    let tokens = match scan(alloc, text) {
+        Ok(tokens) => tokens,
+        Err(error) => return Err(scan_error(text, error)),
+    };
+    match parse(alloc, tokens.as_slice()) {
+        Ok(file) => Ok(file),
+        Err(error) => Err(parse_error(text, tokens.as_slice(), error)),
+    }
+}
+
+// The program of a source.
+fn read_program(alloc: Global, text: &[u8]) -> Result<Program, OpenError>
+    ensures program { IfOk result (λ p. IsProgramOf text.now (program_of p)) }
     ensures none { IfErr result (λ e. SaysWhy e text.now) }
     ensures too_long { IsErrOf result (OpenError.Scan ScanError.TooLong None) ↔ (TEXT_LIMIT < length text.now) }
 {
     one_list();
     one_tree();
-    let tokens = match scan(alloc, text) {
-        Ok(tokens) => tokens,
-        Err(error) => return Err(scan_error(text, error)),
-    };
-    let file = match parse(alloc, tokens.as_slice()) {
-        Ok(file) => file,
-        Err(error) => return Err(parse_error(text, tokens.as_slice(), error)),
-    };
+    let file = read_file(alloc, text)?;
     match check(alloc, file) {
         Ok(program) => Ok(program),
         Err(error) => Err(check_error(text, error)),
-    }
-}
-
-// The plain program of a source.
-fn read_program(alloc: Global, text: &[u8]) -> Result<PlainProgram, OpenError>
-    ensures program { IfOk result (λ p. IsProgramOf text.now (program_of p)) }
-    ensures none { IfErr result (λ e. SaysWhy e text.now) }
-    ensures too_long { IsErrOf result (OpenError.Scan ScanError.TooLong None) ↔ (TEXT_LIMIT < length text.now) }
-{
-    let program = read_checked(alloc, text)?;
-    if !is_plain(&program) {
-        return Err(OpenError::NotYet);
-    }
-    match plain(alloc, program) {
-        Ok(program) => Ok(program),
-        Err(PlainError::NotPlain) => Err(OpenError::NotYet),
-        Err(PlainError::Memory) => Err(OpenError::Memory),
     }
 }
 

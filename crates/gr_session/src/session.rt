@@ -1,56 +1,57 @@
 //! Sessions: what a program did so far, asked of under one journal.
+
 ghost use Rattle.std.specs.Prelude.{◌≡◌, ◌↔◌, ◌+◌, ◌≤◌, [], length, IfOk, OnOk, OnErr, IsErrOf};
-ghost use Rattle.gr_session.specs.PlainPrograms.{program_of};
-ghost use Rattle.gr_session.specs.Journal.{said_of, Enters, IsLegal};
+ghost use Rattle.gr_program.specs.Views.{program_of};
+ghost use Rattle.gr_command.specs.Replies.{said_of};
+ghost use Rattle.gr_session.specs.Journal.{Enters, IsLegal};
+ghost use Rattle.gr_step.specs.Premises.{IsChecked};
 
 use crate::carry::carry_out;
-use crate::command::{AskRefused, Command, DeskId, EnrolRefused, Entry, Receipt};
-use crate::plain::PlainProgram;
-use crate::store::{Record, Store};
+use crate::course::Course;
+use crate::journal::{AskRefused, DeskId, EnrolRefused, Entry, Receipt};
 use crate::{ASKER_LIMIT, JOURNAL_LIMIT};
 use gr_base::NoMemory;
+use gr_command::Command;
+use gr_program::program::Program;
 use std::alloc::Global;
 use std::marker::Model;
 
-/// A program, its run so far, and the journal of what was asked. The journal is legal, and the log and the state are
-/// those that it means.
+/// A program, its course so far, and the journal of what was asked. The journal is legal, and the course is the one that it
+/// means.
 #[derive(Drop)]
 pub struct Session {
-    program: PlainProgram,
-    store: Store,
-    log: Vec<Record>,
+    course: Course,
     journal: Vec<Entry>,
     askers: u32,
 }
 
 impl Model for Session {
-    ghost use Rattle.gr_session.specs.PlainPrograms.{program_of};
-    ghost use Rattle.gr_session.specs.contracts.plain.Term as term;
+    ghost use Rattle.gr_program.specs.contracts.program.Expr as expr;
+    ghost use Rattle.gr_program.specs.contracts.program.Stmt as stmt;
+    ghost use Rattle.gr_program.specs.contracts.types.Type as types;
     ghost use Rattle.std.specs.Coded.{codes};
-    ghost use Rattle.gr_session.specs.Records.{state_of};
-    ghost use Rattle.gr_session.specs.Keeps.{Seen, Keeps};
+    ghost use Rattle.gr_session.specs.Keeps.{Seen, Keeps, program_held};
 
     ghost Value = { Seen };
 
-    ghost coded = { Prim.hlevel (codes, term.the_row.coded) };
+    ghost coded = { Prim.hlevel (codes, expr.the_row.coded, stmt.the_row.coded, types.the_row.coded) };
 
-    ghost view = { λ s. record { program = s.program; journal = s.journal.items; askers = s.askers } };
+    ghost view = { λ s. record { program = program_held s.course.store; journal = s.journal.items; askers = s.askers } };
 
-    ghost invariant = { λ s. Keeps (program_of s.program) s.journal.items s.askers s.log.items (state_of s.store) };
+    ghost invariant = { λ s. Keeps s.course s.journal.items s.askers };
 }
 
 impl Session {
-    // A session with an empty journal and no asker.
-    pub(crate) fn new(alloc: Global, program: PlainProgram) -> Result<Session, NoMemory>
-        ensures program { IfOk result (λ s. s.program ≡ program) }
+    // A session of a checked program with an empty journal and no asker.
+    pub(crate) fn new(alloc: Global, program: Program) -> Result<Session, NoMemory>
+        requires { IsChecked (program_of program) }
+        ensures program { IfOk result (λ s. program_of s.program ≡ program_of program) }
         ensures journal { IfOk result (λ s. s.journal ≡ []) }
         ensures askers { IfOk result (λ s. s.askers ≡ 0) }
     {
-        let store = Store::start(alloc, &program)?;
+        let course = Course::start(alloc, program)?;
         Ok(Session {
-            program,
-            store,
-            log: Vec::new(alloc),
+            course,
             journal: Vec::new(alloc),
             askers: 0,
         })
@@ -101,14 +102,11 @@ impl Session {
         if self.journal.reserve(1).is_err() {
             return Err(AskRefused::NoMemory);
         }
-        match carry_out(
-            alloc,
-            &self.program,
-            &mut self.store,
-            &mut self.log,
-            &command,
-        ) {
-            Err(NoMemory) => Err(AskRefused::NoMemory),
+        match carry_out(alloc, &mut self.course, &command) {
+            Err(NoMemory) => {
+                drop(command);
+                Err(AskRefused::NoMemory)
+            }
             Ok((memory, reply)) => {
                 self.journal.push_reserved(Entry {
                     asker: desk.number,

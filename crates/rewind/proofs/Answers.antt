@@ -2,16 +2,19 @@
 use Rattle.std.proofs.Common.{◌≡◌, ◌≢◌, ℕ, suc, codes, true, false, List, [], ◌∷◌, ◌++◌, length, refl, sym, ap, subst, ◌∙◌, append-nil, append_assoc, arith, Ok, Err, IfOk, OnErr}
 use Rattle.std.specs.declared.option.Option.{Option}
 use Rattle.std.specs.declared.result.Result.{Result}
-use Rattle.gr_session.specs.PlainPrograms.{Program}
-use Rattle.gr_session.specs.declared.command.Command.{Command}
-use Rattle.gr_session.specs.declared.command.Entry.{Entry}
+use Rattle.gr_program.specs.Programs.{Program}
+use Rattle.gr_command.specs.declared.command.Command.{Command}
+use Rattle.gr_session.specs.declared.journal.Entry.{Entry}
 use Rattle.gr_session.specs.declared.TheConstants.{JOURNAL_LIMIT}
-use Rattle.gr_session.specs.Journal.{Said, Enters}
+use Rattle.gr_session.specs.Journal.{Enters}
 use Rattle.std.specs.Io.KnownBytes.{Keeps}
-use Rattle.rewind.specs.declared.command.Line.{Line}
-use Rattle.rewind.specs.declared.command.Line.TheVariants as says
-use Rattle.rewind.specs.Lines.{meaning, is_quit}
-use Rattle.rewind.specs.Replies.{Answer, Replied, JournalFull, NoMemory, answer_text, said_text}
+use Rattle.gr_command.specs.declared.command.Line.{Line}
+use Rattle.gr_command.specs.declared.command.Line.TheVariants as says
+use Rattle.gr_command.specs.Commands.{meaning}
+use Rattle.rewind.specs.Lines.{is_quit}
+use Rattle.rewind.specs.Replies.{Answer, Replied, JournalFull, NoMemory, answer_text}
+use Rattle.gr_command.specs.Replies.{Said}
+use Rattle.gr_command.specs.Texts.{said_text}
 use Rattle.rewind.specs.Stream.{output_at, output, commands_at, commands, Answered, Answers, AnsweredLine, NoQuit, QuitLast}
 use Rattle.rewind.specs.Served.{Served, Begun}
 use Rattle.rewind.proofs.Known.{Keeps-refl, Appends-nil, Appends-then, Appends-kept}

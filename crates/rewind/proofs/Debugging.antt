@@ -4,8 +4,8 @@ use Rattle.std.specs.declared.option.Option.{Option}
 use Rattle.std.specs.Io.KnownBytes.{Consumes, IsAtEnd}
 use Rattle.gr_scan.specs.declared.scan.ScanError.TheVariants as scanning
 use Rattle.gr_scan.specs.declared.scan.TheConstants.{TEXT_LIMIT}
-use Rattle.gr_session.specs.PlainPrograms.{Program}
-use Rattle.gr_session.specs.declared.command.Entry.{Entry}
+use Rattle.gr_program.specs.Programs.{Program}
+use Rattle.gr_session.specs.declared.journal.Entry.{Entry}
 use Rattle.gr_session.specs.declared.open.OpenError.{OpenError}
 use Rattle.gr_session.specs.declared.open.OpenError.TheVariants as opening
 use Rattle.gr_session.specs.Journal.{IsLegal}
@@ -58,7 +58,7 @@ opened had has text program h is = record {
   taken = h.0;
   whole = elim h.1 [
     | inl e ↦ known had has text h.0 e
-    | inr long ↦ absurd (long_source text long is.whole is.checked)
+    | inr long ↦ absurd (long_source text long program is)
   ];
   is_program = is;
 }

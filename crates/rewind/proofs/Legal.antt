@@ -1,16 +1,16 @@
 -- A legal journal stays legal under an asker's commands.
 use Rattle.std.proofs.Common.{ℕ, ◌≤◌, List, [], ◌∷◌, refl, subst, sym, arith}
 use Rattle.std.proofs.lemmas.List.Elements.{All-push}
-use Rattle.gr_session.specs.PlainPrograms.{Program}
-use Rattle.gr_session.specs.declared.command.Command.{Command}
-use Rattle.gr_session.specs.declared.command.Entry.{Entry}
-use Rattle.gr_session.specs.Journal.{Said, IsAskedBy, IsLegal, Enters}
-use Rattle.gr_session.proofs.Journals.{world_push}
+use Rattle.gr_program.specs.Programs.{Program}
+use Rattle.gr_command.specs.declared.command.Command.{Command}
+use Rattle.gr_session.specs.declared.journal.Entry.{Entry}
+use Rattle.gr_session.specs.Journal.{IsAskedBy, IsLegal, Enters, Lead, no_entry, one_more, first_world}
+use Rattle.gr_command.specs.Replies.{Said}
 use Rattle.rewind.specs.Replies.{Answer, Replied, JournalFull, NoMemory}
 use Rattle.rewind.specs.Stream.{Answered}
 
 pub legal_empty : (program : Program) (askers : ℕ) → IsLegal program askers []
-legal_empty program askers = record { asked = λ k d h. absurd (omega (arith, h)); world = record { log = [] }; means = refl }
+legal_empty program askers = record { asked = λ k d h. absurd (omega (arith, h)); world = first_world program; means = no_entry }
 
 pub legal_entry : (program : Program) (askers asker : ℕ) (command : Command) (old new : List Entry) (number : ℕ) (said : Said)
     → 1 ≤ asker → asker ≤ askers → IsLegal program askers old → Enters program asker command old new number said → IsLegal program askers new
@@ -19,7 +19,7 @@ legal_entry program askers asker command old new number said low high legal e =
     rw e.entered (record {
       asked = All-push (IsAskedBy askers) old entry legal.asked (low, high);
       world = e.after;
-      means = world_push program (record { log = [] }) old entry e.before (record { world = e.after; said = said }) e.stood e.meant;
+      means = one_more entry e.stood e.meant;
     })
 
 pub legal_answered : (program : Program) (askers asker : ℕ) (old : List Entry) (commands : List Command) (answers : List Answer) (new : List Entry)

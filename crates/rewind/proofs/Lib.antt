@@ -1,6 +1,5 @@
 pub mod Known
 pub mod Reading
-pub mod Words
 pub mod Cuts
 pub mod Answers
 pub mod SoFar

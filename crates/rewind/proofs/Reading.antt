@@ -4,7 +4,7 @@ use Rattle.std.proofs.Math.Seq.{take-add}
 use Rattle.std.proofs.lemmas.List.{take_all, take-append-le, length-take}
 use Rattle.std.specs.declared.option.Option.{Option}
 use Rattle.std.specs.Io.KnownBytes.{Consumes, Appends}
-use Rattle.rewind.specs.declared.command.TheConstants.{LINE_LIMIT}
+use Rattle.gr_command.specs.declared.read.TheConstants.{LINE_LIMIT}
 use Rattle.rewind.specs.Bytes.{Plain, Part, Taken}
 use Rattle.rewind.proofs.Known.{Consumes-then, Appends-then}
 

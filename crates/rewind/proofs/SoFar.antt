@@ -4,12 +4,13 @@ use Rattle.std.proofs.lemmas.List.{take_all, length-take}
 use Rattle.std.proofs.lemmas.Bool.{ltb-true, lt-ltb, ltb-false}
 use Rattle.std.specs.declared.option.Option.{Option}
 use Rattle.std.specs.Io.KnownBytes.{Consumes, IsAtEnd}
-use Rattle.gr_session.specs.PlainPrograms.{Program}
-use Rattle.gr_session.specs.declared.command.Entry.{Entry}
-use Rattle.rewind.specs.declared.command.TheConstants.{LINE_LIMIT}
-use Rattle.rewind.specs.declared.command.Line.TheVariants.{Rejected}
+use Rattle.gr_program.specs.Programs.{Program}
+use Rattle.gr_session.specs.declared.journal.Entry.{Entry}
+use Rattle.gr_command.specs.declared.read.TheConstants.{LINE_LIMIT}
+use Rattle.gr_command.specs.declared.command.Line.TheVariants.{Rejected}
 use Rattle.rewind.specs.declared.counted.LineEnd.TheVariants.{Newline, End}
-use Rattle.rewind.specs.Lines.{meaning, is_quit, lines_of}
+use Rattle.gr_command.specs.Commands.{meaning}
+use Rattle.rewind.specs.Lines.{is_quit, lines_of}
 use Rattle.rewind.specs.Bytes.{Plain, Taken, LineRead}
 use Rattle.rewind.specs.Devices.{HasFailed, one_more, Device, Change, NeverFails}
 use Rattle.rewind.specs.Stream.{NoQuit, QuitLast}

@@ -1,7 +1,7 @@
 -- What was read of a line, and what of a reply was written.
 use Rattle.std.specs.Prelude.{◌≡◌, ℕ, ◌+◌, ◌≢◌, List, [], ◌∷◌, take, Option, None, Some}
 use Rattle.std.specs.Io.KnownBytes.{Consumes, Appends, Keeps, IsAtEnd}
-use Rattle.rewind.specs.declared.command.TheConstants.{LINE_LIMIT}
+use Rattle.gr_command.specs.declared.read.TheConstants.{LINE_LIMIT}
 use Rattle.rewind.specs.declared.counted.LineEnd.{LineEnd}
 use Rattle.rewind.specs.declared.counted.LineEnd.TheVariants.{Newline, End}
 

@@ -2,8 +2,8 @@
 use Rattle.std.specs.Prelude.{◌≡◌, ℕ, ◌<◌, List, [], length, Option, IfSome, ◌⊎◌}
 use Rattle.std.specs.Io.KnownBytes.{Keeps, Consumes, IsAtEnd}
 use Rattle.gr_scan.specs.declared.scan.TheConstants.{TEXT_LIMIT}
-use Rattle.gr_session.specs.PlainPrograms.{Program}
-use Rattle.gr_session.specs.declared.command.Entry.{Entry}
+use Rattle.gr_program.specs.Programs.{Program}
+use Rattle.gr_session.specs.declared.journal.Entry.{Entry}
 use Rattle.gr_session.specs.declared.open.OpenError.{OpenError}
 use Rattle.gr_session.specs.Journal.{IsLegal}
 use Rattle.gr_session.specs.Source.{IsProgramOf}

@@ -1,8 +1,8 @@
 -- What holds where a stream was left.
 use Rattle.std.specs.Prelude.{◌≡◌, ℕ, List, Option, ◌⊎◌}
 use Rattle.std.specs.Io.KnownBytes.{Keeps}
-use Rattle.gr_session.specs.PlainPrograms.{Program}
-use Rattle.gr_session.specs.declared.command.Entry.{Entry}
+use Rattle.gr_program.specs.Programs.{Program}
+use Rattle.gr_session.specs.declared.journal.Entry.{Entry}
 use Rattle.rewind.specs.declared.stream.ServeFault.{ServeFault}
 use Rattle.rewind.specs.declared.stream.ServeFault.TheVariants.{Read, Write, Memory}
 use Rattle.rewind.specs.Devices.{Change, Fails, NeverFails}

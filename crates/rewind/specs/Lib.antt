@@ -5,7 +5,6 @@ pub mod Replies
 pub mod Served
 pub mod Stream
 pub mod Streams
-pub mod Words
 pub mod Debug
 pub mod Devices
 pub mod Report

@@ -56,12 +56,11 @@ abbrev pub place_text : Option Position → List ℕ
 place_text None = []
 place_text (Some at) = codes " at " ++ (decimal at.line ++ (codes ":" ++ decimal at.column))
 
--- why a source is not opened; U1 is that of a form that no session can run yet
+-- why a source is not opened
 abbrev pub open_text : OpenError → List ℕ
 open_text (opening.Scan error at) = scan_code error ++ place_text at
 open_text (opening.Parse error at) = parse_code error ++ place_text at
 open_text (opening.Check error at) = check_code error ++ place_text at
-open_text opening.NotYet = codes "U1"
 open_text opening.Memory = codes "memory"
 
 abbrev pub serve_text : ServeFault → List ℕ
@@ -84,7 +83,6 @@ status_of Source = 1
 status_of (Open (opening.Scan error at)) = 1
 status_of (Open (opening.Parse error at)) = 1
 status_of (Open (opening.Check error at)) = 1
-status_of (Open opening.NotYet) = 1
 status_of (Open opening.Memory) = 3
 status_of (Serve fault) = 3
 

@@ -2,8 +2,8 @@
 -- What is known of a reader is the bytes that it still has, and of a writer those that it holds, if they tell (`Option`).
 use Rattle.std.specs.Prelude.{◌≡◌, ℕ, List, [], ◌∷◌, ◌++◌, take, Option, IfSome}
 use Rattle.std.specs.Io.KnownBytes.{Appends, Consumes}
-use Rattle.gr_session.specs.PlainPrograms.{Program}
-use Rattle.gr_session.specs.declared.command.Entry.{Entry}
+use Rattle.gr_program.specs.Programs.{Program}
+use Rattle.gr_session.specs.declared.journal.Entry.{Entry}
 use Rattle.rewind.specs.Lines.{lines_of, whole_lines}
 use Rattle.rewind.specs.Replies.{Answer}
 use Rattle.rewind.specs.Stream.{Answered, commands, output, NoQuit, QuitLast}

@@ -1,13 +1,14 @@
 -- The output for lines, and the answers that a session gives.
 use Rattle.std.specs.Prelude.{◌≡◌, ℕ, ◌≢◌, false, List, [], ◌∷◌, ◌++◌, length, codes}
-use Rattle.gr_session.specs.PlainPrograms.{Program}
-use Rattle.gr_session.specs.declared.command.Command.{Command}
-use Rattle.gr_session.specs.declared.command.Entry.{Entry}
+use Rattle.gr_program.specs.Programs.{Program}
+use Rattle.gr_command.specs.declared.command.Command.{Command}
+use Rattle.gr_session.specs.declared.journal.Entry.{Entry}
 use Rattle.gr_session.specs.declared.TheConstants.{JOURNAL_LIMIT}
 use Rattle.gr_session.specs.Journal.{Enters}
-use Rattle.rewind.specs.declared.command.Line.{Line}
-use Rattle.rewind.specs.declared.command.Line.TheVariants as says
-use Rattle.rewind.specs.Lines.{meaning, is_quit}
+use Rattle.gr_command.specs.declared.command.Line.{Line}
+use Rattle.gr_command.specs.declared.command.Line.TheVariants as says
+use Rattle.gr_command.specs.Commands.{meaning}
+use Rattle.rewind.specs.Lines.{is_quit}
 use Rattle.rewind.specs.Replies.{Answer, Replied, JournalFull, NoMemory, answer_text}
 
 -- the output for a line, and then for the rest; `quit` ends the stream

@@ -1,8 +1,8 @@
 -- A stream between a session, a reader and a writer.
 use Rattle.std.specs.Prelude.{ℕ, List, ◌∷◌, []}
 use Rattle.gr_session.specs.Keeps.{Seen}
-use Rattle.gr_session.specs.PlainPrograms.{program_of}
-use Rattle.rewind.specs.declared.command.Line.{Line}
+use Rattle.gr_program.specs.Views.{program_of}
+use Rattle.gr_command.specs.declared.command.Line.{Line}
 use Rattle.rewind.specs.declared.stream.ServeFault.{ServeFault}
 use Rattle.rewind.specs.Devices.{Change, Fails}
 use Rattle.rewind.specs.Stream.{Answers, AnsweredLine}

@@ -5,7 +5,7 @@ ghost use Rattle.std.specs.Io.KnownBytes.{Appends, Consumes, Keeps};
 ghost use Rattle.rewind.specs.Bytes.{Next, Taken, LineRead, Begins};
 ghost use Rattle.rewind.specs.Devices.{one_more, device_of, failures_of, left_of};
 
-use crate::command::LINE_LIMIT;
+use gr_command::read::LINE_LIMIT;
 use std::io;
 use std::io::{ErrorKind, Read, Write};
 

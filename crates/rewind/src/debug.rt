@@ -1,6 +1,6 @@
 //! A session from its source to its last reply.
 ghost use Rattle.std.specs.Prelude.{◌≡◌, [], length, IfOk, OnOk, IfErr, IsErrOf};
-ghost use Rattle.gr_session.specs.PlainPrograms.{program_of};
+ghost use Rattle.gr_program.specs.Views.{program_of};
 ghost use Rattle.rewind.specs.Devices.{change, device_of, Fails, NeverFails};
 ghost use Rattle.rewind.specs.Debug.{SourceRead, Opened, SourceLeft, Debugged, DebugLeft, BlamesSource, BlamesDevice};
 
@@ -18,7 +18,7 @@ pub enum DebugFault {
     /// The source failed.
     #[error("the source cannot be read")]
     Source,
-    /// The source has no program, or a form that no session can run yet, or there was no memory for one.
+    /// The source has no program, or there was no memory for one.
     #[error("the source was not opened")]
     Open(OpenError),
     /// The stream of commands was left, or there was no memory for the source.

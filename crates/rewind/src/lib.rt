@@ -1,11 +1,9 @@
 //! The debugger: lines of commands in, lines of replies out.
 #![tactic(auto)]
 
-pub mod command;
 pub mod command_line;
 pub mod counted;
 pub mod debug;
-mod reply;
 pub mod report;
 pub mod settings;
 pub mod stream;

@@ -104,7 +104,6 @@ fn put_open(text: &mut Vec<u8>, error: OpenError) -> Result<(), NoMemory>
         OpenError::Scan(error, at) => (scan_code(error), at),
         OpenError::Parse(error, at) => (parse_code(error), at),
         OpenError::Check(error, at) => (check_code(error), at),
-        OpenError::NotYet => return put(text, b"U1"),
         OpenError::Memory => return put(text, b"memory"),
     };
     put(text, code)?;
@@ -158,7 +157,7 @@ pub fn exit_status(fault: &DebugFault) -> u8
 }
 
 /// Appends the line that tells a fault to the user, with its newline, and answers the exit status. The line is
-/// `rewind: CODE at LINE:COL` for a source that is refused (without a place for S7, S8, P4, U1 and C11), `rewind:
+/// `rewind: CODE at LINE:COL` for a source that is refused (without a place for S7, S8, P4 and C11), `rewind:
 /// cannot read FILE`, `rewind: memory`, `rewind: read` or `rewind: write`. Want of memory leaves the text as it was;
 /// `exit_status` takes none.
 #[tactic(auto, using(crate::proofs::Growing::cut_back))]

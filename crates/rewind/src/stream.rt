@@ -1,15 +1,17 @@
 //! A stream of commands, and its replies.
 ghost use Rattle.std.specs.Prelude.{◌≡◌, ◌≤◌, IfOk, OnOk, OnErr, IfErr};
-ghost use Rattle.rewind.specs.Lines.{meaning, is_quit};
+ghost use Rattle.gr_command.specs.Commands.{meaning};
+ghost use Rattle.gr_command.specs.Replies.{said_of};
+ghost use Rattle.gr_command.specs.Texts.{said_text};
+ghost use Rattle.rewind.specs.Lines.{is_quit};
 ghost use Rattle.rewind.specs.Devices.{change, NeverFails};
 ghost use Rattle.rewind.specs.Fault.{Blames, BlamesWriter};
 ghost use Rattle.rewind.specs.Streams.{AnswersWith, HasAnswered, ServesLine, LeavesLine, Serves, Leaves};
 
-use crate::command::{Line, read_command};
 use crate::counted::{Counted, LineEnd, LineFault, read_line};
-use crate::reply::text_of_receipt;
 use gr_base::NoMemory;
-use gr_session::{AskRefused, Command, DeskId, Session};
+use gr_command::{Command, Line, Reply, read_command, write_reply};
+use gr_session::{AskRefused, DeskId, Session};
 use std::alloc::Global;
 use std::io::{Read, Write};
 use thiserror::Error;
@@ -34,6 +36,15 @@ fn copied(alloc: Global, text: &[u8]) -> Result<Vec<u8>, NoMemory>
     Ok(Vec::from_slice(alloc, text)?)
 }
 
+// The text of a reply.
+fn text_of(alloc: Global, reply: &Reply) -> Result<Vec<u8>, NoMemory>
+    ensures { IfOk result (λ text. text.items ≡ said_text (said_of reply.now)) }
+{
+    let mut text = Vec::new(alloc);
+    write_reply(&mut text, reply)?;
+    Ok(text)
+}
+
 // Asks one command, and makes the text of what came of it.
 fn ask(
     alloc: Global,
@@ -48,7 +59,7 @@ fn ask(
     ensures others { (session.new.program ≡ session.old.program) × (session.new.askers ≡ session.old.askers) }
 {
     match session.ask(alloc, desk, command) {
-        Ok(receipt) => text_of_receipt(alloc, receipt),
+        Ok(receipt) => text_of(alloc, &receipt.reply),
         Err(AskRefused::JournalFull) => copied(alloc, b"no Q1\n"),
         Err(AskRefused::NoMemory) => copied(alloc, b"no Q2\n"),
     }

@@ -1,9 +1,9 @@
 //! Sessions and their commands: that calls succeed, texts from outside, and devices that fail in mid-stream.
+use gr_command::{Command, Line, read_command};
 use gr_scan::scan::ScanError;
-use gr_session::{Command, OpenError, Position, Session};
+use gr_session::{OpenError, Position, Session};
 use gr_syntax::parse::ParseError;
 use gr_types::fault::{CheckError, Code};
-use rewind::command::{Line, read_command};
 use rewind::command_line::settings;
 use rewind::counted::Counted;
 use rewind::debug::{DebugFault, debug};
@@ -223,7 +223,13 @@ fn reads_lines(rt: HostRuntime) -> Result<(), Fail> {
     assert!(rt;
         matches!(
             read_command(rt.alloc(), b" step\tg0.2 "),
-            Ok(Line::Command(Command::Step(_)))
+            Ok(Line::Command(Command::Step { .. }))
+        )
+    );
+    assert!(rt;
+        matches!(
+            read_command(rt.alloc(), b"run 1000000"),
+            Ok(Line::Command(Command::Run { count: 1_000_000 }))
         )
     );
     assert!(rt;
@@ -235,7 +241,8 @@ fn reads_lines(rt: HostRuntime) -> Result<(), Fail> {
     assert!(rt; matches!(read_command(rt.alloc(), b"quit"), Ok(Line::Quit)));
     assert!(rt; matches!(read_command(rt.alloc(), b"\t "), Ok(Line::Blank)));
     for line in [
-        b"step g0 1".as_slice(),
+        b"step g0 0".as_slice(),
+        b"run 1000001".as_slice(),
         b"undo undo".as_slice(),
         b"text".as_slice(),
         b"step g0.01".as_slice(),
@@ -316,7 +323,6 @@ fn reports_faults(rt: HostRuntime) -> Result<(), Fail> {
             "rewind: C11\n",
             1,
         ),
-        (DebugFault::Open(OpenError::NotYet), "rewind: U1\n", 1),
         (DebugFault::Open(OpenError::Memory), "rewind: memory\n", 3),
         (DebugFault::Serve(ServeFault::Read), "rewind: read\n", 3),
         (DebugFault::Serve(ServeFault::Write), "rewind: write\n", 3),

@@ -1,5 +1,5 @@
 use Rattle.std.proofs.Common.{◌≡◌, ◌<◌, ◌≤◌, ◌∷◌, [], ◌++◌, rules, length, arith}
-use Rattle.rewind.specs.declared.command.TheConstants.{LINE_LIMIT}
+use Rattle.gr_command.specs.declared.read.TheConstants.{LINE_LIMIT}
 use Rattle.std.specs.Io.KnownBytes.{Consumes}
 use Rattle.rewind.proofs.Reading.{Part-kept, Part-dropped, Taken-more}
 use Rattle.rewind.proofs.counted.read_line.Goals as goal

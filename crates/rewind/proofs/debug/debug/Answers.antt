@@ -1,5 +1,5 @@
 use Rattle.std.proofs.Common.{rules, ◌≡◌, []}
-use Rattle.gr_session.specs.PlainPrograms.{program_of}
+use Rattle.gr_program.specs.Views.{program_of}
 use Rattle.rewind.specs.Devices.{change, known}
 use Rattle.rewind.specs.Served.{ServedAll}
 use Rattle.rewind.proofs.Debugging.{stopped, unserved, source_blamed, legal_served}

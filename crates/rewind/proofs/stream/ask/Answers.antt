@@ -4,10 +4,10 @@ use Rattle.rewind.proofs.Answers.{Answers-replied, Answered-replied, Answers-ful
 use Rattle.rewind.proofs.stream.ask.Goals as goal
 
 pub returns-in-Ok-clause-ok : goal.returns-in-Ok-clause-ok
-returns-in-Ok-clause-ok c = if_ok c.text_of_receipt.result _ _ (λ v h. Answers-replied c.in-Ok.ensures.entry h) c.text_of_receipt.ensures
+returns-in-Ok-clause-ok c = if_ok c.text_of.result _ _ (λ v h. Answers-replied c.in-Ok.ensures.entry h) c.text_of.ensures
 
 pub returns-in-Ok-clause-err : goal.returns-in-Ok-clause-err
-returns-in-Ok-clause-err c = on_err c.text_of_receipt.result _ (Answered-replied c.in-Ok.ensures.entry)
+returns-in-Ok-clause-err c = on_err c.text_of.result _ (Answered-replied c.in-Ok.ensures.entry)
 
 pub returns-in-Err-JournalFull-clause-ok : goal.returns-in-Err-JournalFull-clause-ok
 returns-in-Err-JournalFull-clause-ok c =

@@ -1,5 +1,6 @@
 use Rattle.std.proofs.Common.{rules, ◌≡◌, ◌<◌, ◌≤◌, sym, ◌∙◌, true, false, length, arith, inl}
-use Rattle.rewind.specs.Lines.{is_quit, meaning}
+use Rattle.gr_command.specs.Commands.{meaning}
+use Rattle.rewind.specs.Lines.{is_quit}
 use Rattle.rewind.specs.Bytes.{LineRead}
 use Rattle.rewind.specs.Devices.{change, known, one_more}
 use Rattle.rewind.specs.declared.counted.LineEnd.TheVariants.{Newline, End}

@@ -1,5 +1,5 @@
 use Rattle.std.proofs.Common.{◌≡◌}
-use Rattle.gr_session.specs.PlainPrograms.{program_of}
+use Rattle.gr_program.specs.Views.{program_of}
 use Rattle.rewind.proofs.SoFar.{SoFar}
 use Rattle.rewind.proofs.stream.serve.Given as goal
 

@@ -1,6 +1,6 @@
 use Rattle.std.proofs.Common.{rules, inr}
-use Rattle.gr_session.specs.PlainPrograms.{program_of}
-use Rattle.rewind.specs.Lines.{meaning}
+use Rattle.gr_program.specs.Views.{program_of}
+use Rattle.gr_command.specs.Commands.{meaning}
 use Rattle.rewind.specs.Stream.{AnsweredLine}
 use Rattle.rewind.proofs.Answers.{begun_none}
 use Rattle.rewind.proofs.stream.serve_line.Goals as goal

@@ -1,9 +1,0 @@
-use Rattle.std.proofs.Common.{◌≡◌, drop}
-use Rattle.gr_program.specs.Views as checked
-use Rattle.gr_session.specs.PlainPrograms.{more, term_of}
-use Rattle.gr_session.specs.Narrowing.{plain_prints}
-use Rattle.gr_session.proofs.Parts.{before}
-use Rattle.gr_session.proofs.narrow.prints.Given as goal
-
-abbrev pub invariant-loop-original : goal.invariant-loop-original
-invariant-loop-original l = before more term_of l.terms.items (plain_prints (checked.prints_of (drop l.original-index l.originals))) ≡ plain_prints (checked.prints_of l.originals)

@@ -1,0 +1,119 @@
+//! Which goroutines are ready, kept in a pool beside the store.
+
+ghost use Rattle.std.specs.Prelude.{◌≡◌, ◌∷◌, [], true, List, ℕ, ◌↔◌, IsTrue, IfOk, OnOk, IsOk};
+ghost use Rattle.gr_pool.specs.Goroutines.{is_among};
+ghost use Rattle.gr_step.specs.Stores.{program_at, contents_at};
+ghost use Rattle.gr_session.specs.Courses.{IsReadyIn, Settles, KnowsMore, AllKnown, CanStep, others_of};
+
+use gr_base::{GoName, NoMemory};
+use gr_command::Refusal;
+use gr_goros::Status;
+use gr_pool::Pool;
+use gr_step::record::Change;
+use gr_step::{Run, Store};
+use std::alloc::Global;
+
+/// Why a goroutine can take no step, whatever it chooses.
+pub fn standing(store: &Store, go: &GoName) -> Option<Refusal>
+    ensures { CanStep (program_at store.now) (contents_at store.now) go.now result }
+{
+    match store.run() {
+        Run::Live => {}
+        _ => return Some(Refusal::Ended),
+    }
+    let Some(goroutine) = store.goroutine(go) else {
+        return Some(Refusal::NotThere);
+    };
+    match goroutine.status() {
+        Status::Ready => None,
+        Status::Waiting(_) => Some(Refusal::Waits),
+        Status::Finished => Some(Refusal::Done),
+    }
+}
+
+// Whether a goroutine is there, and ready.
+fn is_ready(store: &Store, go: &GoName) -> bool
+    ensures { IsTrue result ↔ IsReadyIn (contents_at store.now) go.now }
+{
+    match store.goroutine(go) {
+        Some(goroutine) => match goroutine.status() {
+            Status::Ready => true,
+            _ => false,
+        },
+        None => false,
+    }
+}
+
+// Makes a goroutine that is known ready in the pool where it is so in the store, and else not. It takes no memory.
+fn settle(pool: &mut Pool, store: &Store, go: &GoName)
+    requires { is_among go.now pool.old.known ≡ true }
+    ensures { Settles (go.now ∷ []) (contents_at store.now) pool.old pool.new }
+{
+    if is_ready(store, go) {
+        pool.insert(go);
+    } else {
+        pool.remove(go);
+    }
+}
+
+// The same for each of the goroutines.
+fn settle_all(pool: &mut Pool, store: &Store, names: &[GoName])
+    requires { AllKnown names.now pool.old }
+    ensures { Settles names.now (contents_at store.now) pool.old pool.new }
+{
+    for go in names {
+        settle(pool, store, go);
+    }
+}
+
+/// The same for the goroutine of a step and for the others that it met or started.
+pub fn settle_step(pool: &mut Pool, store: &Store, go: &GoName, others: &[GoName])
+    requires own { is_among go.now pool.old.known ≡ true }
+    requires others { AllKnown others.now pool.old }
+    ensures { Settles (go.now ∷ others.now) (contents_at store.now) pool.old pool.new }
+{
+    settle(pool, store, go);
+    settle_all(pool, store, others);
+}
+
+// Makes the goroutines known. Refused, some may be.
+fn know_all(pool: &mut Pool, names: &[GoName]) -> Result<(), NoMemory>
+    ensures known { OnOk result (AllKnown names.now pool.new) }
+    ensures more { KnowsMore pool.old pool.new }
+    ensures ready { pool.new.ready ≡ pool.old.ready }
+{
+    for go in names {
+        pool.know(go)?;
+    }
+    Ok(())
+}
+
+// The goroutines that a step met, and the one that it started. For a step that reached no further than its goroutine it
+// takes no memory.
+fn others(alloc: Global, change: &Change) -> Result<Vec<GoName>, NoMemory>
+    ensures { IfOk result (λ names. names.items ≡ others_of change.now) }
+{
+    let mut names = Vec::new(alloc);
+    let Some(beyond) = &change.beyond else {
+        return Ok(names);
+    };
+    for (go, _) in beyond.met.iter() {
+        names.push(go.copy(alloc)?)?;
+    }
+    if let Some(child) = &beyond.begins {
+        names.push(child.copy(alloc)?)?;
+    }
+    Ok(names)
+}
+
+/// The goroutines that a step met, and the one that it started, each made known. Refused, more may be known.
+pub fn know_others(alloc: Global, pool: &mut Pool, change: &Change) -> Result<Vec<GoName>, NoMemory>
+    ensures names { IfOk result (λ names. names.items ≡ others_of change.now) }
+    ensures known { OnOk result (AllKnown (others_of change.now) pool.new) }
+    ensures more { KnowsMore pool.old pool.new }
+    ensures ready { pool.new.ready ≡ pool.old.ready }
+{
+    let names = others(alloc, change)?;
+    know_all(pool, names.as_slice())?;
+    Ok(names)
+}
