@@ -191,6 +191,13 @@ module _ (p : Program) (s t : Contents) (r : Record) (is : IsRecord p s r t) whe
     printed = sym is.takes.printed;
   }
 
+-- the goroutine of a step that was taken: the pool knew it, and had it as ready
+pub own_in_pool : (p : Program) (w : World p) (c : Course) (s : Stands p w c) (r : Record) (t : Contents) → IsRecord p (contents_at c.store) r t
+    → (is_among r.id.go c.pool.known ≡ true) × (is_among r.id.go c.pool.ready ≡ true)
+own_in_pool p w c s r t is =
+    let up = own_was_ready p (contents_at c.store) t r is in
+    (s.pool.knows r.id.go up.goroutine up.there, (s.pool.each r.id.go).has up)
+
 room_after : (n m limit : ℕ) → n < limit → m ≡ n + 1 → m ≤ limit
 room_after n m limit a b = omega arith
 

@@ -221,3 +221,17 @@ settles_both n names s old mid new first next = record { known = next.known ∙ 
     others h f =
         let both = neither (same_go h n) (is_among h names) f in
         next.others h both.1 ∙ first.others h (only_name h n ∙ both.0)
+
+-- one that was ready and is leaves the pool as it is
+pub settles_still : (s : Contents) (n : List ℕ) (pool : pools.Goroutines) → IsReadyIn s n → is_among n pool.ready ≡ true → Settles (n ∷ []) s pool pool
+settles_still s n pool is was = record {
+  known = refl;
+  these = λ h among. record {
+    has = λ up. ap (λ m. is_among m pool.ready) (same h among) ∙ was;
+    only = λ up. subst (IsReadyIn s) (sym (same h among)) is;
+  };
+  others = λ h none. refl;
+}
+  where
+    same : (h : List ℕ) → is_among h (n ∷ []) ≡ true → h ≡ n
+    same h among = go_is h n (sym (only_name h n) ∙ among)

@@ -1,16 +1,16 @@
 //! Which goroutines are ready, kept in a pool beside the store.
 
-ghost use Rattle.std.specs.Prelude.{◌≡◌, ◌∷◌, [], true, List, ℕ, ◌↔◌, IsTrue, IfOk, OnOk, IsOk};
+ghost use Rattle.std.specs.Prelude.{◌≡◌, ◌∷◌, [], true, List, ℕ, ◌↔◌, IsTrue, IfOk, OnOk, OnErr, IsOk};
 ghost use Rattle.gr_pool.specs.Goroutines.{is_among};
 ghost use Rattle.gr_step.specs.Stores.{program_at, contents_at};
-ghost use Rattle.gr_session.specs.Courses.{IsReadyIn, Settles, KnowsMore, AllKnown, CanStep, others_of};
+ghost use Rattle.gr_session.specs.Courses.{IsReadyIn, Settles, KnowsMore, AllKnown, CanStep, Follows, others_of};
 
 use gr_base::{GoName, NoMemory};
 use gr_command::Refusal;
 use gr_goros::Status;
 use gr_pool::Pool;
 use gr_step::record::Change;
-use gr_step::{Run, Store};
+use gr_step::{Record, Run, Store};
 use std::alloc::Global;
 
 /// Why a goroutine can take no step, whatever it chooses.
@@ -116,4 +116,21 @@ pub fn know_others(alloc: Global, pool: &mut Pool, change: &Change) -> Result<Ve
     let names = others(alloc, change)?;
     know_all(pool, names.as_slice())?;
     Ok(names)
+}
+
+/// Brings the pool to what is ready after a step, whose goroutine was ready. Where the step reached no further than its
+/// goroutine, and that is ready still, the pool stays. Refused, more may be known.
+pub fn follow(alloc: Global, pool: &mut Pool, store: &Store, step: &Record) -> Result<(), NoMemory>
+    requires known { is_among step.now.id.go pool.old.known ≡ true }
+    requires was_ready { is_among step.now.id.go pool.old.ready ≡ true }
+    ensures follows { OnOk result (Follows step.now (contents_at store.now) pool.old pool.new) }
+    ensures more { OnErr result (KnowsMore pool.old pool.new) }
+    ensures ready { OnErr result (pool.new.ready ≡ pool.old.ready) }
+{
+    if step.change.beyond.is_none() && is_ready(store, &step.id.go) {
+        return Ok(());
+    }
+    let others = know_others(alloc, pool, &step.change)?;
+    settle_step(pool, store, &step.id.go, others.as_slice());
+    Ok(())
 }

@@ -9,17 +9,16 @@ ghost use Rattle.gr_pool.specs.Goroutines.{is_among};
 ghost use Rattle.gr_step.specs.Records.{event_of, taken_back, CanGoBack};
 ghost use Rattle.gr_step.specs.Stores.{program_at, contents_at, state_at, IsRun, SameListing, HasRoomFor};
 ghost use Rattle.gr_session.specs.Journal.{World, event_asked};
-ghost use Rattle.gr_session.specs.Courses.{IsCourse, Stands, Takes, Refuses, SaysNoStep, KnowsMore, AllKnown, Follows, others_of};
+ghost use Rattle.gr_session.specs.Courses.{IsCourse, Stands, Takes, Refuses, SaysNoStep, KnowsMore, Follows};
 ghost use Rattle.gr_session.specs.Carried.{Carries, LeadsTo, memory_of};
 
 use crate::LOG_LIMIT;
 use crate::course::Course;
 use crate::journal::Memory;
-use crate::readiness::{know_others, settle_step, standing};
+use crate::readiness::{follow, know_others, settle_step, standing};
 use gr_base::{Choice, Event, GoName, Kind, NoMemory, StepId};
 use gr_command::{Refusal, Reply};
 use gr_pool::Pool;
-use gr_step::record::Change;
 use gr_step::{Record, StepRefused, Store};
 use std::alloc::Global;
 
@@ -47,17 +46,8 @@ fn told(course: &Course, why: StepRefused) -> Refusal
     }
 }
 
-// Makes room for the record of a step in the log, and tells which goroutines that step met or started, each made known.
-fn make_room(
-    alloc: Global,
-    log: &mut Vec<Record>,
-    pool: &mut Pool,
-    change: &Change,
-) -> Result<Vec<GoName>, NoMemory>
-    ensures names { IfOk result (λ names. names.items ≡ others_of change.now) }
-    ensures known { OnOk result (AllKnown (others_of change.now) pool.new) }
-    ensures more { KnowsMore pool.old pool.new }
-    ensures ready { pool.new.ready ≡ pool.old.ready }
+// Makes room for one more record. No record changes.
+fn make_room(log: &mut Vec<Record>) -> Result<(), NoMemory>
     ensures log { log.new.items ≡ log.old.items }
     ensures room { OnOk result (vec_len log.new < vec_capacity log.new) }
     ensures short { OnOk result (length log.old.items < LOG_LIMIT) }
@@ -66,7 +56,28 @@ fn make_room(
         return Err(NoMemory);
     }
     log.reserve(1)?;
-    know_others(alloc, pool, change)
+    Ok(())
+}
+
+// Makes all ready for the record of a step to join the log: room in it, and the pool as it is after the step.
+fn prepare(
+    alloc: Global,
+    log: &mut Vec<Record>,
+    pool: &mut Pool,
+    store: &Store,
+    step: &Record,
+) -> Result<(), NoMemory>
+    requires known { is_among step.now.id.go pool.old.known ≡ true }
+    requires was_ready { is_among step.now.id.go pool.old.ready ≡ true }
+    ensures follows { OnOk result (Follows step.now (contents_at store.now) pool.old pool.new) }
+    ensures more { OnErr result (KnowsMore pool.old pool.new) }
+    ensures ready { OnErr result (pool.new.ready ≡ pool.old.ready) }
+    ensures log { log.new.items ≡ log.old.items }
+    ensures room { OnOk result (vec_len log.new < vec_capacity log.new) }
+    ensures short { OnOk result (length log.old.items < LOG_LIMIT) }
+{
+    make_room(log)?;
+    follow(alloc, pool, store, step)
 }
 
 // Takes a step back directly after it, which takes no memory.
@@ -89,17 +100,17 @@ pub fn keep_step(alloc: Global, course: &mut Course, event: Event) -> Result<(u6
         Ok(record) => record,
         Err(why) => return Err(told(course, why)),
     };
-    let room = make_room(alloc, &mut course.log, &mut course.pool, &record.change);
-    let Ok(others) = room else {
+    let prepared = prepare(
+        alloc,
+        &mut course.log,
+        &mut course.pool,
+        &course.store,
+        &record,
+    );
+    let Ok(()) = prepared else {
         withdraw(&mut course.store, record);
         return Err(unkept(course));
     };
-    settle_step(
-        &mut course.pool,
-        &course.store,
-        &record.id.go,
-        others.as_slice(),
-    );
     let step = (record.id.n, record.change.kind);
     course.log.push_reserved(record);
     Ok(step)

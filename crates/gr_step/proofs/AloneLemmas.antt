@@ -21,23 +21,40 @@ use Rattle.gr_laws.proofs.QueueLemmas.{clause_of}
 use Rattle.gr_laws.proofs.RuleWaits.{reached_queues}
 use Rattle.gr_code.specs.Goroutines.{CodeGoroutine}
 use Rattle.gr_contents.specs.Contents.{Contents, goroutine_of, with_goroutine, with_channel}
-use Rattle.gr_contents.specs.Meetings.{thinned, met_in}
-use Rattle.gr_contents.proofs.MeetingLemmas.{leaving_senders_is_thin, leaving_receivers_is_thin, nobody_leaves, one_wait_is_here, meeting_here_alone}
+use Rattle.gr_contents.specs.Gates.{with_gates, withdrawing}
+use Rattle.gr_contents.specs.Meetings.{thinned, moved_up, met_in}
+use Rattle.gr_contents.proofs.MeetingLemmas.{nobody_leaves, one_wait_is_here, withdrawing_is_meeting, meeting_here_alone}
 use Rattle.gr_step.specs.Listings.{frame_in, state_in}
 use Rattle.gr_step.specs.Premises.{Running}
+use Rattle.gr_step.specs.Preparing.{AreToLeave}
 use Rattle.gr_step.proofs.RunningLemmas.{waits_sound}
 
--- the second channel is the first without the goroutine, which waits nowhere else
-pub record WaitsHereAlone (c : ChName) (x y : Content) (n : List ℕ) (ws : List Wait) : Type 0 where
+-- the goroutine stands in no queue of the channel, and waits nowhere else
+pub record WaitsNoMore (c : ChName) (y : Content) (n : List ℕ) (ws : List Wait) : Type 0 where
   pub thin : thinned n y ≡ y
-  pub left : thinned n x ≡ y
   pub nowhere : channels_but (c ∷ []) ws ≡ []
 
 -- so it is met without any withdrawal
-pub met_alone : (u : Contents) (c : ChName) (x y : Content) (n : List ℕ) (g : CodeGoroutine) (ws : List Wait) → WaitsHereAlone c x y n ws
-    → met_in u c (thinned n x) n g ws ≡ with_goroutine (with_channel u c (Some y)) n (Some g)
-met_alone u c x y n g ws alone =
-    ap (λ z. met_in u c z n g ws) alone.left ∙ meeting_here_alone u c y n g ws alone.nowhere
+met_alone : (u : Contents) (c : ChName) (y : Content) (n : List ℕ) (g : CodeGoroutine) (ws : List Wait) → WaitsNoMore c y n ws
+    → met_in u c (thinned n y) n g ws ≡ with_goroutine (with_channel u c (Some y)) n (Some g)
+met_alone u c y n g ws alone =
+    ap (λ z. met_in u c z n g ws) alone.thin ∙ meeting_here_alone u c y n g ws alone.nowhere
+
+-- one that left its queue was met, where it leaves the channels that it is still to leave
+pub left_is_met : (u : Contents) (c : ChName) (y : Content) (n : List ℕ) (g : CodeGoroutine) (ws : List Wait) (names : List ChName)
+    → AreToLeave names c ws → (length ws ≡ 1 → WaitsNoMore c y n ws)
+    → with_goroutine (with_gates (withdrawing (n ∷ [])) (with_channel u c (Some y)) names) n (Some g) ≡ met_in u c (thinned n y) n g ws
+left_is_met u c y n g [] names leave alone = withdrawing_is_meeting u c y n g [] names (leave.otherwise (λ one. omega (arith, one)))
+left_is_met u c y n g (w ∷ []) names leave alone =
+    ap (λ (l : List ChName). with_goroutine (with_gates (withdrawing (n ∷ [])) (with_channel u c (Some y)) l) n (Some g)) (leave.alone refl)
+    ∙ sym (met_alone u c y n g (w ∷ []) (alone refl))
+left_is_met u c y n g (w ∷ v ∷ ws) names leave alone =
+    withdrawing_is_meeting u c y n g (w ∷ v ∷ ws) names (leave.otherwise (λ one. omega (arith, one)))
+
+-- where a value moves up in the buffer, the goroutine stands in no queue either
+pub moved_alone : (c : ChName) (y : Content) (n : List ℕ) (ws : List Wait) (rest : List Value) (v : Value) → WaitsNoMore c y n ws
+    → WaitsNoMore c (moved_up y rest v) n ws
+moved_alone c y n ws rest v alone = record { thin = ap (λ z. moved_up z rest v) alone.thin; nowhere = alone.nowhere }
 
 none_of : {X : Type 0} (n : List ℕ) (ws : List (Waiter X))
     → ((w : Waiter X) → In w ws → w.go ≡ n → ⊥) → list_any (is_of n) ws ≡ false
@@ -92,29 +109,25 @@ module _ (p : Program) (s : Contents) (run : Running p s) (c : ChName) (x : Cont
   receives w i mine = waits_for_it (ToReceive c w.case) refl (w, i, mine, refl)
 
   pub receiver_alone : (w : Waiter (Unit {0})) (rest : List (Waiter (Unit {0}))) → x.receivers ≡ w ∷ rest → w.go ≡ n
-      → WaitsHereAlone c x (record x { receivers = rest }) n ws
+      → WaitsNoMore c (record x { receivers = rest }) n ws
   receiver_alone w rest first mine =
       let own : In (ToReceive c w.case) ws = receives w (subst (In w) (sym first) (inl refl)) mine in
-      let y : Content = record x { receivers = rest } in
-      let thin : thinned n y ≡ y = nobody_leaves y n
-      (none_of n x.senders (λ v i go. not_alike c v.case w.case (only_one ws _ _ one (sends v i go) own)))
-      (rest_without w rest n mine (subst (λ l. Distinct (map entry l)) first queues.1)
-      (λ v i go. ap clause_of (only_one ws _ _ one (receives v (subst (In v) (sym first) (inr i)) go) own))) in record {
-        thin = thin;
-        left = subst (λ m. thinned m x ≡ thinned m y) mine (sym (leaving_receivers_is_thin x w rest first)) ∙ thin;
+      record {
+        thin = nobody_leaves (record x { receivers = rest }) n
+            (none_of n x.senders (λ v i go. not_alike c v.case w.case (only_one ws _ _ one (sends v i go) own)))
+            (rest_without w rest n mine (subst (λ l. Distinct (map entry l)) first queues.1)
+            (λ v i go. ap clause_of (only_one ws _ _ one (receives v (subst (In v) (sym first) (inr i)) go) own)));
         nowhere = here_alone c ws (ToReceive c w.case) one own refl;
       }
 
   pub sender_alone : (w : Waiter Value) (rest : List (Waiter Value)) → x.senders ≡ w ∷ rest → w.go ≡ n
-      → WaitsHereAlone c x (record x { senders = rest }) n ws
+      → WaitsNoMore c (record x { senders = rest }) n ws
   sender_alone w rest first mine =
       let own : In (ToSend c w.case) ws = sends w (subst (In w) (sym first) (inl refl)) mine in
-      let y : Content = record x { senders = rest } in
-      let thin : thinned n y ≡ y = nobody_leaves y n
-      (rest_without w rest n mine (subst (λ l. Distinct (map entry l)) first queues.0)
-      (λ v i go. ap clause_of (only_one ws _ _ one (sends v (subst (In v) (sym first) (inr i)) go) own)))
-      (none_of n x.receivers (λ v i go. not_alike c w.case v.case (only_one ws _ _ one own (receives v i go)))) in record {
-        thin = thin;
-        left = subst (λ m. thinned m x ≡ thinned m y) mine (sym (leaving_senders_is_thin x w rest first)) ∙ thin;
+      record {
+        thin = nobody_leaves (record x { senders = rest }) n
+            (rest_without w rest n mine (subst (λ l. Distinct (map entry l)) first queues.0)
+            (λ v i go. ap clause_of (only_one ws _ _ one (sends v (subst (In v) (sym first) (inr i)) go) own)))
+            (none_of n x.receivers (λ v i go. not_alike c w.case v.case (only_one ws _ _ one own (receives v i go))));
         nowhere = here_alone c ws (ToSend c w.case) one own refl;
       }

@@ -22,7 +22,6 @@ use Rattle.gr_rules.specs.Communications.{send}
 use Rattle.gr_code.specs.Goroutines.{Passes, IsMet}
 use Rattle.gr_contents.specs.Contents.{Contents}
 use Rattle.gr_contents.specs.Looks.{actor_of}
-use Rattle.gr_contents.specs.Meetings.{NamesChannels}
 use Rattle.gr_contents.proofs.SendLemmas.{sending_meets}
 use Rattle.gr_lower.specs.Lowered.{lowered, meaning}
 use Rattle.gr_tables.specs.NamedChannels.{At, contents_of, seen_of, GoesBack, OfferAt, withdrawn}
@@ -35,7 +34,7 @@ use Rattle.gr_step.specs.Premises.{Acting, OfActor}
 use Rattle.gr_step.specs.Records.{HasRoom}
 use Rattle.gr_step.specs.Taking.{Takes}
 use Rattle.gr_step.specs.Communicating.{TrialIsSound}
-use Rattle.gr_step.specs.Preparing.{IsPrepared, CanExchange, IsExchange}
+use Rattle.gr_step.specs.Preparing.{AreToLeave, IsPrepared, CanExchange, IsExchange}
 use Rattle.gr_step.specs.declared.partners.Prepared.{Prepared}
 use Rattle.gr_step.proofs.OfferLemmas.{was_seen, of_it, first_in, after_handed}
 use Rattle.gr_code.specs.CodeFrames.{ProgramCode}
@@ -67,7 +66,7 @@ module _ (p : Program) (e : Event) (number : ℕ) (old : Objects) (acting : Acti
   -- and then it was
   module _ (meet : CanMeet p e (contents_in old) clause None c w.go w.case (Some (v, true)))
       (mid : Channels) (is_mid : contents_of mid ≡ updated same_channel (contents_of old.channels) c (Some (record x { receivers = ws })))
-      (u : ChanUndo) (goes : GoesBack ((c, u) ∷ []) old.channels mid) (names : List ChName) (named : NamesChannels names c meet.m.waits)
+      (u : ChanUndo) (goes : GoesBack ((c, u) ∷ []) old.channels mid) (names : List ChName) (to_leave : AreToLeave names c meet.m.waits)
       (change : Change) (new : Objects)
       (done : IsExchange (lowered p) e.go w.go (Passes clause None) (IsMet w.case (Some (v, true))) names (option_map_or Pick clause Hand) (sends_on c) []
       (objects.Gate c ∷ objects.Go w.go ∷ map objects.Gate (channels_but (c ∷ []) meet.m.waits)) ((c, u) ∷ []) change (record old { channels = mid }) new)
@@ -81,7 +80,7 @@ module _ (p : Program) (e : Event) (number : ℕ) (old : Objects) (acting : Acti
       handed g f below there frames otherwise =
           hand_takes p (contents_in old) acting.running e g f below there frames clause (has g there).0 c v x made is_open otherwise (contents_in new)
           done.own done.changed change (ap run_of done.exchanges.run) back.back back.fits w ws receivers meet.m meet.its meet.apart
-          done.exchanges.both.between done.exchanges.both.goes done.met done.exchanges.both.meeting names named
+          done.exchanges.both.between done.exchanges.both.goes done.met done.exchanges.both.meeting names to_leave
           (done.exchanges.withdraws ∙ ap (withdrawn w.go names) is_mid) done.tells
 
       pub handed_room : HasRoom e.go change new

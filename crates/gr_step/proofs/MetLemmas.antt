@@ -1,5 +1,5 @@
 -- The goroutine that acts, and one that it meets, after they went past their communication.
-use Rattle.std.proofs.Common.{◌≡◌, ℕ, ◌+◌, Bool, true, false, ◌||◌, if◌then◌else◌, List, [], ◌∷◌, Option, Some, None, refl, sym, ap, subst, ◌∙◌}
+use Rattle.std.proofs.Common.{◌≡◌, ℕ, ◌+◌, Bool, true, false, ◌||◌, if◌then◌else◌, List, [], ◌∷◌, length, Option, Some, None, refl, sym, ap, subst, ◌∙◌}
 use Rattle.std.specs.Prelude.{option_map}
 use Rattle.gr_base.specs.declared.names.ChName.{ChName}
 use Rattle.gr_base.specs.declared.values.Value.{Value}
@@ -20,10 +20,9 @@ use Rattle.gr_contents.specs.Contents.{Contents, goroutine_of, with_goroutine, w
 use Rattle.gr_contents.specs.Looks.{actor_of}
 use Rattle.gr_contents.specs.Arriving.{IsIn, GoesOn}
 use Rattle.gr_contents.specs.Partners.{Meets}
-use Rattle.gr_contents.specs.Meetings.{thinned, met_in, NamesChannels}
+use Rattle.gr_contents.specs.Meetings.{thinned, met_in}
 use Rattle.gr_contents.specs.Standing.{AllStand, ContentsStand}
 use Rattle.gr_contents.proofs.ArrivingLemmas.{passing_arrives}
-use Rattle.gr_contents.proofs.MeetingLemmas.{withdrawing_is_meeting}
 use Rattle.gr_contents.proofs.StandingLemmas.{arrival_keeps_standing, change_keeps_standing, same_goroutines_stand}
 use Rattle.gr_lower.specs.Lowered.{lowered, meaning}
 use Rattle.gr_goros.specs.declared.undo.GoUndo.{GoUndo}
@@ -31,6 +30,8 @@ use Rattle.gr_tables.specs.NamedChannels.{withdrawn}
 use Rattle.gr_step.specs.Listings.{frame_in, state_in}
 use Rattle.gr_step.specs.Premises.{Running}
 use Rattle.gr_step.specs.Passing.{ArrivesAt}
+use Rattle.gr_step.specs.Preparing.{AreToLeave}
+use Rattle.gr_step.proofs.AloneLemmas.{WaitsNoMore, left_is_met}
 use Rattle.gr_step.proofs.RunningLemmas.{code_fits}
 use Rattle.gr_step.proofs.Waiters.{HasItsClause, is_partner}
 
@@ -84,10 +85,11 @@ module _ (p : Program) (s : Contents) (run : Running p s) where
         same_goroutines_stand (meaning p) (lowered p) (with_goroutine first m (Some l.after)) t (λ q. ap (λ (j : List ℕ → Option CodeGoroutine). j q) (is ∙ both)) two
 
     -- the partner was met at the channel, which is this one by now
-    pub both_met : (t : Contents) (y : Content) (names : List ChName) → NamesChannels names c meets.waits → t.run ≡ s.run → t.goroutines ≡ h
+    pub both_met : (t : Contents) (y : Content) (names : List ChName) → AreToLeave names c meets.waits
+        → (length meets.waits ≡ 1 → WaitsNoMore c y m meets.waits) → t.run ≡ s.run → t.goroutines ≡ h
         → t.channels ≡ withdrawn m names (updated same_channel s.channels c (Some y))
         → t ≡ met_in (with_goroutine s n (Some k.after)) c (thinned m y) m l.after meets.waits
-    both_met t y names named is_run is_goroutines is_channels =
+    both_met t y names to_leave alone is_run is_goroutines is_channels =
         let gos = is_goroutines ∙ both in
         let state : t ≡ record {
           run = s.run;
@@ -95,4 +97,4 @@ module _ (p : Program) (s : Contents) (run : Running p s) where
           channels = withdrawn m names (updated same_channel s.channels c (Some y));
         } =
         (λ i. record { run = is_run i; goroutines = gos i; channels = is_channels i }) in
-        state ∙ withdrawing_is_meeting (with_goroutine s n (Some k.after)) c y m l.after meets.waits names named
+        state ∙ left_is_met (with_goroutine s n (Some k.after)) c y m l.after meets.waits names to_leave alone

@@ -26,7 +26,7 @@ use Rattle.gr_code.specs.Programs.{IsClause}
 use Rattle.gr_contents.specs.Contents.{Contents, with_goroutine, with_channel}
 use Rattle.gr_contents.specs.Looks.{actor_of}
 use Rattle.gr_contents.specs.Partners.{Meets}
-use Rattle.gr_contents.specs.Meetings.{thinned, moved_up, met_in, NamesChannels}
+use Rattle.gr_contents.specs.Meetings.{thinned, moved_up, met_in}
 use Rattle.gr_contents.specs.Performing.{reported, StepsTo}
 use Rattle.gr_contents.proofs.ReceiveLemmas.{receiving_takes, receiving_moves, receiving_meets, receiving_ends}
 use Rattle.gr_contents.proofs.MeetingLemmas.{leaving_senders_is_thin}
@@ -38,6 +38,8 @@ use Rattle.gr_step.specs.Listings.{frame_in, state_in}
 use Rattle.gr_step.specs.Premises.{Running}
 use Rattle.gr_step.specs.Taking.{Takes}
 use Rattle.gr_step.specs.Passing.{ArrivesAt, Tells}
+use Rattle.gr_step.specs.Preparing.{AreToLeave}
+use Rattle.gr_step.proofs.AloneLemmas.{WaitsNoMore, moved_alone, sender_alone}
 use Rattle.gr_step.proofs.RunningLemmas.{channels_sound}
 use Rattle.gr_step.proofs.PassingLemmas.{GoesOver, no_change, one_first, prints_nothing}
 use Rattle.gr_step.proofs.TakingLemmas.{Reaches, takes, counted}
@@ -142,12 +144,15 @@ module _ (p : Program) (s : Contents) (run : Running p s) (e : Event) (g : CodeG
       (m : Meets (frame_in p) s c w.go w.case None) (has : HasItsClause (lowered p) m.met_one w.case) (apart : same_go w.go e.go ≡ false)
       (v : Value) (between : List ℕ → Option CodeGoroutine) (goes : ArrivesAt (lowered p) e.go (Passes clause (Some (v, true))) own s.goroutines between)
       (met : GoUndo) (meeting : ArrivesAt (lowered p) w.go (IsMet w.case None) met between t.goroutines)
-      (names : List ChName) (named : NamesChannels names c m.waits) where
+      (names : List ChName) (to_leave : AreToLeave names c m.waits) where
     abbrev others : List ChName
     others = channels_but (c ∷ []) m.waits
 
     abbrev gates : List Object
     gates = objects.Go w.go ∷ map objects.Gate others
+
+    alone : length m.waits ≡ 1 → WaitsNoMore c (record x { senders = ws }) w.go m.waits
+    alone one = sender_alone p s run c x made w.go m.met_one m.waits m.there m.waiting_for one w ws senders refl
 
     woke : gates ≡ woken (state_in p s) c (w.go ∷ [])
     woke = woken_one p s c w.go m.met_one m.waits m.there m.waiting_for
@@ -168,7 +173,8 @@ module _ (p : Program) (s : Contents) (run : Running p s) (e : Event) (g : CodeG
           let on = goes_on p s run e g f below there frames clause (Some (v, true)) number own between goes in
           let partner = partner_is p s run e.go w.go apart (Passes clause (Some (v, true))) own between goes c w.case None m met t.goroutines meeting has in
           let is = both_met p s run e.go w.go apart (Passes clause (Some (v, true))) own between goes c w.case None m met t.goroutines meeting
-          t (record x { head = x.head + 1; items = rest ++ w.value ∷ []; senders = ws }) names named is_run refl is_channels in
+          t (record x { head = x.head + 1; items = rest ++ w.value ∷ []; senders = ws }) names to_leave
+          (λ one. moved_alone c (record x { senders = ws }) w.go m.waits rest w.value (alone one)) is_run refl is_channels in
           let thin = leaving_senders_is_thin x w ws senders in
           subst {_, _} (λ t. StepsTo (frame_in p) (receive a clause c initial otherwise) s t moved)
           (ap (λ y. met_in (with_goroutine s e.go (Some goes.after)) c (moved_up y rest w.value) w.go meeting.after m.waits) (sym thin) ∙ sym is)
@@ -212,7 +218,7 @@ module _ (p : Program) (s : Contents) (run : Running p s) (e : Event) (g : CodeG
           let on = goes_on p s run e g f below there frames clause (Some (v, true)) number own between goes in
           let partner = partner_is p s run e.go w.go apart (Passes clause (Some (v, true))) own between goes c w.case None m met t.goroutines meeting has in
           let is = both_met p s run e.go w.go apart (Passes clause (Some (v, true))) own between goes c w.case None m met t.goroutines meeting
-          t (record x { senders = ws }) names named is_run refl is_channels in
+          t (record x { senders = ws }) names to_leave alone is_run refl is_channels in
           let thin = leaving_senders_is_thin x w ws senders in
           subst {_, _} (λ t. StepsTo (frame_in p) (receive a clause c initial otherwise) s t was_met)
           (ap (λ y. met_in (with_goroutine s e.go (Some goes.after)) c y w.go meeting.after m.waits) (sym thin) ∙ sym is)

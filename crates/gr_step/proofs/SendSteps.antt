@@ -23,7 +23,7 @@ use Rattle.gr_code.specs.Programs.{IsClause}
 use Rattle.gr_contents.specs.Contents.{Contents, with_goroutine, with_channel}
 use Rattle.gr_contents.specs.Looks.{actor_of}
 use Rattle.gr_contents.specs.Partners.{Meets}
-use Rattle.gr_contents.specs.Meetings.{thinned, met_in, NamesChannels}
+use Rattle.gr_contents.specs.Meetings.{thinned, met_in}
 use Rattle.gr_contents.specs.Performing.{reported, StepsTo}
 use Rattle.gr_contents.proofs.SendLemmas.{sending_hands, sending_buffers}
 use Rattle.gr_contents.proofs.MeetingLemmas.{leaving_receivers_is_thin}
@@ -35,6 +35,8 @@ use Rattle.gr_step.specs.Listings.{frame_in, state_in}
 use Rattle.gr_step.specs.Premises.{Running}
 use Rattle.gr_step.specs.Taking.{Takes}
 use Rattle.gr_step.specs.Passing.{ArrivesAt, Tells}
+use Rattle.gr_step.specs.Preparing.{AreToLeave}
+use Rattle.gr_step.proofs.AloneLemmas.{receiver_alone}
 use Rattle.gr_step.proofs.PassingLemmas.{GoesOver, no_change, one_first, prints_nothing}
 use Rattle.gr_step.proofs.TakingLemmas.{Reaches, takes, counted}
 use Rattle.gr_step.proofs.TouchLemmas.{woken_one, first_receiver, tail_slot, read_of_hand, read_of_buffer}
@@ -54,7 +56,7 @@ module _ (p : Program) (s : Contents) (run : Running p s) (e : Event) (g : CodeG
       (m : Meets (frame_in p) s c w.go w.case (Some (v, true))) (has : HasItsClause (lowered p) m.met_one w.case) (apart : same_go w.go e.go ≡ false)
       (between : List ℕ → Option CodeGoroutine) (goes : ArrivesAt (lowered p) e.go (Passes clause None) own s.goroutines between)
       (met : GoUndo) (meeting : ArrivesAt (lowered p) w.go (IsMet w.case (Some (v, true))) met between t.goroutines)
-      (names : List ChName) (named : NamesChannels names c m.waits)
+      (names : List ChName) (to_leave : AreToLeave names c m.waits)
       (is_channels : t.channels ≡ withdrawn w.go names (updated same_channel s.channels c (Some (record x { receivers = ws })))) where
     abbrev handed : Report
     handed = reported a clause (Some (sends_on c)) Hand
@@ -64,7 +66,8 @@ module _ (p : Program) (s : Contents) (run : Running p s) (e : Event) (g : CodeG
         let on = goes_on p s run e g f below there frames clause None number own between goes in
         let partner = partner_is p s run e.go w.go apart (Passes clause None) own between goes c w.case (Some (v, true)) m met t.goroutines meeting has in
         let is = both_met p s run e.go w.go apart (Passes clause None) own between goes c w.case (Some (v, true)) m met t.goroutines meeting
-        t (record x { receivers = ws }) names named is_run refl is_channels in
+        t (record x { receivers = ws }) names to_leave
+        (λ one. receiver_alone p s run c x made w.go m.met_one m.waits m.there m.waiting_for one w ws receivers refl) is_run refl is_channels in
         let thin = leaving_receivers_is_thin x w ws receivers in
         subst {_, _} (λ t. StepsTo (frame_in p) (send a clause c v otherwise) s t handed)
         (ap (λ y. met_in (with_goroutine s e.go (Some goes.after)) c y w.go meeting.after m.waits) (sym thin) ∙ sym is)

@@ -1,5 +1,5 @@
 -- What a step has ready that reaches beyond its goroutine, before it changes anything.
-use Rattle.std.specs.Prelude.{◌≡◌, ◌<◌, ℕ, List, [], ◌∷◌, ◌++◌, map, false, vec_len, vec_capacity, Option, Some, None, option_map}
+use Rattle.std.specs.Prelude.{◌≡◌, ◌<◌, ℕ, List, [], ◌∷◌, ◌++◌, map, length, false, vec_len, vec_capacity, Option, Some, None, option_map}
 use Rattle.gr_base.specs.declared.names.ChName.{ChName}
 use Rattle.gr_base.specs.declared.events.Event.{Event}
 use Rattle.gr_base.specs.declared.kinds.Kind.{Kind}
@@ -37,13 +37,19 @@ pub record IsReached (operation : Operation) (reads writes : List Object) (b : B
 abbrev pub WaitsFor : List Wait → CodeGoroutine → Type 0
 WaitsFor ws g = g.status ≡ waiting ws
 
--- it names the goroutine, which waits for these, and their channels, and tells what the step touches
+-- the channels that a goroutine with these waits is still to leave, where it left a queue of this one: none where it waits for one thing
+-- alone, and else each on which it waits
+pub record AreToLeave (names : List ChName) (c : ChName) (ws : List Wait) : Type 0 where
+  pub alone : length ws ≡ 1 → names ≡ []
+  pub otherwise : ¬ (length ws ≡ 1) → NamesChannels names c ws
+
+-- it names the goroutine, which waits for these, and the channels that it is still to leave, and tells what the step touches
 pub record IsPrepared (operation : Operation) (reads touched : List Object) (c : ChName) (n : List ℕ) (ws : List Wait) (o : Objects) (r : Prepared)
     : Type 0 where
   pub go_is : r.go ≡ n
   pub channel_is : r.channel ≡ c
   pub named : name_at o.goroutines r.number ≡ Some n
-  pub names_are : NamesChannels r.names.items c ws
+  pub names_are : AreToLeave r.names.items c ws
   pub reached : IsReached operation reads (touched ++ objects.Go n ∷ map objects.Gate (channels_but (c ∷ []) ws)) r.beyond.value
   pub room : vec_len r.beyond.value.met < vec_capacity r.beyond.value.met
   pub done_none : r.done.items ≡ []

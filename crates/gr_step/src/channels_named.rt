@@ -1,11 +1,12 @@
 //! The channels of waits.
 
-ghost use Rattle.std.specs.Prelude.{◌≡◌, IfOk};
+ghost use Rattle.std.specs.Prelude.{◌≡◌, [], ◌∷◌, IfOk};
 ghost use Rattle.std.specs.List.{list_any};
 ghost use Rattle.gr_rules.specs.Operators.{same_channel};
 ghost use Rattle.gr_rules.specs.Actors.{channels_but as ruled};
 ghost use Rattle.gr_rules.specs.Goroutines.{channel_of as channel_ruled};
 ghost use Rattle.gr_goros.specs.Views.{wait_of, waits_of};
+ghost use Rattle.gr_step.specs.Preparing.{AreToLeave};
 
 use gr_base::{ChName, NoMemory};
 use gr_goros::Wait;
@@ -47,5 +48,24 @@ pub(crate) fn channels_but(
         }
         names.push(channel.copy(alloc)?)?;
     }
+    Ok(names)
+}
+
+/// The channels that a goroutine with these waits is still to leave, where it left a queue of this one: none where it waits for one
+/// thing alone, and else this one and the others.
+pub(crate) fn channels_to_leave(
+    alloc: Global,
+    channel: &ChName,
+    waits: &[Wait],
+    others: Vec<ChName>,
+) -> Result<Vec<ChName>, NoMemory>
+    requires { others.items ≡ ruled (channel.now ∷ []) (waits_of waits.now) }
+    ensures { IfOk result (λ names. AreToLeave names.items channel.now (waits_of waits.now)) }
+{
+    if waits.len() == 1 {
+        return Ok(Vec::new(alloc));
+    }
+    let mut names = others;
+    names.push(channel.copy(alloc)?)?;
     Ok(names)
 }

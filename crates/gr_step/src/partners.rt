@@ -14,7 +14,7 @@ ghost use Rattle.gr_step.specs.Records.{operation_of};
 ghost use Rattle.gr_step.specs.Passing.{CanArriveAt, BothArrive, Tells};
 ghost use Rattle.gr_step.specs.Preparing.{IsReached, IsPrepared, CanPass, IsPass, CanExchange, IsExchange, WaitsFor};
 
-use crate::channels_named::channels_but;
+use crate::channels_named::{channels_but, channels_to_leave};
 use crate::objects::Objects;
 use crate::record::{Beyond, Change, Operation};
 use crate::touching::with_woken;
@@ -96,7 +96,7 @@ fn told_with(
 pub(crate) struct Prepared {
     pub(crate) go: GoName,
     pub(crate) number: usize,
-    /// The channels on which it waits, that of the communication among them.
+    /// The channels that it is still to leave, where it left a queue of that of the communication.
     pub(crate) names: Vec<ChName>,
     /// The channel of the communication.
     pub(crate) channel: ChName,
@@ -126,9 +126,9 @@ impl Objects {
         let Status::Waiting(waits) = goroutine.status() else {
             unreachable!()
         };
-        let mut names = channels_but(self.alloc, slice::from_ref(channel), waits)?;
-        let writes = with_woken(self.alloc, touched, go, &names)?;
-        names.push(channel.copy(self.alloc)?)?;
+        let others = channels_but(self.alloc, slice::from_ref(channel), waits)?;
+        let writes = with_woken(self.alloc, touched, go, &others)?;
+        let names = channels_to_leave(self.alloc, channel, waits, others)?;
         let beyond = reached(self.alloc, operation, reads, writes, 1)?;
         let done = Vec::with_capacity(self.alloc, 1)?;
         Ok(Prepared {

@@ -23,6 +23,8 @@ pub struct Goroutines {
     alloc: Global,
     /// The number that was looked up last: a guess of the next one.
     last: Cell<usize>,
+    /// The one that was looked up before it: a second guess, for two that take turns.
+    before: Cell<usize>,
     ghost unique: { IsUnique same_go map } by { Prim.hlevel props },
 }
 
@@ -38,6 +40,7 @@ impl Goroutines {
             map: IndexMap::new(alloc),
             alloc,
             last: Cell::new(0),
+            before: Cell::new(0),
         }
     }
 
@@ -58,6 +61,19 @@ impl Goroutines {
         if self.is_at(name, guess) {
             return Some(guess);
         }
+        self.look_further(name)
+    }
+
+    /// The number of a goroutine that is there, by the second guess, else found by its name.
+    #[inline(never)]
+    fn look_further(&self, name: &GoName) -> Option<usize>
+        ensures named { IfSome result (λ i. name_at self.now i ≡ Some name.now) }
+        ensures present { is_some result ≡ is_some (seen_of self.now name.now) }
+    {
+        let guess = self.before.get();
+        if self.is_at(name, guess) {
+            return Some(guess);
+        }
         self.look_up(name)
     }
 
@@ -74,7 +90,6 @@ impl Goroutines {
     }
 
     /// The number of a goroutine that is there, found by its name.
-    #[inline(never)]
     fn look_up(&self, name: &GoName) -> Option<usize>
         ensures named { IfSome result (λ i. name_at self.now i ≡ Some name.now) }
         ensures present { is_some result ≡ is_some (seen_of self.now name.now) }
@@ -82,6 +97,7 @@ impl Goroutines {
         let (number, _, goroutine) = self.map.get_full(name)?;
         match goroutine {
             Some(_) => {
+                self.before.set(self.last.get());
                 self.last.set(number);
                 Some(number)
             }

@@ -10,6 +10,7 @@ use gr_scan::scan::TEXT_LIMIT;
 use gr_session::{OpenError, Session};
 use std::alloc::Global;
 use std::io::{Read, Write};
+use std::mem;
 use thiserror::Error;
 
 /// Why a session was not served to `quit` or to the end of its commands.
@@ -75,6 +76,8 @@ fn open_source<S: Read>(alloc: Global, source: &mut Counted<S>) -> Result<Sessio
 /// full or there is no memory for its entry; `? bad command` for a rejected line; nothing for a blank one; and `ok`
 /// for `quit`, after which nothing is read.
 ///
+/// The session's memory is not given back: this is the last thing that a program does.
+///
 /// After `Source` and `Open` no command was read and nothing was written; a source of more than 1,048,576 bytes is
 /// not opened. After `Serve` the session stands as `serve` says. The fault names the device that failed, if one did.
 pub fn debug<S: Read, R: Read, W: Write>(
@@ -98,7 +101,10 @@ pub fn debug<S: Read, R: Read, W: Write>(
         Ok(desk) => desk,
         Err(_) => return Err(DebugFault::Serve(ServeFault::Memory)),
     };
-    match serve(alloc, &mut session, desk, reader, writer) {
+    let served = serve(alloc, &mut session, desk, reader, writer);
+    // Taking its log apart would take as long as a tenth of its steps took.
+    mem::forget(session);
+    match served {
         Ok(()) => Ok(()),
         Err(fault) => Err(DebugFault::Serve(fault)),
     }

@@ -179,6 +179,7 @@ fn tries_no_other_failure_again(rt: HostRuntime) -> Result<(), Fail> {
     assert!(rt; matches!(served, Err(ServeFault::Read)));
     assert_eq!(rt; reader.into_inner().bytes.len(), 5);
     let mut rest = Counted::new(b"quit\n".as_slice());
+    let desk = session.enrol().ok().ok_or("no second desk")?;
     let served = serve(rt.alloc(), &mut session, desk, &mut rest, &mut writer);
     assert!(rt; matches!(served, Err(ServeFault::Write)));
     assert_eq!(rt; writer.failures(), 1);

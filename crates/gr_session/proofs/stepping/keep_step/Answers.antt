@@ -1,12 +1,20 @@
 use Rattle.std.proofs.Common.{◌∷◌, ◌++◌, [], refl, ◌∙◌, ap, subst}
 use Rattle.gr_step.specs.Stores.{contents_at}
-use Rattle.gr_session.specs.Courses.{IsNoStep, Settles}
-use Rattle.gr_session.proofs.CourseLemmas.{can_count, stays, joins}
+use Rattle.gr_session.specs.Courses.{IsNoStep}
+use Rattle.gr_session.proofs.CourseLemmas.{can_count, stays, joins, own_in_pool}
 use Rattle.gr_session.proofs.StepLemmas.{record_is_allowed}
 use Rattle.gr_session.proofs.stepping.keep_step.Goals as goal
 
 pub step-requires-clause-counted : goal.step-requires-clause-counted
 step-requires-clause-counted c = can_count _ c.requires.world c.args.course.now c.requires.stands
+
+pub prepare-prepared-requires-clause-known : goal.prepare-prepared-requires-clause-known
+prepare-prepared-requires-clause-known c =
+    (own_in_pool _ c.requires.world c.args.course.now c.requires.stands c.in-Ok.record (contents_at c.step.new.self) c.in-Ok.ensures.step).0
+
+pub prepare-prepared-requires-clause-was_ready : goal.prepare-prepared-requires-clause-was_ready
+prepare-prepared-requires-clause-was_ready c =
+    (own_in_pool _ c.requires.world c.args.course.now c.requires.stands c.in-Ok.record (contents_at c.step.new.self) c.in-Ok.ensures.step).1
 
 pub returns-in_default-clause-takes : goal.returns-in_default-clause-takes
 returns-in_default-clause-takes c = λ p w s.
@@ -27,15 +35,8 @@ returns-clause-takes c = λ p w s.
       is = c.in-Ok.ensures.step;
       run = c.in-Ok.ensures.run;
       listing = c.in-Ok.ensures.listing;
-      follows = record {
-        before = c.make_room-room.new.pool;
-        knows = c.in-Ok-room.ensures.known;
-        more = c.in-Ok-room.ensures.more;
-        same = c.in-Ok-room.ensures.ready;
-        settles = subst (λ names. Settles (c.in-Ok.record.id.go ∷ names) (contents_at c.step.new.self) c.make_room-room.new.pool c.settle_step.new.pool)
-            (c.as_slice.ensures.value ∙ c.in-Ok-room.ensures.names) c.settle_step.ensures;
-      };
-      log = c.push_reserved.ensures.items ∙ ap (λ xs. xs ++ c.in-Ok.record ∷ []) c.in-Ok-room.ensures.log;
-      short = c.in-Ok-room.ensures.short;
+      follows = c.in-Ok-prepared.ensures.follows;
+      log = c.push_reserved.ensures.items ∙ ap (λ xs. xs ++ c.in-Ok.record ∷ []) c.in-Ok-prepared.ensures.log;
+      short = c.in-Ok-prepared.ensures.short;
       first = refl;
     }))
