@@ -1,6 +1,6 @@
 # Rewind. `rt` is the command of the Rattle kit; `make bench` and `make gate-times` need python3 too.
 
-.PHONY: all demo test edits bench gate-times clean
+.PHONY: all demo test edits bench refused gate-times clean
 
 # Proves the program and what it stands on, and installs it as bin/rewind.
 all: bin/rewind
@@ -40,6 +40,10 @@ bench: bin/rewind bin/channel_bench bin/front_bench
 	bench/core.py bin/rewind
 	bench/channels.py bin/channel_bench
 	bench/front.py bin/front_bench
+
+# Each growth of whole sessions refused in turn: nothing else may come of it. Needs a C compiler, `cc`.
+refused: bin/rewind
+	bench/refused.py bin/rewind
 
 # The gate in a fresh clone of what is committed, with the processor minutes of each crate (bin/gate.md, bin/gate.log).
 gate-times:
