@@ -3,10 +3,10 @@
 
     bench/refused.py [PROGRAM [SESSION ..]]      (bin/rewind, and sessions of crates/sessions/data)
 
-Run K of a session refuses its K-th allocation, by a preloaded allocator (bench/refused.c). The run is to end with status
-1 or 3 before its first reply and say what wanted memory, or with status 3 where a line or its reply wanted it; else one
-command is refused (`no N6`, `no B6`, `no Q2`), or a run of steps ends in `memory`, and all other replies are those of the
-session without that command, or with a run of so many steps. The last line tells how many were not so.
+Run K of a session refuses its K-th allocation, by a preloaded allocator (bench/refused.c). Either the run ends and says
+what wanted memory: with status 1 and no reply, or with status 3 and the replies up to there. Or it goes on to its end:
+then one command is refused (`no N6`, `no B6`, `no Q2`), or a run of steps ends in `memory`, and all other replies are
+those of the session without that command, or with a run of so many steps. The last line tells how many were not so.
 """
 import os
 import re
@@ -19,6 +19,8 @@ TOP = os.path.dirname(os.path.dirname(os.path.abspath(__file__)))
 DATA = os.path.join(TOP, "crates", "sessions", "data")
 SESSIONS = ("deadlock", "fibonacci_select", "lost_update", "prime_sieve", "send_on_closed")
 REFUSED = (b"no N6", b"no B6", b"no Q2")
+# What a run that ends says, by its status.
+ENDED = {1: ("rewind: S8", "rewind: P4", "rewind: C11"), 3: ("rewind: memory",)}
 
 
 def run(command, script, **env):
@@ -55,14 +57,15 @@ def without_refused(commands, output):
     return what, asked, kept
 
 
-def judge(command, commands, ended):
-    """What became of the refusal, and whether that is well."""
+def judge(command, commands, whole, ended):
+    """What became of the refusal, and whether that is well; `whole` is the output where nothing is refused."""
     status, output, error = ended
-    if status in (1, 3):
-        return error.decode().strip(), True
+    if status in ENDED:
+        said = error.decode().strip()
+        return said, said in ENDED[status] and whole.startswith(output) and (status == 3 or output == b"")
     what, asked, kept = without_refused(commands, output)
     again = run(command, b"".join(line + b"\n" for line in asked))
-    return what, status == 0 and replies(again[1]) == kept
+    return what, status == 0 and len(replies(output)) == len(commands) and replies(again[1]) == kept
 
 
 def main():
@@ -79,7 +82,7 @@ def main():
             script = b"".join(line + b"\n" for line in commands)
             counted = run(command, script, LD_PRELOAD=preload, FAIL_COUNT="1")
             for at in range(1, int(re.search(rb"allocations (\d+)", counted[2])[1]) + 1):
-                what, well = judge(command, commands, run(command, script, LD_PRELOAD=preload, FAIL_AT=str(at)))
+                what, well = judge(command, commands, counted[1], run(command, script, LD_PRELOAD=preload, FAIL_AT=str(at)))
                 ends[what] += 1
                 if not well:
                     wrong += 1
