@@ -1,3 +1,4 @@
+mod Basics
 mod PoolLemmas
 mod KeptLemmas
 mod OwnLemmas

@@ -15,6 +15,7 @@ use Rattle.gr_pool.specs.Goroutines as pools
 use Rattle.gr_pool.specs.Goroutines.{is_among, lesser, greater, with_name, without_name}
 use Rattle.gr_pool.proofs.Order.{ties_itself}
 use Rattle.gr_session.specs.Courses.{IsReadyIn, IsAsIn, Settles, KnowsMore, AllKnown}
+use Rattle.gr_session.proofs.Basics.{or_left, or_right}
 
 no_tie : {o : Ordering} → o ≡ Equal → o ≡ Less → ⊥
 no_tie e f = cc
@@ -24,14 +25,6 @@ no_great e f = cc
 
 or_false : (a b : Bool) → a ≡ false → b ≡ false → (a || b) ≡ false
 or_false a b e f = rw (e, f) refl
-
-or_left : (a b : Bool) → a ≡ true → (a || b) ≡ true
-or_left true b e = refl
-or_left false b e = cc
-
-or_right : (a b : Bool) → b ≡ true → (a || b) ≡ true
-or_right true b e = refl
-or_right false b e = e
 
 or_same : (a b : Bool) → b ≡ false → (a || b) ≡ a
 or_same true b e = refl

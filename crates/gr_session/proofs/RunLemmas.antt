@@ -30,9 +30,7 @@ use Rattle.gr_session.specs.Carried.{LeadsTo, HasTurn, TakesTurn, EndsBy, Ends, 
 use Rattle.gr_session.proofs.KeptLemmas.{last_kept, none_kept}
 use Rattle.gr_session.proofs.CourseLemmas.{log_length}
 use Rattle.gr_session.proofs.TurnLemmas.{AreReady, turn_after, turn_first}
-
-some_inj : {A : Type 0} {x y : A} → Some x ≡ Some y → x ≡ y
-some_inj {A} {x} h = ap (λ o. elim o [ Some z ↦ z | None ↦ x ]) h
+use Rattle.gr_session.proofs.Basics.{some_inj}
 
 -- a goroutine that is ready in the store is so by the rules, and the other way round
 ready_by_rules : (p : Program) (s : Contents) (n : List ℕ) → IsReadyIn s n → IsReady (state_in p s) n

@@ -21,9 +21,7 @@ use Rattle.gr_show.specs.Kept.{none}
 use Rattle.gr_session.specs.declared.course.Course.{Course}
 use Rattle.gr_session.specs.Journal.{first_world}
 use Rattle.gr_session.specs.Courses.{IsReadyIn, HasReady, Begins, Stands}
-
-some_inj : {A : Type 0} {x y : A} → Some x ≡ Some y → x ≡ y
-some_inj {A} {x} h = ap (λ o. elim o [ Some z ↦ z | None ↦ x ]) h
+use Rattle.gr_session.proofs.Basics.{some_inj}
 
 module _ (p : Program) (s : Contents) (begins : state_in p s ≡ start p) (checked : IsChecked p) where
   seen : (n : List ℕ) → option_map (goroutine_of (frame_in p)) (s.goroutines n) ≡ (start p).goroutines n

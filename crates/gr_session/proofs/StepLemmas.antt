@@ -31,9 +31,7 @@ use Rattle.gr_session.specs.Courses.{IsReadyIn, Stands, CanStep, IsNoStep, by_ru
 use Rattle.gr_session.specs.Carried.{LeadsTo, memory_of}
 use Rattle.gr_session.proofs.OwnLemmas.{step_is_allowed}
 use Rattle.gr_session.proofs.CourseLemmas.{log_length}
-
-some_inj : {A : Type 0} {x y : A} → Some x ≡ Some y → x ≡ y
-some_inj {A} {x} h = ap (λ o. elim o [ Some z ↦ z | None ↦ x ]) h
+use Rattle.gr_session.proofs.Basics.{some_inj}
 
 -- a run leads to what the store of a course contains
 pub running_of : (p : Program) (w : World p) (c : Course) → Stands p w c → Running p (contents_at c.store)

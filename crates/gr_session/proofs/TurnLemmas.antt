@@ -12,6 +12,7 @@ use Rattle.gr_pool.proofs.Order.{less_trans, greater_back, less_back, ties_itsel
 use Rattle.gr_rules.specs.States.{State, same_go}
 use Rattle.gr_rules.specs.Turns.{IsReady, IsFirst, IsLater, HasTurn, IsTurn}
 use Rattle.gr_laws.proofs.CellLemmas.{go_is, go_self}
+use Rattle.gr_session.proofs.Basics.{some_inj, or_left, or_right}
 
 no_less : {o : Ordering} → o ≡ Equal → o ≡ Less → ⊥
 no_less e f = cc
@@ -34,14 +35,6 @@ by_first h x xs among here there = elim (cases_Bool (same_go h x)) [
   | inl e ↦ here (go_is h x e)
   | inr e ↦ there (one_of (same_go h x) (is_among h xs) among e)
 ]
-
-or_left : (a b : Bool) → a ≡ true → (a || b) ≡ true
-or_left true b e = refl
-or_left false b e = cc
-
-or_right : (a b : Bool) → b ≡ true → (a || b) ≡ true
-or_right true b e = refl
-or_right false b e = e
 
 among_first : (x : List ℕ) (xs : List (List ℕ)) → is_among x (x ∷ xs) ≡ true
 among_first x xs = or_left (same_go x x) (is_among x xs) (go_self x)
@@ -70,9 +63,6 @@ none_before x xs order h among less = by_first h x xs among
 pub record IsAfter (n : List ℕ) (xs : List (List ℕ)) (h : List ℕ) : Type 0 where
   pub among : is_among h xs ≡ true
   pub after : go_cmp n h ≡ Less
-
-some_inj : {A : Type 0} {x y : A} → Some x ≡ Some y → x ≡ y
-some_inj {A} {x} h = ap (λ o. elim o [ Some z ↦ z | None ↦ x ]) h
 
 head_same : {A : Type 0} {x y : A} {xs ys : List A} → x ∷ xs ≡ y ∷ ys → x ≡ y
 head_same e = cc
