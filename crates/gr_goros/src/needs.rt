@@ -226,8 +226,13 @@ fn need_of_part(alloc: Global, cells: &[Option<Value>], ask: &Ask) -> Result<Nee
     }
 }
 
-/// What a send asks for.
-fn need_of_send(alloc: Global, frame: &Frame, operands: &[Operand], on: usize) -> Result<Need, Stop>
+/// What a send asks for, by all its operands at once.
+fn need_of_values(
+    alloc: Global,
+    frame: &Frame,
+    operands: &[Operand],
+    on: usize,
+) -> Result<Need, Stop>
     requires { ¬ (performed frame.now (instructions.Sends on) (operands_of operands.now) ≡ wrong) }
     ensures ok { IfOk result (λ n. Wanted n (performed frame.now (instructions.Sends on) (operands_of operands.now))) }
     ensures stop { IfErr result (λ e. Stops e (performed frame.now (instructions.Sends on) (operands_of operands.now))) }
@@ -240,6 +245,23 @@ fn need_of_send(alloc: Global, frame: &Frame, operands: &[Operand], on: usize) -
         }),
         _ => unreachable!(),
     }
+}
+
+/// What a send asks for.
+fn need_of_send(alloc: Global, frame: &Frame, operands: &[Operand], on: usize) -> Result<Need, Stop>
+    requires { ¬ (performed frame.now (instructions.Sends on) (operands_of operands.now) ≡ wrong) }
+    ensures ok { IfOk result (λ n. Wanted n (performed frame.now (instructions.Sends on) (operands_of operands.now))) }
+    ensures stop { IfErr result (λ e. Stops e (performed frame.now (instructions.Sends on) (operands_of operands.now))) }
+{
+    let [channel, value] = operands else {
+        return need_of_values(alloc, frame, operands, on);
+    };
+    let channel = evaluate(alloc, frame.cells(), channel)?;
+    let value = evaluate(alloc, frame.cells(), value)?;
+    Ok(Need::Send {
+        channel: as_channel(channel),
+        value,
+    })
 }
 
 /// What a statement asks for beyond the goroutine, or to return from the outermost frame.

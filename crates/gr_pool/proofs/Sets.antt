@@ -1,6 +1,6 @@
 -- Ready names as a list in order, and the places that stand for them.
 use Rattle.std.proofs.Common.{◌≡◌, inl, inr, ℕ, zero, suc, ◌+◌, ◌<◌, ◌≤◌, Bool, true, false, List, [], ◌∷◌, ◌++◌, length, take, drop, filter, refl, ap, sym, ◌∙◌, subst, arith, eqb, eqb-true, add-one, Some, None, take-append-drop, length-drop, length-append}
-use Rattle.std.proofs.lemmas.Bool.{cases_Bool}
+use Rattle.std.proofs.lemmas.Bool.{cases_Bool, cases_lt}
 use Rattle.std.specs.Prelude.{slice_index_or, slice_get, nat_eq, insert, remove, All}
 use Rattle.std.specs.List.{list_any, position, AllByRecursion, IsDistinct}
 use Rattle.std.specs.Ordering.{is_lt, is_gt}
@@ -15,7 +15,7 @@ use Rattle.std.proofs.lemmas.Cmp.{nat_list_eq_equiv}
 use Rattle.std.proofs.lemmas.Map.Steps.{length-le_from_distinct_below}
 use Rattle.indexmap.specs.IndexSet.{insert_key}
 use Rattle.gr_base.specs.Names.{go_cmp}
-use Rattle.gr_pool.specs.Goroutines.{is_among, IsInOrder, lesser, greater, with_name, without_name, next_name, names_at, StandsAt, BelongsAt}
+use Rattle.gr_pool.specs.Goroutines.{is_among, IsInOrder, lesser, greater, with_name, without_name, next_name, names_at, StandsAt, BelongsAt, IsKnownAt}
 use Rattle.gr_pool.proofs.Order.{length_names, less_trans, greater_back, less_back, ties_itself, compared, stands}
 
 -- in order, by recursion
@@ -264,22 +264,34 @@ pub all_more : (n m : ℕ) (is : List ℕ) → n ≤ m → All (λ j. j < n) is 
 all_more n m is le h k d w = let less : slice_index_or is k d < n = h k d w in omega arith
 
 -- a known name comes in at its place
-pub inserted_names : (known : List (List ℕ)) (is : List ℕ) (name : List ℕ) (p i : ℕ) → BelongsAt name (names_at known is) p → position (pointwise nat_eq name) known ≡ Some i → names_at known (insert is p i) ≡ with_name name (names_at known is)
+pub inserted_names : (known : List (List ℕ)) (is : List ℕ) (name : List ℕ) (p i : ℕ) → BelongsAt name (names_at known is) p → IsKnownAt known name i → names_at known (insert is p i) ≡ with_name name (names_at known is)
 inserted_names known is name p i b found =
-    let at = position-Some (pointwise nat_eq name) known i [] found in
-    names_insert known is p i ∙ ap (insert (names_at known is) p) (sym (same_name name (slice_index_or known i []) (at.1))) ∙ with_belonging name (names_at known is) p b
+    names_insert known is p i ∙ ap (insert (names_at known is) p) (sym (same_name name (slice_index_or known i []) found.here)) ∙ with_belonging name (names_at known is) p b
 
-pub inserted_within : (known : List (List ℕ)) (is : List ℕ) (name : List ℕ) (p i : ℕ) → All (λ j. j < length known) is → position (pointwise nat_eq name) known ≡ Some i → All (λ j. j < length known) (insert is p i)
-inserted_within known is name p i within found = all_insert (length known) is p i within ((position-Some (pointwise nat_eq name) known i [] found).0)
+pub inserted_within : (known : List (List ℕ)) (is : List ℕ) (name : List ℕ) (p i : ℕ) → All (λ j. j < length known) is → IsKnownAt known name i → All (λ j. j < length known) (insert is p i)
+inserted_within known is name p i within found = all_insert (length known) is p i within found.within
 
-pub inserted_order : (known : List (List ℕ)) (is : List ℕ) (name : List ℕ) (p i : ℕ) → BelongsAt name (names_at known is) p → position (pointwise nat_eq name) known ≡ Some i → IsInOrder (names_at known is) → IsInOrder (names_at known (insert is p i))
+pub inserted_order : (known : List (List ℕ)) (is : List ℕ) (name : List ℕ) (p i : ℕ) → BelongsAt name (names_at known is) p → IsKnownAt known name i → IsInOrder (names_at known is) → IsInOrder (names_at known (insert is p i))
 inserted_order known is name p i b found ordered = subst IsInOrder (sym (inserted_names known is name p i b found)) (ordered_with name (names_at known is) ordered)
 
 -- there is room for it
-pub inserted_room : (known : List (List ℕ)) (is : List ℕ) (name : List ℕ) (p i : ℕ) → BelongsAt name (names_at known is) p → position (pointwise nat_eq name) known ≡ Some i → All (λ j. j < length known) is → IsInOrder (names_at known is) → length is < length known
+pub inserted_room : (known : List (List ℕ)) (is : List ℕ) (name : List ℕ) (p i : ℕ) → BelongsAt name (names_at known is) p → IsKnownAt known name i → All (λ j. j < length known) is → IsInOrder (names_at known is) → length is < length known
 inserted_room known is name p i b found within ordered =
     let few = few_places known (insert is p i) (inserted_within known is name p i within found) (inserted_order known is name p i b found ordered) in
     omega (arith, few, length-insert is p i (omega (arith, b.within, length_names known is)))
+
+-- where a known name is found, and a guess that is right
+pub known_found : (known : List (List ℕ)) (name : List ℕ) (i : ℕ) → position (pointwise nat_eq name) known ≡ Some i → IsKnownAt known name i
+known_found known name i e = let at = position-Some (pointwise nat_eq name) known i [] e in record { within = at.0; here = at.1 }
+
+pub known_here : (known : List (List ℕ)) (name found : List ℕ) (i : ℕ) → slice_get known i ≡ Some found → pointwise nat_eq found name ≡ true → IsKnownAt known name i
+known_here known name found i is same = elim (cases_lt i (length known)) [
+  | inr past ↦ let none : None ≡ Some found = sym (slice_get_past known i past) ∙ is in cc
+  | inl within ↦
+      let there : Some (slice_index_or known i []) ≡ Some found = sym (slice_get-get_or known i [] within) ∙ is in
+      let here : slice_index_or known i [] ≡ found = cc in
+      record { within = within; here = ap (pointwise nat_eq name) (here ∙ same_name found name same) ∙ own_name name }
+]
 
 -- a name goes out
 pub removed_names : (known : List (List ℕ)) (is : List ℕ) (name : List ℕ) (p : ℕ) → StandsAt name (names_at known is) p → names_at known (remove is p) ≡ without_name name (names_at known is)

@@ -1,5 +1,5 @@
 -- The goroutines that a pool knows, and those among them that are ready.
-use Rattle.std.specs.Prelude.{◌≡◌, ℕ, ◌+◌, ◌<◌, ◌≤◌, Bool, List, [], ◌∷◌, ◌++◌, length, take, drop, filter, map, nat_eq, slice_get, slice_index_or, Option}
+use Rattle.std.specs.Prelude.{◌≡◌, ℕ, ◌+◌, ◌<◌, ◌≤◌, Bool, true, List, [], ◌∷◌, ◌++◌, length, take, drop, filter, map, nat_eq, slice_get, slice_index_or, Option}
 use Rattle.std.specs.List.{list_any, AllPairs}
 use Rattle.std.specs.Ordering.{is_lt, is_gt}
 use Rattle.std.specs.Cmp.Lexicographic.{pointwise}
@@ -55,3 +55,8 @@ pub record BelongsAt (name : List ℕ) (names : List (List ℕ)) (place : ℕ) :
   pub within : place ≤ length names
   pub before : take place names ≡ lesser name names
   pub after : drop place names ≡ greater name names
+
+-- the name has this place among the known ones
+pub record IsKnownAt (known : List (List ℕ)) (name : List ℕ) (place : ℕ) : Type 0 where
+  pub within : place < length known
+  pub here : pointwise nat_eq name (slice_index_or known place []) ≡ true

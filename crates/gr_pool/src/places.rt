@@ -1,9 +1,10 @@
 //! Where a name stands, or belongs, in a list of names in order, which is kept as places in a list of known names.
 
-ghost use Rattle.std.specs.Prelude.{◌≡◌, ◌<◌, ◌≤◌, length, drop, All, slice_get, IfOk, IfErr, IsTrue};
-ghost use Rattle.gr_pool.specs.Goroutines.{IsInOrder, names_at, greater, next_name, StandsAt, BelongsAt};
+ghost use Rattle.std.specs.Prelude.{◌≡◌, ◌<◌, ◌≤◌, length, drop, All, slice_get, IfOk, IfErr, IsTrue, true};
+ghost use Rattle.gr_pool.specs.Goroutines.{IsInOrder, names_at, greater, next_name, is_among, StandsAt, BelongsAt, IsKnownAt};
 
 use gr_base::GoName;
+use indexmap::IndexSet;
 use std::cmp::Ordering;
 
 /// Where the name stands, or else where it belongs. The time is logarithmic in the number of places.
@@ -36,6 +37,19 @@ pub fn stands_at(known: &[GoName], ready: &[usize], name: &GoName, place: usize)
         return false;
     }
     known[ready[place]] == *name
+}
+
+/// Where a known name stands among the known ones: at the guess, or else as a search finds it.
+pub fn known_place(known: &IndexSet<GoName>, name: &GoName, guess: usize) -> usize
+    requires { is_among name.now known.now.keys ≡ true }
+    ensures { IsKnownAt known.now.keys name.now result }
+{
+    if let Some(found) = known.get_index(guess) {
+        if found == name {
+            return guess;
+        }
+    }
+    known.get_index_of(name).unwrap()
 }
 
 /// Where the names after this one begin. The time is constant where the name stands at the guess.

@@ -3,7 +3,7 @@
 ghost use Rattle.std.specs.Prelude.{◌≡◌, ◌∷◌, ◌++◌, [], length, true, option_copied, if◌then◌else◌, ◌↔◌, IsTrue, OnOk, OnErr, IsOk};
 ghost use Rattle.gr_pool.specs.Goroutines.{is_among, IsInOrder, with_name, without_name, next_name};
 
-use crate::places::{next_place, place_of, stands_at};
+use crate::places::{known_place, next_place, place_of, stands_at};
 use gr_base::{GoName, NoMemory};
 use indexmap::IndexSet;
 use std::alloc::Global;
@@ -19,6 +19,8 @@ pub struct Pool {
     ready: Vec<usize>,
     /// Where the last answer of `next_after` stood among the ready ones: a guess of where its next question begins.
     last: Cell<usize>,
+    /// Where the name that was made unready last stands among the known ones: a guess of which is made ready next.
+    gone: Cell<usize>,
 }
 
 impl Model for Pool {
@@ -43,6 +45,7 @@ impl Pool {
             known: IndexSet::new(alloc),
             ready: Vec::new(alloc),
             last: Cell::new(0),
+            gone: Cell::new(0),
         }
     }
 
@@ -91,6 +94,7 @@ impl Pool {
     }
 
     /// Makes a known goroutine ready. It takes no memory, and constant time where it is the last answer of `next_after` and ready.
+    /// The one that was made unready last is not searched for among the known ones.
     pub fn insert(&mut self, name: &GoName)
         requires { is_among name.now self.old.known ≡ true }
         ensures ready { self.new.ready ≡ with_name name.now self.old.ready }
@@ -102,7 +106,7 @@ impl Pool {
         }
         let found = place_of(self.known.as_slice(), self.ready.as_slice(), name);
         let Err(place) = found else { return };
-        let known = self.known.get_index_of(name).unwrap();
+        let known = known_place(&self.known, name, self.gone.get());
         self.ready.insert(place, known).unwrap();
     }
 
@@ -113,6 +117,7 @@ impl Pool {
     {
         let found = place_of(self.known.as_slice(), self.ready.as_slice(), name);
         let Ok(place) = found else { return };
+        self.gone.set(self.ready[place]);
         let _ = self.ready.remove(place);
     }
 

@@ -30,13 +30,13 @@ use Rattle.gr_step.specs.Records.{event_of}
 use Rattle.gr_step.specs.Stores.{program_at, contents_at, SameListing}
 use Rattle.gr_step.specs.Stores as stores
 use Rattle.gr_step.specs.Taking.{IsRecord}
-use Rattle.gr_show.specs.Kept.{Kept, one_more, Tells}
+use Rattle.gr_step.specs.Kept.{Kept, one_more, Tells}
 use Rattle.gr_session.specs.declared.TheConstants.{LOG_LIMIT}
 use Rattle.gr_session.specs.declared.course.Course.{Course}
 use Rattle.gr_session.specs.Journal.{World}
-use Rattle.gr_session.specs.Courses.{IsReadyIn, IsAsIn, HasReady, Follows, KnowsMore, AllKnown, others_of, Stands, IsCourse, Joins}
+use Rattle.gr_session.specs.Courses.{IsReadyIn, IsAsIn, HasReady, Follows, KnowsMore, KnowsMet, AllKnown, others_of, Stands, IsCourse, Joins}
 use Rattle.gr_session.proofs.KeptLemmas.{kept_length, kept_run}
-use Rattle.gr_session.proofs.OwnLemmas.{own_is_ready, own_is_there, others_stay}
+use Rattle.gr_session.proofs.OwnLemmas.{own_is_ready, own_is_there, others_stay, met_was_there}
 
 -- a course of a world is one
 pub is_course : (p : Program) (w : World p) (c : Course) → Stands p w c → IsCourse c
@@ -197,6 +197,13 @@ pub own_in_pool : (p : Program) (w : World p) (c : Course) (s : Stands p w c) (r
 own_in_pool p w c s r t is =
     let up = own_was_ready p (contents_at c.store) t r is in
     (s.pool.knows r.id.go up.goroutine up.there, (s.pool.each r.id.go).has up)
+
+-- those that it met: the pool knew them
+pub met_in_pool : (p : Program) (w : World p) (c : Course) (s : Stands p w c) (r : Record) (t : Contents) → IsRecord p (contents_at c.store) r t
+    → KnowsMet r.change c.pool
+met_in_pool p w c s r t is q among other =
+    let was = met_was_there r.id.go r.change t q is.takes.fits among other in
+    s.pool.knows q was.0 (sym (ap (λ (x : Contents). x.goroutines q) is.takes.back) ∙ was.1)
 
 room_after : (n m limit : ℕ) → n < limit → m ≡ n + 1 → m ≤ limit
 room_after n m limit a b = omega arith

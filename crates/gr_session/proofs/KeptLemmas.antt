@@ -12,7 +12,7 @@ use Rattle.gr_lower.specs.Lowered.{lowered, meaning}
 use Rattle.gr_step.specs.declared.record.Record.{Record}
 use Rattle.gr_step.specs.Listings.{state_in}
 use Rattle.gr_step.specs.Premises.{IsChecked, Running}
-use Rattle.gr_show.specs.Kept.{Kept, none, one_more, Tells}
+use Rattle.gr_step.specs.Kept.{Kept, none, one_more, Tells}
 use Rattle.gr_show.proofs.Logs.{kept_is_log}
 use Rattle.gr_session.specs.Courses.{Begins}
 

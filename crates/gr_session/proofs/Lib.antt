@@ -11,3 +11,7 @@ mod TurnLemmas
 mod RunLemmas
 mod JournalLemmas
 mod Sources
+mod OneMeaningSteps
+mod OneMeaningTurns
+mod OneMeaningUndo
+mod OneMeaningJournals

@@ -1,10 +1,11 @@
 -- The goroutine of a step, and what the step leaves as it was.
-use Rattle.std.proofs.Common.{◌≡◌, ℕ, Bool, true, false, ◌||◌, if◌then◌else◌, List, [], ◌∷◌, ◌++◌, map, Option, Some, None, refl, sym, ap, subst, ◌∙◌}
+use Rattle.std.proofs.Common.{◌≡◌, ℕ, Bool, true, false, ◌||◌, if◌then◌else◌, List, [], ◌∷◌, ◌++◌, map, Option, Some, None, inl, inr, refl, sym, ap, subst, ◌∙◌}
 use Rattle.std.specs.Option.{option_to_list}
+use Rattle.std.proofs.lemmas.Bool.{cases_Bool}
 use Rattle.std.proofs.lemmas.List.Folds.{list_any-append}
 use Rattle.gr_base.specs.declared.events.Event.{Event}
 use Rattle.gr_goros.specs.declared.undo.GoUndo.{GoUndo}
-use Rattle.gr_goros.specs.Undoing.{Fits}
+use Rattle.gr_goros.specs.Undoing.{Fits, undone}
 use Rattle.gr_pool.specs.Goroutines.{is_among}
 use Rattle.gr_program.specs.Programs.{Program}
 use Rattle.gr_rules.specs.Goroutines.{Status, ready, waiting, finished}
@@ -20,9 +21,11 @@ use Rattle.gr_contents.specs.Performing.{StepsTo}
 use Rattle.gr_contents.proofs.MachineLemmas.{refusal_is_leaf}
 use Rattle.gr_contents.proofs.LookLemmas.{over_is_refused, unknown_is_refused, done_is_refused, waiting_is_refused}
 use Rattle.gr_step.specs.declared.record.Change.{Change}
-use Rattle.gr_step.specs.Records.{beyond, begun_by, go_back, is_go, taken_back, CanGoBack}
+use Rattle.gr_laws.proofs.CellLemmas.{go_is}
+use Rattle.gr_step.specs.Records.{beyond, begun_by, go_back, go_undone, is_go, taken_back, goroutines_changed, GoesFit, CanGoBack}
 use Rattle.gr_tables.specs.NamedGoroutines.{At}
-use Rattle.gr_session.specs.Courses.{IsReadyIn, others_of}
+use Rattle.gr_session.specs.Courses.{IsReadyIn, names_met, others_of}
+use Rattle.gr_session.proofs.Basics.{or_right}
 
 module _ (frame : CodeFrame → Frame) (p : Program) (e : Event) (s t : Contents) (report : Report) (steps : StepsTo frame (attempt p e) s t report) where
   not_refused : (r : Refusal) → Refuses (attempt p e) (state_of frame s) r → ⊥
@@ -95,3 +98,33 @@ own_is_there n c t can = by_option (t.goroutines n) can.goroutines.0
     by_option : (o : Option CodeGoroutine) → At (Fits c.own) (go_back (beyond [] (λ b. b.met.items) c) n o) → (g : CodeGoroutine) × (o ≡ Some g)
     by_option (Some g) fits = (g, refl)
     by_option None fits = absurd (subst (At (Fits c.own)) (back_none (beyond [] (λ b. b.met.items) c) n) fits)
+
+true_is_not_false : {b : Bool} → b ≡ true → b ≡ false → ⊥
+true_is_not_false e f = cc
+
+-- a goroutine that a step met is there after it
+back_some : (u : GoUndo) (b : Bool) (x : Option CodeGoroutine) → (g : CodeGoroutine) × (x ≡ Some g) → (g : CodeGoroutine) × ((if b then go_undone u x else x) ≡ Some g)
+back_some u true x there = (undone u there.0, ap (go_undone u) there.1)
+back_some u false x there = there
+
+fitting : (u : GoUndo) (o : Option CodeGoroutine) → At (Fits u) o → (g : CodeGoroutine) × (o ≡ Some g)
+fitting u (Some g) fits = (g, refl)
+fitting u None fits = absurd fits
+
+met_is_there : (us : List (List ℕ × GoUndo)) (f : List ℕ → Option CodeGoroutine) (q : List ℕ) → GoesFit us f → is_among q (names_met us) ≡ true
+    → (g : CodeGoroutine) × (go_back us q (f q) ≡ Some g)
+met_is_there [] f q fit t = absurd (true_is_not_false t refl)
+met_is_there (u ∷ us) f q fit t = elim (cases_Bool (same_go q u.0)) [
+  | inl e ↦ back_some u.1 (same_go q u.0) (go_back us q (f q))
+      (subst (λ m. (g : CodeGoroutine) × (go_back us m (f m) ≡ Some g)) (sym (go_is q u.0 e)) (fitting u.1 (go_back us u.0 (f u.0)) fit.0))
+  | inr e ↦ back_some u.1 (same_go q u.0) (go_back us q (f q))
+      (met_is_there us f q fit.1 (sym (ap (λ b. b || is_among q (names_met us)) e) ∙ t))
+]
+
+-- .. and was there before it, unless the step started it
+pub met_was_there : (n : List ℕ) (c : Change) (t : Contents) (q : List ℕ) → CanGoBack n c t → is_among q (names_met (beyond [] (λ b. b.met.items) c)) ≡ true
+    → is_go q (begun_by c) ≡ false → (g : CodeGoroutine) × ((taken_back n c t).goroutines q ≡ Some g)
+met_was_there n c t q can among other =
+    let there = met_is_there ((n, c.own) ∷ beyond [] (λ b. b.met.items) c) t.goroutines q can.goroutines
+    (or_right (same_go q n) (is_among q (names_met (beyond [] (λ b. b.met.items) c))) among) in
+    (there.0, ap (λ b. if b then None else go_back (goroutines_changed n c) q (t.goroutines q)) other ∙ there.1)

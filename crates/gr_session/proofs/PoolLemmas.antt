@@ -1,5 +1,5 @@
 -- Names that are made ready or not in a pool.
-use Rattle.std.proofs.Common.{◌≡◌, ℕ, ◌+◌, ◌<◌, Bool, true, false, ◌||◌, if◌then◌else◌, List, [], ◌∷◌, ◌++◌, length, take, inl, inr, get_or, refl, ap, sym, ◌∙◌, subst}
+use Rattle.std.proofs.Common.{◌≡◌, ℕ, zero, suc, arith, ◌+◌, ◌<◌, Bool, true, false, ◌||◌, if◌then◌else◌, List, [], ◌∷◌, ◌++◌, length, take, inl, inr, get_or, Global, refl, ap, sym, ◌∙◌, subst}
 use Rattle.std.specs.List.{list_any}
 use Rattle.std.specs.declared.cmp.Ordering.{Ordering}
 use Rattle.std.specs.declared.cmp.Ordering.TheVariants.{Less, Equal, Greater}
@@ -14,8 +14,14 @@ use Rattle.gr_contents.specs.Contents.{Contents}
 use Rattle.gr_pool.specs.Goroutines as pools
 use Rattle.gr_pool.specs.Goroutines.{is_among, lesser, greater, with_name, without_name}
 use Rattle.gr_pool.proofs.Order.{ties_itself}
-use Rattle.gr_session.specs.Courses.{IsReadyIn, IsAsIn, Settles, KnowsMore, AllKnown}
-use Rattle.gr_session.proofs.Basics.{or_left, or_right}
+use Rattle.gr_goros.specs.declared.undo.GoUndo.{GoUndo}
+use Rattle.gr_session.specs.Courses.{IsReadyIn, IsAsIn, Settles, KnowsMore, KnowsMet, AllKnown, Follows, names_met, others_of}
+use Rattle.std.specs.Prelude.{Box, Option, Some, None, option_map}
+use Rattle.std.specs.Option.{option_map_or, option_to_list}
+use Rattle.gr_step.specs.declared.record.Beyond.{Beyond}
+use Rattle.gr_step.specs.declared.record.Record.{Record}
+use Rattle.gr_step.specs.Records.{beyond, begun_by, is_go}
+use Rattle.gr_session.proofs.Basics.{some_inj, or_left, or_right}
 
 no_tie : {o : Ordering} → o ≡ Equal → o ≡ Less → ⊥
 no_tie e f = cc
@@ -228,3 +234,83 @@ settles_still s n pool is was = record {
   where
     same : (h : List ℕ) → is_among h (n ∷ []) ≡ true → h ≡ n
     same h among = go_is h n (sym (only_name h n) ∙ among)
+
+-- names, and then others
+pub settles_join : (names more : List (List ℕ)) (s : Contents) (old mid new : pools.Goroutines) → Settles names s old mid → Settles more s mid new
+    → Settles (names ++ more) s old new
+settles_join names more s old mid new first next = record { known = next.known ∙ first.known; these = these; others = others }
+  where
+    both : (h : List ℕ) → is_among h (names ++ more) ≡ (is_among h names || is_among h more)
+    both h = list_any-append (same_go h) names more
+
+    neither : (a b : Bool) → (a || b) ≡ false → (a ≡ false) × (b ≡ false)
+    neither true b e = cc
+    neither false b e = (refl, e)
+
+    these : (h : List ℕ) → is_among h (names ++ more) ≡ true → IsAsIn new s h
+    these h t = elim (cases_Bool (is_among h more)) [
+      | inl e ↦ next.these h e
+      | inr f ↦ as_before s mid new h (next.others h f) (first.these h (sym (or_same (is_among h names) (is_among h more) f) ∙ sym (both h) ∙ t))
+    ]
+
+    others : (h : List ℕ) → is_among h (names ++ more) ≡ false → is_among h new.ready ≡ is_among h old.ready
+    others h f =
+        let apart = neither (is_among h names) (is_among h more) (sym (both h) ∙ f) in
+        next.others h apart.1 ∙ first.others h apart.0
+
+-- the name of a goroutine at a place
+pub met_here : (met : List (List ℕ × GoUndo)) (i : ℕ) (e : List ℕ × GoUndo) → i < length met → e ≡ get_or met i e
+    → (i < length (names_met met)) × (e.0 ≡ get_or (names_met met) i e.0)
+met_here [] i e within is = absurd (omega (arith, within))
+met_here (x ∷ met) zero e within is = (omega arith, ap (λ y. y.0) is)
+met_here (x ∷ met) (suc i) e within is =
+    let rest = met_here met i e (omega (arith, within)) is in
+    (omega (arith, rest.0), rest.1)
+
+-- the goroutine of a step that reached further, those that it met, and the one that it started
+pub follows_all : (r : Record) (b : Beyond) (s : Contents) (old before own met new : pools.Goroutines) → option_map (λ x. x.value) r.change.beyond ≡ Some b
+    → KnowsMet r.change old → AllKnown (option_to_list b.begins) before → KnowsMore old before → before.ready ≡ old.ready
+    → Settles (r.id.go ∷ []) s before own → Settles (names_met b.met.items) s own met → Settles (option_to_list b.begins) s met new → Follows r s old new
+follows_all r b s old before own met new is knows_met child more ready first second third = by r.change.beyond refl
+  where
+    by : (o : Option (Box Beyond Global)) → r.change.beyond ≡ o → Follows r s old new
+    by None none = let never : None ≡ Some b = ap (option_map (λ x. x.value)) (sym none) ∙ is in cc
+    by (Some x) some = record {
+      before = before;
+      knows = knows;
+      more = more;
+      same = ready;
+      settles = subst (λ names. Settles (r.id.go ∷ names) s before new) (sym others)
+          (settles_both r.id.go (names_met b.met.items ++ option_to_list b.begins) s before own new first
+          (settles_join (names_met b.met.items) (option_to_list b.begins) s own met new second third));
+    }
+      where
+        value : x.value ≡ b
+        value = let e : Some x.value ≡ Some b = ap (option_map (λ (y : Box Beyond Global). y.value)) (sym some) ∙ is in some_inj e
+
+        others : others_of r.change ≡ names_met b.met.items ++ option_to_list b.begins
+        others =
+            ap (λ o. names_met (option_map_or (λ (y : Box Beyond Global). y.value.met.items) o []) ++ option_to_list (option_map_or (λ (y : Box Beyond Global). y.value.begins) o None)) some
+            ∙ ap (λ (y : Beyond). names_met y.met.items ++ option_to_list y.begins) value
+
+        begun : begun_by r.change ≡ b.begins
+        begun = ap (λ o. option_map_or (λ (y : Box Beyond Global). y.value.begins) o None) some ∙ ap (λ (y : Beyond). y.begins) value
+
+        met_is : beyond [] (λ y. y.met.items) r.change ≡ b.met.items
+        met_is = ap (λ o. option_map_or (λ (y : Box Beyond Global). y.value.met.items) o []) some ∙ ap (λ (y : Beyond). y.met.items) value
+
+        is_child : (n : List ℕ) (o : Option (List ℕ)) → is_go n o ≡ true → is_among n (option_to_list o) ≡ true
+        is_child n None e = cc
+        is_child n (Some m) e = or_left (same_go n m) false e
+
+        knows : AllKnown (others_of r.change) before
+        knows n t = elim (cases_Bool (is_go n (begun_by r.change))) [
+          | inl e ↦ child n (is_child n b.begins (ap (is_go n) (sym begun) ∙ e))
+          | inr e ↦ elim (cases_Bool (is_among n (option_to_list b.begins))) [
+            | inl known ↦ child n known
+            | inr other ↦ more n (knows_met n (ap (λ us. is_among n (names_met us)) met_is
+                ∙ sym (or_same (is_among n (names_met b.met.items)) (is_among n (option_to_list b.begins)) other)
+                ∙ sym (list_any-append (same_go n) (names_met b.met.items) (option_to_list b.begins))
+                ∙ ap (is_among n) (sym others) ∙ t) e)
+          ]
+        ]

@@ -9,7 +9,7 @@ use Rattle.gr_step.specs.Listings.{state_in}
 use Rattle.gr_step.specs.Stores.{program_at, contents_at, state_at}
 use Rattle.gr_show.specs.Said.{goroutine_said, channel_said, text_said, console_said, log_said}
 use Rattle.gr_show.specs.Consoles.{OfEachLog}
-use Rattle.gr_show.specs.Kept.{Kept}
+use Rattle.gr_step.specs.Kept.{Kept}
 use Rattle.gr_session.specs.declared.course.Course.{Course}
 use Rattle.gr_session.specs.declared.journal.Memory.TheVariants.{Enough}
 use Rattle.gr_session.specs.Journal.{World, Leads, shows, shows_channel, tells_text, tells_console, tells_log}

@@ -17,7 +17,7 @@ use Rattle.gr_step.specs.Listings.{frame_in, state_in}
 use Rattle.gr_step.specs.Premises.{IsChecked}
 use Rattle.gr_step.specs.Stores.{program_at, contents_at, state_at, IsStart}
 use Rattle.type_safety.proofs.CheckedRuns.{checked_begins}
-use Rattle.gr_show.specs.Kept.{none}
+use Rattle.gr_step.specs.Kept.{none}
 use Rattle.gr_session.specs.declared.course.Course.{Course}
 use Rattle.gr_session.specs.Journal.{first_world}
 use Rattle.gr_session.specs.Courses.{IsReadyIn, HasReady, Begins, Stands}

@@ -14,7 +14,7 @@ use Rattle.gr_step.specs.Listings.{state_in}
 use Rattle.gr_step.specs.Premises.{Running}
 use Rattle.gr_step.specs.Records.{taken_back, CanGoBack}
 use Rattle.gr_step.specs.Stores.{program_at, contents_at, SameListing}
-use Rattle.gr_show.specs.Kept.{Kept}
+use Rattle.gr_step.specs.Kept.{Kept}
 use Rattle.gr_show.specs.Said.{id_of}
 use Rattle.gr_session.specs.declared.course.Course.{Course}
 use Rattle.gr_session.specs.declared.journal.Memory.TheVariants.{Enough, EnoughFor}

@@ -4,6 +4,7 @@
 mod carry;
 pub mod course;
 pub mod journal;
+pub mod laws;
 pub mod open;
 mod readiness;
 mod running;

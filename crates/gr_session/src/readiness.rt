@@ -3,11 +3,12 @@
 ghost use Rattle.std.specs.Prelude.{◌≡◌, ◌∷◌, [], true, List, ℕ, ◌↔◌, IsTrue, IfOk, OnOk, OnErr, IsOk};
 ghost use Rattle.gr_pool.specs.Goroutines.{is_among};
 ghost use Rattle.gr_step.specs.Stores.{program_at, contents_at};
-ghost use Rattle.gr_session.specs.Courses.{IsReadyIn, Settles, KnowsMore, AllKnown, CanStep, Follows, others_of};
+ghost use Rattle.std.specs.Option.{option_to_list};
+ghost use Rattle.gr_session.specs.Courses.{IsReadyIn, Settles, KnowsMore, KnowsMet, AllKnown, CanStep, Follows, names_met, others_of};
 
 use gr_base::{GoName, NoMemory};
 use gr_command::Refusal;
-use gr_goros::Status;
+use gr_goros::{GoUndo, Status};
 use gr_pool::Pool;
 use gr_step::record::Change;
 use gr_step::{Record, Run, Store};
@@ -118,19 +119,66 @@ pub fn know_others(alloc: Global, pool: &mut Pool, change: &Change) -> Result<Ve
     Ok(names)
 }
 
-/// Brings the pool to what is ready after a step, whose goroutine was ready. Where the step reached no further than its
-/// goroutine, and that is ready still, the pool stays. Refused, more may be known.
-pub fn follow(alloc: Global, pool: &mut Pool, store: &Store, step: &Record) -> Result<(), NoMemory>
+// Makes the goroutine of a step, which was ready, unready where it is so in the store.
+fn settle_own(pool: &mut Pool, store: &Store, go: &GoName)
+    requires { is_among go.now pool.old.ready ≡ true }
+    ensures { Settles (go.now ∷ []) (contents_at store.now) pool.old pool.new }
+{
+    if is_ready(store, go) {
+        return;
+    }
+    pool.remove(go);
+}
+
+// Settles each of the goroutines that a step met.
+fn settle_met(pool: &mut Pool, store: &Store, met: &[(GoName, GoUndo)])
+    requires { AllKnown (names_met met.now) pool.old }
+    ensures { Settles (names_met met.now) (contents_at store.now) pool.old pool.new }
+{
+    for (go, _) in met {
+        settle(pool, store, go);
+    }
+}
+
+// Settles the goroutine that a step started, if it started one.
+fn settle_child(pool: &mut Pool, store: &Store, child: &Option<GoName>)
+    requires { AllKnown (option_to_list child.now) pool.old }
+    ensures { Settles (option_to_list child.now) (contents_at store.now) pool.old pool.new }
+{
+    if let Some(go) = child {
+        settle(pool, store, go);
+    }
+}
+
+// Makes the goroutine known that a step started, if it started one.
+fn know_child(pool: &mut Pool, child: &Option<GoName>) -> Result<(), NoMemory>
+    ensures known { OnOk result (AllKnown (option_to_list child.now) pool.new) }
+    ensures more { KnowsMore pool.old pool.new }
+    ensures ready { pool.new.ready ≡ pool.old.ready }
+{
+    if let Some(go) = child {
+        pool.know(go)?;
+    }
+    Ok(())
+}
+
+/// Brings the pool to what is ready after a step, whose goroutine was ready; those that it met are known. Where the step reached
+/// no further than its goroutine, and that is ready still, the pool stays. Refused, more may be known.
+pub fn follow(pool: &mut Pool, store: &Store, step: &Record) -> Result<(), NoMemory>
     requires known { is_among step.now.id.go pool.old.known ≡ true }
     requires was_ready { is_among step.now.id.go pool.old.ready ≡ true }
+    requires met { KnowsMet step.now.change pool.old }
     ensures follows { OnOk result (Follows step.now (contents_at store.now) pool.old pool.new) }
     ensures more { OnErr result (KnowsMore pool.old pool.new) }
     ensures ready { OnErr result (pool.new.ready ≡ pool.old.ready) }
 {
-    if step.change.beyond.is_none() && is_ready(store, &step.id.go) {
+    let Some(beyond) = &step.change.beyond else {
+        settle_own(pool, store, &step.id.go);
         return Ok(());
-    }
-    let others = know_others(alloc, pool, &step.change)?;
-    settle_step(pool, store, &step.id.go, others.as_slice());
+    };
+    know_child(pool, &beyond.begins)?;
+    settle_own(pool, store, &step.id.go);
+    settle_met(pool, store, beyond.met.as_slice());
+    settle_child(pool, store, &beyond.begins);
     Ok(())
 }

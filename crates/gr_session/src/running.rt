@@ -75,7 +75,7 @@ fn take_turn(alloc: Global, course: &mut Course, wanted: u64, taken: u64) -> Res
     let Ok(event) = usual_event(alloc, &course.store, go) else {
         return Err(RunEnd::Memory);
     };
-    match keep_step(alloc, course, event) {
+    match keep_step(course, event) {
         Ok(_) => Ok(()),
         Err(_) => Err(RunEnd::Memory),
     }

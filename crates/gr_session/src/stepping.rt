@@ -9,7 +9,7 @@ ghost use Rattle.gr_pool.specs.Goroutines.{is_among};
 ghost use Rattle.gr_step.specs.Records.{event_of, taken_back, CanGoBack};
 ghost use Rattle.gr_step.specs.Stores.{program_at, contents_at, state_at, IsRun, SameListing, HasRoomFor};
 ghost use Rattle.gr_session.specs.Journal.{World, event_asked};
-ghost use Rattle.gr_session.specs.Courses.{IsCourse, Stands, Takes, Refuses, SaysNoStep, KnowsMore, Follows};
+ghost use Rattle.gr_session.specs.Courses.{IsCourse, Stands, Takes, Refuses, SaysNoStep, KnowsMore, KnowsMet, Follows};
 ghost use Rattle.gr_session.specs.Carried.{Carries, LeadsTo, memory_of};
 
 use crate::LOG_LIMIT;
@@ -61,7 +61,6 @@ fn make_room(log: &mut Vec<Record>) -> Result<(), NoMemory>
 
 // Makes all ready for the record of a step to join the log: room in it, and the pool as it is after the step.
 fn prepare(
-    alloc: Global,
     log: &mut Vec<Record>,
     pool: &mut Pool,
     store: &Store,
@@ -69,6 +68,7 @@ fn prepare(
 ) -> Result<(), NoMemory>
     requires known { is_among step.now.id.go pool.old.known ≡ true }
     requires was_ready { is_among step.now.id.go pool.old.ready ≡ true }
+    requires met { KnowsMet step.now.change pool.old }
     ensures follows { OnOk result (Follows step.now (contents_at store.now) pool.old pool.new) }
     ensures more { OnErr result (KnowsMore pool.old pool.new) }
     ensures ready { OnErr result (pool.new.ready ≡ pool.old.ready) }
@@ -77,7 +77,7 @@ fn prepare(
     ensures short { OnOk result (length log.old.items < LOG_LIMIT) }
 {
     make_room(log)?;
-    follow(alloc, pool, store, step)
+    follow(pool, store, step)
 }
 
 // Takes a step back directly after it, which takes no memory.
@@ -91,7 +91,7 @@ fn withdraw(store: &mut Store, step: Record)
 }
 
 /// Takes the step of an event, which joins the log, and tells its ordinal and its kind. Refused, nothing has changed.
-pub fn keep_step(alloc: Global, course: &mut Course, event: Event) -> Result<(u64, Kind), Refusal>
+pub fn keep_step(course: &mut Course, event: Event) -> Result<(u64, Kind), Refusal>
     requires { IsCourse course.old }
     ensures takes { (p : Program) → (w : World p) → Stands p w course.old → Takes p w event result course.new }
     ensures listing { SameListing course.old.store course.new.store }
@@ -100,13 +100,7 @@ pub fn keep_step(alloc: Global, course: &mut Course, event: Event) -> Result<(u6
         Ok(record) => record,
         Err(why) => return Err(told(course, why)),
     };
-    let prepared = prepare(
-        alloc,
-        &mut course.log,
-        &mut course.pool,
-        &course.store,
-        &record,
-    );
+    let prepared = prepare(&mut course.log, &mut course.pool, &course.store, &record);
     let Ok(()) = prepared else {
         withdraw(&mut course.store, record);
         return Err(unkept(course));
@@ -161,7 +155,7 @@ pub fn step(
         go: go.copy(alloc)?,
         choice,
     };
-    match keep_step(alloc, course, event) {
+    match keep_step(course, event) {
         Ok((n, kind)) => Ok((
             Memory::Enough,
             Reply::Stepped(StepId { go: named, n }, kind),

@@ -19,7 +19,7 @@ use Rattle.gr_contents.specs.Contents.{Contents, goroutine_of}
 use Rattle.gr_step.specs.declared.record.Record.{Record}
 use Rattle.gr_step.specs.Listings.{frame_in, state_in}
 use Rattle.gr_step.specs.Records.{is_printed}
-use Rattle.gr_show.specs.Kept.{Kept, none, one_more}
+use Rattle.gr_step.specs.Kept.{Kept, none, one_more}
 use Rattle.gr_show.specs.Consoles.{texts_of, passed, line_of, lines_after, lines_told}
 use Rattle.gr_show.proofs.Logs.{kept_is_log}
 use Rattle.gr_show.proofs.NextLines.{Texts}

@@ -9,7 +9,7 @@ use Rattle.gr_contents.specs.Contents.{Contents}
 use Rattle.gr_step.specs.declared.record.Record.{Record}
 use Rattle.gr_step.specs.Listings.{state_in}
 use Rattle.gr_step.specs.Records.{is_printed}
-use Rattle.gr_show.specs.Kept.{Kept}
+use Rattle.gr_step.specs.Kept.{Kept}
 
 -- the lines that each goroutine printed
 abbrev pub texts_of : Contents → List ℕ → List (List ℕ)

@@ -1,4 +1,3 @@
 pub mod Said
 pub mod Frames
-pub mod Kept
 pub mod Consoles

@@ -7,7 +7,7 @@ ghost use Rattle.gr_contents.specs.Contents.{Contents};
 ghost use Rattle.gr_command.specs.Replies.{lines_in, said_of};
 ghost use Rattle.gr_step.specs.Records.{is_printed as printed_by};
 ghost use Rattle.gr_step.specs.Stores.{program_at, contents_at};
-ghost use Rattle.gr_show.specs.Kept.{Kept};
+ghost use Rattle.gr_step.specs.Kept.{Kept};
 ghost use Rattle.gr_show.specs.Said.{console_said, log_said, records_said};
 ghost use Rattle.gr_show.specs.Consoles.{OfEachLog, count_in, lines_told, passed, texts_of, untold};
 

@@ -22,6 +22,7 @@ use Rattle.gr_step.specs.Objects.{contents_in}
 use Rattle.gr_step.specs.Premises.{Acting}
 use Rattle.gr_step.specs.Records.{is_printed}
 use Rattle.gr_step.specs.Taking.{Takes}
+use Rattle.gr_step.proofs.ChoosingLemmas.{are_channels}
 use Rattle.gr_step.proofs.OwnSteps.{own_takes, count_is}
 use Rattle.gr_step.proofs.Reaching.{alone}
 
@@ -52,4 +53,4 @@ alone_takes p e number o acting tries after k u line t back fits is frames steps
       writes = ap (λ (r : Touches). objects.Go e.go ∷ r.writes) (sym rows);
       reads = ap (λ (r : Touches). each_once (objects.Go e.go ∷ r.writes) (objects.Run ∷ r.reads)) (sym rows);
     })
-    acting.running.stand frames is
+    acting.running.stand (are_channels o) frames is

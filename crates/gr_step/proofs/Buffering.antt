@@ -21,6 +21,7 @@ use Rattle.gr_contents.specs.Contents.{Contents}
 use Rattle.gr_contents.specs.Looks.{actor_of}
 use Rattle.gr_contents.proofs.SendLemmas.{sending_goes_on}
 use Rattle.gr_lower.specs.Lowered.{lowered}
+use Rattle.gr_channels.specs.declared.changes.ChanUndo.TheVariants.{Buffered}
 use Rattle.gr_tables.specs.NamedChannels.{At, contents_of, seen_of, GoesBack, OfferAt}
 use Rattle.gr_tables.specs.declared.channels.Channels.{Channels}
 use Rattle.gr_step.specs.declared.objects.Objects.{Objects}
@@ -34,6 +35,8 @@ use Rattle.gr_step.specs.Communicating.{TrialIsSound}
 use Rattle.gr_step.specs.Preparing.{CanPass, IsPass}
 use Rattle.gr_step.proofs.RunningLemmas.{acts_here}
 use Rattle.gr_step.proofs.OfferLemmas.{was_seen, of_it, after_buffered}
+use Rattle.gr_step.proofs.InsideLemmas.{gate_first, buffered_among, one_inside, has_places}
+use Rattle.gr_step.proofs.ChoosingLemmas.{are_channels}
 use Rattle.gr_step.proofs.Encounters.{HasClauseAt, can_pass_by, pass_goes_back, pass_room}
 use Rattle.gr_step.proofs.SendSteps.{buffer_takes}
 
@@ -86,6 +89,9 @@ module _ (p : Program) (e : Event) (number : ℕ) (old : Objects) (acting : Acti
         buffer_takes p (contents_in old) acting.running e g f below there frames clause (has g there).0 c v found.content made has_space.0 otherwise
         (contents_in new) y.own done change (ap run_of y.run) back.back back.fits valid has_space.1 has_space.2 y.goes
         (ap contents_of y.channels ∙ after_buffered c old.channels mid found.content made v u answered) y.tells
+        (one_inside e.go (objects.Gate c ∷ []) (objects.Tail c ∷ slot_numbered c found.content.capacity (tail_of found.content)) c Buffered found.content done
+        (contents_in old) (contents_in new) (is_done ∙ ap (λ k. (c, k) ∷ []) answered.rule.0) made back.back (gate_first c [])
+        (buffered_among c found.content (has_places found.content has_space.2)) (are_channels new))
 
     pub buffer_room : HasRoom e.go change new
     buffer_room = pass_room code e.go (Passes clause None) (option_map_or Pick clause Buffer) (sends_on c) (objects.Gate c ∷ [])

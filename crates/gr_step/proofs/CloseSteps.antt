@@ -61,9 +61,12 @@ use Rattle.gr_step.specs.Passing.{ArrivesAt}
 use Rattle.gr_step.specs.Premises.{Acting, OfGoroutine}
 use Rattle.gr_step.specs.Records.{HasRoom, channels_changed}
 use Rattle.gr_step.specs.Taking.{Takes}
-use Rattle.gr_step.specs.Wakes.{waits_known, all_waits_known, without_each, is_live_there, with_each_woken, LeadsOver, written_by_close, Closing}
+use Rattle.gr_step.specs.Within.{IsAmong}
+use Rattle.gr_step.specs.Wakes.{waits_known, all_waits_known, without_each, is_live_there, with_each_woken, LeadsOver, written_by_close, left_by_close, Closing}
 use Rattle.gr_step.proofs.ArrivedLemmas.{can_arrive}
 use Rattle.gr_step.proofs.FaultSteps.{fault_takes, task_faults}
+use Rattle.gr_step.proofs.InsideLemmas.{Inside, met_among, go_of_name, gate_of_name, gates_named, gates_inside, more_before, more_after}
+use Rattle.gr_step.proofs.ChoosingLemmas.{are_channels}
 use Rattle.gr_step.proofs.ObjectLemmas.{change_was, change_is}
 use Rattle.gr_step.proofs.PassingLemmas.{GoesOver, one_first, prints_nothing, needs_no_frame}
 use Rattle.gr_step.proofs.RunningLemmas.{ActsHere, acts_here, code_fits, never_unsound}
@@ -186,6 +189,28 @@ module _ (p : Program) (e : Event) (number : ℕ) (old new : Objects) (acting : 
       (λ q. ap (λ (j : List ℕ → Option CodeGoroutine). j q) (k.wakes ∙ ap (with_each_woken names) k.goes.is ∙ woken_at_once names first))
       (waking_keeps_standing (meaning p) (lowered p) first names one)
 
+  abbrev others : List ChName
+  others = channels_but (c ∷ []) (all_waits_known s.goroutines names)
+
+  abbrev wrote : List Object
+  wrote = Go e.go ∷ written_by_close c s.goroutines names
+
+  gate_written : (d : ChName) → list_any (same_channel d) (left_by_close c s.goroutines names) ≡ true → IsAmong (Gate d) wrote
+  gate_written d h = elim (cases_Bool (same_channel d c)) [
+    | inl is ↦ ap (λ b. b || list_any (same (Gate d)) (map Go names ++ map Gate others)) is
+    | inr n ↦ more_before (Gate d) (Go e.go ∷ Gate c ∷ map Go names) (map Gate others)
+        (gate_of_name d others ∙ sym (ap (λ b. b || list_any (same_channel d) others) n) ∙ h)
+  ]
+
+  inside : Inside e.go [] (written_by_close c s.goroutines names) k.met k.changed t
+  inside = record {
+    goroutines = met_among k.met names wrote k.named (λ q h. more_before (Go q) (Go e.go ∷ Gate c ∷ []) (map Go names ++ map Gate others)
+        (more_after (Go q) (map Go names) (map Gate others) (go_of_name q names ∙ h)));
+    gates = gates_named (left_by_close c s.goroutines names) (Run ∷ wrote) (λ d h. gate_written d h) k.changed k.gates;
+    parts = λ d b q is w. gates_inside (left_by_close c s.goroutines names) wrote gate_written k.changed d b q k.gates w;
+    valid = are_channels new;
+  }
+
   pub closing_takes : Takes p e (attempt p e) s change t
   closing_takes =
       let report = code_report g (Some (closes c)) kinds.Close in
@@ -203,6 +228,7 @@ module _ (p : Program) (e : Event) (number : ℕ) (old new : Objects) (acting : 
         fits = k.back.fits;
         run = ap run_of k.run;
         stand = stands;
+        inside = inside;
       })
       change k.tells
 

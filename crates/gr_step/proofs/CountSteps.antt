@@ -45,6 +45,7 @@ use Rattle.gr_step.specs.Premises.{Acting}
 use Rattle.gr_step.specs.Records.{operation_of, stops, HasRoom}
 use Rattle.gr_step.specs.Taking.{Takes}
 use Rattle.gr_step.proofs.ArrivedLemmas.{Arrived, arrived_here, can_arrive}
+use Rattle.gr_step.proofs.ChoosingLemmas.{are_channels}
 use Rattle.gr_step.proofs.OwnSteps.{own_takes, count_is}
 use Rattle.gr_step.proofs.PlacedLemmas.{own_room}
 use Rattle.gr_step.proofs.Reaching.{Told, told, told_none}
@@ -84,7 +85,7 @@ module _ (p : Program) (e : Event) (number : ℕ) (o : Objects) (acting : Acting
           writes = tells.writes ∙ ap (λ (r : Touches). objects.Go e.go ∷ r.writes) (sym rows);
           reads = tells.reads ∙ once ∙ ap (λ (r : Touches). each_once (objects.Go e.go ∷ r.writes) (objects.Run ∷ r.reads)) (sym rows);
         })
-        acting.running.stand on.stand
+        acting.running.stand (are_channels o) on.stand
         (λ j. record { run = run_of (changes.runs j); goroutines = on.own.is j; channels = contents_of (changes.channels j) })
 
     count_room : (did : Option Operation) (read : List Object) → Told did read [] false e.go c → HasRoom e.go c new

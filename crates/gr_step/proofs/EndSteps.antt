@@ -38,6 +38,7 @@ use Rattle.gr_step.specs.Records.{HasRoom}
 use Rattle.gr_step.specs.Taking.{Takes}
 use Rattle.gr_step.proofs.AloneSteps.{alone_takes}
 use Rattle.gr_step.proofs.FrameNeeds.{need_none_done}
+use Rattle.gr_step.proofs.ChoosingLemmas.{are_channels}
 use Rattle.gr_step.proofs.OwnSteps.{after_own, own_takes, count_is}
 use Rattle.gr_step.proofs.PlacedLemmas.{Placed, placed, at_number, own_room}
 use Rattle.gr_step.proofs.PrintedLemmas.{not_printed}
@@ -105,7 +106,7 @@ module _ (p : Program) (e : Event) (number : ℕ) (o : Objects) (acting : Acting
           writes = tells.writes ∙ ap (λ (r : Touches). objects.Go e.go ∷ r.writes) (sym rows);
           reads = tells.reads ∙ ap (λ (r : Touches). each_once (objects.Go e.go ∷ r.writes) (objects.Run ∷ r.reads)) (sym rows);
         })
-        acting.running.stand tt
+        acting.running.stand (are_channels o) tt
         (λ j. record { run = run_of (ends.after.runs j); goroutines = own.is j; channels = contents_of (ends.after.channels j) })
 
     pub exit_room : HasRoom e.go c new

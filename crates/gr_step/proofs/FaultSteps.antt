@@ -43,6 +43,7 @@ use Rattle.gr_step.specs.Premises.{Acting}
 use Rattle.gr_step.specs.Records.{operation_of, stops}
 use Rattle.gr_step.specs.Taking.{Takes}
 use Rattle.gr_step.proofs.FrameNeeds.{need_none}
+use Rattle.gr_step.proofs.ChoosingLemmas.{are_channels}
 use Rattle.gr_step.proofs.OwnSteps.{after_own, own_takes, count_is}
 use Rattle.gr_step.proofs.PrintedLemmas.{not_printed}
 use Rattle.gr_step.proofs.RunningLemmas.{acts_here}
@@ -79,7 +80,7 @@ fault_takes p e number o acting tries fault did read reads c t is steps rows onc
       writes = tells.writes ∙ ap (λ (r : Touches). objects.Go e.go ∷ r.writes) (sym rows);
       reads = tells.reads ∙ once ∙ ap (λ (r : Touches). each_once (objects.Go e.go ∷ r.writes) (objects.Run ∷ r.reads)) (sym rows);
     })
-    acting.running.stand (acting.running.stand e.go g acting.there) is.after
+    acting.running.stand (are_channels o) (acting.running.stand e.go g acting.there) is.after
 
 -- a task that leaves no choice is at no select
 none_by : (p : Program) (o : Outcome Task) → chooses o ≡ false → clauses_by (deed_meant (meaning p) (lowered p) o) ≡ []

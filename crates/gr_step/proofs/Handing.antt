@@ -24,7 +24,7 @@ use Rattle.gr_contents.specs.Contents.{Contents}
 use Rattle.gr_contents.specs.Looks.{actor_of}
 use Rattle.gr_contents.proofs.SendLemmas.{sending_meets}
 use Rattle.gr_lower.specs.Lowered.{lowered, meaning}
-use Rattle.gr_tables.specs.NamedChannels.{At, contents_of, seen_of, GoesBack, OfferAt, withdrawn}
+use Rattle.gr_tables.specs.NamedChannels.{At, contents_of, seen_of, GoesBack, OfferAt, is_at_gate, withdrawn}
 use Rattle.gr_tables.specs.declared.channels.Channels.{Channels}
 use Rattle.gr_step.specs.declared.objects.Objects.{Objects}
 use Rattle.gr_step.specs.declared.record.Change.{Change}
@@ -41,6 +41,8 @@ use Rattle.gr_code.specs.CodeFrames.{ProgramCode}
 use Rattle.std.specs.Prelude.{slice_get}
 use Rattle.gr_step.proofs.RunningLemmas.{acts_here}
 use Rattle.gr_step.proofs.Waiters.{HasItsClause, waits_at_clause, receiver_waits}
+use Rattle.gr_step.proofs.InsideLemmas.{gate_first, gate_is_among, met_inside}
+use Rattle.gr_step.proofs.ChoosingLemmas.{are_channels}
 use Rattle.gr_step.proofs.Encounters.{HasClauseAt, CanMeet, can_meet, can_exchange, exchanged, all_go_back, exchange_room}
 use Rattle.gr_step.proofs.SendSteps.{hand_takes}
 
@@ -66,7 +68,7 @@ module _ (p : Program) (e : Event) (number : ℕ) (old : Objects) (acting : Acti
   -- and then it was
   module _ (meet : CanMeet p e (contents_in old) clause None c w.go w.case (Some (v, true)))
       (mid : Channels) (is_mid : contents_of mid ≡ updated same_channel (contents_of old.channels) c (Some (record x { receivers = ws })))
-      (u : ChanUndo) (goes : GoesBack ((c, u) ∷ []) old.channels mid) (names : List ChName) (to_leave : AreToLeave names c meet.m.waits)
+      (u : ChanUndo) (at_gate : is_at_gate u ≡ true) (goes : GoesBack ((c, u) ∷ []) old.channels mid) (names : List ChName) (to_leave : AreToLeave names c meet.m.waits)
       (change : Change) (new : Objects)
       (done : IsExchange (lowered p) e.go w.go (Passes clause None) (IsMet w.case (Some (v, true))) names (option_map_or Pick clause Hand) (sends_on c) []
       (objects.Gate c ∷ objects.Go w.go ∷ map objects.Gate (channels_but (c ∷ []) meet.m.waits)) ((c, u) ∷ []) change (record old { channels = mid }) new)
@@ -82,6 +84,8 @@ module _ (p : Program) (e : Event) (number : ℕ) (old : Objects) (acting : Acti
           done.own done.changed change (ap run_of done.exchanges.run) back.back back.fits w ws receivers meet.m meet.its meet.apart
           done.exchanges.both.between done.exchanges.both.goes done.met done.exchanges.both.meeting names to_leave
           (done.exchanges.withdraws ∙ ap (withdrawn w.go names) is_mid) done.tells
+          (met_inside e.go w.go done.met c meet.m.waits [] (objects.Gate c ∷ []) names u x done.changed (contents_in old) (contents_in new) to_leave
+          done.exchanges.gates made back.back (gate_first c []) (gate_is_among c u x (objects.Gate c ∷ []) at_gate (gate_first c [])) (are_channels new))
 
       pub handed_room : HasRoom e.go change new
       handed_room =
@@ -136,8 +140,10 @@ module _ (p : Program) (e : Event) (number : ℕ) (old : Objects) (acting : Acti
       -- and then it was handed over
       pub was_handed : OfActor p e (contents_in old) (λ a. (otherwise : Attempt) → Takes p e (send a clause c v otherwise) (contents_in old) change (contents_in new))
       was_handed = handed p e number old acting clause has c v sound found.content made is_open w first.0 first.1 its_receiver mid
-          (after_handed c old.channels mid found.content made v z u answered w first.0 first.1).1 u goes r.names.items ready.names_are change new done_so
+          (after_handed c old.channels mid found.content made v z u answered w first.0 first.1).1 u (ap is_at_gate answered.rule.1) goes r.names.items
+          ready.names_are change new done_so
 
       pub hand_room : HasRoom e.go change new
       hand_room = handed_room p e number old acting clause has c v sound found.content made is_open w first.0 first.1 its_receiver mid
-          (after_handed c old.channels mid found.content made v z u answered w first.0 first.1).1 u goes r.names.items ready.names_are change new done_so
+          (after_handed c old.channels mid found.content made v z u answered w first.0 first.1).1 u (ap is_at_gate answered.rule.1) goes r.names.items
+          ready.names_are change new done_so

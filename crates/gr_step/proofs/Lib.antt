@@ -4,6 +4,7 @@ mod PrintedLemmas
 mod SendingLemmas
 mod AloneLemmas
 mod FrameNeeds
+mod InsideLemmas
 mod OwnSteps
 mod PlacedLemmas
 mod Reaching
@@ -31,6 +32,7 @@ mod Queueing
 mod EachOnce
 mod OwnChanges
 mod WaitTouches
+mod AloneWaits
 mod WaitingLemmas
 mod ProceedLemmas
 mod MayLemmas
@@ -50,6 +52,7 @@ mod MakeSteps
 mod Meeting
 mod OfferLemmas
 mod PossibleLemmas
+mod UsualLemmas
 mod Results
 mod SelectLists
 mod SendLooks

@@ -1,5 +1,5 @@
 -- The step that makes a channel.
-use Rattle.std.proofs.Common.{◌≡◌, ◌≤◌, ◌<◌, ◌+◌, ◌^◌, ℕ, ℤ, pos, negsuc, Bool, true, false, if◌then◌else◌, List, [], ◌∷◌, Option, Some, None, Global}
+use Rattle.std.proofs.Common.{◌≡◌, ◌≤◌, ◌<◌, ◌+◌, ◌^◌, ℕ, ℤ, pos, negsuc, Bool, true, false, if◌then◌else◌, List, [], ◌∷◌, ◌++◌, Option, Some, None, Global}
 use Rattle.std.proofs.Common.{refl, sym, ap, subst, ◌∙◌, arith}
 use Rattle.std.specs.Prelude.{option_map, Box}
 use Rattle.gr_base.specs.declared.names.ChName.{ChName}
@@ -9,7 +9,7 @@ use Rattle.gr_base.specs.declared.kinds.Fault.TheVariants.{BadSize, NameCount}
 use Rattle.gr_base.specs.declared.kinds.Kind.TheVariants as kinds
 use Rattle.gr_base.specs.declared.objects.Object.TheVariants as objects
 use Rattle.gr_base.specs.declared.values.Value.TheVariants.{Chan}
-use Rattle.gr_channels.specs.Channels.{Content}
+use Rattle.gr_channels.specs.Channels.{Content, IsChannel}
 use Rattle.gr_channels.specs.Objects.{GateContent, gate_of}
 use Rattle.gr_program.specs.Programs.{Program}
 use Rattle.gr_rules.specs.Deeds.{Makes}
@@ -34,7 +34,7 @@ use Rattle.gr_contents.specs.Contents.{Contents, goroutine_of, with_goroutine, w
 use Rattle.gr_contents.specs.Tasks.{chooses}
 use Rattle.gr_contents.proofs.CodeFaultLemmas.{make_of_negative, make_of_great, make_of_too_many}
 use Rattle.gr_contents.proofs.CodeStepLemmas.{make_of_code, make_can_arrive}
-use Rattle.gr_contents.proofs.NameLemmas.{channel_is}
+use Rattle.gr_contents.proofs.NameLemmas.{channel_is, channel_self}
 use Rattle.gr_contents.proofs.StandingLemmas.{change_keeps_standing}
 use Rattle.gr_lower.specs.Lowered.{lowered, meaning}
 use Rattle.gr_step.specs.Beyonds.{ReachesChannel, IsBadSize, Stops}
@@ -44,11 +44,15 @@ use Rattle.gr_step.specs.declared.record.Change.{Change}
 use Rattle.gr_step.specs.Listings.{frame_in, state_in}
 use Rattle.gr_step.specs.Objects.{contents_in, run_of}
 use Rattle.gr_step.specs.Premises.{Acting}
-use Rattle.gr_step.specs.Records.{operation_of, beyond, stops, go_back, goroutines_changed, channels_changed, begun_by, made_by, is_go, is_channel}
+use Rattle.gr_step.specs.Records.{operation_of, beyond, stops, go_back, goroutines_changed, channels_changed, begun_by, made_by, is_go, is_channel, writes_of, reads_of}
 use Rattle.gr_step.specs.Records.{taken_back, GoesFit, NeedNoFrame, CanGoBack}
+use Rattle.gr_step.specs.Within.{IsAmong, EachIsAmong, PartsAreAmong, IsUnused, ChangesWithin}
 use Rattle.gr_step.specs.Taking.{Takes}
 use Rattle.gr_step.proofs.ArrivedLemmas.{Arrived, can_arrive}
 use Rattle.gr_step.proofs.FaultSteps.{task_faults}
+use Rattle.gr_tables.proofs.Validity.{fresh_valid}
+use Rattle.gr_step.proofs.InsideLemmas.{some_is, own_is_written, gate_first}
+use Rattle.gr_step.proofs.ChoosingLemmas.{are_channels}
 use Rattle.gr_step.proofs.OwnSteps.{own_back, own_fits, count_is}
 use Rattle.gr_step.proofs.RunningLemmas.{acts_here, never_unsound, channels_sound}
 
@@ -138,6 +142,25 @@ module _ (p : Program) (e : Event) (number : ℕ) (o : Objects) (acting : Acting
         frames = (on.none, subst {_, _} NeedNoFrame (sym reach.rest.met) tt);
       }
 
+      valid_after : (k : Bool) (old : Option Content) → ((x : Content) → old ≡ Some x → IsChannel x) → (x : Content)
+          → (if k then Some (fresh n) else old) ≡ Some x → IsChannel x
+      valid_after true old valid x is = subst {_, _} IsChannel (some_is is) (fresh_valid n)
+      valid_after false old valid x is = valid x is
+
+      stays_within : ChangesWithin e.go c t
+      stays_within = record {
+        goroutines = subst {_, _} (λ met. EachIsAmong objects.Go ((e.go, u) ∷ met) (writes_of e.go c)) (sym reach.rest.met) (own_is_written e.go c, tt);
+        begun = λ q is. absurd (let no : None ≡ Some q = sym reach.rest.begins ∙ is in cc);
+        made = λ q is. subst {_, _} (λ k. IsAmong (objects.Gate k) (writes_of e.go c) × IsUnused (t.channels k)) (some_is (sym reach.makes ∙ is)) (
+          subst {_, _} (λ os. IsAmong (objects.Gate next) (objects.Go e.go ∷ os)) (sym reach.rest.writes) (gate_first next []),
+          (fresh n, ap (λ b. if b then Some (fresh n) else s.channels next) (channel_self next), refl, refl),
+        );
+        gates = subst {_, _} (λ us. EachIsAmong objects.Gate us (reads_of c ++ writes_of e.go c)) (sym reach.rest.channels) tt;
+        parts = subst {_, _} (λ us. PartsAreAmong us t.channels (writes_of e.go c)) (sym reach.rest.channels)
+            (λ d x q is w. absurd (let no : false ≡ true = w in cc));
+        valid = λ d x is. valid_after (same_channel d next) (s.channels d) (are_channels o d) x is;
+      }
+
       made_takes : Takes p e (attempt p e) s c t
       made_takes =
           let here = acts_here p e number o acting in
@@ -155,6 +178,7 @@ module _ (p : Program) (e : Event) (number : ℕ) (o : Objects) (acting : Acting
             back = goes_back;
             fits = can_go_back;
             stand = change_keeps_standing (meaning p) (lowered p) s e.go on.after acting.running.stand on.stand;
+            within = stays_within;
           }
 
       pub make_takes : (chans : Channels) → contents_of chans ≡ updated same_channel (contents_of o.channels) next (Some (fresh n))

@@ -29,7 +29,8 @@ use Rattle.gr_contents.specs.Looks.{actor_of}
 use Rattle.gr_contents.specs.Partners.{Meets}
 use Rattle.gr_contents.proofs.ReceiveLemmas.{receiving_finds_mover, receiving_finds_sender}
 use Rattle.gr_lower.specs.Lowered.{lowered}
-use Rattle.gr_tables.specs.NamedChannels.{At, contents_of, seen_of, GoesBack, TakeAt, withdrawn}
+use Rattle.gr_contents.specs.Written.{written_objects, AreAmong}
+use Rattle.gr_tables.specs.NamedChannels.{At, contents_of, seen_of, GoesBack, TakeAt, is_at_gate, withdrawn}
 use Rattle.gr_tables.specs.declared.channels.Channels.{Channels}
 use Rattle.gr_step.specs.declared.objects.Objects.{Objects}
 use Rattle.gr_step.specs.declared.partners.Prepared.{Prepared}
@@ -44,8 +45,10 @@ use Rattle.gr_step.specs.Preparing.{IsPrepared, CanExchange, IsExchange}
 use Rattle.gr_step.proofs.RunningLemmas.{acts_here}
 use Rattle.gr_step.proofs.OfferLemmas.{was_seen, of_it, first_in, has_first, after_moved, after_met}
 use Rattle.gr_step.proofs.Waiters.{HasItsClause, waits_at_clause, sender_waits}
+use Rattle.gr_step.proofs.InsideLemmas.{gate_first, gate_is_among, moved_among, met_inside, has_capacity}
+use Rattle.gr_step.proofs.ChoosingLemmas.{are_channels}
 use Rattle.gr_step.proofs.Encounters.{HasClauseAt, CanMeet, can_meet, can_exchange, exchanged, all_go_back, exchange_room}
-use Rattle.gr_step.proofs.ReceiveSteps.{move_takes, meet_takes}
+use Rattle.gr_step.proofs.ReceiveSteps.{full, move_takes, meet_takes}
 
 module _ (p : Program) (e : Event) (number : ℕ) (old : Objects) (acting : Acting p e number old) (clause : Option ℕ)
     (has : HasClauseAt p e (contents_in old) clause) (c : ChName) (initial : Value)
@@ -127,6 +130,9 @@ module _ (p : Program) (e : Event) (number : ℕ) (old : Objects) (acting : Acti
             its_sender.apart w.value so.exchanges.both.between so.exchanges.both.goes so.met so.exchanges.both.meeting r.names.items ready.names_are no_item
             refl (so.exchanges.withdraws ∙ ap (withdrawn w.go r.names.items) (after_met c old.channels mid found.content made z u answered w first.0 first.1).1)
             so.tells
+            (met_inside e.go w.go so.met c its_sender.m.waits sides touched r.names.items u found.content so.changed (contents_in old) (contents_in new)
+            ready.names_are so.exchanges.gates made back.back (gate_first c [])
+            (gate_is_among c u found.content touched (ap is_at_gate answered.rule.1) (gate_first c [])) (are_channels new))
 
         pub meeting_room : HasRoom e.go change new
         meeting_room = exchange_room (lowered p) e.go w.go (Passes clause (Some (w.value, true))) (IsMet w.case None) r.names.items
@@ -177,6 +183,13 @@ module _ (p : Program) (e : Event) (number : ℕ) (old : Objects) (acting : Acti
         goes_back = all_go_back (lowered p) e.go w.go (Passes clause (Some (item.0, true))) (IsMet w.case None) r.names.items
             (option_map_or Pick clause Take) (receives_from c) [] moved ((c, u) ∷ []) change old.channels (record old { channels = mid }) new goes done_so
 
+        written_by_move : AreAmong (written_objects c u found.content) moving
+        written_by_move =
+            let moved_up = answered.rule in
+            let is_full = full p (contents_in old) acting.running c found.content w first.0 made first.1 in
+            subst {_, _} (λ (k : ChanUndo). AreAmong (written_objects c k found.content) moving) (sym moved_up.2)
+            (moved_among c z moved_up.0.go moved_up.0.case found.content (has_capacity found.content item.0 item.1 item.2 is_full) is_full)
+
         pub mover_was_met : OfActor p e (contents_in old)
             (λ a. (otherwise : Attempt) → Takes p e (receive a clause c initial otherwise) (contents_in old) change (contents_in new))
         mover_was_met g f below there frames otherwise =
@@ -186,6 +199,9 @@ module _ (p : Program) (e : Event) (number : ℕ) (old : Objects) (acting : Acti
             done_so.exchanges.both.meeting r.names.items ready.names_are item.1 item.2
             (done_so.exchanges.withdraws ∙ ap (withdrawn w.go r.names.items)
             (after_moved c old.channels mid found.content made z u answered item.0 item.1 item.2 w first.0 first.1).1) done_so.tells
+            (met_inside e.go w.go done_so.met c its_mover.m.waits [] moving r.names.items u found.content done_so.changed (contents_in old) (contents_in new)
+            ready.names_are done_so.exchanges.gates made goes_back.back
+            (gate_first c (objects.Head c ∷ objects.Tail c ∷ slot_numbered c found.content.capacity found.content.head)) written_by_move (are_channels new))
 
         pub moving_room : HasRoom e.go change new
         moving_room = exchange_room (lowered p) e.go w.go (Passes clause (Some (item.0, true))) (IsMet w.case None) r.names.items

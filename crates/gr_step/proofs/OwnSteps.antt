@@ -1,11 +1,12 @@
 -- A step that changes its own goroutine, and perhaps whether the program runs.
-use Rattle.std.proofs.Common.{◌≡◌, ◌+◌, ℕ, Bool, true, false, if◌then◌else◌, List, [], ◌∷◌, Option, Some, None, refl, sym, ap, subst, ◌∙◌}
+use Rattle.std.proofs.Common.{◌≡◌, ◌+◌, ℕ, Bool, true, false, if◌then◌else◌, List, [], ◌∷◌, ◌++◌, Option, Some, None, refl, sym, ap, subst, ◌∙◌}
 use Rattle.std.specs.Prelude.{option_map, is_some}
 use Rattle.std.specs.Cmp.Lexicographic.{same_text}
 use Rattle.std.proofs.lemmas.Cmp.{nat_list_eq_equiv}
 use Rattle.gr_base.specs.declared.events.Event.{Event}
 use Rattle.gr_base.specs.declared.kinds.Kind.{Kind}
 use Rattle.gr_base.specs.declared.objects.Object.{Object}
+use Rattle.gr_base.specs.declared.objects.Object.TheVariants.{Gate, Go}
 use Rattle.gr_program.specs.Programs.{Program}
 use Rattle.gr_rules.specs.Attempts.{Attempt, Report, kind_of}
 use Rattle.gr_rules.specs.States.{Run, live, same_go, updated}
@@ -18,6 +19,7 @@ use Rattle.gr_goros.specs.declared.undo.GoUndo.{GoUndo}
 use Rattle.gr_tables.specs.NamedChannels.{chan_back, ChansFit}
 use Rattle.gr_contents.specs.Contents.{Contents, goroutine_of, with_goroutine}
 use Rattle.gr_contents.specs.Performing.{StepsTo}
+use Rattle.gr_contents.specs.Partners.{AreChannels}
 use Rattle.gr_contents.specs.Standing.{AllStand, ContentsStand}
 use Rattle.gr_contents.proofs.StandingLemmas.{change_keeps_standing}
 use Rattle.gr_lower.specs.Lowered.{lowered, meaning}
@@ -26,7 +28,9 @@ use Rattle.gr_step.specs.Listings.{frame_in, state_in}
 use Rattle.gr_step.specs.Records.{beyond, operation_in, is_printed, stops, writes_of, reads_of, goroutines_changed, channels_changed, begun_by}
 use Rattle.gr_step.specs.Records.{made_by}
 use Rattle.gr_step.specs.Records.{go_back, go_undone, GoesFit, is_go, is_channel, taken_back, FramesStay, CanGoBack}
+use Rattle.gr_step.specs.Within.{EachIsAmong, PartsAreAmong, ChangesWithin}
 use Rattle.gr_step.specs.Taking.{Takes}
+use Rattle.gr_step.proofs.InsideLemmas.{own_is_written}
 
 -- a name is itself
 pub same_name : (n : List ℕ) → same_go n n ≡ true
@@ -80,6 +84,17 @@ module _ (s : Contents) (n : List ℕ) (g after : CodeGoroutine) (c : Change) (r
     frames = own.frames;
   }
 
+-- it stays within what the step touched
+own_within : (s : Contents) (n : List ℕ) (after : CodeGoroutine) (c : Change) (r : Run) → IsOwn n c → AreChannels s → ChangesWithin n c (after_own s n after r)
+own_within s n after c r own valid = record {
+  goroutines = subst {_, _} (λ us. EachIsAmong Go us (writes_of n c)) (sym own.goroutines) (own_is_written n c, tt);
+  begun = λ q is. absurd (let no : None ≡ Some q = sym own.begins ∙ is in cc);
+  made = λ q is. absurd (let no : None ≡ Some q = sym own.makes ∙ is in cc);
+  gates = subst {_, _} (λ us. EachIsAmong Gate us (reads_of c ++ writes_of n c)) (sym own.channels) tt;
+  parts = subst {_, _} (λ us. PartsAreAmong us s.channels (writes_of n c)) (sym own.channels) (λ d b q is w. absurd (let no : false ≡ true = w in cc));
+  valid = valid;
+}
+
 -- what the change of a step tells is what the rules note of it
 pub record IsTold (p : Program) (e : Event) (s : Contents) (report : Report) (c : Change) : Type 0 where
   pub ordinal : report.ordinal ≡ count (state_in p s) e.go + 1
@@ -93,8 +108,8 @@ pub record IsTold (p : Program) (e : Event) (s : Contents) (report : Report) (c 
 pub own_takes : (p : Program) (e : Event) (attempt : Attempt) (s t : Contents) (g after : CodeGoroutine) (c : Change) (r : Run) (report : Report)
     → s.goroutines e.go ≡ Some g → undone c.own after ≡ g → Fits c.own after → IsOwn e.go c → (if stops c then live else r) ≡ s.run
     → StepsTo (frame_in p) attempt s (after_own s e.go after r) report → IsTold p e s report c → ContentsStand (meaning p) (lowered p) s
-    → AllStand (meaning p) (lowered p) after.frames → t ≡ after_own s e.go after r → Takes p e attempt s c t
-own_takes p e attempt s t g after c r report there back fits own run steps told stand frames is =
+    → AreChannels s → AllStand (meaning p) (lowered p) after.frames → t ≡ after_own s e.go after r → Takes p e attempt s c t
+own_takes p e attempt s t g after c r report there back fits own run steps told stand valid frames is =
     subst {_, _} (Takes p e attempt s c) (sym is)
     (record {
       report = report;
@@ -108,6 +123,7 @@ own_takes p e attempt s t g after c r report there back fits own run steps told 
       back = own_taken_back s e.go g after c r there back fits own run;
       fits = own_goes_back s e.go g after c r there back fits own run;
       stand = change_keeps_standing (meaning p) (lowered p) s e.go after stand frames;
+      within = own_within s e.go after c r own valid;
     })
 
 -- how many steps the goroutine has taken

@@ -60,7 +60,7 @@ clauses_step cells (SendArm channel value on) arms = in_turn (one_channel cells 
 clauses_step cells (ReceiveArm channel initial into on) arms = in_turn (one_channel cells channel) _ _
 
 -- the clauses of arms, one for each
-data AreClauses (cells : Variables) : List Arm → List Communication → Type 0 where
+pub data AreClauses (cells : Variables) : List Arm → List Communication → Type 0 where
   no_clause : AreClauses cells [] []
   clause : {a : Arm} {arms : List Arm} {w : Communication} {ws : List Communication}
       → clause_by cells a ≡ gives w → AreClauses cells arms ws → AreClauses cells (a ∷ arms) (w ∷ ws)
@@ -90,12 +90,12 @@ both_true : (a b : Bool) → (a && b) ≡ true → (a ≡ true) × (b ≡ true)
 both_true true b h = (refl, h)
 both_true false b h = let no : false ≡ true = h in cc
 
-record HaveClauses (cells : Variables) (arms : List Arm) : Type 0 where
-  ws : List Communication
-  is : clauses_of cells arms ≡ gives ws
-  are : AreClauses cells arms ws
+pub record HaveClauses (cells : Variables) (arms : List Arm) : Type 0 where
+  pub ws : List Communication
+  pub is : clauses_of cells arms ≡ gives ws
+  pub are : AreClauses cells arms ws
 
-have : (cells : Variables) (arms : List Arm) → list_all (arm_given cells) arms ≡ true → HaveClauses cells arms
+pub have : (cells : Variables) (arms : List Arm) → list_all (arm_given cells) arms ≡ true → HaveClauses cells arms
 have cells [] h = record { ws = []; is = refl; are = no_clause }
 have cells (a ∷ arms) h =
     let both = both_true (arm_given cells a) (list_all (arm_given cells) arms) h in
@@ -149,7 +149,7 @@ default_as cells (SendArm channel value on) w ws k b is rest =
 default_as cells (ReceiveArm channel initial into on) w ws k b is rest =
     rest ∙ other_as (λ c. Receiving c initial) w ws k (λ c. refl) (one_channel cells channel) is
 
-has_default : {cells : Variables} {arms : List Arm} {ws : List Communication} → AreClauses cells arms ws → (k : ℕ)
+pub has_default : {cells : Variables} {arms : List Arm} {ws : List Communication} → AreClauses cells arms ws → (k : ℕ)
     → list_any is_default arms ≡ is_some (default_from k ws)
 has_default no_clause k = refl
 has_default {cells} (clause {a} {arms} {w} {ws} is rest) k = default_as cells a w ws k (list_any is_default arms) is (has_default rest (k + 1))
@@ -190,16 +190,16 @@ module _ (p : Program) (s : Contents) (run : Running p s) (valid : AreChannels s
   may_is Park = park_by p s run valid n ws at (default_from 1 ws) (list_any (can_proceed s) ws) refl refl
 
 -- the innermost frame
-innermost : (fs : List CodeFrame) (f : CodeFrame) → slice_get fs 0 ≡ Some f → (below : List CodeFrame) × (fs ≡ f ∷ below)
+pub innermost : (fs : List CodeFrame) (f : CodeFrame) → slice_get fs 0 ≡ Some f → (below : List CodeFrame) × (fs ≡ f ∷ below)
 innermost [] f h = cc
 innermost (g ∷ below) f h = (below, ap (λ k. k ∷ below) (some_is h))
 
 -- a select comes to its clauses
-task_of_arms : (code : ProgramCode) (f : CodeFrame) (below : List CodeFrame) (arms : List Arm) → SelectsIn code (f ∷ below) arms
+pub task_of_arms : (code : ProgramCode) (f : CodeFrame) (below : List CodeFrame) (arms : List Arm) → SelectsIn code (f ∷ below) arms
     → task_in code (f ∷ below) ≡ (clauses_of f.cells arms >>= λ ws. gives (Wants (Chooses ws)))
 task_of_arms code f below arms is = ap (λ o. o >>= λ i. task f i) is
 
-no_clauses : (o : Outcome (List Communication)) → is_given o ≡ false → chooses (o >>= λ ws. gives (Wants (Chooses ws))) ≡ false
+pub no_clauses : (o : Outcome (List Communication)) → is_given o ≡ false → chooses (o >>= λ ws. gives (Wants (Chooses ws))) ≡ false
 no_clauses (gives ws) h = let no : true ≡ false = h in cc
 no_clauses (faults e) h = refl
 no_clauses wrong h = refl

@@ -1,8 +1,8 @@
 -- A goroutine that comes to stand in one queue after the other.
-use Rattle.std.proofs.Common.{◌≡◌, ℕ, ◌+◌, ◌-◌, ◌<◌, ◌≤◌, Bool, true, false, ◌&&◌, if◌then◌else◌, List, [], ◌∷◌, ◌++◌, length, map, drop, get_or, drop-cons}
-use Rattle.std.proofs.Common.{drop_of_length-le, add-one, suc, refl, ap, sym, ◌∙◌, subst, arith, append-nil, append_assoc, Option, Some, None, option_map, inl, inr}
+use Rattle.std.proofs.Common.{◌≡◌, ℕ, ◌+◌, ◌-◌, ◌<◌, ◌≤◌, Bool, true, false, ◌&&◌, ◌||◌, if◌then◌else◌, List, [], ◌∷◌, ◌++◌, length, map, drop, get_or, drop-cons}
+use Rattle.std.proofs.Common.{drop_of_length-le, add-one, zero, suc, refl, ap, sym, ◌∙◌, subst, arith, append-nil, append_assoc, Option, Some, None, option_map, inl, inr}
 use Rattle.std.specs.Prelude.{is_some}
-use Rattle.std.specs.List.{list_all}
+use Rattle.std.specs.List.{list_any, list_all}
 use Rattle.std.proofs.lemmas.Bool.{cases_Bool, and_parts, and_from}
 use Rattle.gr_base.specs.declared.names.ChName.{ChName}
 use Rattle.gr_channels.specs.declared.changes.ChanUndo.{ChanUndo}
@@ -11,18 +11,20 @@ use Rattle.gr_channels.specs.Changes.{need}
 use Rattle.gr_rules.specs.Outcomes.{gives, faults, wrong}
 use Rattle.gr_rules.specs.Operators.{same_channel}
 use Rattle.gr_rules.specs.Deeds.{Communication, Sending, Receiving, Otherwise}
-use Rattle.gr_rules.specs.Goroutines.{Wait}
+use Rattle.gr_rules.specs.Goroutines.{Wait, channel_of}
 use Rattle.gr_rules.specs.Communications.{waits_for, all_waits}
 use Rattle.gr_goros.specs.Views.{communication_of, wait_of, waits_of}
 use Rattle.gr_goros.specs.declared.needs.Clause.{Clause}
 use Rattle.gr_goros.specs.declared.wait.Wait as declared
 use Rattle.gr_contents.specs.Partners.{is_made_for}
 use Rattle.gr_contents.proofs.NameLemmas.{channel_is}
-use Rattle.gr_tables.specs.NamedChannels.{contents_of, rooms_of, minus, needs, frees, chan_back, ChansFit, HasRooms, GoesBack, TookBack}
+use Rattle.gr_tables.specs.NamedChannels.{contents_of, rooms_of, AreAtGates, minus, needs, frees, chan_back, ChansFit, HasRooms, GoesBack, TookBack}
 use Rattle.gr_tables.specs.declared.channels.Channels.{Channels}
 use Rattle.gr_tables.proofs.Joining.{changes_join}
+use Rattle.gr_tables.proofs.Withdrawals.{gates_join}
 use Rattle.gr_tables.proofs.RoomLemmas.{none_within, within_self}
-use Rattle.gr_step.specs.Parks.{pending_of, with_channels, queued_for, queued, AreMade, listed, NeedNoRoom}
+use Rattle.gr_step.proofs.InsideLemmas.{or_true, or_assoc, gates_widen}
+use Rattle.gr_step.specs.Parks.{pending_of, channels_awaited, with_channels, queued_for, queued, AreMade, listed, NeedNoRoom}
 
 -- the first of those that are left
 pub first_left : {X : Type 0} (xs : List X) (i : ℕ) (x : X) → i < length xs → x ≡ get_or xs i x → drop i xs ≡ x ∷ drop (i + 1) xs
@@ -113,12 +115,34 @@ pub no_room_more : (us vs : List (ChName × ChanUndo)) → NeedNoRoom us → Nee
 no_room_more [] vs h k = k
 no_room_more (u ∷ us) vs h k = (h.0, no_room_more us vs h.1 k)
 
+-- the channel of one of these is one of theirs
+among_either : (d : ChName) (vs ws : List Wait) → list_any (same_channel d) (map channel_of (vs ++ ws))
+    ≡ (list_any (same_channel d) (map channel_of vs) || list_any (same_channel d) (map channel_of ws))
+among_either d [] ws = refl
+among_either d (v ∷ vs) ws =
+    ap (λ b. same_channel d (channel_of v) || b) (among_either d vs ws)
+    ∙ sym (or_assoc (same_channel d (channel_of v)) (list_any (same_channel d) (map channel_of vs)) (list_any (same_channel d) (map channel_of ws)))
+
+awaited_here : (ws : List (Option ℕ × Clause)) (i : ℕ) (w : Option ℕ × Clause) → i < length ws → w ≡ get_or ws i w → (d : ChName)
+    → list_any (same_channel d) (channels_awaited ((w.0, communication_of w.1) ∷ [])) ≡ true → list_any (same_channel d) (channels_awaited (pending_of ws)) ≡ true
+awaited_here [] i w h at d e = absurd (omega (arith, h))
+awaited_here (v ∷ ws) zero w h at d e =
+    among_either d (waits_for v.0 (communication_of v.1)) (all_waits (pending_of ws))
+    ∙ ap (λ b. b || list_any (same_channel d) (channels_awaited (pending_of ws)))
+    (ap (λ (z : Option ℕ × Clause). list_any (same_channel d) (map channel_of (waits_for z.0 (communication_of z.1)))) (sym at)
+    ∙ sym (ap (λ l. list_any (same_channel d) (map channel_of l)) (append-nil (waits_for w.0 (communication_of w.1)))) ∙ e)
+awaited_here (v ∷ ws) (suc i) w h at d e =
+    among_either d (waits_for v.0 (communication_of v.1)) (all_waits (pending_of ws))
+    ∙ ap (λ b. list_any (same_channel d) (map channel_of (waits_for v.0 (communication_of v.1))) || b) (awaited_here ws i w (omega (arith, h)) at d e)
+    ∙ or_true (list_any (same_channel d) (map channel_of (waits_for v.0 (communication_of v.1))))
+
 -- of a goroutine that stands in the queues for some of these, and has those for the others before it
 pub record Queueing (go : List ℕ) (ws : List (Option ℕ × Clause)) (i : ℕ) (us : List (ChName × ChanUndo)) (old now : Channels) : Type 0 where
   pub told : queued go (pending_of (drop i ws)) (contents_of now) ≡ queued go (pending_of ws) (contents_of old)
   pub made : AreMade (pending_of (drop i ws)) (contents_of now)
   pub back : GoesBack us old now
   pub no_room : NeedNoRoom us
+  pub gates : AreAtGates (channels_awaited (pending_of ws)) us
 
 module _ (go : List ℕ) (ws : List (Option ℕ × Clause)) (i : ℕ) (us : List (ChName × ChanUndo)) (old now : Channels) (q : Queueing go ws i us old now) where
   pub here_made : (w : Option ℕ × Clause) → i < length ws → w ≡ get_or ws i w → AreMade ((w.0, communication_of w.1) ∷ []) (contents_of now)
@@ -130,9 +154,9 @@ module _ (go : List ℕ) (ws : List (Option ℕ × Clause)) (i : ℕ) (us : List
       and_from (is_made_for (with_channels f) (communication_of w.1)) true parts.0 refl
 
   pub queueing_next : (w : Option ℕ × Clause) (vs more : List (ChName × ChanUndo)) (new : Channels) → i < length ws → w ≡ get_or ws i w
-      → contents_of new ≡ queued_for go (contents_of now) (w.0, communication_of w.1) → GoesBack vs now new → NeedNoRoom vs → more ≡ us ++ vs
-      → Queueing go ws (i + 1) more old new
-  queueing_next w vs more new h at is goes none are =
+      → contents_of new ≡ queued_for go (contents_of now) (w.0, communication_of w.1) → GoesBack vs now new → NeedNoRoom vs
+      → AreAtGates (channels_awaited ((w.0, communication_of w.1) ∷ [])) vs → more ≡ us ++ vs → Queueing go ws (i + 1) more old new
+  queueing_next w vs more new h at is goes none gates are =
       let f = contents_of now in
       let rest = pending_of (drop (i + 1) ws) in
       let all = subst (λ l. AreMade (pending_of l) f) (first_left ws i w h at) q.made in
@@ -142,6 +166,8 @@ module _ (go : List ℕ) (ws : List (Option ℕ × Clause)) (i : ℕ) (us : List
         made = made_later f (contents_of new) (λ d. ap (λ g. is_some (g d)) is ∙ still_there go f w.0 (communication_of w.1) d) rest parts.1;
         back = subst (λ l. GoesBack l old new) (sym are) (changes_join us vs old now new q.back goes);
         no_room = subst NeedNoRoom (sym are) (no_room_more us vs q.no_room none);
+        gates = subst (AreAtGates (channels_awaited (pending_of ws))) (sym are) (gates_join (channels_awaited (pending_of ws)) us vs q.gates
+            (gates_widen (channels_awaited ((w.0, communication_of w.1) ∷ [])) (channels_awaited (pending_of ws)) vs (awaited_here ws i w h at) gates));
       }
 
   pub all_queued : length ws ≤ i → contents_of now ≡ queued go (pending_of ws) (contents_of old)
@@ -172,4 +198,5 @@ none_queued go ws c made = record {
   made = made;
   back = unchanged c;
   no_room = tt;
+  gates = tt;
 }

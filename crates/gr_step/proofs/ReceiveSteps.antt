@@ -41,6 +41,7 @@ use Rattle.gr_step.specs.Passing.{ArrivesAt, Tells}
 use Rattle.gr_step.specs.Preparing.{AreToLeave}
 use Rattle.gr_step.proofs.AloneLemmas.{WaitsNoMore, moved_alone, sender_alone}
 use Rattle.gr_step.proofs.RunningLemmas.{channels_sound}
+use Rattle.gr_step.proofs.InsideLemmas.{Inside}
 use Rattle.gr_step.proofs.PassingLemmas.{GoesOver, no_change, one_first, prints_nothing}
 use Rattle.gr_step.proofs.TakingLemmas.{Reaches, takes, counted}
 use Rattle.gr_step.proofs.TouchLemmas.{woken_one, first_sender, all_senders, head_slot, read_of_take, read_of_move, read_of_meet, read_of_end}
@@ -82,8 +83,9 @@ module _ (p : Program) (s : Contents) (run : Running p s) (e : Event) (g : CodeG
         (receiving_takes (frame_in p) s a clause c x initial otherwise v rest on.on goes.after made valid items senders on.is on.after)
 
     pub take_takes : Tells change (kind_of took) (Some (receives_from c)) (objects.Gate c ∷ []) (objects.Head c ∷ slot_numbered c x.capacity x.head) own [] us
+        → Inside e.go (objects.Gate c ∷ []) (objects.Head c ∷ slot_numbered c x.capacity x.head) [] us t
         → Takes p e (receive a clause c initial otherwise) s change t
-    take_takes tells =
+    take_takes tells inside =
         let at : senders_at ((state_in p s).gates c) ≡ [] = all_senders p s c x made [] senders in
         let wrote = ap (λ l. objects.Go e.go ∷ objects.Head c ∷ l) (sym (head_slot p s c x made))
         ∙ ap (λ ns. objects.Go e.go ∷ (taken (state_in p s) c ns).writes) (sym at) in
@@ -101,6 +103,7 @@ module _ (p : Program) (s : Contents) (run : Running p s) (e : Event) (g : CodeG
           fits = fits;
           run = is_run;
           stand = one_stands p s run e g f below there frames clause (Some (v, true)) number own t.goroutines goes t refl;
+          inside = inside;
         })
         change tells
 
@@ -119,8 +122,9 @@ module _ (p : Program) (s : Contents) (run : Running p s) (e : Event) (g : CodeG
         (receiving_ends (frame_in p) s a clause c x initial otherwise on.on goes.after made valid items senders closed on.is on.after)
 
     pub end_takes : Tells change (kind_of ended) (Some (receives_from c)) (objects.Gate c ∷ objects.Head c ∷ slot_numbered c x.capacity x.head) [] own [] us
+        → Inside e.go (objects.Gate c ∷ objects.Head c ∷ slot_numbered c x.capacity x.head) [] [] us t
         → Takes p e (receive a clause c initial otherwise) s change t
-    end_takes tells =
+    end_takes tells inside =
         let side = ap (λ l. objects.Run ∷ objects.Gate c ∷ objects.Head c ∷ l) (sym (head_slot p s c x made)) in
         takes p e (receive a clause c initial otherwise) s t ended (objects.Gate c ∷ objects.Head c ∷ slot_numbered c x.capacity x.head) [] own [] us
         (record {
@@ -136,6 +140,7 @@ module _ (p : Program) (s : Contents) (run : Running p s) (e : Event) (g : CodeG
           fits = fits;
           run = is_run;
           stand = one_stands p s run e g f below there frames clause (Some (initial, false)) number own t.goroutines goes t refl;
+          inside = inside;
         })
         change tells
 
@@ -183,8 +188,9 @@ module _ (p : Program) (s : Contents) (run : Running p s) (e : Event) (g : CodeG
 
       pub move_takes : Tells change (kind_of moved) (Some (receives_from c)) []
           (objects.Gate c ∷ objects.Head c ∷ objects.Tail c ∷ slot_numbered c x.capacity x.head ++ gates) own ((w.go, met) ∷ []) us
+          → Inside e.go [] (objects.Gate c ∷ objects.Head c ∷ objects.Tail c ∷ slot_numbered c x.capacity x.head ++ gates) ((w.go, met) ∷ []) us t
           → Takes p e (receive a clause c initial otherwise) s change t
-      move_takes tells =
+      move_takes tells inside =
           let at : senders_at ((state_in p s).gates c) ≡ w.go ∷ map (λ w. w.go) ws = all_senders p s c x made (w ∷ ws) senders in
           let slot = sym (head_slot p s c x made) in
           let wrote = (λ i. objects.Go e.go ∷ objects.Gate c ∷ objects.Head c ∷ objects.Tail c ∷ slot i ++ woke i)
@@ -204,6 +210,7 @@ module _ (p : Program) (s : Contents) (run : Running p s) (e : Event) (g : CodeG
             fits = fits;
             run = is_run;
             stand = two_stand p s run e.go w.go apart (Passes clause (Some (v, true))) own between goes c w.case None m met t.goroutines meeting t refl;
+            inside = inside;
           })
           change tells
 
@@ -226,8 +233,10 @@ module _ (p : Program) (s : Contents) (run : Running p s) (e : Event) (g : CodeG
           (rw given on.is) on.after partner)
 
       pub meet_takes : Tells change (kind_of was_met) (Some (receives_from c)) (objects.Head c ∷ slot_numbered c x.capacity x.head)
-          (objects.Gate c ∷ gates) own ((w.go, met) ∷ []) us → Takes p e (receive a clause c initial otherwise) s change t
-      meet_takes tells =
+          (objects.Gate c ∷ gates) own ((w.go, met) ∷ []) us
+          → Inside e.go (objects.Head c ∷ slot_numbered c x.capacity x.head) (objects.Gate c ∷ gates) ((w.go, met) ∷ []) us t
+          → Takes p e (receive a clause c initial otherwise) s change t
+      meet_takes tells inside =
           let at : take 1 (senders_at ((state_in p s).gates c)) ≡ w.go ∷ [] = first_sender p s c x made w ws senders in
           let wrote = ap (λ l. objects.Go e.go ∷ objects.Gate c ∷ l) (woke ∙ ap (woken (state_in p s) c) (sym at)) in
           let side = ap (λ l. objects.Run ∷ objects.Gate c ∷ objects.Head c ∷ l) (sym (head_slot p s c x made)) in
@@ -245,5 +254,6 @@ module _ (p : Program) (s : Contents) (run : Running p s) (e : Event) (g : CodeG
             fits = fits;
             run = is_run;
             stand = two_stand p s run e.go w.go apart (Passes clause (Some (v, true))) own between goes c w.case None m met t.goroutines meeting t refl;
+            inside = inside;
           })
           change tells

@@ -77,6 +77,7 @@ taken_alike p e a b s t c ends h = record {
   back = h.back;
   fits = h.fits;
   stand = h.stand;
+  within = h.within;
 }
 
 module _ (p : Program) (e : Event) (number : ℕ) (o : Objects) (acting : Acting p e number o) where
@@ -272,7 +273,7 @@ module _ (p : Program) (e : Event) (number : ℕ) (o : Objects) (acting : Acting
                     reads = tells.reads ∙ ap (λ os. objects.Run ∷ os) (are ∙ once_in_default (state_in p s) ws e.go)
                         ∙ ap (λ (r : Touches). each_once (objects.Go e.go ∷ r.writes) (objects.Run ∷ r.reads)) (sym rows);
                   })
-                  acting.running.stand on.stand
+                  acting.running.stand (are_channels o) on.stand
                   (λ j. record { run = run_of (changes.runs j); goroutines = on.own.is j; channels = contents_of (changes.channels j) })
 
               pub default_room : HasRoom e.go c new

@@ -48,6 +48,7 @@ takes_as p e a b s t c same h = record {
   back = h.back;
   fits = h.fits;
   stand = h.stand;
+  within = h.within;
 }
 
 -- what is asked for, by which channel it is

@@ -37,6 +37,7 @@ use Rattle.gr_step.specs.Taking.{Takes}
 use Rattle.gr_step.specs.Passing.{ArrivesAt, Tells}
 use Rattle.gr_step.specs.Preparing.{AreToLeave}
 use Rattle.gr_step.proofs.AloneLemmas.{receiver_alone}
+use Rattle.gr_step.proofs.InsideLemmas.{Inside}
 use Rattle.gr_step.proofs.PassingLemmas.{GoesOver, no_change, one_first, prints_nothing}
 use Rattle.gr_step.proofs.TakingLemmas.{Reaches, takes, counted}
 use Rattle.gr_step.proofs.TouchLemmas.{woken_one, first_receiver, tail_slot, read_of_hand, read_of_buffer}
@@ -74,8 +75,10 @@ module _ (p : Program) (s : Contents) (run : Running p s) (e : Event) (g : CodeG
         (sending_hands (frame_in p) s a clause c x v otherwise w ws m on.on goes.after meeting.after made is_open receivers on.is on.after partner)
 
     pub hand_takes : Tells change (kind_of handed) (Some (sends_on c)) [] (objects.Gate c ∷ objects.Go w.go ∷ map objects.Gate (channels_but (c ∷ []) m.waits))
-        own ((w.go, met) ∷ []) us → Takes p e (send a clause c v otherwise) s change t
-    hand_takes tells =
+        own ((w.go, met) ∷ []) us
+        → Inside e.go [] (objects.Gate c ∷ objects.Go w.go ∷ map objects.Gate (channels_but (c ∷ []) m.waits)) ((w.go, met) ∷ []) us t
+        → Takes p e (send a clause c v otherwise) s change t
+    hand_takes tells inside =
         let others = channels_but (c ∷ []) m.waits in
         let woke : objects.Go w.go ∷ map objects.Gate others ≡ woken (state_in p s) c (take 1 (receivers_at ((state_in p s).gates c))) =
         woken_one p s c w.go m.met_one m.waits m.there m.waiting_for ∙ ap (woken (state_in p s) c) (sym (first_receiver p s c x made w ws receivers)) in
@@ -94,6 +97,7 @@ module _ (p : Program) (s : Contents) (run : Running p s) (e : Event) (g : CodeG
           fits = fits;
           run = is_run;
           stand = two_stand p s run e.go w.go apart (Passes clause None) own between goes c w.case (Some (v, true)) m met t.goroutines meeting t refl;
+          inside = inside;
         })
         change tells
 
@@ -113,8 +117,10 @@ module _ (p : Program) (s : Contents) (run : Running p s) (e : Event) (g : CodeG
         (sending_buffers (frame_in p) s a clause c x v otherwise on.on goes.after made valid is_open receivers room on.is on.after)
 
     pub buffer_takes : Tells change (kind_of buffered) (Some (sends_on c)) (objects.Gate c ∷ [])
-        (objects.Tail c ∷ slot_numbered c x.capacity (tail_of x)) own [] us → Takes p e (send a clause c v otherwise) s change t
-    buffer_takes tells =
+        (objects.Tail c ∷ slot_numbered c x.capacity (tail_of x)) own [] us
+        → Inside e.go (objects.Gate c ∷ []) (objects.Tail c ∷ slot_numbered c x.capacity (tail_of x)) [] us t
+        → Takes p e (send a clause c v otherwise) s change t
+    buffer_takes tells inside =
         let wrote = ap (λ l. objects.Go e.go ∷ objects.Tail c ∷ l) (sym (tail_slot p s c x made)) in
         takes p e (send a clause c v otherwise) s t buffered (objects.Gate c ∷ []) (objects.Tail c ∷ slot_numbered c x.capacity (tail_of x)) own [] us
         (record {
@@ -129,5 +135,6 @@ module _ (p : Program) (s : Contents) (run : Running p s) (e : Event) (g : CodeG
           fits = fits;
           run = is_run;
           stand = one_stands p s run e g f below there frames clause None number own t.goroutines goes t refl;
+          inside = inside;
         })
         change tells

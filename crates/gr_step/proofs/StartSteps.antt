@@ -42,11 +42,14 @@ use Rattle.gr_step.specs.declared.record.Change.{Change}
 use Rattle.gr_step.specs.Listings.{frame_in, state_in}
 use Rattle.gr_step.specs.Objects.{contents_in, run_of}
 use Rattle.gr_step.specs.Premises.{Acting}
-use Rattle.gr_step.specs.Records.{operation_of, beyond, stops, go_undone, go_back, goroutines_changed, channels_changed, begun_by, made_by, is_go}
+use Rattle.gr_step.specs.Records.{operation_of, beyond, stops, go_undone, go_back, goroutines_changed, channels_changed, begun_by, made_by, is_go, writes_of, reads_of}
 use Rattle.gr_step.specs.Records.{is_channel, taken_back, GoFitsAt, GoesFit, NeedNoFrame, CanGoBack}
+use Rattle.gr_step.specs.Within.{IsAmong, EachIsAmong, PartsAreAmong, ChangesWithin}
 use Rattle.gr_step.specs.Taking.{Takes}
 use Rattle.gr_step.proofs.ArrivedLemmas.{Arrived, arrived_from}
 use Rattle.gr_step.proofs.FaultSteps.{task_faults}
+use Rattle.gr_step.proofs.InsideLemmas.{some_is, own_is_written, first_among, more_before}
+use Rattle.gr_step.proofs.ChoosingLemmas.{are_channels}
 use Rattle.gr_step.proofs.ObjectLemmas.{set_goroutines}
 use Rattle.gr_step.proofs.OwnSteps.{own_back, same_name, count_is}
 use Rattle.gr_step.proofs.PlacedLemmas.{at_named, same_seen}
@@ -181,6 +184,19 @@ module _ (p : Program) (e : Event) (number : ℕ) (o : Objects) (acting : Acting
             frames = (on.none, subst {_, _} NeedNoFrame (sym reach.rest.met) tt);
           }
 
+          stays_within : ChangesWithin e.go c t
+          stays_within = record {
+            goroutines = subst {_, _} (λ met. EachIsAmong objects.Go ((e.go, u) ∷ met) (writes_of e.go c)) (sym reach.rest.met) (own_is_written e.go c, tt);
+            begun = λ q is. subst {_, _} (λ n. IsAmong (objects.Go n) (writes_of e.go c)) (some_is (sym reach.begins ∙ is))
+                (subst {_, _} (λ os. IsAmong (objects.Go next) (objects.Go e.go ∷ os)) (sym reach.rest.writes)
+                (more_before (objects.Go next) (objects.Go e.go ∷ []) (objects.Go next ∷ []) (first_among next [])));
+            made = λ q is. absurd (let no : None ≡ Some q = sym reach.rest.makes ∙ is in cc);
+            gates = subst {_, _} (λ us. EachIsAmong objects.Gate us (reads_of c ++ writes_of e.go c)) (sym reach.rest.channels) tt;
+            parts = subst {_, _} (λ us. PartsAreAmong us s.channels (writes_of e.go c)) (sym reach.rest.channels)
+                (λ d x q is w. absurd (let no : false ≡ true = w in cc));
+            valid = are_channels o;
+          }
+
           started_takes : Takes p e (attempt p e) s c t
           started_takes =
               let here = acts_here p e number o acting in
@@ -202,6 +218,7 @@ module _ (p : Program) (e : Event) (number : ℕ) (o : Objects) (acting : Acting
                 fits = can_go_back;
                 stand = change_keeps_standing (meaning p) (lowered p) (with_goroutine s e.go (Some on.after)) next (started begins.0)
                     (change_keeps_standing (meaning p) (lowered p) s e.go on.after acting.running.stand on.stand) (enters.1, tt);
+                within = stays_within;
               }
 
           pub start_takes : Sets place (Some child) went new → Takes p e (attempt p e) s c (contents_in (record o { goroutines = new }))

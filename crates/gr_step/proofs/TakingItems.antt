@@ -24,6 +24,7 @@ use Rattle.gr_contents.specs.Looks.{Ends, actor_of}
 use Rattle.gr_contents.proofs.PresenceLemmas.{gate_is_there}
 use Rattle.gr_contents.proofs.ReceiveLemmas.{receiving_goes_on, receiving_ends_well, receiving_cannot}
 use Rattle.gr_lower.specs.Lowered.{lowered}
+use Rattle.gr_channels.specs.declared.changes.ChanUndo.TheVariants.{Took}
 use Rattle.gr_tables.specs.NamedChannels.{At, contents_of, rooms_of, seen_of, GoesBack, TakeAt}
 use Rattle.gr_tables.specs.declared.channels.Channels.{Channels}
 use Rattle.gr_tables.proofs.Withdrawals.{none_after}
@@ -38,6 +39,8 @@ use Rattle.gr_step.specs.Communicating.{TrialIsSound}
 use Rattle.gr_step.specs.Preparing.{CanPass, IsPass}
 use Rattle.gr_step.proofs.RunningLemmas.{acts_here}
 use Rattle.gr_step.proofs.OfferLemmas.{was_seen, of_it, has_first, after_item}
+use Rattle.gr_step.proofs.InsideLemmas.{gate_first, took_among, one_inside, none_inside, holds_items}
+use Rattle.gr_step.proofs.ChoosingLemmas.{are_channels}
 use Rattle.gr_step.proofs.Encounters.{HasClauseAt, can_pass_by, pass_goes_back, pass_room}
 use Rattle.gr_step.proofs.ReceiveSteps.{take_takes, end_takes}
 
@@ -133,6 +136,9 @@ module _ (p : Program) (e : Event) (number : ℕ) (old : Objects) (acting : Acti
           take_takes p (contents_in old) acting.running e g f below there frames clause (has g there).0 c initial found.content made valid otherwise
           (contents_in new) so.own done change (ap run_of so.run) back.back back.fits item.0 item.1 item.2 has_it.1 so.goes
           (ap contents_of so.channels ∙ (after_item c old.channels mid found.content made z u answered item.0 item.1 item.2).1) so.tells
+          (one_inside e.go (objects.Gate c ∷ []) ends c (Took z) found.content done (contents_in old) (contents_in new)
+          (is_done ∙ ap (λ k. (c, k) ∷ []) answered.rule.0) made back.back (gate_first c [])
+          (took_among c z found.content (holds_items found.content valid item.0 item.1 item.2)) (are_channels new))
 
       pub take_room : HasRoom e.go change new
       take_room = pass_room code e.go (Passes clause (Some (z, true))) (option_map_or Pick clause Take) (receives_from c) (objects.Gate c ∷ []) ends done
@@ -173,7 +179,7 @@ module _ (p : Program) (e : Event) (number : ℕ) (old : Objects) (acting : Acti
           change old new) coded x in
           end_takes p (contents_in old) acting.running e g f below there frames clause (has g there).0 c initial found.content made valid otherwise
           (contents_in new) y.own done change (ap run_of y.run) none_back.back none_back.fits is_at_end.0 is_at_end.1 is_at_end.2 y.goes
-          (ap contents_of y.channels) y.tells
+          (ap contents_of y.channels) y.tells (none_inside e.go looks done (contents_in new) none_done (are_channels new))
 
       pub end_room : HasRoom e.go change new
       end_room = pass_room code e.go (Passes clause (Some (initial, false))) (option_map_or Pick clause Closed) (receives_from c) looks [] done

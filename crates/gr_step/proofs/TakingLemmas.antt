@@ -1,5 +1,5 @@
 -- A step that reached beyond its goroutine, put together from what it did to goroutines and to channels.
-use Rattle.std.proofs.Common.{◌≡◌, ℕ, ◌+◌, false, if◌then◌else◌, List, [], ◌∷◌, Option, Some, None, refl, sym, ap, subst, ◌∙◌}
+use Rattle.std.proofs.Common.{◌≡◌, ℕ, ◌+◌, false, if◌then◌else◌, List, [], ◌∷◌, ◌++◌, Option, Some, None, refl, sym, ap, subst, ◌∙◌}
 use Rattle.std.specs.Prelude.{is_some, option_map}
 use Rattle.gr_base.specs.declared.names.ChName.{ChName}
 use Rattle.gr_base.specs.declared.kinds.Kind.{Kind}
@@ -22,9 +22,11 @@ use Rattle.gr_lower.specs.Lowered.{lowered, meaning}
 use Rattle.gr_tables.specs.NamedChannels.{chan_back, ChansFit}
 use Rattle.gr_step.specs.declared.record.Change.{Change}
 use Rattle.gr_step.specs.Listings.{frame_in, state_in}
-use Rattle.gr_step.specs.Records.{is_printed, is_go, is_channel, go_back, GoesFit, goroutines_changed, channels_changed, begun_by, made_by, taken_back, CanGoBack}
+use Rattle.gr_step.specs.Records.{is_printed, reads_of, is_go, is_channel, go_back, GoesFit, goroutines_changed, channels_changed, begun_by, made_by, taken_back, CanGoBack}
+use Rattle.gr_step.specs.Within.{EachIsAmong, PartsAreAmong, ChangesWithin}
 use Rattle.gr_step.specs.Taking.{Takes}
 use Rattle.gr_step.specs.Passing.{Tells}
+use Rattle.gr_step.proofs.InsideLemmas.{Inside, first_among}
 use Rattle.gr_step.proofs.PassingLemmas.{GoesOver}
 
 -- what a step is, by the rules and in what the store contains
@@ -41,6 +43,7 @@ pub record Reaches (p : Program) (e : Event) (attempt : Attempt) (s t : Contents
   pub fits : ChansFit us t.channels
   pub run : t.run ≡ s.run
   pub stand : ContentsStand (meaning p) (lowered p) t
+  pub inside : Inside e.go reads writes met us t
 
 module _ (p : Program) (e : Event) (attempt : Attempt) (s t : Contents) (report : Report) (reads writes : List Object) (own : GoUndo)
     (met : List (List ℕ × GoUndo)) (us : List (ChName × ChanUndo)) (r : Reaches p e attempt s t report reads writes own met us)
@@ -63,6 +66,24 @@ module _ (p : Program) (e : Event) (attempt : Attempt) (s t : Contents) (report 
     frames = tells.frames e.go r.goroutines.frames;
   }
 
+  none_given : {X : Type 0} {x : X} → None ≡ Some x → ⊥
+  none_given e = cc
+
+  stays_within : ChangesWithin e.go c t
+  stays_within = record {
+    goroutines = subst {_, _} (λ os. EachIsAmong objects.Go (goroutines_changed e.go c) os) (sym (tells.writes_are e.go))
+        (subst {_, _} (λ es. EachIsAmong objects.Go es (objects.Go e.go ∷ writes)) (sym (tells.goroutines_are e.go))
+        (first_among e.go writes, r.inside.goroutines));
+    begun = λ q is. absurd (none_given (sym tells.begins_none ∙ is));
+    made = λ q is. absurd (none_given (sym tells.makes_none ∙ is));
+    gates = subst {_, _} (λ os. EachIsAmong objects.Gate (channels_changed c) (reads_of c ++ os)) (sym (tells.writes_are e.go))
+        (subst {_, _} (λ os. EachIsAmong objects.Gate (channels_changed c) (os ++ (objects.Go e.go ∷ writes))) (sym tells.reads_are)
+        (subst {_, _} (λ es. EachIsAmong objects.Gate es ((objects.Run ∷ reads) ++ (objects.Go e.go ∷ writes))) (sym tells.channels_are) r.inside.gates));
+    parts = subst {_, _} (λ os. PartsAreAmong (channels_changed c) t.channels os) (sym (tells.writes_are e.go))
+        (subst {_, _} (λ es. PartsAreAmong es t.channels (objects.Go e.go ∷ writes)) (sym tells.channels_are) r.inside.parts);
+    valid = r.inside.valid;
+  }
+
   pub takes : Takes p e attempt s c t
   takes = record {
     report = report;
@@ -76,6 +97,7 @@ module _ (p : Program) (e : Event) (attempt : Attempt) (s t : Contents) (report 
     back = goes_back;
     fits = can_go_back;
     stand = r.stand;
+    within = stays_within;
   }
 
 -- how many steps the goroutine took

@@ -54,10 +54,13 @@ use Rattle.gr_step.specs.declared.record.Change.{Change}
 use Rattle.gr_step.specs.declared.record.Operation.{Operation}
 use Rattle.gr_step.specs.Listings.{frame_in, state_in}
 use Rattle.gr_step.specs.Objects.{run_of, contents_in}
-use Rattle.gr_step.specs.Records.{operation_of, HasRoom, go_back, GoesFit, NeedNoFrame, FramesStay, CanGoBack, taken_back, is_go, is_channel, goroutines_changed, channels_changed}
+use Rattle.gr_step.specs.Records.{operation_of, HasRoom, go_back, GoesFit, NeedNoFrame, FramesStay, CanGoBack, taken_back, is_go, is_channel, goroutines_changed, channels_changed, writes_of, reads_of}
 use Rattle.gr_step.specs.Premises.{Acting, OfGoroutine, OfActor}
+use Rattle.gr_step.specs.Within.{IsAmong, EachIsAmong, ChangesWithin}
 use Rattle.gr_step.specs.Taking.{Takes}
-use Rattle.gr_step.specs.Parks.{pending_of, with_channels, queued_for, queued, AreMade, gates_of, Parks}
+use Rattle.gr_step.specs.Parks.{pending_of, channels_awaited, with_channels, queued_for, queued, AreMade, gates_of, Parks}
+use Rattle.gr_step.proofs.InsideLemmas.{own_is_written, gate_of_name, named_in, gates_named, gates_inside, more_before}
+use Rattle.gr_step.proofs.ChoosingLemmas.{are_channels}
 use Rattle.gr_step.proofs.RunningLemmas.{acts_here, code_fits}
 use Rattle.gr_step.proofs.OwnChanges.{some_is, own_was, own_is, own_back, own_fits, own_room, no_frame, frames_stay, acting_at}
 use Rattle.gr_step.proofs.WaitTouches.{send_row, receive_row, select_row, side_once, sides_once}
@@ -190,6 +193,21 @@ module _ (p : Program) (e : Event) (number : ℕ) (old new : Objects) (acting : 
     places = k.goes_back.room;
   }
 
+  gate_written : (d : ChName) → list_any (same_channel d) (channels_awaited ws) ≡ true → IsAmong (Gate d) (writes_of e.go c)
+  gate_written d h = subst (λ os. IsAmong (Gate d) os) (sym k.writes)
+      (gate_of_name d (channels_but [] (all_waits ws)) ∙ named d [] (all_waits ws) ∙ sym (named_in d (all_waits ws)) ∙ h)
+
+  stays_within : ChangesWithin e.go c (contents_in new)
+  stays_within = record {
+    goroutines = subst (λ us. EachIsAmong Go us (writes_of e.go c)) (sym k.alone) (own_is_written e.go c, tt);
+    begun = λ q is. absurd (let no : None ≡ Some q = sym k.starts ∙ is in cc);
+    made = λ q is. absurd (let no : None ≡ Some q = sym k.makes ∙ is in cc);
+    gates = gates_named (channels_awaited ws) (reads_of c ++ writes_of e.go c) (λ d h. more_before (Gate d) (reads_of c) (writes_of e.go c) (gate_written d h))
+        (channels_changed c) k.gates;
+    parts = λ d b q is w. gates_inside (channels_awaited ws) (writes_of e.go c) gate_written (channels_changed c) d b q k.gates w;
+    valid = are_channels new;
+  }
+
   module _ (does_it : Option rules.Operation) (is : option_map operation_of operation ≡ does_it) (g : CodeGoroutine) (f : CodeFrame)
       (below : List CodeFrame) (there : s.goroutines e.go ≡ Some g) where
     abbrev actor : Actor
@@ -228,6 +246,7 @@ module _ (p : Program) (e : Event) (number : ℕ) (old new : Objects) (acting : 
       back = back;
       fits = fits;
       stand = stands;
+      within = stays_within;
     }
 
 -- before it waits

@@ -1,7 +1,8 @@
 -- Goroutines that are withdrawn and woken, one after the other.
-use Rattle.std.proofs.Common.{◌≡◌, ℕ, ◌+◌, ◌<◌, ◌≤◌, Bool, true, false, not, ◌||◌, ◌&&◌, if◌then◌else◌, List, [], ◌∷◌, ◌++◌, length, drop, get_or, Option, Some, None, option_map, refl, sym, ap, subst, ◌∙◌, append-nil, append_assoc, drop_of_length-le, inl, inr}
+use Rattle.std.proofs.Common.{◌≡◌, ℕ, zero, suc, ◌+◌, ◌<◌, ◌≤◌, Bool, true, false, not, ◌||◌, ◌&&◌, if◌then◌else◌, List, [], ◌∷◌, ◌++◌, map, arith, length, drop, get_or, Option, Some, None, option_map, refl, sym, ap, subst, ◌∙◌, append-nil, append_assoc, drop_of_length-le, inl, inr}
 use Rattle.std.specs.List.{list_any, list_all}
 use Rattle.std.proofs.lemmas.List.Folds.{list_any-append}
+use Rattle.std.proofs.lemmas.List.{map-append}
 use Rattle.std.proofs.lemmas.Bool.{cases_Bool, and_parts, and_from}
 use Rattle.gr_base.specs.declared.names.ChName.{ChName}
 use Rattle.gr_channels.specs.Channels.{Content}
@@ -20,10 +21,14 @@ use Rattle.gr_tables.proofs.ByNumber.{seen_named}
 use Rattle.gr_step.proofs.ObjectLemmas.{change_was, change_is}
 use Rattle.gr_step.proofs.FrameNeeds.{need_none}
 use Rattle.gr_goros.specs.declared.undo.GoUndo.{GoUndo}
-use Rattle.gr_tables.specs.NamedChannels.{withdrawn}
+use Rattle.gr_tables.specs.NamedChannels.{withdrawn, MoreAtGates}
+use Rattle.gr_tables.proofs.Withdrawals.{gates_join}
+use Rattle.gr_channels.specs.declared.changes.ChanUndo.{ChanUndo}
+use Rattle.gr_contents.proofs.MeetingLemmas.{named}
+use Rattle.gr_step.proofs.InsideLemmas.{or_true, gates_widen}
 use Rattle.gr_tables.proofs.BackInOrder.{back_at-append, AllFit-join}
 use Rattle.gr_step.specs.Records.{go_undone, go_back, GoFitsAt, GoesFit, NeedNoFrame}
-use Rattle.gr_step.specs.Wakes.{waits_known, all_waits_known, without_one, without_each, is_live_there, with_one_woken, with_each_woken, LeadsOver}
+use Rattle.gr_step.specs.Wakes.{waits_known, all_waits_known, left_by_close, without_one, without_each, is_live_there, with_one_woken, with_each_woken, LeadsOver}
 use Rattle.gr_step.proofs.Queueing.{first_left}
 
 -- two lists have the same channels
@@ -91,6 +96,50 @@ withdrawn_next c f names i now new total n h at is told =
 pub all_withdrawn : (c : ChName) (f : List ℕ → Option CodeGoroutine) (names : List (List ℕ)) (i : ℕ) (now total : ChName → Option Content) → length names ≤ i
     → without_each c f (drop i names) now ≡ total → now ≡ total
 all_withdrawn c f names i now total h told = ap (λ l. without_each c f l now) (sym (drop_of_length-le names h)) ∙ told
+
+-- the channels on which one of these waits are among those on which they wait
+waits_among : (q : Wait → Bool) (f : List ℕ → Option CodeGoroutine) (names : List (List ℕ)) (i : ℕ) (n : List ℕ) → i < length names → n ≡ get_or names i n
+    → list_any q (waits_known (f n)) ≡ true → list_any q (all_waits_known f names) ≡ true
+waits_among q f [] i n h at e = absurd (omega (arith, h))
+waits_among q f (m ∷ ns) zero n h at e =
+    list_any-append q (waits_known (f m)) (all_waits_known f ns) ∙ ap (λ b. b || list_any q (all_waits_known f ns))
+    (ap (λ k. list_any q (waits_known (f k))) (sym at) ∙ e)
+waits_among q f (m ∷ ns) (suc i) n h at e =
+    list_any-append q (waits_known (f m)) (all_waits_known f ns)
+    ∙ ap (λ b. list_any q (waits_known (f m)) || b) (waits_among q f ns i n (omega (arith, h)) at e) ∙ or_true (list_any q (waits_known (f m)))
+
+left_among : (c : ChName) (f : List ℕ → Option CodeGoroutine) (names : List (List ℕ)) (i : ℕ) (n : List ℕ) → i < length names → n ≡ get_or names i n
+    → (d : ChName) → list_any (same_channel d) (channels_but (c ∷ []) (waits_known (f n))) ≡ true → list_any (same_channel d) (left_by_close c f names) ≡ true
+left_among c f names i n h at d e = elim (cases_Bool (same_channel d c)) [
+  | inl t ↦ ap (λ b. b || list_any (same_channel d) (channels_but (c ∷ []) (all_waits_known f names))) t
+  | inr o ↦
+      let waits = sym (ap (λ b. not (b || false) && list_any (λ w. same_channel d (channel_of w)) (waits_known (f n))) o)
+      ∙ sym (named d (c ∷ []) (waits_known (f n))) ∙ e in
+      ap (λ b. b || list_any (same_channel d) (channels_but (c ∷ []) (all_waits_known f names))) o
+      ∙ named d (c ∷ []) (all_waits_known f names)
+      ∙ ap (λ b. not (b || false) && list_any (λ w. same_channel d (channel_of w)) (all_waits_known f names)) o
+      ∙ waits_among (λ w. same_channel d (channel_of w)) f names i n h at waits
+]
+
+-- one more leaves the queues of gates
+pub gates_next : (c : ChName) (f : List ℕ → Option CodeGoroutine) (names : List (List ℕ)) (i : ℕ) (n : List ℕ) (others : List ChName)
+    (done us vs : List (ChName × ChanUndo)) → i < length names → n ≡ get_or names i n → others ≡ channels_but (c ∷ []) (waits_known (f n))
+    → MoreAtGates (left_by_close c f names) done us → MoreAtGates others us vs → MoreAtGates (left_by_close c f names) done vs
+gates_next c f names i n others done us vs h at are one two =
+    let all = left_by_close c f names in
+    record {
+      more = one.more ++ two.more;
+      are = two.are ∙ ap (λ es. es ++ two.more) one.are ∙ append_assoc done one.more two.more;
+      at_gates = gates_join all one.more two.more one.at_gates
+          (gates_widen others all two.more (λ d e. left_among c f names i n h at d (ap (list_any (same_channel d)) (sym are) ∙ e)) two.at_gates);
+    }
+
+-- one more is told of
+pub names_next : (met more : List (List ℕ × GoUndo)) (all rest : List (List ℕ)) (n : List ℕ) (u : GoUndo) (total : List (List ℕ))
+    → more ≡ met ++ (n, u) ∷ [] → all ≡ n ∷ rest → map (λ e. e.0) met ++ all ≡ total → map (λ e. e.0) more ++ rest ≡ total
+names_next met more all rest n u total are first told =
+    ap (λ l. map (λ e. e.0) l ++ rest) are ∙ ap (λ l. l ++ rest) (map-append (λ (e : List ℕ × GoUndo). e.0) met ((n, u) ∷ []))
+    ∙ append_assoc (map (λ e. e.0) met) (n ∷ []) rest ∙ ap (λ l. map (λ e. e.0) met ++ l) (sym first) ∙ told
 
 -- a change of one goroutine goes back
 pub one_leads : (n : List ℕ) (u : GoUndo) (f h : List ℕ → Option CodeGoroutine) (a b : CodeGoroutine) → f n ≡ Some a → h ≡ updated same_go f n (Some b)

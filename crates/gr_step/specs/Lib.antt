@@ -5,6 +5,7 @@ pub mod Records
 pub mod Premises
 pub mod Beyonds
 pub mod Passing
+pub mod Within
 pub mod Taking
 pub mod Communicating
 pub mod Parks
@@ -15,3 +16,5 @@ pub mod Stepping
 pub mod Stores
 pub mod Possible
 pub mod Unstepping
+pub mod Kept
+pub mod Conflicts

@@ -12,6 +12,7 @@ use Rattle.gr_channels.specs.Changes.{need}
 use Rattle.gr_rules.specs.Actors.{channels_but}
 use Rattle.gr_rules.specs.Communications.{all_waits}
 use Rattle.gr_rules.specs.Deeds.{Communication}
+use Rattle.gr_rules.specs.Goroutines.{channel_of}
 use Rattle.gr_rules.specs.States.{live}
 use Rattle.gr_laws.specs.Touched.{each_once}
 use Rattle.gr_code.specs.Goroutines.{parked}
@@ -20,7 +21,7 @@ use Rattle.gr_goros.specs.declared.needs.Clause.{Clause}
 use Rattle.gr_contents.specs.Contents.{Contents}
 use Rattle.gr_contents.specs.Partners.{is_made_for}
 use Rattle.gr_contents.specs.Waiting.{parked_for}
-use Rattle.gr_tables.specs.NamedChannels.{contents_of, GoesBack}
+use Rattle.gr_tables.specs.NamedChannels.{contents_of, AreAtGates, GoesBack}
 use Rattle.gr_tables.specs.NamedGoroutines.{ChangesBy, ComesTo}
 use Rattle.gr_step.specs.declared.objects.Objects.{Objects}
 use Rattle.gr_step.specs.declared.record.Change.{Change}
@@ -60,6 +61,10 @@ NeedNoRoom (e ∷ es) = (need e.1 ≡ each 0) × NeedNoRoom es
 abbrev pub gates_of : List (Option ℕ × Communication) → List Object
 gates_of ws = map Gate (channels_but [] (all_waits ws))
 
+-- the channels on which it waits
+abbrev pub channels_awaited : List (Option ℕ × Communication) → List ChName
+channels_awaited ws = map channel_of (all_waits ws)
+
 -- The goroutine with the number, whose step is of this kind, looked at these and has come to wait, and the change goes back.
 pub record Parks (e : Event) (number : ℕ) (kind : Kind) (operation : Option Operation) (sides : List Object) (ws : List (Option ℕ × Communication))
     (c : Change) (old new : Objects) : Type 0 where
@@ -75,3 +80,4 @@ pub record Parks (e : Event) (number : ℕ) (kind : Kind) (operation : Option Op
   pub starts : begun_by c ≡ None
   pub makes : made_by c ≡ None
   pub goes_on : stops c ≡ false
+  pub gates : AreAtGates (channels_awaited ws) (channels_changed c)

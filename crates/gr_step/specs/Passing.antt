@@ -13,7 +13,7 @@ use Rattle.gr_code.specs.Goroutines.{CodeGoroutine, Arrival, CanCount, arrived}
 use Rattle.gr_goros.specs.Undoing.{undone, Fits}
 use Rattle.gr_goros.specs.declared.undo.GoUndo.{GoUndo}
 use Rattle.gr_tables.specs.NamedChannels as channels
-use Rattle.gr_tables.specs.NamedChannels.{contents_of, withdrawn, ChansFit, HasRooms, Follows}
+use Rattle.gr_tables.specs.NamedChannels.{contents_of, withdrawn, ChansFit, HasRooms, Follows, MoreAtGates}
 use Rattle.gr_tables.specs.NamedGoroutines.{At, goroutines_of}
 use Rattle.gr_step.specs.declared.objects.Objects.{Objects}
 use Rattle.gr_step.specs.declared.record.Change.{Change}
@@ -60,4 +60,5 @@ pub record Exchanges (code : ProgramCode) (n m : List ℕ) (passes meets : Arriv
   pub both : BothArrive code n m passes meets own met (goroutines_of old.goroutines) (goroutines_of new.goroutines)
   pub withdraws : contents_of new.channels ≡ withdrawn m names (contents_of old.channels)
   pub follows : Follows done changed old.channels new.channels
+  pub gates : MoreAtGates names done changed
   pub run : new.run ≡ old.run

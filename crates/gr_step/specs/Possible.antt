@@ -1,5 +1,5 @@
 -- Which choices of a select are possible, by its clauses, and by the arms of its instruction (Go: Select statements).
-use Rattle.std.specs.Prelude.{ℕ, zero, suc, Bool, true, false, ◌&&◌, not, is_some, is_none, List, slice_get, Option, None}
+use Rattle.std.specs.Prelude.{ℕ, zero, suc, ◌+◌, if◌then◌else◌, Bool, true, false, ◌&&◌, not, is_some, is_none, List, [], ◌∷◌, slice_get, Option, Some, None}
 use Rattle.std.specs.List.{list_any}
 use Rattle.std.specs.Option.{option_map_or}
 use Rattle.gr_base.specs.declared.names.ChName.{ChName}
@@ -53,3 +53,12 @@ arms_go s cells arms Plain = false
 arms_go s cells arms (Pick i) = option_map_or (arm_goes s cells) (arm_at arms i) false
 arms_go s cells arms Default = list_any is_default arms && not (list_any (arm_goes s cells) arms)
 arms_go s cells arms Park = not (list_any is_default arms) && not (list_any (arm_goes s cells) arms)
+
+-- the number of the first arm whose clause can proceed, counted from i
+abbrev pub first_going : Contents → Variables → ℕ → List Arm → Option ℕ
+first_going s cells i [] = None
+first_going s cells i (a ∷ arms) = if arm_goes s cells a then Some i else first_going s cells (i + 1) arms
+
+-- the choice that is taken where none is asked for: the first clause that can proceed, else default, else to wait
+abbrev pub usual_of : Contents → Variables → List Arm → Choice
+usual_of s cells arms = elim (first_going s cells 1 arms) [ Some i ↦ Pick i | None ↦ if list_any is_default arms then Default else Park ]

@@ -17,6 +17,7 @@ use Rattle.gr_step.specs.declared.refusal.StepRefused.{StepRefused}
 use Rattle.gr_step.specs.declared.refusal.StepRefused.TheVariants as refusals
 use Rattle.gr_step.specs.Listings.{frame_in, state_in}
 use Rattle.gr_step.specs.Records.{event_of, operation_in, is_printed, writes_of, reads_of, taken_back, CanGoBack}
+use Rattle.gr_step.specs.Within.{ChangesWithin}
 
 -- The attempt of an event is the step from the first contents to the second, and the change tells what the report does, has
 -- touched what the table says, and goes back.
@@ -32,6 +33,7 @@ pub record Takes (p : Program) (e : Event) (attempt : Attempt) (s : Contents) (c
   pub back : taken_back e.go c t ≡ s
   pub fits : CanGoBack e.go c t
   pub stand : ContentsStand (meaning p) (lowered p) t
+  pub within : ChangesWithin e.go c t
 
 -- A record is that of a step of its event, from the first contents to the second.
 pub record IsRecord (p : Program) (s : Contents) (r : Record) (t : Contents) : Type 0 where

@@ -20,7 +20,7 @@ use Rattle.gr_goros.specs.declared.undo.GoUndo.{GoUndo}
 use Rattle.gr_contents.specs.Closing.{waiting_on}
 use Rattle.gr_contents.specs.Meetings.{woken}
 use Rattle.gr_contents.specs.Partners.{waits_in}
-use Rattle.gr_tables.specs.NamedChannels.{contents_of, withdrawn, once_closed, GoesBack}
+use Rattle.gr_tables.specs.NamedChannels.{contents_of, withdrawn, once_closed, AreAtGates, GoesBack}
 use Rattle.gr_tables.specs.NamedGoroutines.{goroutines_of}
 use Rattle.gr_step.specs.declared.objects.Objects.{Objects}
 use Rattle.gr_step.specs.declared.record.Change.{Change}
@@ -41,6 +41,10 @@ without_one c f channels n = withdrawn n (channels_but (c ∷ []) (waits_known (
 
 abbrev pub without_each : ChName → (List ℕ → Option CodeGoroutine) → List (List ℕ) → (ChName → Option Content) → ChName → Option Content
 without_each c f names channels = fold (without_one c f) channels names
+
+-- the channel that is closed, and the others on which these goroutines wait
+abbrev pub left_by_close : ChName → (List ℕ → Option CodeGoroutine) → List (List ℕ) → List ChName
+left_by_close c f names = c ∷ channels_but (c ∷ []) (all_waits_known f names)
 
 -- the channel of the name was closed, and then these goroutines were withdrawn from all others
 pub record IsShut (c : ChName) (f : List ℕ → Option CodeGoroutine) (names : List (List ℕ)) (old new : ChName → Option Content) : Type 0 where
@@ -80,5 +84,7 @@ pub record Closing (code : ProgramCode) (e : Event) (c : ChName) (x : Content) (
   pub over : LeadsOver met between (goroutines_of new.goroutines)
   pub shuts : IsShut c (goroutines_of old.goroutines) (waiting_on x) (contents_of old.channels) (contents_of new.channels)
   pub back : GoesBack changed old.channels new.channels
+  pub named : map (λ e. e.0) met ≡ waiting_on x
+  pub gates : AreAtGates (left_by_close c (goroutines_of old.goroutines) (waiting_on x)) changed
   pub run : new.run ≡ old.run
   pub tells : Tells change kinds.Close (Some (closes c)) [] (written_by_close c (goroutines_of old.goroutines) (waiting_on x)) change.own met changed

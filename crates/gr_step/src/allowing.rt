@@ -71,7 +71,7 @@ fn has_channel(cells: &[Option<Value>], arm: &Arm) -> bool
 }
 
 /// Whether the channel of each clause is one, or nil.
-fn have_channels(cells: &[Option<Value>], arms: &[Arm]) -> bool
+pub(crate) fn have_channels(cells: &[Option<Value>], arms: &[Arm]) -> bool
     ensures { result ≡ list_all (arm_given cells.now) (arms_of arms.now) }
 {
     let mut left = arms;
@@ -92,7 +92,7 @@ fn arm_with(arms: &[Arm], number: usize) -> Option<&Arm>
 }
 
 /// Whether there is a default clause.
-fn has_default(arms: &[Arm]) -> bool
+pub(crate) fn has_default(arms: &[Arm]) -> bool
     ensures { result ≡ list_any is_default (arms_of arms.now) }
 {
     let mut left = arms;
@@ -107,7 +107,7 @@ fn has_default(arms: &[Arm]) -> bool
 
 impl Objects {
     /// Whether the communication of a clause can proceed; on nil it never can.
-    fn arm_can_proceed(&self, cells: &[Option<Value>], arm: &Arm) -> bool
+    pub(crate) fn arm_can_proceed(&self, cells: &[Option<Value>], arm: &Arm) -> bool
         ensures { result ≡ arm_goes (contents_in self.now) cells.now (arm_of arm.now) }
     {
         match arm {

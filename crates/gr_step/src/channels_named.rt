@@ -13,7 +13,7 @@ use gr_goros::Wait;
 use std::alloc::Global;
 
 /// The channel of a wait.
-fn channel_of(wait: &Wait) -> &ChName
+pub(crate) fn channel_of(wait: &Wait) -> &ChName
     ensures { result.now ≡ channel_ruled (wait_of wait.now) }
 {
     match wait {

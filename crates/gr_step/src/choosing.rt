@@ -2,18 +2,17 @@
 
 ghost use Rattle.std.specs.Prelude.{◌≡◌, IfOk, MatchOption};
 ghost use Rattle.std.specs.List.{list_any};
-ghost use Rattle.gr_rules.specs.Tells.{ready_clauses, usual_choice as usual_by_rules};
+ghost use Rattle.gr_rules.specs.Tells.{ready_clauses};
 ghost use Rattle.gr_contents.specs.Partners.{can_send as may_send, can_receive as may_receive, can_proceed as may_proceed};
 ghost use Rattle.gr_goros.specs.Views.{communication_of, communications_of};
-ghost use Rattle.gr_step.specs.Choices.{Selects, IsAtSelect, HasNoChoice, ready_from, choice_without, first_of};
+ghost use Rattle.gr_step.specs.Choices.{Selects, IsAtSelect, HasNoChoice, ready_from};
 ghost use Rattle.gr_step.specs.Listings.{program_in, state_in, IsCoded};
 ghost use Rattle.gr_step.specs.Objects.{contents_in};
 ghost use Rattle.gr_step.specs.Premises.{Running};
 
-use crate::clauses::default_clause;
 use crate::listing::Listing;
 use crate::objects::{Objects, Run};
-use gr_base::{Choice, GoName, NoMemory};
+use gr_base::{GoName, NoMemory};
 use gr_channels::Channel;
 use gr_goros::{Clause, Goroutine, Need, Status};
 
@@ -79,26 +78,8 @@ impl Objects {
         Ok(numbers)
     }
 
-    /// The lowest clause that can proceed, else the default clause, else to wait.
-    fn usual_of(&self, clauses: &[Clause]) -> Result<Choice, NoMemory>
-        ensures { IfOk result (λ choice. choice ≡ first_of (ready_from (contents_in self.now) 1 (communications_of clauses.now)) (choice_without (communications_of clauses.now))) }
-    {
-        for (place, clause) in clauses.iter().enumerate() {
-            if self.can_proceed(clause) {
-                let Ok(number) = u32::try_from(place + 1) else {
-                    return Err(NoMemory);
-                };
-                return Ok(Choice::Pick(number));
-            }
-        }
-        Ok(match default_clause(clauses) {
-            Some(_) => Choice::Default,
-            None => Choice::Park,
-        })
-    }
-
     /// The goroutine of a name, where it is ready at a select, in a program that runs.
-    fn at_select(&self, listing: &Listing, go: &GoName) -> Option<&Goroutine>
+    pub(crate) fn at_select(&self, listing: &Listing, go: &GoName) -> Option<&Goroutine>
         requires coded { IsCoded listing.now }
         requires running { Running (program_in listing.now) (contents_in self.now) }
         ensures { MatchOption result (HasNoChoice (program_in listing.now) (contents_in self.now) go.now) (λ g. IsAtSelect (program_in listing.now) (contents_in self.now) go.now g.now.content) }
@@ -140,19 +121,6 @@ impl Objects {
         match self.clauses_at(listing, go)? {
             Some(clauses) => self.ready_numbers(&clauses),
             None => Ok(Vec::new(self.alloc)),
-        }
-    }
-
-    /// The choice of a goroutine where none is asked for: at a select the lowest clause that can proceed, else the default
-    /// clause, else to wait. Elsewhere it takes no memory.
-    pub fn usual_choice(&self, listing: &Listing, go: &GoName) -> Result<Choice, NoMemory>
-        requires coded { IsCoded listing.now }
-        requires running { Running (program_in listing.now) (contents_in self.now) }
-        ensures { IfOk result (λ choice. choice ≡ usual_by_rules (program_in listing.now) (state_in (program_in listing.now) (contents_in self.now)) go.now) }
-    {
-        match self.clauses_at(listing, go)? {
-            Some(clauses) => self.usual_of(&clauses),
-            None => Ok(Choice::Plain),
         }
     }
 }

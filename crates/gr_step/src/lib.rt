@@ -27,6 +27,7 @@ mod stepping;
 pub mod store;
 mod touching;
 mod unstepping;
+mod usual;
 mod waiting;
 mod waking;
 

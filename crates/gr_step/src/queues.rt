@@ -5,8 +5,8 @@ ghost use Rattle.gr_channels.specs.Channels.{each};
 ghost use Rattle.gr_channels.specs.Changes.{need};
 ghost use Rattle.gr_goros.specs.Views.{communication_of, wait_of, waits_of};
 ghost use Rattle.gr_rules.specs.Communications as rules;
-ghost use Rattle.gr_tables.specs.NamedChannels.{contents_of, GoesBack};
-ghost use Rattle.gr_step.specs.Parks.{pending_of, queued, queued_for, listed, AreMade, NeedNoRoom};
+ghost use Rattle.gr_tables.specs.NamedChannels.{contents_of, AreAtGates, GoesBack};
+ghost use Rattle.gr_step.specs.Parks.{pending_of, channels_awaited, queued, queued_for, listed, AreMade, NeedNoRoom};
 
 use gr_base::{ChName, GoName, NoMemory};
 use gr_channels::{ChanUndo, Waiter};
@@ -42,7 +42,7 @@ pub(crate) fn all_waits(
 ) -> Result<Vec<Wait>, NoMemory>
     ensures { IfOk result (λ waits. waits_of waits.items ≡ rules.all_waits (pending_of pending.now)) }
 {
-    let mut waits = Vec::new(alloc);
+    let mut waits = Vec::with_capacity(alloc, pending.len())?;
     for (clause, communication) in pending {
         let Some(wait) = wait_for(alloc, *clause, communication)? else {
             continue;
@@ -64,6 +64,7 @@ fn park_for(
     ensures contents { OnOk result (contents_of channels.new ≡ queued_for go.now (contents_of channels.old) (clause, communication_of communication.now)) }
     ensures back { IfOk result (λ change. GoesBack (listed change) channels.old channels.new) }
     ensures room { IfOk result (λ change. NeedNoRoom (listed change)) }
+    ensures gate { IfOk result (λ change. AreAtGates (channels_awaited ((clause, communication_of communication.now) ∷ [])) (listed change)) }
     ensures err { OnErr result (contents_of channels.new ≡ contents_of channels.old) }
 {
     match communication {
@@ -107,6 +108,7 @@ pub(crate) fn park_for_all(
     requires { AreMade (pending_of pending.now) (contents_of channels.old) }
     ensures contents { OnOk result (contents_of channels.new ≡ queued go.now (pending_of pending.now) (contents_of channels.old)) }
     ensures back { IfOk result (λ undos. GoesBack undos.items channels.old channels.new) }
+    ensures gates { IfOk result (λ undos. AreAtGates (channels_awaited (pending_of pending.now)) undos.items) }
     ensures err { OnErr result (contents_of channels.new ≡ contents_of channels.old) }
 {
     let mut undos = Vec::with_capacity(alloc, pending.len())?;

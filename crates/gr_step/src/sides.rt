@@ -34,7 +34,8 @@ pub(crate) fn each_once(
 ) -> Result<Vec<Object>, NoMemory>
     ensures { IfOk result (λ kept. kept.items ≡ laws.each_once seen.now objects.now) }
 {
-    let mut kept = Vec::new(alloc);
+    let room = objects.len().saturating_sub(seen.len());
+    let mut kept = Vec::with_capacity(alloc, room)?;
     for object in objects {
         if is_among(object, seen) {
             continue;

@@ -27,11 +27,11 @@ fn push_slot(
     Ok(())
 }
 
-/// The gate alone.
+/// The gate alone, with room for one more.
 pub(crate) fn gate_side(alloc: Global, name: &ChName) -> Result<Vec<Object>, NoMemory>
     ensures { IfOk result (λ touched. touched.items ≡ objects.Gate name.now ∷ []) }
 {
-    let mut touched = Vec::new(alloc);
+    let mut touched = Vec::with_capacity(alloc, 2)?;
     touched.push(Object::Gate(name.copy(alloc)?))?;
     Ok(touched)
 }
@@ -44,7 +44,7 @@ pub(crate) fn tail_side(
 ) -> Result<Vec<Object>, NoMemory>
     ensures { IfOk result (λ touched. touched.items ≡ objects.Tail name.now ∷ slot_numbered name.now channel.now.content.capacity (tail_of channel.now.content)) }
 {
-    let mut touched = Vec::new(alloc);
+    let mut touched = Vec::with_capacity(alloc, 2)?;
     touched.push(Object::Tail(name.copy(alloc)?))?;
     push_slot(
         alloc,
@@ -64,7 +64,7 @@ pub(crate) fn head_side(
 ) -> Result<Vec<Object>, NoMemory>
     ensures { IfOk result (λ touched. touched.items ≡ objects.Head name.now ∷ slot_numbered name.now channel.now.content.capacity channel.now.content.head) }
 {
-    let mut touched = Vec::new(alloc);
+    let mut touched = Vec::with_capacity(alloc, 2)?;
     touched.push(Object::Head(name.copy(alloc)?))?;
     push_slot(
         alloc,
@@ -84,7 +84,7 @@ pub(crate) fn send_side(
 ) -> Result<Vec<Object>, NoMemory>
     ensures { IfOk result (λ touched. touched.items ≡ objects.Gate name.now ∷ objects.Tail name.now ∷ slot_numbered name.now channel.now.content.capacity (tail_of channel.now.content)) }
 {
-    let mut touched = Vec::new(alloc);
+    let mut touched = Vec::with_capacity(alloc, 3)?;
     touched.push(Object::Gate(name.copy(alloc)?))?;
     touched.push(Object::Tail(name.copy(alloc)?))?;
     push_slot(
@@ -105,7 +105,7 @@ pub(crate) fn receive_side(
 ) -> Result<Vec<Object>, NoMemory>
     ensures { IfOk result (λ touched. touched.items ≡ objects.Gate name.now ∷ objects.Head name.now ∷ slot_numbered name.now channel.now.content.capacity channel.now.content.head) }
 {
-    let mut touched = Vec::new(alloc);
+    let mut touched = Vec::with_capacity(alloc, 3)?;
     touched.push(Object::Gate(name.copy(alloc)?))?;
     touched.push(Object::Head(name.copy(alloc)?))?;
     push_slot(
@@ -118,7 +118,8 @@ pub(crate) fn receive_side(
     Ok(touched)
 }
 
-/// What a receive touches of a channel whose front item leaves, and into which a waiting sender's value moves.
+/// What a receive touches of a channel whose front item leaves, and into which a waiting sender's value moves; with room for one
+/// more.
 pub(crate) fn moved_side(
     alloc: Global,
     name: &ChName,
@@ -126,7 +127,7 @@ pub(crate) fn moved_side(
 ) -> Result<Vec<Object>, NoMemory>
     ensures { IfOk result (λ touched. touched.items ≡ objects.Gate name.now ∷ objects.Head name.now ∷ objects.Tail name.now ∷ slot_numbered name.now channel.now.content.capacity channel.now.content.head) }
 {
-    let mut touched = Vec::new(alloc);
+    let mut touched = Vec::with_capacity(alloc, 5)?;
     touched.push(Object::Gate(name.copy(alloc)?))?;
     touched.push(Object::Head(name.copy(alloc)?))?;
     touched.push(Object::Tail(name.copy(alloc)?))?;

@@ -1,6 +1,6 @@
 //! The step of a goroutine that comes to wait (Go: Send statements, Receive operator, Select statements).
 
-ghost use Rattle.std.specs.Prelude.{◌≡◌, ◌∷◌, [], ◌++◌, true, false, Some, None, option_map, map, length, IfOk, IfErr, OnOk, OnErr, IsOk};
+ghost use Rattle.std.specs.Prelude.{◌≡◌, ◌∷◌, [], ◌++◌, true, false, Some, None, option_map, map, length, IfOk, IfErr, OnOk, OnErr, IsOk, List};
 ghost use Rattle.gr_base.specs.declared.events.Choice.TheVariants as choices;
 ghost use Rattle.gr_base.specs.declared.kinds.Kind.TheVariants as kinds;
 ghost use Rattle.gr_rules.specs.Outcomes.{gives, faults};
@@ -13,7 +13,7 @@ ghost use Rattle.gr_code.specs.CodeFrames.{Wants};
 ghost use Rattle.gr_code.specs.Goroutines.{task_of, is_local};
 ghost use Rattle.gr_contents.specs.Leaves.{Refuses};
 ghost use Rattle.gr_contents.specs.Presence.{Sound};
-ghost use Rattle.gr_goros.specs.Views.{communications_of, waits_of};
+ghost use Rattle.gr_goros.specs.Views.{communication_of, communications_of, waits_of};
 ghost use Rattle.gr_goros.specs.Needs.{NeedIs};
 ghost use Rattle.gr_lower.specs.Lowered.{lowered};
 ghost use Rattle.gr_step.specs.Listings.{program_in, frame_in, state_in, IsCoded};
@@ -22,21 +22,29 @@ ghost use Rattle.gr_base.specs.declared.objects.Object.TheVariants as objects;
 ghost use Rattle.gr_rules.specs.Actors as actors;
 ghost use Rattle.gr_tables.specs.NamedChannels.{contents_of};
 ghost use Rattle.gr_tables.specs.NamedGoroutines.{seen_at, At, CanPark};
-ghost use Rattle.gr_step.specs.Parks.{pending_of, AreMade, Parks};
+ghost use Rattle.gr_step.specs.Parks.{pending_of, gates_of, with_channels, AreMade, Parks};
+ghost use Rattle.gr_base.specs.declared.objects.Object.{Object as ObjectMade};
+ghost use Rattle.gr_laws.specs.Touched.{each_once as each_read};
+ghost use Rattle.gr_rules.specs.Touches.{side as side_by};
+ghost use Rattle.gr_rules.specs.Frames.{Frame};
+ghost use Rattle.gr_code.specs.CodeFrames.{CodeFrame};
+ghost use Rattle.gr_contents.specs.Contents.{state_of};
+ghost use Rattle.gr_contents.specs.Partners.{is_made_for};
 ghost use Rattle.gr_step.specs.Records.{operation_of, HasRoom};
 ghost use Rattle.gr_step.specs.Premises.{Acting, OfGoroutine, OfActor};
 ghost use Rattle.gr_step.specs.Taking.{Takes};
 ghost use Rattle.gr_step.specs.Communicating.{HasValues};
 
-use crate::channels_named::channels_but;
+use crate::channels_named::{channel_of, channels_but};
 use crate::listing::Listing;
 use crate::objects::Objects;
 use crate::queues::{all_waits, park_for_all};
 use crate::record::{Beyond, Change, Operation};
-use crate::sides::{each_once, side, sides};
-use crate::touching::push_gates;
+use crate::sides::{each_once, sides};
+use crate::touching::{head_side, push_gates, tail_side};
 use gr_base::{ChName, Event, Kind, NoMemory, Object, Value};
 use gr_goros::{Clause, Wait};
+use gr_tables::channels::Channels;
 use std::alloc::Global;
 
 /// The clauses of a select, each with its number, counted from 1.
@@ -75,37 +83,74 @@ fn receive_operation(alloc: Global, channel: &Option<ChName>) -> Result<Option<O
     }
 }
 
+/// The gate of a channel.
+fn gate_alone(alloc: Global, channel: &ChName) -> Result<Vec<Object>, NoMemory>
+    ensures { IfOk result (λ gates. gates.items ≡ objects.Gate channel.now ∷ []) }
+{
+    let mut gates = Vec::with_capacity(alloc, 1)?;
+    gates.push(Object::Gate(channel.copy(alloc)?))?;
+    Ok(gates)
+}
+
 /// The gates of the channels on which one waits.
 fn gates(alloc: Global, waits: &[Wait]) -> Result<Vec<Object>, NoMemory>
     ensures { IfOk result (λ gates. gates.items ≡ map objects.Gate (actors.channels_but [] (waits_of waits.now))) }
 {
+    if let [wait] = waits {
+        return gate_alone(alloc, channel_of(wait));
+    }
     let names = channels_but(alloc, &[], waits)?;
-    let mut gates = Vec::new(alloc);
+    let mut gates = Vec::with_capacity(alloc, names.len())?;
     push_gates(alloc, &mut gates, &names)?;
     Ok(gates)
 }
 
+/// What a wait for one communication reads beside the gate: where the next value enters, or where the front item is. Its channel
+/// is there, where it is on one.
+fn read_alone(
+    alloc: Global,
+    channels: &Channels,
+    communication: &Clause,
+) -> Result<Vec<Object>, NoMemory>
+    requires { is_made_for (with_channels (contents_of channels.now)) (communication_of communication.now) ≡ true }
+    ensures { IfOk result (λ reads. (frame : CodeFrame → Frame) → reads.items ≡ each_read (gates_of ((None, communication_of communication.now) ∷ [])) (side_by (state_of frame (with_channels (contents_of channels.now))) (communication_of communication.now))) }
+{
+    match communication {
+        Clause::Send {
+            channel: Some(name),
+            ..
+        } => tail_side(alloc, name, channels.get(name).unwrap()),
+        Clause::Receive {
+            channel: Some(name),
+            ..
+        } => head_side(alloc, name, channels.get(name).unwrap()),
+        _ => Ok(Vec::new(alloc)),
+    }
+}
+
 impl Objects {
-    /// Begins to wait for these, each with the number of its clause where it is one of a select, after a look at the sides.
-    /// Refused, nothing has changed.
-    fn wait_for(
+    /// Begins to wait for these, each with the number of its clause where it is one of a select, having read and writing what is
+    /// given. Refused, nothing has changed.
+    fn begin_to_wait(
         &mut self,
         event: &Event,
         number: usize,
         kind: Kind,
         operation: Option<Operation>,
-        sides: &[Object],
+        reads: Vec<Object>,
+        writes: Vec<Object>,
+        waits: Vec<Wait>,
         pending: &[(Option<u32>, Clause)],
     ) -> Result<Change, NoMemory>
         requires parks { At CanPark (seen_at self.old.goroutines number) }
         requires made { AreMade (pending_of pending.now) (contents_of self.old.channels) }
-        ensures ok { IfOk result (λ change. Parks event.now number kind operation sides.now (pending_of pending.now) change self.old self.new) }
+        requires waits { waits_of waits.items ≡ rules.all_waits (pending_of pending.now) }
+        requires writes { writes.items ≡ gates_of (pending_of pending.now) }
+        ensures ok { (sides : List ObjectMade) → reads.items ≡ each_read (gates_of (pending_of pending.now)) sides
+            → IfOk result (λ change. Parks event.now number kind operation sides (pending_of pending.now) change self.old self.new) }
         ensures err { OnErr result (contents_in self.new ≡ contents_in self.old) }
     {
         let alloc = self.alloc;
-        let waits = all_waits(alloc, pending)?;
-        let writes = gates(alloc, &waits)?;
-        let reads = each_once(alloc, &writes, sides)?;
         let beyond = Beyond {
             operation,
             reads,
@@ -124,6 +169,56 @@ impl Objects {
             own,
             beyond: Some(beyond),
         })
+    }
+
+    /// Begins to wait for any of these, each with the number of its clause, after a look at the sides. Refused, nothing has changed.
+    fn wait_for(
+        &mut self,
+        event: &Event,
+        number: usize,
+        kind: Kind,
+        operation: Option<Operation>,
+        sides: &[Object],
+        pending: &[(Option<u32>, Clause)],
+    ) -> Result<Change, NoMemory>
+        requires parks { At CanPark (seen_at self.old.goroutines number) }
+        requires made { AreMade (pending_of pending.now) (contents_of self.old.channels) }
+        ensures ok { IfOk result (λ change. Parks event.now number kind operation sides.now (pending_of pending.now) change self.old self.new) }
+        ensures err { OnErr result (contents_in self.new ≡ contents_in self.old) }
+    {
+        let alloc = self.alloc;
+        let waits = all_waits(alloc, pending)?;
+        let writes = gates(alloc, &waits)?;
+        let reads = each_once(alloc, &writes, sides)?;
+        self.begin_to_wait(
+            event, number, kind, operation, reads, writes, waits, pending,
+        )
+    }
+
+    /// Begins to wait for one communication, which is no clause of a select. Refused, nothing has changed.
+    fn wait_alone(
+        &mut self,
+        event: &Event,
+        number: usize,
+        kind: Kind,
+        operation: Option<Operation>,
+        communication: Clause,
+    ) -> Result<Change, NoMemory>
+        requires parks { At CanPark (seen_at self.old.goroutines number) }
+        requires made { AreMade ((None, communication_of communication) ∷ []) (contents_of self.old.channels) }
+        ensures ok { (frame : CodeFrame → Frame) → IfOk result (λ change. Parks event.now number kind operation
+            (side_by (state_of frame (with_channels (contents_of self.old.channels))) (communication_of communication))
+            ((None, communication_of communication) ∷ []) change self.old self.new) }
+        ensures err { OnErr result (contents_in self.new ≡ contents_in self.old) }
+    {
+        let alloc = self.alloc;
+        let reads = read_alone(alloc, &self.channels, &communication)?;
+        let pending = [(None, communication)];
+        let waits = all_waits(alloc, &pending)?;
+        let writes = gates(alloc, &waits)?;
+        self.begin_to_wait(
+            event, number, kind, operation, reads, writes, waits, &pending,
+        )
     }
 
     /// Waits to send a value. Refused, nothing has changed.
@@ -148,9 +243,7 @@ impl Objects {
             channel,
             value: Ok(value),
         };
-        let sides = side(alloc, &self.channels, &clause)?;
-        let pending = [(None, clause)];
-        self.wait_for(event, number, Kind::SendWait, operation, &sides, &pending)
+        self.wait_alone(event, number, Kind::SendWait, operation, clause)
     }
 
     /// Waits to receive; the zero value matters where it is asked whether the clauses are those of the rules. Refused, nothing has
@@ -173,9 +266,7 @@ impl Objects {
         let alloc = self.alloc;
         let operation = receive_operation(alloc, &channel)?;
         let clause = Clause::Receive { channel, zero };
-        let sides = side(alloc, &self.channels, &clause)?;
-        let pending = [(None, clause)];
-        self.wait_for(event, number, Kind::RecvWait, operation, &sides, &pending)
+        self.wait_alone(event, number, Kind::RecvWait, operation, clause)
     }
 
     /// Waits for any clause of its select, none of whose values to send is at fault. Refused, nothing has changed.

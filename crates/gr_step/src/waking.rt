@@ -1,11 +1,11 @@
 //! Goroutines that are ready again, and wait on no channel any more.
 
-ghost use Rattle.std.specs.Prelude.{◌≡◌, ◌≤◌, ◌∷◌, [], true, vec_len, vec_capacity, IfOk, OnOk, OnErr};
+ghost use Rattle.std.specs.Prelude.{◌≡◌, ◌≤◌, map, ◌∷◌, [], true, vec_len, vec_capacity, IfOk, OnOk, OnErr};
 ghost use Rattle.std.specs.List.{list_all};
 ghost use Rattle.gr_rules.specs.Actors as rules;
-ghost use Rattle.gr_tables.specs.NamedChannels.{contents_of, rooms_of, At, IsOpen, ChansFit, HasRooms, TookBack, Follows, GoesBack};
+ghost use Rattle.gr_tables.specs.NamedChannels.{contents_of, rooms_of, At, IsOpen, ChansFit, HasRooms, TookBack, Follows, GoesBack, AreAtGates, MoreAtGates};
 ghost use Rattle.gr_tables.specs.NamedGoroutines.{goroutines_of};
-ghost use Rattle.gr_step.specs.Wakes.{waits_known, all_waits_known, without_each, is_live_there, with_one_woken, with_each_woken, IsShut, LeadsOver};
+ghost use Rattle.gr_step.specs.Wakes.{waits_known, all_waits_known, left_by_close, without_each, is_live_there, with_one_woken, with_each_woken, IsShut, LeadsOver};
 
 use crate::channels_named::channels_but;
 use gr_base::{ChName, GoName, NoMemory};
@@ -69,6 +69,7 @@ fn withdraw_each(
     requires room { HasRooms done.items (rooms_of channels.old) }
     ensures contents { OnOk result (contents_of channels.new ≡ without_each but.now (goroutines_of goroutines.now) names.now (contents_of channels.old)) }
     ensures back { IfOk result (λ undos. Follows done.items undos.items channels.old channels.new) }
+    ensures gates { IfOk result (λ undos. MoreAtGates (left_by_close but.now (goroutines_of goroutines.now) names.now) done.items undos.items) }
     ensures err { OnErr result (TookBack done.items channels.old channels.new) }
 {
     let mut undos = done;
@@ -96,6 +97,7 @@ pub(crate) fn shut(
     requires { At IsOpen (contents_of channels.old channel.now) }
     ensures contents { OnOk result (IsShut channel.now (goroutines_of goroutines.now) names.now (contents_of channels.old) (contents_of channels.new)) }
     ensures back { IfOk result (λ undos. GoesBack undos.items channels.old channels.new) }
+    ensures gates { IfOk result (λ undos. AreAtGates (left_by_close channel.now (goroutines_of goroutines.now) names.now) undos.items) }
     ensures err { OnErr result (contents_of channels.new ≡ contents_of channels.old) }
 {
     let mut done = Vec::with_capacity(alloc, 1)?;
@@ -126,6 +128,7 @@ pub(crate) fn wake_each(
     requires room { vec_len names ≤ vec_capacity met }
     ensures woken { goroutines_of goroutines.new ≡ with_each_woken names.items (goroutines_of goroutines.old) }
     ensures back { LeadsOver result.items (goroutines_of goroutines.old) (goroutines_of goroutines.new) }
+    ensures names { map (λ e. e.0) result.items ≡ names.items }
 {
     let mut met = met;
     for go in names {

@@ -1,18 +1,18 @@
 -- A goroutine that is withdrawn from one channel after the other.
 use Rattle.std.proofs.Common.{◌≡◌, ℕ, ◌+◌, ◌<◌, ◌≤◌, ◌-◌, Bool, true, false, not, ◌||◌, cond, List, [], ◌∷◌, ◌++◌, length, drop, get_or, filter, drop-cons}
-use Rattle.std.proofs.Common.{drop_of_length-le, add-one, suc, refl, ap, sym, ◌∙◌, subst, arith, append-nil, append_assoc, Option, Some, None, option_map}
+use Rattle.std.proofs.Common.{drop_of_length-le, add-one, zero, suc, refl, ap, sym, ◌∙◌, subst, arith, append-nil, append_assoc, Option, Some, None, option_map}
 use Rattle.std.specs.List.{list_any}
 use Rattle.gr_base.specs.declared.names.ChName.{ChName}
 use Rattle.gr_channels.specs.declared.changes.ChanUndo.{ChanUndo}
-use Rattle.gr_channels.specs.declared.changes.ChanUndo.TheVariants.{Withdrawn}
+use Rattle.gr_channels.specs.declared.changes.ChanUndo.TheVariants.{Handed, Buffered, Took, Moved, Met, ParkedSender, ParkedReceiver, Withdrawn, Closed}
 use Rattle.gr_channels.specs.Channels.{Content, Room, Seen, Within, plus, each}
-use Rattle.gr_channels.specs.Changes.{Undoes}
+use Rattle.gr_channels.specs.Changes.{Undoes, IsWithdrawn}
 use Rattle.gr_channels.specs.Objects.{has_any}
 use Rattle.gr_channels.specs.Queues.{is_of, restored}
 use Rattle.gr_rules.specs.Operators.{same_channel}
 use Rattle.gr_rules.specs.States.{updated}
 use Rattle.gr_tables.specs.NamedChannels.{contents_of, rooms_of, without, withdrawn, chan_undone, chan_back, ChansFit, minus, needs, frees, HasRooms, GoesBack}
-use Rattle.gr_tables.specs.NamedChannels.{TookBack, KeepsRooms, Follows, is_empty}
+use Rattle.gr_tables.specs.NamedChannels.{TookBack, KeepsRooms, Follows, is_at_gate, AreAtGates, MoreAtGates, is_empty}
 use Rattle.gr_tables.specs.declared.channels.Channels.{Channels}
 use Rattle.gr_tables.proofs.ChannelNames.{channel_self, at_each}
 use Rattle.gr_tables.proofs.RoomLemmas.{none_within, within_self, within_more, frees-append, needs-append}
@@ -119,6 +119,44 @@ nobody_back {a = a} {b = b} old new s u e h =
 
 pub none_after : (done : List (ChName × ChanUndo)) (a : Channels) → Follows done done a a
 none_after done a = record { more = []; are = sym (append-nil done); goes = no_change a a refl (λ q. within_self (rooms_of a q)) }
+
+-- who is taken out stands in the queues of a gate
+pub withdrawn_at_gate : (u : ChanUndo) → IsWithdrawn u → is_at_gate u ≡ true
+withdrawn_at_gate (Withdrawn s r) h = refl
+withdrawn_at_gate (Handed w) h = absurd h
+withdrawn_at_gate Buffered h = absurd h
+withdrawn_at_gate (Took v) h = absurd h
+withdrawn_at_gate (Moved item go case) h = absurd h
+withdrawn_at_gate (Met w) h = absurd h
+withdrawn_at_gate ParkedSender h = absurd h
+withdrawn_at_gate ParkedReceiver h = absurd h
+withdrawn_at_gate (Closed s r) h = absurd h
+
+-- a name of a list is among its names
+at_place : (names : List ChName) (i : ℕ) (k : ChName) → i < length names → k ≡ get_or names i k → list_any (same_channel k) names ≡ true
+at_place [] i k h at = absurd (omega (arith, h))
+at_place (n ∷ ns) zero k h at = ap (λ c. same_channel k c || list_any (same_channel k) ns) (sym at) ∙ ap (λ t. t || list_any (same_channel k) ns) (channel_self k)
+at_place (n ∷ ns) (suc i) k h at = ap (λ t. same_channel k n || t) (at_place ns i k (omega (arith, h)) at) ∙ or_true (same_channel k n)
+  where
+    or_true : (b : Bool) → (b || true) ≡ true
+    or_true true = refl
+    or_true false = refl
+
+pub gates_join : (names : List ChName) (us vs : List (ChName × ChanUndo)) → AreAtGates names us → AreAtGates names vs → AreAtGates names (us ++ vs)
+gates_join names [] vs h k = k
+gates_join names (u ∷ us) vs h k = (h.0, h.1, gates_join names us vs h.2 k)
+
+pub none_at_gate : (names : List ChName) (done : List (ChName × ChanUndo)) → MoreAtGates names done done
+none_at_gate names done = record { more = []; are = sym (append-nil done); at_gates = tt }
+
+-- one more change of a gate
+pub one_more_at_gate : (names : List ChName) (i : ℕ) (k : ChName) (done us more : List (ChName × ChanUndo)) (u : ChanUndo) → i < length names → k ≡ get_or names i k
+    → more ≡ us ++ (k, u) ∷ [] → is_at_gate u ≡ true → MoreAtGates names done us → MoreAtGates names done more
+one_more_at_gate names i k done us more u h at are gate gates = record {
+  more = gates.more ++ (k, u) ∷ [];
+  are = are ∙ ap (λ es. es ++ (k, u) ∷ []) gates.are ∙ append_assoc done gates.more ((k, u) ∷ []);
+  at_gates = gates_join names gates.more ((k, u) ∷ []) gates.at_gates (gate, at_place names i k h at, tt);
+}
 
 module _ (done us : List (ChName × ChanUndo)) (a b : Channels) (follows : Follows done us a b) where
   -- one more change, or none

@@ -6,7 +6,7 @@ use Rattle.gr_base.specs.Names.{ch_cmp}
 use Rattle.gr_base.specs.declared.names.ChName.{ChName}
 use Rattle.gr_base.specs.declared.values.Value.{Value}
 use Rattle.gr_channels.specs.declared.changes.ChanUndo.{ChanUndo}
-use Rattle.gr_channels.specs.declared.changes.ChanUndo.TheVariants.{Withdrawn}
+use Rattle.gr_channels.specs.declared.changes.ChanUndo.TheVariants.{Handed, Buffered, Took, Moved, Met, ParkedSender, ParkedReceiver, Withdrawn, Closed}
 use Rattle.gr_channels.specs.declared.changes.Offered.{Offered}
 use Rattle.gr_channels.specs.declared.changes.Offered.TheVariants as offered
 use Rattle.gr_channels.specs.declared.changes.Taken.{Taken}
@@ -123,6 +123,29 @@ pub record Follows (done us : List (ChName × ChanUndo)) (old new : Channels) : 
   pub more : List (ChName × ChanUndo)
   pub are : us ≡ done ++ more
   pub goes : GoesBack more old new
+
+-- whether the change wrote the gate of its channel alone
+abbrev pub is_at_gate : ChanUndo → Bool
+is_at_gate (Handed w) = true
+is_at_gate Buffered = false
+is_at_gate (Took v) = false
+is_at_gate (Moved item go case) = false
+is_at_gate (Met w) = true
+is_at_gate ParkedSender = true
+is_at_gate ParkedReceiver = true
+is_at_gate (Withdrawn s r) = true
+is_at_gate (Closed s r) = true
+
+-- each of these changes wrote a gate alone, that of a channel among these
+abbrev pub AreAtGates : List ChName → List (ChName × ChanUndo) → Type 0
+AreAtGates names [] = Unit {0}
+AreAtGates names (e ∷ es) = (is_at_gate e.1 ≡ true) × (list_any (same_channel e.0) names ≡ true) × AreAtGates names es
+
+-- .. these changes are the first ones, and after them others of that kind
+pub record MoreAtGates (names : List ChName) (done us : List (ChName × ChanUndo)) : Type 0 where
+  pub more : List (ChName × ChanUndo)
+  pub are : us ≡ done ++ more
+  pub at_gates : AreAtGates names more
 
 -- what taking changes back makes of the channels
 pub record TookBack (us : List (ChName × ChanUndo)) (old new : Channels) : Type 0 where

@@ -1,8 +1,8 @@
 //! Goroutines that wait no longer.
 
-ghost use Rattle.std.specs.Prelude.{◌≡◌, [], ◌∷◌, IfOk, OnOk, OnErr};
+ghost use Rattle.std.specs.Prelude.{◌≡◌, [], ◌∷◌, true, IfOk, IfSome, OnOk, OnErr};
 ghost use Rattle.gr_base.specs.declared.names.ChName.{ChName};
-ghost use Rattle.gr_tables.specs.NamedChannels.{contents_of, rooms_of, withdrawn, ChansFit, HasRooms, GoesBack, TookBack, KeepsRooms, Follows, listed, is_empty};
+ghost use Rattle.gr_tables.specs.NamedChannels.{contents_of, rooms_of, withdrawn, ChansFit, HasRooms, GoesBack, TookBack, KeepsRooms, Follows, MoreAtGates, listed, is_at_gate, is_empty};
 
 use crate::channels::Channels;
 use gr_base::{ChName, GoName, NoMemory};
@@ -47,6 +47,7 @@ impl Channels {
         requires room { HasRooms done.items (rooms_of self.old) }
         ensures contents { OnOk result (contents_of self.new ≡ withdrawn go.now names.now (contents_of self.old)) }
         ensures back { IfOk result (λ undos. Follows done.items undos.items self.old self.new) }
+        ensures gates { IfOk result (λ undos. MoreAtGates names.now done.items undos.items) }
         ensures err { OnErr result (TookBack done.items self.old self.new) }
     {
         let mut undos = done;
@@ -81,6 +82,7 @@ impl Channels {
     fn withdraw_at(&mut self, name: &ChName, go: &GoName) -> Result<Option<ChanUndo>, NoMemory>
         ensures contents { OnOk result (contents_of self.new ≡ withdrawn go.now (name.now ∷ []) (contents_of self.old)) }
         ensures back { IfOk result (λ undo. GoesBack (listed name.now undo) self.old self.new) }
+        ensures gate { IfOk result (λ undo. IfSome undo (λ u. is_at_gate u ≡ true)) }
         ensures err { OnErr result (contents_of self.new ≡ contents_of self.old) }
         ensures err_rooms { OnErr result (KeepsRooms self.old self.new) }
     {

@@ -1,6 +1,6 @@
 use Rattle.std.proofs.Common.{sym, subst}
 use Rattle.gr_step.specs.Stores.{contents_at}
-use Rattle.gr_show.specs.Kept.{Kept}
+use Rattle.gr_step.specs.Kept.{Kept}
 use Rattle.gr_session.proofs.QueryLemmas.{show_leads, chan_leads, text_leads, console_leads, log_leads}
 use Rattle.gr_session.proofs.carry.carry_out.Goals as goal
 

@@ -1,7 +1,7 @@
 use Rattle.std.proofs.Common.{◌∷◌, ◌++◌, [], refl, ◌∙◌, ap, subst}
 use Rattle.gr_step.specs.Stores.{contents_at}
 use Rattle.gr_session.specs.Courses.{IsNoStep}
-use Rattle.gr_session.proofs.CourseLemmas.{can_count, stays, joins, own_in_pool}
+use Rattle.gr_session.proofs.CourseLemmas.{can_count, stays, joins, own_in_pool, met_in_pool}
 use Rattle.gr_session.proofs.StepLemmas.{record_is_allowed}
 use Rattle.gr_session.proofs.stepping.keep_step.Goals as goal
 
@@ -15,6 +15,10 @@ prepare-prepared-requires-clause-known c =
 pub prepare-prepared-requires-clause-was_ready : goal.prepare-prepared-requires-clause-was_ready
 prepare-prepared-requires-clause-was_ready c =
     (own_in_pool _ c.requires.world c.args.course.now c.requires.stands c.in-Ok.record (contents_at c.step.new.self) c.in-Ok.ensures.step).1
+
+pub prepare-prepared-requires-clause-met : goal.prepare-prepared-requires-clause-met
+prepare-prepared-requires-clause-met c =
+    met_in_pool _ c.requires.world c.args.course.now c.requires.stands c.in-Ok.record (contents_at c.step.new.self) c.in-Ok.ensures.step
 
 pub returns-in_default-clause-takes : goal.returns-in_default-clause-takes
 returns-in_default-clause-takes c = λ p w s.

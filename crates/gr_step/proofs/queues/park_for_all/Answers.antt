@@ -36,6 +36,7 @@ loop-clause-preserved-in_default c =
       queueing = queueing_next c.args.go.now c.args.pending.now c.loop-clause.clause-index undos c.args.channels.now c.loop-clause.channels
           c.loop-clause.invariant.queueing c.loop-clause-item.result [] undos c.park_for.new.channels c.loop-clause-test.true
           c.loop-clause-item.is c.in-Ok.ensures.contents (rw c.in_default.is at c.in-Ok.ensures.back) (rw c.in_default.is at c.in-Ok.ensures.room)
+          (rw c.in_default.is at c.in-Ok.ensures.gate)
           (sym (append-nil undos));
       few = omega arith;
       room = c.loop-clause.invariant.room;
@@ -48,7 +49,7 @@ loop-clause-preserved c =
       queueing = queueing_next c.args.go.now c.args.pending.now c.loop-clause.clause-index undos c.args.channels.now c.loop-clause.channels
           c.loop-clause.invariant.queueing c.loop-clause-item.result (c.in-Some.change ∷ []) c.push_reserved.new.self.items c.park_for.new.channels
           c.loop-clause-test.true c.loop-clause-item.is c.in-Ok.ensures.contents (rw c.in-Some.is at c.in-Ok.ensures.back)
-          (rw c.in-Some.is at c.in-Ok.ensures.room) c.push_reserved.ensures.items;
+          (rw c.in-Some.is at c.in-Ok.ensures.room) (rw c.in-Some.is at c.in-Ok.ensures.gate) c.push_reserved.ensures.items;
       few = omega arith;
       room = omega (arith, c.push_reserved.ensures.capacity, c.loop-clause.invariant.room);
     }

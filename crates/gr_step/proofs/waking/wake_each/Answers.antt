@@ -2,7 +2,7 @@ use Rattle.std.proofs.Common.{◌≡◌, ◌++◌, ap, sym, subst, length, arith
 use Rattle.std.specs.Vec.Iter.{into_iter_items}
 use Rattle.gr_tables.specs.NamedGoroutines.{goroutines_of}
 use Rattle.gr_step.specs.Wakes.{LeadsOver}
-use Rattle.gr_step.proofs.WakingLemmas.{leads_join, live_next, woken_next}
+use Rattle.gr_step.proofs.WakingLemmas.{leads_join, live_next, woken_next, names_next}
 use Rattle.gr_step.proofs.waking.wake_each.Goals as goal
 
 pub loop-go-preserved : goal.loop-go-preserved
@@ -21,6 +21,7 @@ loop-go-preserved c =
       back = subst (λ us. LeadsOver us (goroutines_of c.args.goroutines.now) g) (sym pushed)
           (leads_join c.loop-go.met.items ((c.in-Some.go, c.wake-undo.result) ∷ []) (goroutines_of c.args.goroutines.now) f g
           c.loop-go.invariant.back c.wake-undo.ensures.back);
+      names = names_next c.loop-go.met.items c.push_reserved.new.self.items all rest c.in-Some.go c.wake-undo.result _ pushed steps.0 c.loop-go.invariant.names;
       counted = omega arith;
       room = omega (arith, c.push_reserved.ensures.capacity, c.push_reserved.ensures.len);
     }

@@ -1,4 +1,4 @@
-use Rattle.std.proofs.Common.{◌≡◌, ◌≤◌, ◌+◌, true, length, vec_len, vec_capacity}
+use Rattle.std.proofs.Common.{◌≡◌, ◌≤◌, ◌+◌, true, ◌++◌, map, length, vec_len, vec_capacity}
 use Rattle.std.specs.Vec.Iter.{into_iter_items, into_iter_len}
 use Rattle.std.specs.List.{list_all}
 use Rattle.gr_tables.specs.NamedGoroutines.{goroutines_of}
@@ -11,6 +11,7 @@ invariant-loop-go l = record {
   woken : with_each_woken (into_iter_items l.go-iterator) (goroutines_of l.goroutines)
       ≡ with_each_woken l.fn.names.items (goroutines_of l.fn.goroutines);
   back : LeadsOver l.met.items (goroutines_of l.fn.goroutines) (goroutines_of l.goroutines);
+  names : map (λ e. e.0) l.met.items ++ into_iter_items l.go-iterator ≡ l.fn.names.items;
   counted : into_iter_len l.go-iterator ≡ length (into_iter_items l.go-iterator);
   room : vec_len l.met + length (into_iter_items l.go-iterator) ≤ vec_capacity l.met;
 }

@@ -6,7 +6,7 @@ use Rattle.gr_tables.proofs.AnswerLemmas.{on_err}
 use Rattle.gr_tables.proofs.RoomLemmas.{within_self}
 use Rattle.gr_tables.proofs.Withdrawals.{follows_more, still_fit, still_have_rooms, took_all}
 use Rattle.gr_step.specs.Wakes.{waits_known}
-use Rattle.gr_step.proofs.WakingLemmas.{withdrawn_next, all_withdrawn}
+use Rattle.gr_step.proofs.WakingLemmas.{withdrawn_next, all_withdrawn, gates_next}
 use Rattle.gr_step.proofs.waking.withdraw_each.Goals as goal
 
 pub put_all_back-requires-clause-fits : goal.put_all_back-requires-clause-fits
@@ -51,6 +51,10 @@ loop-go-preserved c =
           (c.in_ok-undos.ensures.contents ∙ ap (λ names. withdrawn c.go-item.result names (contents_of c.loop-go.channels))
           (c.deref.ensures.value ∙ c.in-Ok.ensures ∙ ap (λ seen. channels_but seen (waits_known (f c.go-item.result))) c.from_ref.ensures.value))
           c.loop-go.invariant.told;
+      gates = gates_next c.args.but.now f c.args.names.now c.loop-go.go-index c.go-item.result _ c.args.done.items undos c.in_ok-undos.undos.items
+          c.loop-go-test.true c.go-item.is
+          (c.deref.ensures.value ∙ c.in-Ok.ensures ∙ ap (λ seen. channels_but seen (waits_known (f c.go-item.result))) c.from_ref.ensures.value)
+          c.loop-go.invariant.gates c.in_ok-undos.ensures.gates;
       follows = follows_more c.args.done.items undos c.args.channels.now c.loop-go.channels c.loop-go.invariant.follows follows.more
           c.in_ok-undos.undos.items c.withdraw_after.new.self follows.are follows.goes;
     }

@@ -18,26 +18,26 @@ returns-in_default-clause-ready c =
 pub unwrap-requires : goal.unwrap-requires
 unwrap-requires c =
     let belongs = rw (c.as_slice-3.ensures.keys, c.as_slice-4.ensures.value) at c.in-Err.ensures.missing in
-    let found = sym c.get_index_of.ensures.index ∙ c.unwrap-known.ensures in
+    let found = c.known_place-known.ensures in
     let room : length c.self.inside.ready.items < length c.self.inside.known.keys =
-    inserted_room c.self.inside.known.keys c.self.inside.ready.items c.args.name.now c.in-Err.place c.unwrap-known.result belongs found (c.self.invariant.0) (c.self.invariant.1) in
+    inserted_room c.self.inside.known.keys c.self.inside.ready.items c.args.name.now c.in-Err.place c.known_place-known.result belongs found (c.self.invariant.0) (c.self.invariant.1) in
     c.insert.ensures.succeeds (omega (arith, room, c.self.invariant.2))
 
 pub invariant_of-self : goal.invariant_of-self
 invariant_of-self c =
     let belongs = rw (c.as_slice-3.ensures.keys, c.as_slice-4.ensures.value) at c.in-Err.ensures.missing in
-    let found = sym c.get_index_of.ensures.index ∙ c.unwrap-known.ensures in
+    let found = c.known_place-known.ensures in
     let items = rw c.unwrap.ensures at c.insert.ensures.items in
     rw items (
-      inserted_within c.self.inside.known.keys c.self.inside.ready.items c.args.name.now c.in-Err.place c.unwrap-known.result (c.self.invariant.0) found,
-      inserted_order c.self.inside.known.keys c.self.inside.ready.items c.args.name.now c.in-Err.place c.unwrap-known.result belongs found (c.self.invariant.1),
+      inserted_within c.self.inside.known.keys c.self.inside.ready.items c.args.name.now c.in-Err.place c.known_place-known.result (c.self.invariant.0) found,
+      inserted_order c.self.inside.known.keys c.self.inside.ready.items c.args.name.now c.in-Err.place c.known_place-known.result belongs found (c.self.invariant.1),
       omega (arith, c.insert.ensures.capacity, c.self.invariant.2),
     )
 
 pub returns-clause-ready : goal.returns-clause-ready
 returns-clause-ready c =
     let belongs = rw (c.as_slice-3.ensures.keys, c.as_slice-4.ensures.value) at c.in-Err.ensures.missing in
-    let found = sym c.get_index_of.ensures.index ∙ c.unwrap-known.ensures in
+    let found = c.known_place-known.ensures in
     let items = rw c.unwrap.ensures at c.insert.ensures.items in
-    rw items (inserted_names c.self.inside.known.keys c.self.inside.ready.items c.args.name.now c.in-Err.place c.unwrap-known.result belongs found
+    rw items (inserted_names c.self.inside.known.keys c.self.inside.ready.items c.args.name.now c.in-Err.place c.known_place-known.result belongs found
     ∙ ap (λ (p : Goroutines). with_name c.args.name.now p.ready) c.self.view_is)

@@ -6,12 +6,12 @@ use Rattle.gr_code.specs.CodeViews.{program_code_of}
 use Rattle.gr_code.specs.Goroutines.{Completion}
 use Rattle.gr_contents.specs.Closing.{waiting_on}
 use Rattle.gr_rules.specs.Attempts.{closes}
-use Rattle.gr_tables.specs.NamedChannels.{contents_of, seen_of}
+use Rattle.gr_tables.specs.NamedChannels.{contents_of, seen_of, AreAtGates}
 use Rattle.gr_tables.specs.NamedGoroutines.{Arrives, ChangesBy, goroutines_of}
 use Rattle.gr_step.specs.declared.record.Operation.TheVariants.{Closes}
 use Rattle.gr_step.specs.Beyonds.{Reaches}
 use Rattle.gr_step.specs.Passing.{ArrivesAt, Tells}
-use Rattle.gr_step.specs.Wakes.{is_live_there, with_each_woken, written_by_close, IsShut}
+use Rattle.gr_step.specs.Wakes.{left_by_close, is_live_there, with_each_woken, written_by_close, IsShut}
 use Rattle.gr_step.proofs.CloseSteps.{arrives_at_name, all_live_after, content_is, content_seen}
 use Rattle.gr_step.proofs.objects.Objects.close_open.Goals as goal
 
@@ -59,6 +59,8 @@ returns-clause-ok c x there =
       shuts = subst (λ ns. IsShut channel f ns (contents_of old.channels) (contents_of c.shut.new.channels)) (c.deref-2.ensures.value ∙ names)
           c.in_ok-undos.ensures.contents;
       back = c.in_ok-undos.ensures.back;
+      named = c.wake_each-met.ensures.names ∙ names;
+      gates = subst (λ ns. AreAtGates (left_by_close channel f ns) c.in_ok-undos.undos.items) (c.deref-2.ensures.value ∙ names) c.in_ok-undos.ensures.gates;
       run = refl;
       tells = subst (λ u. Tells c.closed.result kinds.Close (Some (closes channel)) [] (written_by_close channel f (waiting_on x)) u
           c.wake_each-met.result.items c.in_ok-undos.undos.items) (sym c.closed.ensures.own)

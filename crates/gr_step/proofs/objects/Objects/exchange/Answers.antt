@@ -1,7 +1,7 @@
 use Rattle.std.proofs.Common.{◌≡◌, ◌∙◌, ◌++◌, ◌∷◌, [], refl, sym, ap, subst}
 use Rattle.gr_channels.specs.declared.changes.ChanUndo.{ChanUndo}
 use Rattle.gr_base.specs.declared.names.ChName.{ChName}
-use Rattle.gr_tables.specs.NamedChannels.{contents_of, rooms_of, withdrawn, Follows}
+use Rattle.gr_tables.specs.NamedChannels.{contents_of, rooms_of, withdrawn, Follows, MoreAtGates}
 use Rattle.gr_tables.proofs.RoomLemmas.{within_self}
 use Rattle.gr_tables.proofs.Withdrawals.{still_have_rooms, took_all}
 use Rattle.gr_step.proofs.Results.{on_err}
@@ -39,6 +39,8 @@ returns-clause-ok c = λ operation reads writes h.
         withdraws = ap contents_of c.in_ok-own.ensures.channels ∙ c.in_ok-done.ensures.contents
             ∙ ap (λ names. withdrawn c.args.prepared.go names (contents_of c.args.self.now.channels)) c.deref.ensures.value;
         follows = rw (c.in_ok-own.ensures.returned, c.in_ok-own.ensures.channels) follows;
+        gates = rw c.in_ok-own.ensures.returned (subst {_, _} (λ names. MoreAtGates names one c.in_ok-done.done.items) c.deref.ensures.value
+            (subst {_, _} (λ l. MoreAtGates c.deref.result.now l c.in_ok-done.done.items) pushed c.in_ok-done.ensures.gates));
         run = c.both_arrive.ensures.run;
       };
     }

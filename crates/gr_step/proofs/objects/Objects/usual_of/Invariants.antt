@@ -1,10 +1,13 @@
-use Rattle.std.proofs.Common.{◌≡◌, ◌+◌, drop}
-use Rattle.gr_goros.specs.Views.{communications_of}
-use Rattle.gr_step.specs.Choices.{ready_from}
+use Rattle.std.proofs.Common.{◌≡◌, ◌+◌, length}
+use Rattle.gr_code.specs.CodeViews.{arms_of}
 use Rattle.gr_step.specs.Objects.{contents_in}
+use Rattle.gr_step.specs.Possible.{first_going}
 use Rattle.gr_step.proofs.objects.Objects.usual_of.Given as goal
 
-abbrev pub invariant-loop-place : goal.invariant-loop-place
-invariant-loop-place l =
-    ready_from (contents_in l.self) (l.place + 1) (communications_of (drop l.place l.clauses))
-    ≡ ready_from (contents_in l.self) 1 (communications_of l.clauses)
+-- no clause so far can proceed
+abbrev pub invariant-loop-left : goal.invariant-loop-left
+invariant-loop-left l =
+    first_going (contents_in l.self) l.cells (l.number + 1) (arms_of l.left) ≡ first_going (contents_in l.self) l.cells 1 (arms_of l.fn.arms)
+
+abbrev pub decreases-loop-left : goal.decreases-loop-left
+decreases-loop-left l = length l.left

@@ -1,7 +1,7 @@
 use Rattle.std.proofs.Common.{◌∙◌, ◌++◌, ◌∷◌, [], sym, ap, refl, arith, append-nil}
 use Rattle.gr_tables.specs.NamedChannels.{contents_of, rooms_of}
 use Rattle.gr_tables.proofs.RoomLemmas.{within_self}
-use Rattle.gr_tables.proofs.Withdrawals.{told_more, told_all, follows_more, still_fit, still_have_rooms, took_all}
+use Rattle.gr_tables.proofs.Withdrawals.{told_more, told_all, one_more_at_gate, follows_more, still_fit, still_have_rooms, took_all}
 use Rattle.gr_tables.proofs.channels.Channels.withdraw_after.Goals as goal
 
 pub put_all_back-requires-in-Err-clause-fits : goal.put_all_back-requires-in-Err-clause-fits
@@ -46,6 +46,7 @@ loop-name-preserved-in_default c =
           ∙ c.loop-name.invariant.told;
       follows = follows_more c.args.done.items undos c.args.self.now c.loop-name.self c.loop-name.invariant.follows [] undos c.withdraw_at.new.self
           (sym (append-nil undos)) (rw c.in_default.is at c.in-Ok-withdraw_at.ensures.back);
+      gates = c.loop-name.invariant.gates;
       few = omega arith;
       room = omega arith;
     }
@@ -63,6 +64,8 @@ loop-name-preserved c =
       follows = follows_more c.args.done.items undos c.args.self.now c.loop-name.self c.loop-name.invariant.follows
           ((c.name-item.result, c.in-Some.undo) ∷ []) c.push.new.self.items c.withdraw_at.new.self more
           (rw c.in-Some.is at c.in-Ok-withdraw_at.ensures.back);
+      gates = one_more_at_gate c.args.names.now c.loop-name.name-index c.name-item.result c.args.done.items undos c.push.new.self.items c.in-Some.undo
+          c.loop-name-test.true c.name-item.is more (rw c.in-Some.is at c.in-Ok-withdraw_at.ensures.gate) c.loop-name.invariant.gates;
       few = omega (arith, longer);
       room = omega (arith, c.push.ensures.capacity);
     }

@@ -3,7 +3,7 @@ use Rattle.gr_tables.specs.NamedChannels.{without}
 use Rattle.gr_tables.proofs.SeenLemmas.{lent_at, same_contents, keeps_rooms, goes_back}
 use Rattle.gr_tables.proofs.AnswerLemmas.{on_err}
 use Rattle.gr_tables.proofs.Validity.{lent_valid, gate_valid}
-use Rattle.gr_tables.proofs.Withdrawals.{withdrawn_one, nobody_back}
+use Rattle.gr_tables.proofs.Withdrawals.{withdrawn_one, nobody_back, withdrawn_at_gate}
 use Rattle.gr_tables.proofs.channels.Channels.withdraw_at.Goals as goal
 
 pub returns-in_err-undo-clause-err : goal.returns-in_err-undo-clause-err
@@ -47,6 +47,9 @@ returns-clause-back c =
     let writes = (c.get_mut.follows.holds c.withdraw.new.self).3 in
     goes_back c.args.self.now _ (lent_at c.args.name.now c.in-Some.channel.now c.withdraw.new.self c.args.self.now.map new
     (sym c.in-Some.ensures.value) writes) c.in_ok-undo.undo c.in_ok-undo.ensures.undone
+
+pub returns-clause-gate : goal.returns-clause-gate
+returns-clause-gate c = withdrawn_at_gate c.in_ok-undo.undo c.in_ok-undo.ensures.undo_value
 
 pub invariant_of-self-2 : goal.invariant_of-self-2
 invariant_of-self-2 c =

@@ -1,0 +1,11 @@
+mod ContentLemmas
+mod TableLemmas
+mod NamedLemmas
+mod RecordLemmas
+mod MovedLemmas
+mod BackLemmas
+mod NeighbourLemmas
+mod SwapLemmas
+mod ChainLemmas
+mod KeptLemmas
+mod OrderLemmas

@@ -1,0 +1,2 @@
+-- Records and their steps together.
+pub mod Pairs

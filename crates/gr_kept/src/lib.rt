@@ -1,0 +1,93 @@
+//! Records that are kept are a log of the rules, and what holds of that log holds of them: laws, each on a function that does
+//! nothing.
+#![tactic(auto)]
+
+ghost use Rattle.std.specs.Prelude.{◌≡◌, false, List, [], ◌∷◌, ◌++◌, map, length};
+ghost use Rattle.gr_causal.specs.Machine.{IsLog};
+ghost use Rattle.gr_causal.specs.Orders.{IsOrder};
+ghost use Rattle.gr_causal.specs.Sequences.{In, Distinct};
+ghost use Rattle.gr_program.specs.Programs.{Program};
+ghost use Rattle.gr_rules.specs.States.{start};
+ghost use Rattle.gr_rules.specs.Steps.{machine};
+ghost use Rattle.gr_laws.specs.Dependence.{clash};
+ghost use Rattle.gr_laws.specs.Reached.{Logged, IsRun};
+ghost use Rattle.gr_contents.specs.Contents.{Contents};
+ghost use Rattle.gr_step.specs.Conflicts.{touched_by, conflict_of};
+ghost use Rattle.gr_step.specs.declared.record.Record.{Record};
+ghost use Rattle.gr_step.specs.Kept.{Kept, Tells};
+ghost use Rattle.gr_step.specs.Listings.{state_in};
+ghost use Rattle.gr_step.specs.Premises.{Running};
+ghost use Rattle.gr_step.specs.Records.{taken_back, CanGoBack};
+ghost use Rattle.gr_kept.specs.Pairs.{records_in, steps_in, clash_in};
+
+/// A record tells the touches of its step, no object twice: so two records tell whether their steps conflict.
+pub fn law_of_conflicts()
+    ensures once { (p : Program) (s t : Contents) (a : Record) (k : Logged p)
+        → Tells p s a k t
+        → Distinct (touched_by a) }
+    ensures conflicts { (p : Program) (s t u v : Contents) (a b : Record) (k l : Logged p)
+        → Tells p s a k t → Tells p u b l v
+        → conflict_of a b ≡ clash p k l }
+{}
+
+/// Of two steps that follow each other and do not conflict the first goes back behind the second: that leaves the second alone,
+/// and from there the first leads to where both led.
+pub fn law_of_neighbours()
+    ensures { (p : Program) (s m t : Contents) (a b : Record) (k l : Logged p)
+        → Running p s → Tells p s a k m → Tells p m b l t → clash p k l ≡ false
+        → let u = taken_back a.id.go a.change t in
+        Tells p s b l u × Tells p u a k t }
+{}
+
+/// A step with which no later step conflicts goes back from the middle, and the others are kept. The steps tell whether they
+/// conflict, and so do their records.
+pub fn law_of_the_middle()
+    ensures records { (p : Program) (s t : Contents) (front back : List Record) (r : Record) (kept later : List (Logged p)) (k : Logged p)
+        → Running p s → length front ≡ length kept
+        → Kept p s (front ++ r ∷ back) (kept ++ k ∷ later) t
+        → ((b : Record) → In b back → conflict_of r b ≡ false)
+        → CanGoBack r.id.go r.change t × Kept p s (front ++ back) (kept ++ later) (taken_back r.id.go r.change t) }
+    ensures steps { (p : Program) (s t : Contents) (front back : List Record) (r : Record) (kept later : List (Logged p)) (k : Logged p)
+        → Running p s → length front ≡ length kept
+        → Kept p s (front ++ r ∷ back) (kept ++ k ∷ later) t
+        → ((l : Logged p) → In l later → clash p k l ≡ false)
+        → CanGoBack r.id.go r.change t × Kept p s (front ++ back) (kept ++ later) (taken_back r.id.go r.change t) }
+{}
+
+/// Records in another order that respects dependence are kept, as steps in an order that respects dependence, and lead to the same
+/// contents. The order is one of records, or one of records with their steps. No record stands twice.
+pub fn law_of_rearranging()
+    ensures once { (p : Program) (s t : Contents) (records : List Record) (log : List (Logged p))
+        → Running p s → Kept p s records log t
+        → Distinct records }
+    ensures records { (p : Program) (s t : Contents) (old new : List Record) (log : List (Logged p))
+        → Running p s → Kept p s old log t → IsOrder conflict_of old new
+        → (steps : List (Logged p)) × IsOrder (clash p) log steps × Kept p s new steps t }
+    ensures pairs { (p : Program) (s t : Contents) (old new : List (Record × Logged p))
+        → Running p s → Kept p s (records_in p old) (steps_in p old) t → IsOrder (clash_in p) old new
+        → Kept p s (records_in p new) (steps_in p new) t }
+{}
+
+/// The last step goes back, and the others are kept.
+pub fn law_of_undoing()
+    ensures { (p : Program) (s t : Contents) (records : List Record) (r : Record) (log : List (Logged p)) (k : Logged p)
+        → Kept p s (records ++ r ∷ []) (log ++ k ∷ []) t
+        → CanGoBack r.id.go r.change t × Kept p s records log (taken_back r.id.go r.change t) }
+{}
+
+/// Records are as many as their steps, which are a log: from the start of the program a run. A run of the program leads to
+/// where they lead.
+pub fn law_of_the_log()
+    ensures lengths { (p : Program) (s t : Contents) (records : List Record) (log : List (Logged p))
+        → Kept p s records log t
+        → length records ≡ length log }
+    ensures log { (p : Program) (s t : Contents) (records : List Record) (log : List (Logged p))
+        → Kept p s records log t
+        → IsLog (machine p) (state_in p s) log (state_in p t) }
+    ensures run { (p : Program) (s t : Contents) (records : List Record) (log : List (Logged p))
+        → state_in p s ≡ start p → Kept p s records log t
+        → IsRun p log (state_in p t) }
+    ensures running { (p : Program) (s t : Contents) (records : List Record) (log : List (Logged p))
+        → Running p s → Kept p s records log t
+        → Running p t }
+{}

@@ -1,0 +1,62 @@
+//! The choice that is taken where none is asked for, found without memory (Go: Select statements).
+
+ghost use Rattle.std.specs.Prelude.{◌≡◌, IfOk};
+ghost use Rattle.gr_code.specs.CodeViews.{arms_of};
+ghost use Rattle.gr_rules.specs.Tells.{usual_choice as usual_by_rules};
+ghost use Rattle.gr_step.specs.Listings.{program_in, state_in, IsCoded};
+ghost use Rattle.gr_step.specs.Objects.{contents_in};
+ghost use Rattle.gr_step.specs.Possible.{usual_of as usual_by_arms};
+ghost use Rattle.gr_step.specs.Premises.{Running};
+
+use crate::allowing::{has_default, have_channels};
+use crate::listing::Listing;
+use crate::objects::Objects;
+use gr_base::{Choice, GoName, NoMemory, Value};
+use gr_code::code::Arm;
+
+impl Objects {
+    /// The lowest clause that can proceed, else the default clause, else to wait.
+    fn usual_of(&self, cells: &[Option<Value>], arms: &[Arm]) -> Result<Choice, NoMemory>
+        ensures { IfOk result (λ choice. choice ≡ usual_by_arms (contents_in self.now) cells.now (arms_of arms.now)) }
+    {
+        let mut left = arms;
+        let mut number: u32 = 0;
+        while let [arm, rest @ ..] = left {
+            let Some(next) = number.checked_add(1) else {
+                return Err(NoMemory);
+            };
+            if self.arm_can_proceed(cells, arm) {
+                return Ok(Choice::Pick(next));
+            }
+            number = next;
+            left = rest;
+        }
+        if has_default(arms) {
+            return Ok(Choice::Default);
+        }
+        Ok(Choice::Park)
+    }
+
+    /// The choice of a goroutine where none is asked for: at a select the lowest clause that can proceed, else the default
+    /// clause, else to wait. It takes no memory; want of memory stands for a clause whose number 32 bits do not hold.
+    pub fn usual_choice(&self, listing: &Listing, go: &GoName) -> Result<Choice, NoMemory>
+        requires coded { IsCoded listing.now }
+        requires running { Running (program_in listing.now) (contents_in self.now) }
+        ensures { IfOk result (λ choice. choice ≡ usual_by_rules (program_in listing.now) (state_in (program_in listing.now) (contents_in self.now)) go.now) }
+    {
+        let Some(goroutine) = self.at_select(listing, go) else {
+            return Ok(Choice::Plain);
+        };
+        let Some(arms) = goroutine.arms(&listing.code) else {
+            unreachable!()
+        };
+        let Some(frame) = goroutine.frame(0) else {
+            unreachable!()
+        };
+        let cells = frame.cells();
+        if !have_channels(cells, arms) {
+            return Ok(Choice::Plain);
+        }
+        self.usual_of(cells, arms)
+    }
+}
