@@ -9,3 +9,8 @@ mod SwapLemmas
 mod ChainLemmas
 mod KeptLemmas
 mod OrderLemmas
+mod AlikeLemmas
+mod LiftLemmas
+mod RollbackLemmas
+mod MarkLemmas
+mod FreeLemmas

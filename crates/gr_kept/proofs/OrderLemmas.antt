@@ -91,7 +91,7 @@ images_once : {A B : Type 0} (f : A → B) (xs : List A) → Distinct (map f xs)
 images_once f [] d = tt
 images_once f (x ∷ xs) d = (λ i. d.0 (In-of_image f x xs i), images_once f xs d.1)
 
-last_once : {A : Type 0} (xs ys : List A) → Distinct (xs ++ ys) → Distinct ys
+pub last_once : {A : Type 0} (xs ys : List A) → Distinct (xs ++ ys) → Distinct ys
 last_once [] ys d = d
 last_once (x ∷ xs) ys d = last_once xs ys d.1
 
@@ -108,7 +108,7 @@ records_once p s t records log running kept =
     images_once name_told records (subst {_, _} Distinct (sym (names_told p s t records log (chain_of p s records log t kept)))
     (names_once p s t records log running kept))
 
-steps_once : (p : Program) (s t : Contents) (records : List Record) (log : List (Logged p)) → Running p s → Kept p s records log t → Distinct log
+pub steps_once : (p : Program) (s t : Contents) (records : List Record) (log : List (Logged p)) → Running p s → Kept p s records log t → Distinct log
 steps_once p s t records log running kept = images_once (step_name p) log (names_once p s t records log running kept)
 
 -- by swaps of neighbours: of records, for which there are steps

@@ -1,2 +1,3 @@
--- Records and their steps together.
+-- Records and their steps together, and records taken back.
 pub mod Pairs
+pub mod Back

@@ -2,7 +2,8 @@
 //! nothing.
 #![tactic(auto)]
 
-ghost use Rattle.std.specs.Prelude.{◌≡◌, false, List, [], ◌∷◌, ◌++◌, map, length};
+ghost use Rattle.std.specs.Prelude.{◌≡◌, ℕ, Bool, true, false, List, [], ◌∷◌, ◌++◌, map, length};
+ghost use Rattle.gr_causal.specs.Dependence.{dependents, kept, causes, Depends, IsClosedPart, AreTheOthers};
 ghost use Rattle.gr_causal.specs.Machine.{IsLog};
 ghost use Rattle.gr_causal.specs.Orders.{IsOrder};
 ghost use Rattle.gr_causal.specs.Sequences.{In, Distinct};
@@ -18,7 +19,8 @@ ghost use Rattle.gr_step.specs.Kept.{Kept, Tells};
 ghost use Rattle.gr_step.specs.Listings.{state_in};
 ghost use Rattle.gr_step.specs.Premises.{Running};
 ghost use Rattle.gr_step.specs.Records.{taken_back, CanGoBack};
-ghost use Rattle.gr_kept.specs.Pairs.{records_in, steps_in, clash_in};
+ghost use Rattle.gr_kept.specs.Back.{all_back, marked, unmarked, AreFree};
+ghost use Rattle.gr_kept.specs.Pairs.{records_in, steps_in, clash_in, AreOf};
 
 /// A record tells the touches of its step, no object twice: so two records tell whether their steps conflict.
 pub fn law_of_conflicts()
@@ -90,4 +92,72 @@ pub fn law_of_the_log()
     ensures running { (p : Program) (s t : Contents) (records : List Record) (log : List (Logged p))
         → Running p s → Kept p s records log t
         → Running p t }
+{}
+
+/// Records that are kept stand beside their steps in a list of pairs. Which of them follow from a step, which do not, and which
+/// caused it, is the same by the records, by the steps and by the pairs.
+pub fn law_of_consequences()
+    ensures pairs { (p : Program) (s t : Contents) (records : List Record) (log : List (Logged p))
+        → Kept p s records log t
+        → (steps : List (Record × Logged p)) × AreOf p steps records log }
+    ensures gone { (p : Program) (s t : Contents) (steps : List (Record × Logged p)) (i : ℕ)
+        → Kept p s (records_in p steps) (steps_in p steps) t
+        → AreOf p (dependents (clash_in p) steps i) (dependents conflict_of (records_in p steps) i) (dependents (clash p) (steps_in p steps) i) }
+    ensures others { (p : Program) (s t : Contents) (steps : List (Record × Logged p)) (i : ℕ)
+        → Kept p s (records_in p steps) (steps_in p steps) t
+        → AreOf p (kept (clash_in p) steps i) (kept conflict_of (records_in p steps) i) (kept (clash p) (steps_in p steps) i) }
+    ensures caused { (p : Program) (s t : Contents) (steps : List (Record × Logged p)) (i : ℕ)
+        → Kept p s (records_in p steps) (steps_in p steps) t
+        → AreOf p (causes (clash_in p) steps i) (causes conflict_of (records_in p steps) i) (causes (clash p) (steps_in p steps) i) }
+{}
+
+/// Rollback of a step with its consequences, by the records: each of them can go back when those behind it are back. When all are
+/// back the other records are kept, and the consequences go again from there. It may stop on its way, and any part of the log with
+/// all its consequences goes back so.
+pub fn law_of_back()
+    ensures each { (p : Program) (s t : Contents) (records left gone : List Record) (r : Record) (log : List (Logged p)) (i : ℕ)
+        → Running p s → Kept p s records log t
+        → dependents conflict_of records i ≡ left ++ r ∷ gone
+        → CanGoBack r.id.go r.change (all_back gone t) }
+    ensures whole { (p : Program) (s t : Contents) (records : List Record) (log : List (Logged p)) (i : ℕ)
+        → Running p s → Kept p s records log t
+        → let u = all_back (dependents conflict_of records i) t in
+        Kept p s (kept conflict_of records i) (kept (clash p) log i) u
+        × Kept p u (dependents conflict_of records i) (dependents (clash p) log i) t }
+    ensures stopped { (p : Program) (s t : Contents) (records left gone stay : List Record) (log : List (Logged p)) (i : ℕ)
+        → Running p s → Kept p s records log t
+        → dependents conflict_of records i ≡ left ++ gone → AreTheOthers records gone stay
+        → let u = all_back gone t in
+        (later : List (Logged p)) × (steps : List (Logged p))
+        × AreTheOthers log later steps × Kept p s stay steps u × Kept p u gone later t }
+    ensures closed { (p : Program) (s t : Contents) (steps gone stay : List (Record × Logged p))
+        → Running p s → Kept p s (records_in p steps) (steps_in p steps) t
+        → IsClosedPart (λ a b. Depends (clash_in p) steps b a) steps gone
+        → AreTheOthers steps gone stay
+        → let u = all_back (records_in p gone) t in
+        Kept p s (records_in p stay) (steps_in p stay) u × Kept p u (records_in p gone) (steps_in p gone) t }
+{}
+
+/// Marked steps go back on a walk from the end, and the others of that part stay: no later one that stays may conflict with one that
+/// goes. So it is where the last of the consequences of a step are marked.
+pub fn law_of_marks()
+    ensures free { (p : Program) (s t : Contents) (front tail left : List Record) (log : List (Logged p)) (marks : List Bool) (i : ℕ)
+        → Running p s → Kept p s (front ++ tail) log t
+        → dependents conflict_of (front ++ tail) i ≡ left ++ marked marks tail
+        → AreFree conflict_of marks tail }
+    ensures others { (p : Program) (s t : Contents) (records : List Record) (log : List (Logged p)) (marks : List Bool)
+        → Running p s → Kept p s records log t
+        → AreTheOthers records (marked marks records) (unmarked marks records) }
+    ensures stay { (p : Program) (s t : Contents) (records : List Record) (log : List (Logged p)) (marks : List Bool) (i : ℕ)
+        → Running p s → Kept p s records log t
+        → dependents conflict_of records i ≡ marked marks records
+        → kept conflict_of records i ≡ unmarked marks records }
+    ensures next { (p : Program) (s t : Contents) (front tail : List Record) (r : Record) (first later : List (Logged p)) (k : Logged p) (marks : List Bool)
+        → Running p s → length front ≡ length first → Kept p s (front ++ r ∷ tail) (first ++ k ∷ later) t
+        → AreFree conflict_of (true ∷ marks) (r ∷ tail)
+        → CanGoBack r.id.go r.change (all_back (marked marks tail) t) }
+    ensures several { (p : Program) (s t : Contents) (front tail : List Record) (first later : List (Logged p)) (marks : List Bool)
+        → Running p s → length front ≡ length first → Kept p s (front ++ tail) (first ++ later) t
+        → AreFree conflict_of marks tail
+        → Kept p s (front ++ unmarked marks tail) (first ++ unmarked marks later) (all_back (marked marks tail) t) }
 {}

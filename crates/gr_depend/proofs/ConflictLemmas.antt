@@ -1,0 +1,166 @@
+-- Conflicts of steps by the touches of their objects.
+use Rattle.std.proofs.Common.{◌≡◌, ◌<◌, ◌≤◌, ◌+◌, ◌==◌, ◌||◌, ◌&&◌, ℕ, zero, suc, Bool, true, false, if◌then◌else◌, List, [], ◌∷◌, ◌++◌, length, slice_get, get_or, Some, refl, sym, ap, subst, ◌∙◌, eq-eqb, inl, inr, arith}
+use Rattle.std.specs.List.{list_any}
+use Rattle.std.proofs.lemmas.Bool.{cases_Bool}
+use Rattle.std.proofs.lemmas.List.Folds.{list_any-append}
+use Rattle.gr_base.specs.declared.objects.Object.{Object}
+use Rattle.gr_causal.specs.Machine.{meets}
+use Rattle.gr_rules.specs.States.{same}
+use Rattle.gr_step.specs.declared.record.Record.{Record}
+use Rattle.gr_step.specs.Conflicts.{written_by, read_by, touched_by, conflict_of}
+use Rattle.gr_depend.specs.declared.touch.Touch.{Touch}
+use Rattle.gr_depend.specs.declared.lanes.Lanes.{Lanes}
+use Rattle.gr_depend.specs.declared.marks.Origin.{Origin}
+use Rattle.gr_depend.specs.Touches.{is_among, touch_at, touches_in}
+use Rattle.gr_depend.specs.Lists.{list_of}
+use Rattle.gr_depend.specs.Marks.{hits, is_beyond, IsAscending, InReach, has_mark, Marks}
+use Rattle.gr_depend.specs.Walks.{AreInReach, meets_step}
+use Rattle.gr_depend.specs.Marked.{conflict_at}
+use Rattle.gr_depend.proofs.KeyLemmas.{same_sym}
+use Rattle.gr_depend.proofs.MarkLemmas.{hits_first, hits_not, none_below}
+use Rattle.gr_depend.proofs.SpreadLemmas.{there}
+use Rattle.std.proofs.lemmas.Option.{slice_get-get_or}
+
+or_no_more : (b : Bool) → (b || false) ≡ b
+or_no_more true = refl
+or_no_more false = refl
+
+-- the touches of an object ascend
+pub touches_ascend : (o : Object) (s : ℕ) (rs : List Record) → IsAscending s (touches_in o s rs)
+touches_ascend o s [] = tt
+touches_ascend o s (r ∷ rs) = by (is_among o (touched_by r)) (touches_ascend o (suc s) rs)
+  where
+    wider : (n m : ℕ) (ts : List Touch) → m ≤ n → IsAscending n ts → IsAscending m ts
+    wider n m [] le h = tt
+    wider n m (t ∷ ts) le h = (omega (arith, h.0), h.1)
+
+    by : (b : Bool) → IsAscending (suc s) (touches_in o (suc s) rs)
+        → IsAscending s ((if b then record { place = s; writes = is_among o (written_by r) } ∷ [] else []) ++ touches_in o (suc s) rs)
+    by true h = (omega arith, h)
+    by false h = wider (suc s) s (touches_in o (suc s) rs) (omega arith) h
+
+pub touches_in_reach : (origin : Origin) (count : ℕ) (o : Object) (s : ℕ) (rs : List Record)
+    → ((p : ℕ) → p < s + length rs → is_beyond origin p ≡ true → (origin.base ≤ p) × (p < origin.base + count)) → InReach origin count (touches_in o s rs)
+touches_in_reach origin count o s [] h = tt
+touches_in_reach origin count o s (r ∷ rs) h =
+    by (is_among o (touched_by r)) (touches_in_reach origin count o (suc s) rs (λ p w b. h p (omega arith) b)) (λ b. h s (omega arith) b)
+  where
+    by : (b : Bool) → InReach origin count (touches_in o (suc s) rs) → (is_beyond origin s ≡ true → (origin.base ≤ s) × (s < origin.base + count))
+        → InReach origin count ((if b then record { place = s; writes = is_among o (written_by r) } ∷ [] else []) ++ touches_in o (suc s) rs)
+    by true rest here = (here, rest)
+    by false rest here = rest
+
+-- whether the step has what is wanted of the object
+abbrev pub wants : Bool → Object → Record → Bool
+wants all o r = if all then is_among o (touched_by r) else is_among o (written_by r)
+
+hits_here : (all : Bool) (o : Object) (s : ℕ) (r : Record) (ts : List Touch) → IsAscending (suc s) ts → hits all (touch_at o s r ++ ts) s ≡ wants all o r
+hits_here all o s r ts up =
+    by all (is_among o (touched_by r)) (is_among o (read_by r)) (is_among o (written_by r)) (list_any-append (same o) (read_by r) (written_by r))
+  where
+    self : (s == s) ≡ true
+    self = eq-eqb s s refl
+
+    by : (all touched reads writes : Bool) → touched ≡ (reads || writes)
+        → hits all ((if touched then record { place = s; writes = writes } ∷ [] else []) ++ ts) s ≡ (if all then touched else writes)
+    by true true reads writes e = hits_first true (record { place = s; writes = writes }) ts s ∙ ap (λ b. b || hits true ts s) self
+    by true false reads writes e = none_below true (suc s) ts s up (omega arith)
+    by false true reads true e = hits_first false (record { place = s; writes = true }) ts s ∙ ap (λ b. b || hits false ts s) self
+    by false true reads false e = hits_first false (record { place = s; writes = false }) ts s ∙ none_below false (suc s) ts s up (omega arith)
+    by false false true writes e = cc
+    by false false false true e = cc
+    by false false false false e = none_below false (suc s) ts s up (omega arith)
+
+hits_there : (all : Bool) (o : Object) (s : ℕ) (r : Record) (ts : List Touch) (p : ℕ) → s < p → hits all (touch_at o s r ++ ts) p ≡ hits all ts p
+hits_there all o s r ts p w = by (is_among o (touched_by r))
+  where
+    by : (b : Bool) → hits all ((if b then record { place = s; writes = is_among o (written_by r) } ∷ [] else []) ++ ts) p ≡ hits all ts p
+    by true = hits_not all (record { place = s; writes = is_among o (written_by r) }) ts p (λ e. omega arith)
+    by false = refl
+
+pub hits_touched : (all : Bool) (o : Object) (s : ℕ) (rs : List Record) (i : ℕ) (x : Record) → slice_get rs i ≡ Some x → hits all (touches_in o s rs) (s + i) ≡ wants all o x
+hits_touched all o s [] i x h = cc
+hits_touched all o s (r ∷ rs) zero x h =
+    let at : s + 0 ≡ s = omega arith in
+    let is : r ≡ x = cc in
+    ap (hits all (touches_in o s (r ∷ rs))) at ∙ hits_here all o s r (touches_in o (suc s) rs) (touches_ascend o (suc s) rs) ∙ ap (wants all o) is
+hits_touched all o s (r ∷ rs) (suc i) x h =
+    let at : s + suc i ≡ suc s + i = omega arith in
+    hits_there all o s r (touches_in o (suc s) rs) (s + suc i) (omega arith) ∙ ap (hits all (touches_in o (suc s) rs)) at ∙ hits_touched all o (suc s) rs i x h
+
+-- `meets` is symmetric
+any_none : (os : List Object) → list_any (λ o. false) os ≡ false
+any_none [] = refl
+any_none (o ∷ os) = any_none os
+
+any_or : (f g : Object → Bool) (os : List Object) → list_any (λ o. f o || g o) os ≡ (list_any f os || list_any g os)
+any_or f g [] = refl
+any_or f g (o ∷ os) = ap (λ b. (f o || g o) || b) (any_or f g os) ∙ mix (f o) (g o) (list_any f os) (list_any g os)
+  where
+    mix : (a b c d : Bool) → ((a || b) || (c || d)) ≡ ((a || c) || (b || d))
+    mix true b c d = refl
+    mix false true true d = refl
+    mix false true false d = refl
+    mix false false c d = refl
+
+meets_sym : (os ps : List Object) → meets same os ps ≡ meets same ps os
+meets_sym os [] = any_none os
+meets_sym os (p ∷ ps) =
+    any_or (λ o. same o p) (λ o. list_any (same o) ps) os
+    ∙ (λ i. list_any (λ o. same_sym o p i) os || meets_sym os ps i)
+
+-- two steps conflict where the second wrote what the first read, or touched what the first wrote
+pub conflict_split : (a b : Record) → conflict_of a b ≡ (list_any (λ o. is_among o (written_by b)) (read_by a) || list_any (λ o. is_among o (touched_by b)) (written_by a))
+conflict_split a b =
+    ap (λ x. meets same (written_by a) (touched_by b) || x)
+    (meets_sym (written_by b) (touched_by a) ∙ list_any-append (λ o. is_among o (written_by b)) (read_by a) (written_by a))
+    ∙ join (meets same (written_by a) (touched_by b)) (meets same (read_by a) (written_by b)) (meets same (written_by a) (written_by b)) (wider (written_by a))
+  where
+    wider : (os : List Object) → meets same os (written_by b) ≡ true → meets same os (touched_by b) ≡ true
+    wider [] h = h
+    wider (o ∷ os) h = elim (cases_Bool (is_among o (written_by b))) [
+      | inl t ↦ ap (λ x. x || meets same os (touched_by b)) (list_any-append (same o) (read_by b) (written_by b) ∙ ap (λ x. is_among o (read_by b) || x) t ∙ or_true (is_among o (read_by b)))
+      | inr f ↦ right (is_among o (touched_by b)) (meets same os (touched_by b)) (wider os (rw f at h))
+    ]
+      where
+        or_true : (x : Bool) → (x || true) ≡ true
+        or_true true = refl
+        or_true false = refl
+
+        right : (x y : Bool) → y ≡ true → (x || y) ≡ true
+        right true y h = refl
+        right false y h = h
+
+    join : (x y z : Bool) → (z ≡ true → x ≡ true) → (x || (y || z)) ≡ (y || x)
+    join true true z k = refl
+    join true false z k = refl
+    join false true z k = refl
+    join false false true k = sym (k refl)
+    join false false false k = refl
+
+-- said of the lists that are kept
+module _ (l : Lanes) (rs : List Record) (are : (o : Object) → list_of l o ≡ touches_in o 0 rs) where
+  pub lists_in_reach : (origin : Origin) (count : ℕ) → ((p : ℕ) → p < length rs → is_beyond origin p ≡ true → (origin.base ≤ p) × (p < origin.base + count))
+      → AreInReach l origin count
+  lists_in_reach origin count h = record {
+    ascending = λ o. subst (IsAscending 0) (sym (are o)) (touches_ascend o 0 rs);
+    reach = λ o. subst (InReach origin count) (sym (are o)) (touches_in_reach origin count o 0 rs (λ p w. h p (omega arith)));
+  }
+
+  hits_is : (all : Bool) (p : ℕ) (x : Record) → slice_get rs p ≡ Some x → (o : Object) → hits all (list_of l o) p ≡ wants all o x
+  hits_is all p x at o =
+      let zero_more : p ≡ 0 + p = omega arith in
+      ap (λ ts. hits all ts p) (are o) ∙ ap (hits all (touches_in o 0 rs)) zero_more ∙ hits_touched all o 0 rs p x at
+
+  pub meets_is : (i p : ℕ) (r x : Record) → slice_get rs i ≡ Some r → slice_get rs p ≡ Some x → meets_step l r p ≡ conflict_at rs i p
+  meets_is i p r x here there =
+      (λ k. list_any (λ o. hits_is false p x there o k) (read_by r) || list_any (λ o. hits_is true p x there o k) (written_by r))
+      ∙ sym (conflict_split r x) ∙ sym (or_no_more (conflict_of r x)) ∙ rw (here, there) refl
+
+  pub step_marks : (origin : Origin) (r : Record) (a b : List Bool) → origin.place < length rs → r ≡ get_or rs origin.place r → origin.base + length a ≤ length rs
+      → Marks origin (meets_step l r) a b → Marks origin (conflict_at rs origin.place) a b
+  step_marks origin r a b within is no_more marks j h =
+      let p = origin.base + j in
+      let x = (there rs (origin.base + j) (omega arith)) in
+      let here : slice_get rs origin.place ≡ Some r = slice_get-get_or rs origin.place r within ∙ ap Some (sym is) in
+      marks j h ∙ ap (λ y. has_mark a j || (is_beyond origin (origin.base + j) && y)) (meets_is origin.place (origin.base + j) r x.0 here x.1)

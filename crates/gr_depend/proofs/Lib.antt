@@ -1,0 +1,11 @@
+pub mod KeyLemmas
+pub mod LaneLemmas
+pub mod NoteLemmas
+pub mod TouchLemmas
+pub mod MarkLemmas
+pub mod WalkLemmas
+pub mod ConflictLemmas
+pub mod MarkedLemmas
+pub mod SpreadLemmas
+pub mod TraceLemmas
+pub mod NamedLemmas

@@ -1,0 +1,10 @@
+-- What a log keeps of the touches of each object.
+pub mod Keys
+pub mod Touches
+pub mod Lists
+pub mod Logs
+pub mod Marks
+pub mod Walks
+pub mod Marked
+pub mod Named
+pub mod Histories

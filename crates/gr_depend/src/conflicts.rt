@@ -1,0 +1,105 @@
+//! Whether two steps conflict.
+
+ghost use Rattle.std.specs.Prelude.{◌≡◌, ◌<◌, length, slice_get, Some};
+ghost use Rattle.std.specs.List.{list_any};
+ghost use Rattle.gr_step.specs.Conflicts.{written_by, read_by, touched_by, conflict_of};
+ghost use Rattle.gr_depend.specs.Keys.{seen};
+ghost use Rattle.gr_depend.specs.Touches.{is_among};
+
+use crate::key::ObjectRef;
+use crate::log::Log;
+use crate::objects::{reads, writes};
+use gr_base::Object;
+use gr_step::Record;
+
+/// Whether the object is one of these.
+fn is_one_of(object: &ObjectRef<'_>, objects: &[Object]) -> bool
+    ensures { result ≡ is_among (seen object.now) objects.now }
+{
+    objects.iter().any(|other| object.is(&ObjectRef::of(other)))
+}
+
+/// Whether a step read the object and did not write it.
+fn has_read(step: &Record, object: &ObjectRef<'_>) -> bool
+    ensures { result ≡ is_among (seen object.now) (read_by step.now) }
+{
+    let (runs, others) = reads(step);
+    if runs && object.is(&ObjectRef::Run) {
+        return true;
+    }
+    is_one_of(object, others)
+}
+
+/// Whether a step wrote the object.
+pub(crate) fn has_written(step: &Record, object: &ObjectRef<'_>) -> bool
+    ensures { result ≡ is_among (seen object.now) (written_by step.now) }
+{
+    object.is(&ObjectRef::Go(&step.id.go)) || is_one_of(object, writes(step))
+}
+
+/// Whether a step touched the object.
+fn has_touched(step: &Record, object: &ObjectRef<'_>) -> bool
+    ensures { result ≡ is_among (seen object.now) (touched_by step.now) }
+{
+    has_read(step, object) || has_written(step, object)
+}
+
+/// Whether a step wrote one of these objects.
+fn any_written(step: &Record, objects: &[Object]) -> bool
+    ensures { result ≡ list_any (λ o. is_among o (written_by step.now)) objects.now }
+{
+    objects
+        .iter()
+        .any(|object| has_written(step, &ObjectRef::of(object)))
+}
+
+/// Whether a step touched one of these objects.
+fn any_touched(step: &Record, objects: &[Object]) -> bool
+    ensures { result ≡ list_any (λ o. is_among o (touched_by step.now)) objects.now }
+{
+    objects
+        .iter()
+        .any(|object| has_touched(step, &ObjectRef::of(object)))
+}
+
+/// Whether the second step wrote what the first read and did not write.
+fn overwrites(first: &Record, second: &Record) -> bool
+    ensures { result ≡ list_any (λ o. is_among o (written_by second.now)) (read_by first.now) }
+{
+    let (runs, others) = reads(first);
+    if runs && has_written(second, &ObjectRef::Run) {
+        return true;
+    }
+    any_written(second, others)
+}
+
+/// Whether the second step touched what the first wrote.
+fn meets_writes(first: &Record, second: &Record) -> bool
+    ensures { result ≡ list_any (λ o. is_among o (touched_by second.now)) (written_by first.now) }
+{
+    if has_touched(second, &ObjectRef::Go(&first.id.go)) {
+        return true;
+    }
+    any_touched(second, writes(first))
+}
+
+/// Whether two steps conflict.
+pub(crate) fn conflict(first: &Record, second: &Record) -> bool
+    ensures { result ≡ conflict_of first.now second.now }
+{
+    overwrites(first, second) || meets_writes(first, second)
+}
+
+impl Log {
+    ghost use Rattle.gr_depend.specs.Logs.{records_of};
+    ghost use Rattle.gr_step.specs.declared.record.Record.{Record};
+
+    /// Whether the steps at two places conflict.
+    pub fn conflicts(&self, first: usize, second: usize) -> bool
+        requires first { first < length (records_of self.now) }
+        requires second { second < length (records_of self.now) }
+        ensures { (a b : Record) → slice_get (records_of self.now) first ≡ Some a → slice_get (records_of self.now) second ≡ Some b → result ≡ conflict_of a b }
+    {
+        conflict(self.record(first), self.record(second))
+    }
+}

@@ -1,0 +1,103 @@
+//! Steps of the log that commands ask for.
+
+ghost use Rattle.std.specs.Prelude.{◌≡◌, option_copied};
+ghost use Rattle.gr_depend.specs.Histories.{starts, start_of, is_fault, sends_to, receives_of, sent, received};
+
+use crate::conflicts::has_written;
+use crate::key::ObjectRef;
+use crate::log::Log;
+use gr_base::{ChName, GoName, Kind, StepId};
+use gr_step::{Operation, Record};
+
+/// Whether a step started the goroutine.
+fn has_started(step: &Record, go: &GoName) -> bool
+    ensures { result ≡ starts go.now step.now }
+{
+    step.change.kind == Kind::Go && *go != step.id.go && has_written(step, &ObjectRef::Go(go))
+}
+
+/// Whether a step was a fault.
+fn has_faulted(step: &Record) -> bool
+    ensures { result ≡ is_fault step.now.change.kind }
+{
+    matches!(step.change.kind, Kind::Fault(_))
+}
+
+/// Whether a step sent on a channel, or came to wait for that.
+fn has_sent(step: &Record, channel: &ChName) -> bool
+    ensures { result ≡ sends_to channel.now step.now }
+{
+    let Some(beyond) = &step.change.beyond else {
+        return false;
+    };
+    match &beyond.operation {
+        Some(Operation::SendsOn(own)) => channel == own && !has_faulted(step),
+        _ => false,
+    }
+}
+
+/// Whether a step received from a channel, or came to wait for that.
+fn has_received(step: &Record, channel: &ChName) -> bool
+    ensures { result ≡ receives_of channel.now step.now }
+{
+    let Some(beyond) = &step.change.beyond else {
+        return false;
+    };
+    match &beyond.operation {
+        Some(Operation::ReceivesFrom(own)) => channel == own && !has_faulted(step),
+        _ => false,
+    }
+}
+
+impl Log {
+    ghost use Rattle.gr_depend.specs.Logs.{records_of};
+
+    /// The name of the step that started a goroutine.
+    pub fn started(&self, go: &GoName) -> Option<&StepId>
+        ensures { option_copied result ≡ start_of go.now (records_of self.now) }
+    {
+        for i in 0..self.records.len() {
+            let step = &self.records[i];
+            if has_started(step, go) {
+                return Some(&step.id);
+            }
+        }
+        None
+    }
+
+    /// The name of the send with a number on a channel, counted from 1.
+    pub fn sent(&self, channel: &ChName, number: u64) -> Option<&StepId>
+        ensures { option_copied result ≡ sent channel.now number (records_of self.now) }
+    {
+        let mut left = number;
+        for i in 0..self.records.len() {
+            let step = &self.records[i];
+            if !has_sent(step, channel) {
+                continue;
+            }
+            if left == 1 {
+                return Some(&step.id);
+            }
+            left = left.saturating_sub(1);
+        }
+        None
+    }
+
+    /// The name of the receive with a number from a channel, counted from 1.
+    pub fn received(&self, channel: &ChName, number: u64) -> Option<&StepId>
+        ensures { option_copied result ≡ received channel.now number (records_of self.now) }
+    {
+        let mut left = number;
+        for i in 0..self.records.len() {
+            let step = &self.records[i];
+            if !has_received(step, channel) {
+                continue;
+            }
+            if left == 1 {
+                return Some(&step.id);
+            }
+            left = left.saturating_sub(1);
+        }
+        None
+    }
+}

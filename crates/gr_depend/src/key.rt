@@ -1,0 +1,99 @@
+//! Objects as keys of a table.
+
+ghost use Rattle.std.specs.Prelude.{◌≡◌, IfOk};
+ghost use Rattle.gr_rules.specs.States.{same};
+ghost use Rattle.gr_depend.specs.Keys.{key_of, object_of, seen};
+
+use gr_base::{ChName, GoName, NoMemory, Object};
+use std::alloc::Global;
+
+/// An object, by its names where they are.
+#[derive(Clone, Copy)]
+pub(crate) enum ObjectRef<'a> {
+    Run,
+    Go(&'a GoName),
+    Gate(&'a ChName),
+    Tail(&'a ChName),
+    Head(&'a ChName),
+    Slot(&'a ChName, u32),
+}
+
+impl<'a> ObjectRef<'a> {
+    /// The object.
+    #[inline]
+    pub(crate) fn of(object: &'a Object) -> ObjectRef<'a>
+        ensures { seen result ≡ object.now }
+    {
+        match object {
+            Object::Run => ObjectRef::Run,
+            Object::Go(go) => ObjectRef::Go(go),
+            Object::Gate(channel) => ObjectRef::Gate(channel),
+            Object::Tail(channel) => ObjectRef::Tail(channel),
+            Object::Head(channel) => ObjectRef::Head(channel),
+            Object::Slot(channel, place) => ObjectRef::Slot(channel, *place),
+        }
+    }
+}
+
+impl ObjectRef<'_> {
+    /// Whether the two are one object.
+    pub(crate) fn is(&self, other: &ObjectRef<'_>) -> bool
+        ensures { result ≡ same (seen self.now) (seen other.now) }
+    {
+        match (self, other) {
+            (ObjectRef::Run, ObjectRef::Run) => true,
+            (ObjectRef::Go(own), ObjectRef::Go(go)) => *own == *go,
+            (ObjectRef::Gate(own), ObjectRef::Gate(channel)) => *own == *channel,
+            (ObjectRef::Tail(own), ObjectRef::Tail(channel)) => *own == *channel,
+            (ObjectRef::Head(own), ObjectRef::Head(channel)) => *own == *channel,
+            (ObjectRef::Slot(own, slot), ObjectRef::Slot(channel, place)) => {
+                *own == *channel && *slot == *place
+            }
+            _ => false,
+        }
+    }
+}
+
+/// An object, as a key of a table.
+#[derive(Debug, PartialEq, Eq, Hash, Drop)]
+pub(crate) enum Key {
+    Run,
+    Go(GoName),
+    Gate(ChName),
+    Tail(ChName),
+    Head(ChName),
+    Slot(ChName, u32),
+}
+
+impl Key {
+    /// The key of an object.
+    pub(crate) fn of(alloc: Global, object: &ObjectRef<'_>) -> Result<Key, NoMemory>
+        ensures { IfOk result (λ key. key ≡ key_of (seen object.now)) }
+    {
+        match object {
+            ObjectRef::Run => Ok(Key::Run),
+            ObjectRef::Go(go) => Ok(Key::Go(go.copy(alloc)?)),
+            ObjectRef::Gate(channel) => Ok(Key::Gate(channel.copy(alloc)?)),
+            ObjectRef::Tail(channel) => Ok(Key::Tail(channel.copy(alloc)?)),
+            ObjectRef::Head(channel) => Ok(Key::Head(channel.copy(alloc)?)),
+            ObjectRef::Slot(channel, place) => Ok(Key::Slot(channel.copy(alloc)?, *place)),
+        }
+    }
+
+    /// Whether this is the key of the object.
+    pub(crate) fn is_of(&self, object: &ObjectRef<'_>) -> bool
+        ensures { result ≡ same (object_of self.now) (seen object.now) }
+    {
+        match (self, object) {
+            (Key::Run, ObjectRef::Run) => true,
+            (Key::Go(own), ObjectRef::Go(go)) => own == *go,
+            (Key::Gate(own), ObjectRef::Gate(channel)) => own == *channel,
+            (Key::Tail(own), ObjectRef::Tail(channel)) => own == *channel,
+            (Key::Head(own), ObjectRef::Head(channel)) => own == *channel,
+            (Key::Slot(own, slot), ObjectRef::Slot(channel, place)) => {
+                own == *channel && *slot == *place
+            }
+            _ => false,
+        }
+    }
+}

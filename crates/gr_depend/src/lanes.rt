@@ -1,0 +1,274 @@
+//! The touches of each object.
+
+ghost use Rattle.std.specs.Prelude.{◌≡◌, ◌+◌, [], ◌∷◌, ◌++◌, OnOk, OnErr, IfSome, IfNone, IfOk, IsTrue, IsFalse, Some, None, is_some, true, false, ◌↔◌, cond, position, slice_get, length, filter, ◌<◌, ◌≤◌};
+ghost use Rattle.std.proofs.Props.{props};
+ghost use Rattle.gr_rules.specs.States.{same};
+ghost use Rattle.gr_depend.specs.Keys.{same_key, key_of, seen};
+ghost use Rattle.indexmap.specs.IndexMap.{IsUnique, keys, get};
+
+use crate::key::{Key, ObjectRef};
+use crate::lane::Lane;
+use crate::touch::Touch;
+use gr_base::NoMemory;
+use indexmap::IndexMap;
+use std::alloc::Global;
+use std::cell::Cell;
+
+/// The touches of each object, in the order of the log.
+#[derive(Drop)]
+pub(crate) struct Lanes {
+    run: Vec<Touch>,
+    /// The touches of `Run` that wrote it.
+    stops: Vec<Touch>,
+    /// The touches of each other object.
+    map: IndexMap<Key, Lane>,
+    alloc: Global,
+    /// The number of the lane that was asked for last.
+    last: Cell<usize>,
+    ghost unique: { IsUnique same_key map } by { Prim.hlevel props },
+    ghost writers: { stops.items ≡ filter (λ t. t.writes) run.items },
+}
+
+impl Lanes {
+    ghost use Rattle.gr_depend.specs.Lists.{list_of, list_numbered, IsNumbered, Adds, TakesBack, KeepsLists};
+    ghost use Rattle.gr_base.specs.declared.objects.Object.{Object};
+    ghost use Rattle.gr_depend.specs.declared.key.Key.{Key};
+    ghost use Rattle.gr_base.specs.declared.objects.Object.TheVariants as objects;
+
+    /// No touches. It takes no memory.
+    pub(crate) fn new(alloc: Global) -> Lanes
+        ensures { (o : Object) → list_of result o ≡ [] }
+    {
+        Lanes {
+            run: Vec::new(alloc),
+            stops: Vec::new(alloc),
+            map: IndexMap::new(alloc),
+            alloc,
+            last: Cell::new(0),
+        }
+    }
+
+    /// The number of the lane of an object, if it has one.
+    #[inline]
+    fn number(&self, object: &ObjectRef<'_>) -> Option<usize>
+        ensures named { IfSome result (λ i. slice_get (keys self.now.map) i ≡ Some (key_of (seen object.now))) }
+        ensures absent { IfNone result (get same_key self.now.map (key_of (seen object.now)) ≡ None) }
+    {
+        let before = self.last.get();
+        let guess = match self.map.get_index(before) {
+            Some((_, lane)) => lane.next(),
+            None => 0,
+        };
+        if self.is_at(object, guess) {
+            self.last.set(guess);
+            return Some(guess);
+        }
+        self.look_up(object, before)
+    }
+
+    /// Whether the lane with a number is that of an object.
+    #[inline]
+    fn is_at(&self, object: &ObjectRef<'_>, number: usize) -> bool
+        ensures { IsTrue result ↔ (slice_get (keys self.now.map) number ≡ Some (key_of (seen object.now))) }
+    {
+        match self.map.get_index(number) {
+            Some((key, _)) => key.is_of(object),
+            None => false,
+        }
+    }
+
+    /// The number of the lane of an object, which becomes the guess after the lane that was asked for before.
+    #[inline(never)]
+    fn look_up(&self, object: &ObjectRef<'_>, before: usize) -> Option<usize>
+        ensures named { IfSome result (λ i. slice_get (keys self.now.map) i ≡ Some (key_of (seen object.now))) }
+        ensures absent { IfNone result (get same_key self.now.map (key_of (seen object.now)) ≡ None) }
+    {
+        let number = self.find(object)?;
+        if let Some((_, lane)) = self.map.get_index(before) {
+            lane.guess_next(number);
+        }
+        self.last.set(number);
+        Some(number)
+    }
+
+    /// The number of the lane of an object, found by its key, or one after the other where a key cannot be had.
+    fn find(&self, object: &ObjectRef<'_>) -> Option<usize>
+        ensures named { IfSome result (λ i. slice_get (keys self.now.map) i ≡ Some (key_of (seen object.now))) }
+        ensures absent { IfNone result (get same_key self.now.map (key_of (seen object.now)) ≡ None) }
+    {
+        match Key::of(self.alloc, object) {
+            Ok(key) => self.number_of_key(&key),
+            Err(_) => self.search(object),
+        }
+    }
+
+    /// The number of the lane with a key.
+    fn number_of_key(&self, key: &Key) -> Option<usize>
+        ensures number { result ≡ position (same_key key.now) (keys self.now.map) }
+        ensures absent { IfNone result (get same_key self.now.map key.now ≡ None) }
+    {
+        self.map.get_index_of(key)
+    }
+
+    /// The number of the lane of an object, found by going over all of them.
+    fn search(&self, object: &ObjectRef<'_>) -> Option<usize>
+        ensures named { IfSome result (λ i. slice_get (keys self.now.map) i ≡ Some (key_of (seen object.now))) }
+        ensures absent { IfNone result (get same_key self.now.map (key_of (seen object.now)) ≡ None) }
+    {
+        for number in 0..self.map.len() {
+            if self.is_at(object, number) {
+                return Some(number);
+            }
+        }
+        None
+    }
+
+    /// The touches of an object.
+    pub(crate) fn list(&self, object: &ObjectRef<'_>) -> &[Touch]
+        ensures { result.now ≡ list_of self.now (seen object.now) }
+    {
+        match object {
+            ObjectRef::Run => self.run.as_slice(),
+            _ => match self.number(object) {
+                Some(number) => self.lane(number),
+                None => &[],
+            },
+        }
+    }
+
+    /// How many lists there are, that of `Run` included.
+    pub(crate) fn count(&self) -> usize
+        ensures { result ≡ length (keys self.now.map) + 1 }
+    {
+        self.map.len() + 1
+    }
+
+    /// The number of the list of an object, and touches among which are those of the list that are wanted: all of them, or
+    /// those that wrote.
+    pub(crate) fn numbered(&self, object: &ObjectRef<'_>, all: bool) -> Option<(usize, &[Touch])>
+        ensures some { IfSome result (λ list. IsNumbered self.now (seen object.now) all list.0 list.1.now) }
+        ensures none { IfNone result (list_of self.now (seen object.now) ≡ []) }
+    {
+        match object {
+            ObjectRef::Run if all => Some((0, self.run.as_slice())),
+            ObjectRef::Run => Some((0, self.stops.as_slice())),
+            _ => self.numbered_other(object, all),
+        }
+    }
+
+    /// The same of an object that is not `Run`.
+    #[inline]
+    fn numbered_other(&self, object: &ObjectRef<'_>, all: bool) -> Option<(usize, &[Touch])>
+        requires { same objects.Run (seen object.now) ≡ false }
+        ensures some { IfSome result (λ list. IsNumbered self.now (seen object.now) all list.0 list.1.now) }
+        ensures none { IfNone result (list_of self.now (seen object.now) ≡ []) }
+    {
+        let number = self.number(object)?;
+        // The number of lanes is known to be small.
+        let _count = self.map.len();
+        let touches = self.lane(number);
+        Some((number + 1, touches))
+    }
+
+    /// The touches in the lane with a number.
+    fn lane(&self, number: usize) -> &[Touch]
+        requires { number < length (keys self.now.map) }
+        ensures { result.now ≡ list_numbered self.now (number + 1) }
+    {
+        let (_, lane) = self.map.get_index(number).unwrap();
+        lane.as_slice()
+    }
+
+    /// Adds a touch to the list of an object. Refused, all lists are as before.
+    pub(crate) fn add(&mut self, object: &ObjectRef<'_>, touch: Touch) -> Result<(), NoMemory>
+        ensures ok { OnOk result (Adds (seen object.now) touch self.old self.new) }
+        ensures err { OnErr result (KeepsLists self.old self.new) }
+    {
+        match object {
+            ObjectRef::Run => self.add_to_run(touch),
+            _ => self.add_to_other(object, touch),
+        }
+    }
+
+    /// Adds a touch to the list of `Run`.
+    #[inline]
+    fn add_to_run(&mut self, touch: Touch) -> Result<(), NoMemory>
+        ensures ok { OnOk result (Adds objects.Run touch self.old self.new) }
+        ensures err { OnErr result (KeepsLists self.old self.new) }
+    {
+        self.run.reserve(1)?;
+        if touch.writes {
+            self.stops.push(touch)?;
+        }
+        self.run.push_reserved(touch);
+        Ok(())
+    }
+
+    /// Adds a touch to the list of an object that is not `Run`.
+    #[inline]
+    fn add_to_other(&mut self, object: &ObjectRef<'_>, touch: Touch) -> Result<(), NoMemory>
+        requires { same objects.Run (seen object.now) ≡ false }
+        ensures ok { OnOk result (Adds (seen object.now) touch self.old self.new) }
+        ensures err { OnErr result (KeepsLists self.old self.new) }
+    {
+        match self.number(object) {
+            Some(number) => self.map.get_index_mut(number).unwrap().push(touch),
+            None => self.add_lane(object, touch),
+        }
+    }
+
+    /// Makes a lane for an object that has none, with one touch.
+    #[inline(never)]
+    fn add_lane(&mut self, object: &ObjectRef<'_>, touch: Touch) -> Result<(), NoMemory>
+        requires other { same objects.Run (seen object.now) ≡ false }
+        requires absent { get same_key self.old.map (key_of (seen object.now)) ≡ None }
+        ensures ok { OnOk result (Adds (seen object.now) touch self.old self.new) }
+        ensures err { OnErr result (KeepsLists self.old self.new) }
+    {
+        let key = Key::of(self.alloc, object)?;
+        let mut lane = Lane::new(self.alloc);
+        lane.push(touch)?;
+        self.insert(key, lane)
+    }
+
+    /// Gives a key a lane.
+    fn insert(&mut self, key: Key, lane: Lane) -> Result<(), NoMemory>
+        ensures ok { OnOk result ((other : Key) → get same_key self.new.map other ≡ cond (same_key key other) (Some lane) (get same_key self.old.map other)) }
+        ensures run { self.new.run ≡ self.old.run }
+        ensures err { OnErr result (self.new.map.entries ≡ self.old.map.entries) }
+    {
+        self.map.insert(key, lane)?;
+        Ok(())
+    }
+
+    /// Takes the last touch from the list of an object. It takes no memory.
+    pub(crate) fn take_back(&mut self, object: &ObjectRef<'_>)
+        ensures { TakesBack (seen object.now) self.old self.new }
+    {
+        match object {
+            ObjectRef::Run => self.take_from_run(),
+            _ => self.take_from_other(object),
+        }
+    }
+
+    #[inline]
+    fn take_from_run(&mut self)
+        ensures { TakesBack objects.Run self.old self.new }
+    {
+        if let Some(touch) = self.run.pop() {
+            if touch.writes {
+                let _ = self.stops.pop();
+            }
+        }
+    }
+
+    #[inline]
+    fn take_from_other(&mut self, object: &ObjectRef<'_>)
+        requires { same objects.Run (seen object.now) ≡ false }
+        ensures { TakesBack (seen object.now) self.old self.new }
+    {
+        if let Some(number) = self.number(object) {
+            self.map.get_index_mut(number).unwrap().pop();
+        }
+    }
+}

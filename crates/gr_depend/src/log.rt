@@ -1,0 +1,115 @@
+//! The log of the steps that were taken.
+
+ghost use Rattle.std.specs.Prelude.{◌≡◌, ◌<◌, ◌++◌, ◌∷◌, [], ℕ, length, true, slice_index_or, slice_get, option_copied, IfErr, OnOk, OnErr, IfNone, IsTrue, MatchOption, ◌↔◌, ◌-◌};
+ghost use Rattle.std.specs.List.{list_all};
+ghost use Rattle.std.proofs.Props.{props};
+ghost use Rattle.gr_base.specs.declared.objects.Object.{Object};
+ghost use Rattle.gr_causal.specs.Sequences.{Distinct};
+ghost use Rattle.gr_step.specs.Conflicts.{touched_by};
+ghost use Rattle.gr_depend.specs.Lists.{list_of};
+ghost use Rattle.gr_depend.specs.Touches.{touches_in, each_once, if_any};
+
+use crate::key::ObjectRef;
+use crate::lanes::Lanes;
+use crate::touch::Touch;
+use gr_base::{NoMemory, Object};
+use gr_step::Record;
+use std::alloc::Global;
+
+/// The steps that were taken and are kept, in their order, with the touches of each object.
+#[derive(Drop)]
+pub struct Log {
+    pub(crate) records: Vec<Record>,
+    pub(crate) lanes: Lanes,
+    ghost touches: { (o : Object) → list_of lanes o ≡ touches_in o 0 records.items } by { Prim.hlevel props },
+    ghost once: { list_all (λ r. each_once (touched_by r)) records.items ≡ true },
+}
+
+impl Log {
+    ghost use Rattle.gr_depend.specs.Logs.{records_of};
+
+    /// A log without steps. It takes no memory.
+    pub fn new(alloc: Global) -> Log
+        ensures { records_of result ≡ [] }
+    {
+        Log {
+            records: Vec::new(alloc),
+            lanes: Lanes::new(alloc),
+        }
+    }
+
+    pub fn len(&self) -> usize
+        ensures { result ≡ length (records_of self.now) }
+    {
+        self.records.len()
+    }
+
+    pub fn is_empty(&self) -> bool
+        ensures { IsTrue result ↔ (records_of self.now ≡ []) }
+    {
+        self.records.is_empty()
+    }
+
+    pub fn as_slice(&self) -> &[Record]
+        ensures { result.now ≡ records_of self.now }
+    {
+        self.records.as_slice()
+    }
+
+    /// The record at a place.
+    pub fn record(&self, at: usize) -> &Record
+        requires { at < length (records_of self.now) }
+        ensures { slice_get (records_of self.now) at ≡ Some result.now }
+    {
+        self.records.get(at).unwrap()
+    }
+
+    /// The last record, if there is one.
+    pub fn last(&self) -> Option<&Record>
+        ensures { option_copied result ≡ slice_get (records_of self.now) (length (records_of self.now) - 1) }
+    {
+        self.records.last()
+    }
+
+    /// Adds a step at the end. Refused, the log is as before, and the record is handed back.
+    #[inline]
+    pub fn push(&mut self, step: Record) -> Result<(), (Record, NoMemory)>
+        requires { Distinct (touched_by step) }
+        ensures ok { OnOk result (records_of self.new ≡ records_of self.old ++ step ∷ []) }
+        ensures handed_back { IfErr result (λ refused. refused.0 ≡ step) }
+        ensures err { OnErr result (records_of self.new ≡ records_of self.old) }
+    {
+        let reserved = self.records.reserve(1);
+        if let Err(error) = reserved {
+            return Err((step, NoMemory::from(error)));
+        }
+        let noted = self.lanes.note(self.records.len() as u64, &step);
+        if let Err(error) = noted {
+            return Err((step, error));
+        }
+        self.records.push_reserved(step);
+        Ok(())
+    }
+
+    /// Takes the last step out, if there is one. It takes no memory.
+    #[inline]
+    pub fn pop(&mut self) -> Option<Record>
+        ensures taken { MatchOption result (records_of self.old ≡ []) (λ step. records_of self.old ≡ records_of self.new ++ step ∷ []) }
+        ensures none { IfNone result (records_of self.new ≡ []) }
+    {
+        let step = self.records.pop()?;
+        self.lanes.forget(&step);
+        Some(step)
+    }
+
+    /// The touches of an object, by the places of the steps, if there are any.
+    pub fn touched(&self, object: &Object) -> Option<&[Touch]>
+        ensures { option_copied result ≡ if_any (touches_in object.now 0 (records_of self.now)) }
+    {
+        let touches = self.lanes.list(&ObjectRef::of(object));
+        if touches.is_empty() {
+            return None;
+        }
+        Some(touches)
+    }
+}
