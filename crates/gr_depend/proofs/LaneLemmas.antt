@@ -21,12 +21,12 @@ use Rattle.gr_depend.specs.declared.lanes.Lanes.{Lanes}
 use Rattle.gr_depend.specs.declared.key.ObjectRef.{ObjectRef}
 use Rattle.gr_depend.specs.declared.key.ObjectRef.TheVariants as refs
 use Rattle.gr_depend.specs.Keys.{key_of, object_of, same_key, seen}
-use Rattle.gr_depend.specs.Lists.{list_of, list_numbered, IsNumbered}
+use Rattle.gr_depend.specs.Lists.{Kept, nothing, list_of, list_numbered, IsNumbered}
 use Rattle.gr_depend.specs.Marks.{wanted}
 use Rattle.gr_depend.proofs.KeyLemmas.{same_key_equiv, key_is, key_back, object_back, same_keys, same_sym}
 
-abbrev Table : Type 0 → Type 0
-Table S = IndexMap Key (List Touch) S
+abbrev pub Table : Type 0 → Type 0
+Table S = IndexMap Key Kept S
 
 some_inj : {X : Type 0} {x y : X} → Some x ≡ Some y → x ≡ y
 some_inj {X} {x} h = ap (λ o. unwrap_or o x) h
@@ -60,7 +60,7 @@ found_key ks k i found =
     ∙ ap Some (key_is (slice_index_or ks i k) (object_of k) (sym (same_sym (object_of k) (object_of (slice_index_or ks i k))) ∙ at.1) ∙ key_back k)
 
 module _ {S : Type 0} (m : Table S) (unique : IsUnique same_key m) (i : ℕ) (k : Key) (here : slice_get (keys m) i ≡ Some k) where
-  abbrev own : List Touch
+  abbrev own : Kept
   own = (entry_at m.entries i k here).0
 
   at : slice_get m.entries i ≡ Some (k, own)
@@ -73,15 +73,15 @@ module _ {S : Type 0} (m : Table S) (unique : IsUnique same_key m) (i : ℕ) (k 
       value_at m.entries i k own at
       ∙ sym (subst (λ es. lookup (same_key k) es ≡ Some own) (same_value m.entries i k own at) written)
 
-  pub has : (v : List Touch) → slice_get (values m) i ≡ Some v → get same_key m k ≡ Some v
+  pub has : (v : Kept) → slice_get (values m) i ≡ Some v → get same_key m k ≡ Some v
   has v is = sym named ∙ is
 
   -- a write by number changes what this key has, and nothing else
-  pub written : (w : List Touch) (q : Key) → get same_key (with_value_at m i w) q ≡ cond (same_key k q) (Some w) (get same_key m q)
+  pub written : (w : Kept) (q : Key) → get same_key (with_value_at m i w) q ≡ cond (same_key k q) (Some w) (get same_key m q)
   written w q = (updates-with_value_at m i w same_key_equiv unique k own at).0 q
 
 -- and leaves the keys, of which no two are one
-pub written_unique : {S : Type 0} (m : Table S) (i : ℕ) (w : List Touch) → IsUnique same_key m → IsUnique same_key (with_value_at m i w)
+pub written_unique : {S : Type 0} (m : Table S) (i : ℕ) (w : Kept) → IsUnique same_key m → IsUnique same_key (with_value_at m i w)
 written_unique m i w unique = subst (IsDistinct same_key) (sym (keys-with_value_at m i w)) unique
 
 -- the entry with a number has the key of this object
@@ -98,13 +98,13 @@ no_key_at (e ∷ es) zero k none some = cc
 no_key_at (e ∷ es) (suc i) k none some = no_key_at es i k none some
 
 -- the list with a number is the value of the entry before it
-pub list_there : {X : Type 0} (es : List (Key × List X)) (i : ℕ) (k : Key) (v : List X) → slice_get es i ≡ Some (k, v) → v ≡ slice_index_or (map (λ e. e.1) es) i []
-list_there [] i k v h = cc
-list_there (e ∷ es) zero k v h = ap (λ p. p.1) (some_inj (sym h))
-list_there (e ∷ es) (suc i) k v h = list_there es i k v h
+pub list_there : {X : Type 0} (es : List (Key × X)) (i : ℕ) (k : Key) (v none : X) → slice_get es i ≡ Some (k, v) → v ≡ slice_index_or (map (λ e. e.1) es) i none
+list_there [] i k v none h = cc
+list_there (e ∷ es) zero k v none h = ap (λ p. p.1) (some_inj (sym h))
+list_there (e ∷ es) (suc i) k v none h = list_there es i k v none h
 
-pub numbered_there : (l : Lanes) (i : ℕ) (k : Key) (v : List Touch) → slice_get l.map.entries i ≡ Some (k, v) → v ≡ list_numbered l (i + 1)
-numbered_there l i k v h = rw add-one (list_there l.map.entries i k v h)
+pub numbered_there : (l : Lanes) (i : ℕ) (k : Key) (v : Kept) → slice_get l.map.entries i ≡ Some (k, v) → v.0 ≡ list_numbered l (i + 1)
+numbered_there l i k v h = rw add-one (ap (λ k. k.0) (list_there l.map.entries i k v nothing h))
 
 -- no entry has a key that no number has
 pub nowhere : {X : Type 0} (es : List (Key × X)) (k : Key) → ((i : ℕ) → i < length es → slice_get (map (λ e. e.0) es) i ≡ Some k → ⊥) → lookup (same_key k) es ≡ None
@@ -118,45 +118,45 @@ nowhere (e ∷ es) k h =
     same_key_is : (a b : Key) → same_key a b ≡ true → a ≡ b
     same_key_is a b t = key_is a (object_of b) t ∙ key_back b
 
--- what the lists are, by what Run has and by the table
-abbrev lists : {S : Type 0} → List Touch → Table S → Object → List Touch
-lists run m q = if same objects.Run q then run else unwrap_or (get same_key m (key_of q)) []
+-- what is told of each object, by what is told of Run and by the table
+abbrev pub parts : {S X : Type 0} → (Kept → X) → X → Table S → Object → X
+parts part run m q = if same objects.Run q then run else part (unwrap_or (get same_key m (key_of q)) nothing)
 
--- where the table changes at one key alone, so do the lists
-module _ {S : Type 0} (run : List Touch) (old new : Table S) (f : List Touch → List Touch) (o : Object) (other : same objects.Run o ≡ false)
-    (v w : List Touch) (was : unwrap_or (get same_key old (key_of o)) [] ≡ v) (is : w ≡ f v)
+-- where the table changes at one key alone, so does what is told
+module _ {S X : Type 0} (part : Kept → X) (run : X) (old new : Table S) (f : X → X) (o : Object) (other : same objects.Run o ≡ false)
+    (v w : Kept) (was : unwrap_or (get same_key old (key_of o)) nothing ≡ v) (is : part w ≡ f (part v))
     (all : (q : Key) → get same_key new q ≡ cond (same_key (key_of o) q) (Some w) (get same_key old q)) where
-  here : lists run new o ≡ f (lists run old o)
+  here : parts part run new o ≡ f (parts part run old o)
   here =
       rw other
-      (ap (λ x. unwrap_or x []) (all (key_of o) ∙ ap (λ b. cond b (Some w) (get same_key old (key_of o))) (same_keys o o ∙ same_self o))
-      ∙ is ∙ ap f (sym was))
+      (ap (λ x. part (unwrap_or x nothing)) (all (key_of o) ∙ ap (λ b. cond b (Some w) (get same_key old (key_of o))) (same_keys o o ∙ same_self o))
+      ∙ is ∙ ap (λ k. f (part k)) (sym was))
 
-  elsewhere : (q : Object) → same o q ≡ false → lists run new q ≡ lists run old q
+  elsewhere : (q : Object) → same o q ≡ false → parts part run new q ≡ parts part run old q
   elsewhere q e =
-      ap (λ x. if same objects.Run q then run else unwrap_or x [])
+      ap (λ x. if same objects.Run q then run else part (unwrap_or x nothing))
       (all (key_of q) ∙ ap (λ b. cond b (Some w) (get same_key old (key_of q))) (same_keys o q ∙ e))
 
-  pub changed : (q : Object) → lists run new q ≡ (if same o q then f (lists run old q) else lists run old q)
+  pub changed : (q : Object) → parts part run new q ≡ (if same o q then f (parts part run old q) else parts part run old q)
   changed q = by (same o q) refl
     where
-      by : (b : Bool) → same o q ≡ b → lists run new q ≡ (if b then f (lists run old q) else lists run old q)
-      by true e = subst (λ x. lists run new x ≡ f (lists run old x)) (same_is o q e) here
+      by : (b : Bool) → same o q ≡ b → parts part run new q ≡ (if b then f (parts part run old q) else parts part run old q)
+      by true e = subst (λ x. parts part run new x ≡ f (parts part run old x)) (same_is o q e) here
       by false e = elsewhere q e
 
 -- a write by number
-module _ {S : Type 0} (run : List Touch) (m : Table S) (unique : IsUnique same_key m) (o : Object) (other : same objects.Run o ≡ false)
-    (i : ℕ) (at : slice_get (keys m) i ≡ Some (key_of o)) (v w : List Touch) (value : Some v ≡ slice_get (values m) i) where
-  pub had : unwrap_or (get same_key m (key_of o)) [] ≡ v
-  had = ap (λ x. unwrap_or x []) (sym (named m unique i (key_of o) at) ∙ sym value)
+module _ {S X : Type 0} (part : Kept → X) (run : X) (m : Table S) (unique : IsUnique same_key m) (o : Object) (other : same objects.Run o ≡ false)
+    (i : ℕ) (at : slice_get (keys m) i ≡ Some (key_of o)) (v w : Kept) (value : Some v ≡ slice_get (values m) i) where
+  pub had : unwrap_or (get same_key m (key_of o)) nothing ≡ v
+  had = ap (λ x. unwrap_or x nothing) (sym (named m unique i (key_of o) at) ∙ sym value)
 
-  pub wrote : (f : List Touch → List Touch) → w ≡ f v → (q : Object) → lists run (with_value_at m i w) q ≡ (if same o q then f (lists run m q) else lists run m q)
-  wrote f is = changed run m (with_value_at m i w) f o other v w had is (written m unique i (key_of o) at w)
+  pub wrote : (f : X → X) → part w ≡ f (part v) → (q : Object) → parts part run (with_value_at m i w) q ≡ (if same o q then f (parts part run m q) else parts part run m q)
+  wrote f is = changed part run m (with_value_at m i w) f o other v w had is (written m unique i (key_of o) at w)
 
-  pub wrote_nothing : w ≡ v → (q : Object) → lists run (with_value_at m i w) q ≡ lists run m q
+  pub wrote_nothing : part w ≡ part v → (q : Object) → parts part run (with_value_at m i w) q ≡ parts part run m q
   wrote_nothing is q = wrote (λ ts. ts) is q ∙ either (same o q)
     where
-      either : (b : Bool) → (if b then lists run m q else lists run m q) ≡ lists run m q
+      either : (b : Bool) → (if b then parts part run m q else parts part run m q) ≡ parts part run m q
       either true = refl
       either false = refl
 
@@ -182,12 +182,12 @@ seen_other (refs.Slot c i) h = refl
 
 -- the list of an object that is not Run, by the number of its lane
 pub list_by_number : (l : Lanes) (o : Object) → same objects.Run o ≡ false → (i : ℕ) → slice_get (keys l.map) i ≡ Some (key_of o) → list_numbered l (i + 1) ≡ list_of l o
-list_by_number l o other i at = rw (add-one, other) (index_or (values l.map) i (get same_key l.map (key_of o)) (named l.map l.unique i (key_of o) at))
+list_by_number l o other i at = rw (add-one, other) (ap (λ k. k.0) (index_or (values l.map) i (get same_key l.map (key_of o)) nothing (named l.map l.unique i (key_of o) at)))
   where
-    index_or : {X : Type 0} (xs : List (List X)) (i : ℕ) (r : Option (List X)) → slice_get xs i ≡ r → slice_index_or xs i [] ≡ unwrap_or r []
-    index_or [] i r h = ap (λ x. unwrap_or x []) h
-    index_or (x ∷ xs) zero r h = ap (λ x. unwrap_or x []) h
-    index_or (x ∷ xs) (suc i) r h = index_or xs i r h
+    index_or : {X : Type 0} (xs : List X) (i : ℕ) (r : Option X) (none : X) → slice_get xs i ≡ r → slice_index_or xs i none ≡ unwrap_or r none
+    index_or [] i r none h = ap (λ x. unwrap_or x none) h
+    index_or (x ∷ xs) zero r none h = ap (λ x. unwrap_or x none) h
+    index_or (x ∷ xs) (suc i) r none h = index_or xs i r none h
 
 pub within_keys : (ks : List Key) (i : ℕ) (k : Key) → slice_get ks i ≡ Some k → i < length ks
 within_keys [] i k h = cc
@@ -247,6 +247,6 @@ if_absent es k l r same = subst (λ x. IfNone r (lookup (same_key x) es ≡ None
 
 -- .. where Run has what it had
 pub with_run : (old new : Lanes) (f : List Touch → List Touch) (o : Object) → new.run ≡ old.run
-    → ((q : Object) → lists old.run.items new.map q ≡ (if same o q then f (list_of old q) else list_of old q))
+    → ((q : Object) → parts (λ k. k.0) old.run.items new.map q ≡ (if same o q then f (list_of old q) else list_of old q))
     → (q : Object) → list_of new q ≡ (if same o q then f (list_of old q) else list_of old q)
-with_run old new f o e h q = ap (λ r. lists r.items new.map q) e ∙ h q
+with_run old new f o e h q = ap (λ r. parts (λ k. k.0) r.items new.map q) e ∙ h q

@@ -2,6 +2,7 @@ pub mod KeyLemmas
 pub mod LaneLemmas
 pub mod NoteLemmas
 pub mod TouchLemmas
+pub mod RoomLemmas
 pub mod MarkLemmas
 pub mod WalkLemmas
 pub mod ConflictLemmas

@@ -14,7 +14,7 @@ use Rattle.gr_depend.specs.Lists.{list_of, Adds, TakesBack, AddsFor, TakesFor}
 pub last_gone : {A : Type 0} (xs : List A) (x : A) → without_last (xs ++ x ∷ []) ≡ xs
 last_gone xs x = let e : length (xs ++ x ∷ []) - 1 ≡ length xs = omega (arith, length-append xs (x ∷ [])) in rw e (take_at xs (x ∷ []) (length xs) refl)
 
-abbrev one_for : Object → Touch → Object → List Touch
+abbrev pub one_for : Object → Touch → Object → List Touch
 one_for q t o = if same o q then t ∷ [] else []
 
 pub first_more : (q : Object) (t : Touch) (o : Object) (os : List Object) → touches_for q t (o ∷ os) ≡ one_for q t o ++ touches_for q t os

@@ -3,6 +3,7 @@ pub mod Keys
 pub mod Touches
 pub mod Lists
 pub mod Logs
+pub mod Room
 pub mod Marks
 pub mod Walks
 pub mod Marked

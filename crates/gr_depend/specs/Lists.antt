@@ -11,14 +11,22 @@ use Rattle.gr_depend.specs.Keys.{key_of, same_key}
 use Rattle.gr_depend.specs.Marks.{wanted}
 use Rattle.gr_depend.specs.Touches.{without_last, touches_for}
 
+-- what a lane has: its touches, and for how many more there is room
+abbrev pub Kept : Type 0
+Kept = List Touch × ℕ
+
+-- that of an object without a lane
+abbrev pub nothing : Kept
+nothing = ([], 0)
+
 -- the list of an object
 abbrev pub list_of : Lanes → Object → List Touch
-list_of l o = if same objects.Run o then l.run.items else unwrap_or (get same_key l.map (key_of o)) []
+list_of l o = if same objects.Run o then l.run.items else (unwrap_or (get same_key l.map (key_of o)) nothing).0
 
 -- the list with a number: that of Run, and then those of the other objects
 abbrev pub list_numbered : Lanes → ℕ → List Touch
 list_numbered l zero = l.run.items
-list_numbered l (suc i) = slice_index_or (values l.map) i []
+list_numbered l (suc i) = (slice_index_or (values l.map) i nothing).0
 
 -- all lists are as they were
 abbrev pub KeepsLists : Lanes → Lanes → Type 0

@@ -1,7 +1,8 @@
 //! The touches of one object.
 
-ghost use Rattle.std.specs.Prelude.{◌≡◌, [], ◌∷◌, ◌++◌, OnOk, OnErr};
+ghost use Rattle.std.specs.Prelude.{◌≡◌, ◌≤◌, ◌<◌, [], ◌∷◌, ◌++◌, OnOk, OnErr, IsOk};
 ghost use Rattle.gr_depend.specs.Touches.{without_last};
+ghost use Rattle.gr_depend.specs.Room.{size_of};
 
 use crate::touch::Touch;
 use gr_base::NoMemory;
@@ -18,18 +19,18 @@ pub(crate) struct Lane {
 }
 
 impl Model for Lane {
-    ghost use Rattle.std.specs.Prelude.{List};
+    ghost use Rattle.std.specs.Prelude.{List, ℕ, ◌-◌, vec_len, vec_capacity};
     ghost use Rattle.gr_depend.specs.declared.touch.Touch.{Touch};
 
-    ghost Value = { List Touch };
+    ghost Value = { List Touch × ℕ };
 
-    ghost view = { λ lane. lane.touches.items };
+    ghost view = { λ lane. (lane.touches.items, vec_capacity lane.touches - vec_len lane.touches) };
 }
 
 impl Lane {
     /// No touch. It takes no memory.
     pub(crate) fn new(alloc: Global) -> Lane
-        ensures { result ≡ [] }
+        ensures { result.0 ≡ [] }
     {
         Lane {
             touches: Vec::new(alloc),
@@ -38,15 +39,17 @@ impl Lane {
     }
 
     pub(crate) fn as_slice(&self) -> &[Touch]
-        ensures { result.now ≡ self.now }
+        ensures { result.now ≡ self.now.0 }
     {
         self.touches.as_slice()
     }
 
-    /// Adds a touch. Refused, nothing has changed.
+    /// Adds a touch. Refused, the touches are as before. It takes no memory where there is room.
     pub(crate) fn push(&mut self, touch: Touch) -> Result<(), NoMemory>
-        ensures ok { OnOk result (self.new ≡ self.old ++ touch ∷ []) }
-        ensures err { OnErr result (self.new ≡ self.old) }
+        ensures ok { OnOk result (self.new.0 ≡ self.old.0 ++ touch ∷ []) }
+        ensures err { OnErr result (self.new.0 ≡ self.old.0) }
+        ensures succeeds { 0 < self.old.1 → IsOk result }
+        ensures room { size_of self.old ≤ size_of self.new }
     {
         self.touches.push(touch)?;
         Ok(())
@@ -54,7 +57,8 @@ impl Lane {
 
     /// Takes the last touch away, if there is one. It takes no memory.
     pub(crate) fn pop(&mut self)
-        ensures { self.new ≡ without_last self.old }
+        ensures touches { self.new.0 ≡ without_last self.old.0 }
+        ensures room { size_of self.old ≤ size_of self.new }
     {
         let _ = self.touches.pop();
     }

@@ -1,6 +1,6 @@
 //! The touches of each object.
 
-ghost use Rattle.std.specs.Prelude.{◌≡◌, ◌+◌, [], ◌∷◌, ◌++◌, OnOk, OnErr, IfSome, IfNone, IfOk, IsTrue, IsFalse, Some, None, is_some, true, false, ◌↔◌, cond, position, slice_get, length, filter, ◌<◌, ◌≤◌};
+ghost use Rattle.std.specs.Prelude.{◌≡◌, ◌+◌, [], ◌∷◌, ◌++◌, OnOk, OnErr, IfSome, IfNone, IfOk, IsOk, IsTrue, IsFalse, Some, None, is_some, true, false, ◌↔◌, cond, position, slice_get, length, filter, ◌<◌, ◌≤◌};
 ghost use Rattle.std.proofs.Props.{props};
 ghost use Rattle.gr_rules.specs.States.{same};
 ghost use Rattle.gr_depend.specs.Keys.{same_key, key_of, seen};
@@ -31,6 +31,7 @@ pub(crate) struct Lanes {
 
 impl Lanes {
     ghost use Rattle.gr_depend.specs.Lists.{list_of, list_numbered, IsNumbered, Adds, TakesBack, KeepsLists};
+    ghost use Rattle.gr_depend.specs.Room.{FitsFor, KeepsRoom};
     ghost use Rattle.gr_base.specs.declared.objects.Object.{Object};
     ghost use Rattle.gr_depend.specs.declared.key.Key.{Key};
     ghost use Rattle.gr_base.specs.declared.objects.Object.TheVariants as objects;
@@ -183,6 +184,8 @@ impl Lanes {
     pub(crate) fn add(&mut self, object: &ObjectRef<'_>, touch: Touch) -> Result<(), NoMemory>
         ensures ok { OnOk result (Adds (seen object.now) touch self.old self.new) }
         ensures err { OnErr result (KeepsLists self.old self.new) }
+        ensures succeeds { FitsFor (seen object.now ∷ []) touch self.old → IsOk result }
+        ensures room { KeepsRoom self.old self.new }
     {
         match object {
             ObjectRef::Run => self.add_to_run(touch),
@@ -195,6 +198,8 @@ impl Lanes {
     fn add_to_run(&mut self, touch: Touch) -> Result<(), NoMemory>
         ensures ok { OnOk result (Adds objects.Run touch self.old self.new) }
         ensures err { OnErr result (KeepsLists self.old self.new) }
+        ensures succeeds { FitsFor (objects.Run ∷ []) touch self.old → IsOk result }
+        ensures room { KeepsRoom self.old self.new }
     {
         self.run.reserve(1)?;
         if touch.writes {
@@ -210,6 +215,8 @@ impl Lanes {
         requires { same objects.Run (seen object.now) ≡ false }
         ensures ok { OnOk result (Adds (seen object.now) touch self.old self.new) }
         ensures err { OnErr result (KeepsLists self.old self.new) }
+        ensures succeeds { FitsFor (seen object.now ∷ []) touch self.old → IsOk result }
+        ensures room { KeepsRoom self.old self.new }
     {
         match self.number(object) {
             Some(number) => self.map.get_index_mut(number).unwrap().push(touch),
@@ -224,6 +231,7 @@ impl Lanes {
         requires absent { get same_key self.old.map (key_of (seen object.now)) ≡ None }
         ensures ok { OnOk result (Adds (seen object.now) touch self.old self.new) }
         ensures err { OnErr result (KeepsLists self.old self.new) }
+        ensures room { KeepsRoom self.old self.new }
     {
         let key = Key::of(self.alloc, object)?;
         let mut lane = Lane::new(self.alloc);
@@ -235,6 +243,7 @@ impl Lanes {
     fn insert(&mut self, key: Key, lane: Lane) -> Result<(), NoMemory>
         ensures ok { OnOk result ((other : Key) → get same_key self.new.map other ≡ cond (same_key key other) (Some lane) (get same_key self.old.map other)) }
         ensures run { self.new.run ≡ self.old.run }
+        ensures stops { self.new.stops ≡ self.old.stops }
         ensures err { OnErr result (self.new.map.entries ≡ self.old.map.entries) }
     {
         self.map.insert(key, lane)?;
@@ -243,7 +252,8 @@ impl Lanes {
 
     /// Takes the last touch from the list of an object. It takes no memory.
     pub(crate) fn take_back(&mut self, object: &ObjectRef<'_>)
-        ensures { TakesBack (seen object.now) self.old self.new }
+        ensures lists { TakesBack (seen object.now) self.old self.new }
+        ensures room { KeepsRoom self.old self.new }
     {
         match object {
             ObjectRef::Run => self.take_from_run(),
@@ -253,7 +263,8 @@ impl Lanes {
 
     #[inline]
     fn take_from_run(&mut self)
-        ensures { TakesBack objects.Run self.old self.new }
+        ensures lists { TakesBack objects.Run self.old self.new }
+        ensures room { KeepsRoom self.old self.new }
     {
         if let Some(touch) = self.run.pop() {
             if touch.writes {
@@ -265,7 +276,8 @@ impl Lanes {
     #[inline]
     fn take_from_other(&mut self, object: &ObjectRef<'_>)
         requires { same objects.Run (seen object.now) ≡ false }
-        ensures { TakesBack (seen object.now) self.old self.new }
+        ensures lists { TakesBack (seen object.now) self.old self.new }
+        ensures room { KeepsRoom self.old self.new }
     {
         if let Some(number) = self.number(object) {
             self.map.get_index_mut(number).unwrap().pop();

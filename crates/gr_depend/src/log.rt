@@ -1,6 +1,6 @@
 //! The log of the steps that were taken.
 
-ghost use Rattle.std.specs.Prelude.{◌≡◌, ◌<◌, ◌++◌, ◌∷◌, [], ℕ, length, true, slice_index_or, slice_get, option_copied, IfErr, OnOk, OnErr, IfNone, IsTrue, MatchOption, ◌↔◌, ◌-◌};
+ghost use Rattle.std.specs.Prelude.{◌≡◌, ◌<◌, ◌++◌, ◌∷◌, [], ℕ, List, length, true, slice_index_or, slice_get, option_copied, IfErr, OnOk, OnErr, IfSome, IfNone, IsOk, IsTrue, MatchOption, ◌↔◌, ◌-◌};
 ghost use Rattle.std.specs.List.{list_all};
 ghost use Rattle.std.proofs.Props.{props};
 ghost use Rattle.gr_base.specs.declared.objects.Object.{Object};
@@ -27,6 +27,8 @@ pub struct Log {
 
 impl Log {
     ghost use Rattle.gr_depend.specs.Logs.{records_of};
+    ghost use Rattle.gr_depend.specs.Room.{CanTake};
+    ghost use Rattle.gr_step.specs.declared.record.Record.{Record};
 
     /// A log without steps. It takes no memory.
     pub fn new(alloc: Global) -> Log
@@ -71,13 +73,16 @@ impl Log {
         self.records.last()
     }
 
-    /// Adds a step at the end. Refused, the log is as before, and the record is handed back.
+    /// Adds a step at the end. Refused, the log is as before, and the record is handed back. It is not refused where there is room.
     #[inline]
     pub fn push(&mut self, step: Record) -> Result<(), (Record, NoMemory)>
         requires { Distinct (touched_by step) }
         ensures ok { OnOk result (records_of self.new ≡ records_of self.old ++ step ∷ []) }
         ensures handed_back { IfErr result (λ refused. refused.0 ≡ step) }
         ensures err { OnErr result (records_of self.new ≡ records_of self.old) }
+        ensures succeeds { (rest : List Record) → CanTake self.old (step ∷ rest) → IsOk result }
+        ensures room { (rest : List Record) → CanTake self.old (step ∷ rest) → OnOk result (CanTake self.new rest) }
+        ensures room_err { (rest : List Record) → CanTake self.old rest → OnErr result (CanTake self.new rest) }
     {
         let reserved = self.records.reserve(1);
         if let Err(error) = reserved {
@@ -96,11 +101,17 @@ impl Log {
     pub fn pop(&mut self) -> Option<Record>
         ensures taken { MatchOption result (records_of self.old ≡ []) (λ step. records_of self.old ≡ records_of self.new ++ step ∷ []) }
         ensures none { IfNone result (records_of self.new ≡ []) }
+        ensures room { (rest : List Record) → CanTake self.old rest → IfSome result (λ step. CanTake self.new (step ∷ rest)) }
     {
         let step = self.records.pop()?;
         self.lanes.forget(&step);
         Some(step)
     }
+
+    /// Every log can take no steps.
+    pub fn law_of_no_steps(log: &Log)
+        ensures { CanTake log.now [] }
+    {}
 
     /// The touches of an object, by the places of the steps, if there are any.
     pub fn touched(&self, object: &Object) -> Option<&[Touch]>

@@ -1,6 +1,6 @@
 //! The touches of a step, added to the lists of its objects or taken from them.
 
-ghost use Rattle.std.specs.Prelude.{◌≡◌, ◌++◌, ◌∷◌, [], if◌then◌else◌, List, ℕ, true, OnOk, OnErr};
+ghost use Rattle.std.specs.Prelude.{◌≡◌, ◌++◌, ◌∷◌, [], if◌then◌else◌, List, ℕ, true, OnOk, OnErr, IsOk};
 ghost use Rattle.gr_depend.specs.Keys.{seen};
 ghost use Rattle.gr_depend.specs.Touches.{touches_for, kept_for};
 
@@ -13,6 +13,7 @@ use gr_step::Record;
 
 impl Lanes {
     ghost use Rattle.gr_depend.specs.Lists.{list_of, KeepsLists, AddsFor, TakesFor};
+    ghost use Rattle.gr_depend.specs.Room.{Fits, FitsFor, KeepsRoom};
     ghost use Rattle.gr_depend.specs.declared.touch.Touch.{Touch};
     ghost use Rattle.gr_base.specs.declared.objects.Object.{Object};
     ghost use Rattle.gr_base.specs.declared.objects.Object.TheVariants as variants;
@@ -22,6 +23,8 @@ impl Lanes {
     pub(crate) fn note(&mut self, place: u64, step: &Record) -> Result<(), NoMemory>
         ensures ok { OnOk result ((q : Object) → list_of self.new q ≡ list_of self.old q ++ kept_for q place step.now) }
         ensures err { OnErr result (KeepsLists self.old self.new) }
+        ensures succeeds { Fits self.old (λ q. list_of self.old q ++ kept_for q place step.now) → IsOk result }
+        ensures room { KeepsRoom self.old self.new }
     {
         let read = Touch {
             place,
@@ -44,7 +47,8 @@ impl Lanes {
     /// Takes the touches of the last step from the lists. It takes no memory.
     #[inline]
     pub(crate) fn forget(&mut self, step: &Record)
-        ensures { (before : Object → List Touch) (place : ℕ) → ((q : Object) → list_of self.old q ≡ before q ++ kept_for q place step.now) → (q : Object) → list_of self.new q ≡ before q }
+        ensures lists { (before : Object → List Touch) (place : ℕ) → ((q : Object) → list_of self.old q ≡ before q ++ kept_for q place step.now) → (q : Object) → list_of self.new q ≡ before q }
+        ensures room { KeepsRoom self.old self.new }
     {
         self.forget_after(&ObjectRef::Go(&step.id.go), writes(step));
         let (runs, others) = reads(step);
@@ -55,6 +59,8 @@ impl Lanes {
     fn note_reads(&mut self, runs: bool, others: &[Object], touch: Touch) -> Result<(), NoMemory>
         ensures ok { OnOk result (AddsFor (if runs then variants.Run ∷ others.now else others.now) touch self.old self.new) }
         ensures err { OnErr result (KeepsLists self.old self.new) }
+        ensures succeeds { FitsFor (if runs then variants.Run ∷ others.now else others.now) touch self.old → IsOk result }
+        ensures room { KeepsRoom self.old self.new }
     {
         if runs {
             return self.note_after(&ObjectRef::Run, others, touch);
@@ -64,7 +70,8 @@ impl Lanes {
 
     #[inline]
     fn forget_reads(&mut self, runs: bool, others: &[Object])
-        ensures { TakesFor (if runs then variants.Run ∷ others.now else others.now) self.old self.new }
+        ensures lists { TakesFor (if runs then variants.Run ∷ others.now else others.now) self.old self.new }
+        ensures room { KeepsRoom self.old self.new }
     {
         self.forget_all(others);
         if runs {
@@ -81,6 +88,8 @@ impl Lanes {
     ) -> Result<(), NoMemory>
         ensures ok { OnOk result (AddsFor (seen first.now ∷ others.now) touch self.old self.new) }
         ensures err { OnErr result (KeepsLists self.old self.new) }
+        ensures succeeds { FitsFor (seen first.now ∷ others.now) touch self.old → IsOk result }
+        ensures room { KeepsRoom self.old self.new }
     {
         self.add(first, touch)?;
         let noted = self.note_all(others, touch);
@@ -93,7 +102,8 @@ impl Lanes {
 
     #[inline]
     fn forget_after(&mut self, first: &ObjectRef<'_>, others: &[Object])
-        ensures { TakesFor (seen first.now ∷ others.now) self.old self.new }
+        ensures lists { TakesFor (seen first.now ∷ others.now) self.old self.new }
+        ensures room { KeepsRoom self.old self.new }
     {
         self.forget_all(others);
         self.take_back(first);
@@ -103,6 +113,8 @@ impl Lanes {
     fn note_all(&mut self, objects: &[Object], touch: Touch) -> Result<(), NoMemory>
         ensures ok { OnOk result (AddsFor objects.now touch self.old self.new) }
         ensures err { OnErr result (KeepsLists self.old self.new) }
+        ensures succeeds { FitsFor objects.now touch self.old → IsOk result }
+        ensures room { KeepsRoom self.old self.new }
     {
         for i in 0..objects.len() {
             let added = self.add(&ObjectRef::of(&objects[i]), touch);
@@ -116,7 +128,8 @@ impl Lanes {
 
     /// Takes the last touch from the list of each of these objects. It takes no memory.
     fn forget_all(&mut self, objects: &[Object])
-        ensures { TakesFor objects.now self.old self.new }
+        ensures lists { TakesFor objects.now self.old self.new }
+        ensures room { KeepsRoom self.old self.new }
     {
         let mut left = objects.len();
         while left > 0 {

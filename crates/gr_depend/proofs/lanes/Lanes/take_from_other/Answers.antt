@@ -1,14 +1,22 @@
-use Rattle.std.proofs.Common.{sym, ap, ◌∙◌}
+use Rattle.std.proofs.Common.{vec_capacity, arith, sym, ap, ◌∙◌}
 use Rattle.std.specs.Option.{option_copied_mut}
 use Rattle.gr_depend.specs.Touches.{without_last}
 use Rattle.gr_depend.proofs.LaneLemmas.{written_unique, wrote}
 use Rattle.gr_depend.specs.Keys.{seen}
+use Rattle.gr_depend.proofs.RoomLemmas.{keeps_room, grown}
 use Rattle.gr_depend.proofs.lanes.Lanes.take_from_other.Goals as goal
 
 pub invariant_of-self : goal.invariant_of-self
 invariant_of-self c = record { unique = written_unique c.args.self.now.map _ _ c.args.self.now.unique; writers = c.args.self.now.writers }
 
-pub returns-in-Some : goal.returns-in-Some
-returns-in-Some c =
-    wrote c.args.self.now.run.items c.args.self.now.map c.args.self.now.unique (seen c.args.object.now) c.requires c.in-Some.number c.in-Some.ensures.named
-    c.unwrap.result.now c.pop.new.self (sym (ap option_copied_mut c.unwrap.ensures) ∙ c.get_index_mut.ensures.value) without_last c.pop.ensures
+pub returns-in-Some-clause-lists : goal.returns-in-Some-clause-lists
+returns-in-Some-clause-lists c =
+    wrote (λ k. k.0) c.args.self.now.run.items c.args.self.now.map c.args.self.now.unique (seen c.args.object.now) c.requires c.in-Some.number c.in-Some.ensures.named
+    c.unwrap.result.now c.pop.new.self (sym (ap option_copied_mut c.unwrap.ensures) ∙ c.get_index_mut.ensures.value) without_last c.pop.ensures.touches
+
+pub returns-in-Some-clause-room : goal.returns-in-Some-clause-room
+returns-in-Some-clause-room c =
+    keeps_room c.args.self.now _
+    (grown (vec_capacity c.args.self.now.run) c.args.self.now.map c.args.self.now.unique (seen c.args.object.now) c.requires c.in-Some.number c.in-Some.ensures.named
+    c.unwrap.result.now c.pop.new.self (sym (ap option_copied_mut c.unwrap.ensures) ∙ c.get_index_mut.ensures.value) c.pop.ensures.room)
+    (omega arith)
