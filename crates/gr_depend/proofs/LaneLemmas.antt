@@ -21,12 +21,12 @@ use Rattle.gr_depend.specs.declared.lanes.Lanes.{Lanes}
 use Rattle.gr_depend.specs.declared.key.ObjectRef.{ObjectRef}
 use Rattle.gr_depend.specs.declared.key.ObjectRef.TheVariants as refs
 use Rattle.gr_depend.specs.Keys.{key_of, object_of, same_key, seen}
-use Rattle.gr_depend.specs.Lists.{Kept, nothing, list_of, list_numbered, IsNumbered}
+use Rattle.gr_depend.specs.Lists.{LaneSeen, nothing, list_of, list_numbered, IsNumbered}
 use Rattle.gr_depend.specs.Marks.{wanted}
 use Rattle.gr_depend.proofs.KeyLemmas.{same_key_equiv, key_is, key_back, object_back, same_keys, same_sym}
 
 abbrev pub Table : Type 0 → Type 0
-Table S = IndexMap Key Kept S
+Table S = IndexMap Key LaneSeen S
 
 some_inj : {X : Type 0} {x y : X} → Some x ≡ Some y → x ≡ y
 some_inj {X} {x} h = ap (λ o. unwrap_or o x) h
@@ -60,7 +60,7 @@ found_key ks k i found =
     ∙ ap Some (key_is (slice_index_or ks i k) (object_of k) (sym (same_sym (object_of k) (object_of (slice_index_or ks i k))) ∙ at.1) ∙ key_back k)
 
 module _ {S : Type 0} (m : Table S) (unique : IsUnique same_key m) (i : ℕ) (k : Key) (here : slice_get (keys m) i ≡ Some k) where
-  abbrev own : Kept
+  abbrev own : LaneSeen
   own = (entry_at m.entries i k here).0
 
   at : slice_get m.entries i ≡ Some (k, own)
@@ -73,15 +73,15 @@ module _ {S : Type 0} (m : Table S) (unique : IsUnique same_key m) (i : ℕ) (k 
       value_at m.entries i k own at
       ∙ sym (subst (λ es. lookup (same_key k) es ≡ Some own) (same_value m.entries i k own at) written)
 
-  pub has : (v : Kept) → slice_get (values m) i ≡ Some v → get same_key m k ≡ Some v
+  pub has : (v : LaneSeen) → slice_get (values m) i ≡ Some v → get same_key m k ≡ Some v
   has v is = sym named ∙ is
 
   -- a write by number changes what this key has, and nothing else
-  pub written : (w : Kept) (q : Key) → get same_key (with_value_at m i w) q ≡ cond (same_key k q) (Some w) (get same_key m q)
+  pub written : (w : LaneSeen) (q : Key) → get same_key (with_value_at m i w) q ≡ cond (same_key k q) (Some w) (get same_key m q)
   written w q = (updates-with_value_at m i w same_key_equiv unique k own at).0 q
 
 -- and leaves the keys, of which no two are one
-pub written_unique : {S : Type 0} (m : Table S) (i : ℕ) (w : Kept) → IsUnique same_key m → IsUnique same_key (with_value_at m i w)
+pub written_unique : {S : Type 0} (m : Table S) (i : ℕ) (w : LaneSeen) → IsUnique same_key m → IsUnique same_key (with_value_at m i w)
 written_unique m i w unique = subst (IsDistinct same_key) (sym (keys-with_value_at m i w)) unique
 
 -- the entry with a number has the key of this object
@@ -103,7 +103,7 @@ list_there [] i k v none h = cc
 list_there (e ∷ es) zero k v none h = ap (λ p. p.1) (some_inj (sym h))
 list_there (e ∷ es) (suc i) k v none h = list_there es i k v none h
 
-pub numbered_there : (l : Lanes) (i : ℕ) (k : Key) (v : Kept) → slice_get l.map.entries i ≡ Some (k, v) → v.0 ≡ list_numbered l (i + 1)
+pub numbered_there : (l : Lanes) (i : ℕ) (k : Key) (v : LaneSeen) → slice_get l.map.entries i ≡ Some (k, v) → v.0 ≡ list_numbered l (i + 1)
 numbered_there l i k v h = rw add-one (ap (λ k. k.0) (list_there l.map.entries i k v nothing h))
 
 -- no entry has a key that no number has
@@ -119,12 +119,12 @@ nowhere (e ∷ es) k h =
     same_key_is a b t = key_is a (object_of b) t ∙ key_back b
 
 -- what is told of each object, by what is told of Run and by the table
-abbrev pub parts : {S X : Type 0} → (Kept → X) → X → Table S → Object → X
+abbrev pub parts : {S X : Type 0} → (LaneSeen → X) → X → Table S → Object → X
 parts part run m q = if same objects.Run q then run else part (unwrap_or (get same_key m (key_of q)) nothing)
 
 -- where the table changes at one key alone, so does what is told
-module _ {S X : Type 0} (part : Kept → X) (run : X) (old new : Table S) (f : X → X) (o : Object) (other : same objects.Run o ≡ false)
-    (v w : Kept) (was : unwrap_or (get same_key old (key_of o)) nothing ≡ v) (is : part w ≡ f (part v))
+module _ {S X : Type 0} (part : LaneSeen → X) (run : X) (old new : Table S) (f : X → X) (o : Object) (other : same objects.Run o ≡ false)
+    (v w : LaneSeen) (was : unwrap_or (get same_key old (key_of o)) nothing ≡ v) (is : part w ≡ f (part v))
     (all : (q : Key) → get same_key new q ≡ cond (same_key (key_of o) q) (Some w) (get same_key old q)) where
   here : parts part run new o ≡ f (parts part run old o)
   here =
@@ -145,8 +145,8 @@ module _ {S X : Type 0} (part : Kept → X) (run : X) (old new : Table S) (f : X
       by false e = elsewhere q e
 
 -- a write by number
-module _ {S X : Type 0} (part : Kept → X) (run : X) (m : Table S) (unique : IsUnique same_key m) (o : Object) (other : same objects.Run o ≡ false)
-    (i : ℕ) (at : slice_get (keys m) i ≡ Some (key_of o)) (v w : Kept) (value : Some v ≡ slice_get (values m) i) where
+module _ {S X : Type 0} (part : LaneSeen → X) (run : X) (m : Table S) (unique : IsUnique same_key m) (o : Object) (other : same objects.Run o ≡ false)
+    (i : ℕ) (at : slice_get (keys m) i ≡ Some (key_of o)) (v w : LaneSeen) (value : Some v ≡ slice_get (values m) i) where
   pub had : unwrap_or (get same_key m (key_of o)) nothing ≡ v
   had = ap (λ x. unwrap_or x nothing) (sym (named m unique i (key_of o) at) ∙ sym value)
 

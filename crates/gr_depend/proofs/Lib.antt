@@ -1,6 +1,7 @@
 pub mod KeyLemmas
 pub mod LaneLemmas
 pub mod NoteLemmas
+pub mod ToldLemmas
 pub mod TouchLemmas
 pub mod RoomLemmas
 pub mod MarkLemmas
@@ -10,3 +11,9 @@ pub mod MarkedLemmas
 pub mod SpreadLemmas
 pub mod TraceLemmas
 pub mod NamedLemmas
+pub mod TurningLemmas
+pub mod OrderingLemmas
+pub mod TurnedLemmas
+pub mod ArrangeLemmas
+pub mod ReportLemmas
+pub mod HistoryLemmas

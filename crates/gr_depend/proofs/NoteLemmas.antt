@@ -1,7 +1,8 @@
 -- Touches that are added for several objects, one after the other, and taken away again.
-use Rattle.std.proofs.Common.{◌≡◌, ◌<◌, ◌+◌, ◌-◌, ℕ, Bool, true, false, if◌then◌else◌, List, [], ◌∷◌, ◌++◌, length, get_or, take, refl, sym, ap, subst, ◌∙◌, append_assoc, append-nil, arith}
+use Rattle.std.proofs.Common.{◌≡◌, ◌<◌, ◌+◌, ◌-◌, ℕ, Bool, true, false, if◌then◌else◌, List, [], ◌∷◌, ◌++◌, length, get_or, take, None, refl, sym, ap, subst, ◌∙◌, append_assoc, append-nil, arith}
 use Rattle.std.proofs.lemmas.List.{take_more, take_at, length-append}
 use Rattle.gr_base.specs.declared.objects.Object.{Object}
+use Rattle.gr_base.specs.declared.objects.Object.TheVariants.{Run, Go}
 use Rattle.gr_rules.specs.States.{same}
 use Rattle.gr_depend.specs.declared.touch.Touch.{Touch}
 use Rattle.gr_depend.specs.declared.lanes.Lanes.{Lanes}
@@ -83,18 +84,23 @@ taken_after a b c o os rest takes before t had =
 pub taken_none : (before : Object → List Touch) (t : Touch) (os : List Object) (n : ℕ) → n ≡ 0 → (q : Object) → before q ++ touches_for q t (take n os) ≡ before q
 taken_none before t os n none q = ap (λ i. before q ++ touches_for q t (take i os)) none ∙ append-nil (before q)
 
-pub taken_of_all : (a b c : Lanes) (k : Bool) (o : Object) (os : List Object) → k ≡ true → TakesFor os a b → TakesBack o b c → TakesFor (if k then o ∷ os else os) a c
-taken_of_all a b c k o os is rest takes = subst (λ (x : Bool). TakesFor (if x then o ∷ os else os) a c) (sym is) (taken_after a b c o os rest takes)
-
-pub taken_of_others : (a b : Lanes) (k : Bool) (o : Object) (os : List Object) → k ≡ false → TakesFor os a b → TakesFor (if k then o ∷ os else os) a b
-taken_of_others a b k o os is rest = subst (λ (x : Bool). TakesFor (if x then o ∷ os else os) a b) (sym is) rest
-
 -- what was kept of a step is taken away, what it wrote first
-pub step_taken : (a b c : Lanes) (r : Record) (own : Object) (os rs : List Object) → written_by r ≡ own ∷ os → TakesFor (own ∷ os) a b → read_by r ≡ rs → TakesFor rs b c
+pub step_taken : (a b c : Lanes) (r : Record) (ws rs : List Object) → written_by r ≡ ws → TakesFor ws a b → read_by r ≡ rs → TakesFor rs b c
     → (before : Object → List Touch) (place : ℕ) → ((q : Object) → list_of a q ≡ before q ++ kept_for q place r) → (q : Object) → list_of c q ≡ before q
-step_taken a b c r own os rs wrote first read second before place had =
+step_taken a b c r ws rs wrote first read second before place had =
     second before (record { place = place; writes = false })
     (first (λ q. before q ++ touches_for q (record { place = place; writes = false }) rs) (record { place = place; writes = true })
     (λ q. had q ∙ sym (append_assoc (before q) _ _)
     ∙ ap (λ l. (before q ++ touches_for q (record { place = place; writes = false }) l) ++ touches_for q (record { place = place; writes = true }) (written_by r)) read
     ∙ ap (λ l. (before q ++ touches_for q (record { place = place; writes = false }) rs) ++ touches_for q (record { place = place; writes = true }) l) wrote))
+
+-- a step that reached no further than its goroutine read whether the program runs, and wrote its goroutine
+pub read_alone : (r : Record) → r.change.beyond ≡ None → read_by r ≡ Run ∷ []
+read_alone r none = ap (λ o. read_by (record r { change = record (r.change) { beyond = o } })) none
+
+pub written_alone : (r : Record) → r.change.beyond ≡ None → written_by r ≡ Go r.id.go ∷ []
+written_alone r none = ap (λ o. written_by (record r { change = record (r.change) { beyond = o } })) none
+
+pub kept_alone : (q : Object) (place : ℕ) (r : Record) → r.change.beyond ≡ None
+    → kept_for q place r ≡ one_for q (record { place = place; writes = false }) Run ++ one_for q (record { place = place; writes = true }) (Go r.id.go)
+kept_alone q place r none = ap (λ o. kept_for q place (record r { change = record (r.change) { beyond = o } })) none

@@ -13,8 +13,8 @@ use Rattle.gr_depend.specs.declared.touch.Touch.{Touch}
 use Rattle.gr_depend.specs.declared.lanes.Lanes.{Lanes}
 use Rattle.gr_depend.specs.declared.log.Log.{Log}
 use Rattle.gr_depend.specs.Keys.{key_of, same_key}
-use Rattle.gr_depend.specs.Touches.{touch_at, touches_in, each_once, touches_for, kept_for}
-use Rattle.gr_depend.specs.Lists.{Kept, list_of, Adds, AddsFor}
+use Rattle.gr_depend.specs.Touches.{touch_at, touches_in, none_twice, touches_for, kept_for}
+use Rattle.gr_depend.specs.Lists.{LaneSeen, list_of, Adds, AddsFor}
 use Rattle.gr_depend.specs.Room.{size_of, capacity_of, Fits, FitsFor, KeepsRoom, CanTake}
 use Rattle.gr_depend.proofs.LaneLemmas.{Table, parts, had, wrote}
 use Rattle.gr_depend.proofs.NoteLemmas.{one_for, first_more, one_added}
@@ -28,7 +28,7 @@ keeps_room old new each stops lists fits = record {
 
 -- a lane that is written by number grows, and no other changes
 pub grown : {S : Type 0} (run : ℕ) (m : Table S) (unique : IsUnique same_key m) (o : Object) (other : same objects.Run o ≡ false) (i : ℕ)
-    (at : slice_get (keys m) i ≡ Some (key_of o)) (v w : Kept) (value : Some v ≡ slice_get (values m) i)
+    (at : slice_get (keys m) i ≡ Some (key_of o)) (v w : LaneSeen) (value : Some v ≡ slice_get (values m) i)
     → size_of v ≤ size_of w → (q : Object) → parts size_of run m q ≤ parts size_of run (with_value_at m i w) q
 grown run m unique o other i at v w value more q =
     let added : size_of w ≡ size_of v + (size_of w - size_of v) = omega (arith, more) in
@@ -41,7 +41,7 @@ grown run m unique o other i at v w value more q =
     by false n d = omega arith
 
 -- a lane has room for a touch that fits
-pub has_room : (l : Lanes) (o : Object) (other : same objects.Run o ≡ false) (i : ℕ) (at : slice_get (keys l.map) i ≡ Some (key_of o)) (v : Kept)
+pub has_room : (l : Lanes) (o : Object) (other : same objects.Run o ≡ false) (i : ℕ) (at : slice_get (keys l.map) i ≡ Some (key_of o)) (v : LaneSeen)
     (value : Some v ≡ slice_get (values l.map) i) (t : Touch) → FitsFor (o ∷ []) t l → 0 < v.1
 has_room l o other i at v value t fits =
     let is = had size_of 0 l.map l.unique o other i at v v value in
@@ -131,7 +131,7 @@ touches_on o place (x ∷ xs) ys =
     ∙ sym (append_assoc (touch_at o place x) (touches_in o (suc place) xs) (touches_in o (place + suc (length xs)) ys))
 
 -- the touches of the first of the steps that can be taken fit
-pub fits_step : (l : Lanes) (rs : List Record) (r : Record) (rest : List Record) (place : ℕ) → each_once (touched_by r) ≡ true
+pub fits_step : (l : Lanes) (rs : List Record) (r : Record) (rest : List Record) (place : ℕ) → none_twice (touched_by r) ≡ true
     → ((o : Object) → list_of l o ≡ touches_in o 0 rs) → place ≡ length rs → Fits l (λ o. touches_in o 0 (rs ++ r ∷ rest))
     → Fits l (λ q. list_of l q ++ kept_for q place r)
 fits_step l rs r rest place once are at fits =

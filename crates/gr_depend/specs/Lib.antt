@@ -1,6 +1,7 @@
 -- What a log keeps of the touches of each object.
 pub mod Keys
 pub mod Touches
+pub mod Told
 pub mod Lists
 pub mod Logs
 pub mod Room
@@ -9,3 +10,5 @@ pub mod Walks
 pub mod Marked
 pub mod Named
 pub mod Histories
+pub mod Turned
+pub mod Ordering

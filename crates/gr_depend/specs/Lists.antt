@@ -12,11 +12,11 @@ use Rattle.gr_depend.specs.Marks.{wanted}
 use Rattle.gr_depend.specs.Touches.{without_last, touches_for}
 
 -- what a lane has: its touches, and for how many more there is room
-abbrev pub Kept : Type 0
-Kept = List Touch × ℕ
+abbrev pub LaneSeen : Type 0
+LaneSeen = List Touch × ℕ
 
 -- that of an object without a lane
-abbrev pub nothing : Kept
+abbrev pub nothing : LaneSeen
 nothing = ([], 0)
 
 -- the list of an object

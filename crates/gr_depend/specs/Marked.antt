@@ -1,21 +1,9 @@
--- The steps that marks choose, and the marks of dependents and causes.
+-- The marks of dependents and causes.
 use Rattle.std.specs.Prelude.{◌≡◌, ◌<◌, ◌≤◌, ◌+◌, ◌-◌, ℕ, zero, suc, Bool, true, false, cond, List, [], ◌∷◌, ◌++◌, length, take, drop, slice_get, slice_index_or}
 use Rattle.std.specs.Option.{option_map_or}
 use Rattle.gr_causal.specs.Dependence.{hits, causes}
 use Rattle.gr_step.specs.declared.record.Record.{Record}
 use Rattle.gr_step.specs.Conflicts.{conflict_of}
-
--- the elements that have a mark
-abbrev pub chosen : {A : Type 0} → List Bool → List A → List A
-chosen [] xs = []
-chosen (m ∷ ms) [] = []
-chosen (m ∷ ms) (x ∷ xs) = cond m (x ∷ chosen ms xs) (chosen ms xs)
-
--- the elements that have none
-abbrev pub passed : {A : Type 0} → List Bool → List A → List A
-passed [] xs = []
-passed (m ∷ ms) [] = []
-passed (m ∷ ms) (x ∷ xs) = cond m (passed ms xs) (x ∷ passed ms xs)
 
 module _ {A : Type 0} (clash : A → A → Bool) where
   -- of these elements, a mark for each that conflicts with one collected before, where ds are collected

@@ -11,10 +11,10 @@ use Rattle.gr_depend.specs.declared.lanes.Lanes.{Lanes}
 use Rattle.gr_depend.specs.declared.log.Log.{Log}
 use Rattle.gr_depend.specs.Keys.{key_of, same_key}
 use Rattle.gr_depend.specs.Touches.{touches_for, touches_in}
-use Rattle.gr_depend.specs.Lists.{Kept, nothing, list_of}
+use Rattle.gr_depend.specs.Lists.{LaneSeen, nothing, list_of}
 
 -- how many touches a lane can have without memory
-abbrev pub size_of : Kept → ℕ
+abbrev pub size_of : LaneSeen → ℕ
 size_of k = length k.0 + k.1
 
 -- how many touches the list of an object can have without memory

@@ -24,9 +24,9 @@ touches_in o place [] = []
 touches_in o place (r ∷ rs) = touch_at o place r ++ touches_in o (suc place) rs
 
 -- whether none of the objects stands twice
-abbrev pub each_once : List Object → Bool
-each_once [] = true
-each_once (o ∷ os) = not (is_among o os) && each_once os
+abbrev pub none_twice : List Object → Bool
+none_twice [] = true
+none_twice (o ∷ os) = not (is_among o os) && none_twice os
 
 -- the touch, as often as the object is among these
 abbrev pub touches_for : Object → Touch → List Object → List Touch

@@ -4,48 +4,58 @@ ghost use Rattle.std.specs.Prelude.{◌≡◌, ◌<◌, length, slice_get, Some}
 ghost use Rattle.std.specs.List.{list_any};
 ghost use Rattle.gr_step.specs.Conflicts.{written_by, read_by, touched_by, conflict_of};
 ghost use Rattle.gr_depend.specs.Keys.{seen};
+ghost use Rattle.gr_depend.specs.Told.{seen_in};
 ghost use Rattle.gr_depend.specs.Touches.{is_among};
 
 use crate::key::ObjectRef;
 use crate::log::Log;
-use crate::objects::{reads, writes};
+use crate::objects::{Objects, reads, writes};
 use gr_base::Object;
 use gr_step::Record;
 
 /// Whether the object is one of these.
-fn is_one_of(object: &ObjectRef<'_>, objects: &[Object]) -> bool
+fn is_one_of(object: &ObjectRef<'_>, objects: Objects<'_>) -> bool
+    ensures { result ≡ is_among (seen object.now) (seen_in objects.entry) }
+{
+    let Some((first, rest)) = objects.split_first() else {
+        return is_in(object, objects.others);
+    };
+    object.is(&first) || is_one_of(object, rest)
+}
+
+/// The same for a slice.
+fn is_in(object: &ObjectRef<'_>, objects: &[Object]) -> bool
     ensures { result ≡ is_among (seen object.now) objects.now }
 {
     objects.iter().any(|other| object.is(&ObjectRef::of(other)))
-}
-
-/// Whether a step read the object and did not write it.
-fn has_read(step: &Record, object: &ObjectRef<'_>) -> bool
-    ensures { result ≡ is_among (seen object.now) (read_by step.now) }
-{
-    let (runs, others) = reads(step);
-    if runs && object.is(&ObjectRef::Run) {
-        return true;
-    }
-    is_one_of(object, others)
 }
 
 /// Whether a step wrote the object.
 pub(crate) fn has_written(step: &Record, object: &ObjectRef<'_>) -> bool
     ensures { result ≡ is_among (seen object.now) (written_by step.now) }
 {
-    object.is(&ObjectRef::Go(&step.id.go)) || is_one_of(object, writes(step))
+    is_one_of(object, writes(step))
 }
 
 /// Whether a step touched the object.
 fn has_touched(step: &Record, object: &ObjectRef<'_>) -> bool
     ensures { result ≡ is_among (seen object.now) (touched_by step.now) }
 {
-    has_read(step, object) || has_written(step, object)
+    is_one_of(object, reads(step)) || has_written(step, object)
 }
 
 /// Whether a step wrote one of these objects.
-fn any_written(step: &Record, objects: &[Object]) -> bool
+fn any_written(step: &Record, objects: Objects<'_>) -> bool
+    ensures { result ≡ list_any (λ o. is_among o (written_by step.now)) (seen_in objects.entry) }
+{
+    let Some((first, rest)) = objects.split_first() else {
+        return any_written_in(step, objects.others);
+    };
+    has_written(step, &first) || any_written(step, rest)
+}
+
+/// The same for a slice.
+fn any_written_in(step: &Record, objects: &[Object]) -> bool
     ensures { result ≡ list_any (λ o. is_among o (written_by step.now)) objects.now }
 {
     objects
@@ -54,7 +64,17 @@ fn any_written(step: &Record, objects: &[Object]) -> bool
 }
 
 /// Whether a step touched one of these objects.
-fn any_touched(step: &Record, objects: &[Object]) -> bool
+fn any_touched(step: &Record, objects: Objects<'_>) -> bool
+    ensures { result ≡ list_any (λ o. is_among o (touched_by step.now)) (seen_in objects.entry) }
+{
+    let Some((first, rest)) = objects.split_first() else {
+        return any_touched_in(step, objects.others);
+    };
+    has_touched(step, &first) || any_touched(step, rest)
+}
+
+/// The same for a slice.
+fn any_touched_in(step: &Record, objects: &[Object]) -> bool
     ensures { result ≡ list_any (λ o. is_among o (touched_by step.now)) objects.now }
 {
     objects
@@ -66,20 +86,13 @@ fn any_touched(step: &Record, objects: &[Object]) -> bool
 fn overwrites(first: &Record, second: &Record) -> bool
     ensures { result ≡ list_any (λ o. is_among o (written_by second.now)) (read_by first.now) }
 {
-    let (runs, others) = reads(first);
-    if runs && has_written(second, &ObjectRef::Run) {
-        return true;
-    }
-    any_written(second, others)
+    any_written(second, reads(first))
 }
 
 /// Whether the second step touched what the first wrote.
 fn meets_writes(first: &Record, second: &Record) -> bool
     ensures { result ≡ list_any (λ o. is_among o (touched_by second.now)) (written_by first.now) }
 {
-    if has_touched(second, &ObjectRef::Go(&first.id.go)) {
-        return true;
-    }
     any_touched(second, writes(first))
 }
 

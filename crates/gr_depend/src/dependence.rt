@@ -4,7 +4,8 @@ ghost use Rattle.std.specs.Prelude.{◌≡◌, ◌<◌, ◌≤◌, ◌+◌, ◌-
 ghost use Rattle.gr_causal.specs.Dependence.{dependents, kept, causes};
 ghost use Rattle.indexmap.specs.IndexMap.{keys};
 ghost use Rattle.gr_step.specs.Conflicts.{conflict_of};
-ghost use Rattle.gr_depend.specs.Marked.{chosen, passed, dependent_marks, cause_marks, conflict_at};
+ghost use Rattle.gr_kept.specs.Back.{marked, unmarked};
+ghost use Rattle.gr_depend.specs.Marked.{dependent_marks, cause_marks, conflict_at};
 ghost use Rattle.gr_depend.specs.Marks.{Marks};
 ghost use Rattle.gr_depend.specs.Walks.{AreWalked, HasMarks};
 
@@ -28,8 +29,8 @@ impl Log {
     pub fn dependents(&self, alloc: Global, at: usize) -> Result<Vec<bool>, NoMemory>
         requires { at < length (records_of self.now) }
         ensures count { IfOk result (λ marks. length marks.items ≡ length (records_of self.now) - at) }
-        ensures members { IfOk result (λ marks. chosen marks.items (drop at (records_of self.now)) ≡ dependents conflict_of (records_of self.now) at) }
-        ensures others { IfOk result (λ marks. passed marks.items (drop at (records_of self.now)) ≡ drop at (kept conflict_of (records_of self.now) at)) }
+        ensures members { IfOk result (λ marks. marked marks.items (drop at (records_of self.now)) ≡ dependents conflict_of (records_of self.now) at) }
+        ensures others { IfOk result (λ marks. unmarked marks.items (drop at (records_of self.now)) ≡ drop at (kept conflict_of (records_of self.now) at)) }
     {
         let mut marks = no_marks(alloc, self.records.len() - at)?;
         let mut read = no_marks(alloc, self.lanes.count())?;
@@ -43,7 +44,7 @@ impl Log {
     pub fn causes(&self, alloc: Global, at: usize) -> Result<Vec<bool>, NoMemory>
         requires { at < length (records_of self.now) }
         ensures count { IfOk result (λ marks. length marks.items ≡ at + 1) }
-        ensures members { IfOk result (λ marks. chosen marks.items (records_of self.now) ≡ causes conflict_of (records_of self.now) at) }
+        ensures members { IfOk result (λ marks. marked marks.items (records_of self.now) ≡ causes conflict_of (records_of self.now) at) }
     {
         let mut marks = no_marks(alloc, at + 1)?;
         let mut read = no_marks(alloc, self.lanes.count())?;

@@ -1,6 +1,14 @@
 //! Steps of the log that commands ask for.
 
-ghost use Rattle.std.specs.Prelude.{◌≡◌, option_copied};
+ghost use Rattle.std.specs.Prelude.{◌≡◌, ℕ, List, option_copied, option_map};
+ghost use Rattle.gr_contents.specs.Contents.{Contents};
+ghost use Rattle.gr_program.specs.Programs.{Program};
+ghost use Rattle.gr_rules.specs.History as rules;
+ghost use Rattle.gr_laws.specs.Reached.{Logged};
+ghost use Rattle.gr_step.specs.Kept.{Kept};
+ghost use Rattle.gr_kept.specs.Pairs.{id_of};
+ghost use Rattle.gr_base.specs.declared.names.ChName.{ChName};
+ghost use Rattle.gr_step.specs.declared.record.Record.{Record};
 ghost use Rattle.gr_depend.specs.Histories.{starts, start_of, is_fault, sends_to, receives_of, sent, received};
 
 use crate::conflicts::has_written;
@@ -101,3 +109,16 @@ impl Log {
         None
     }
 }
+
+/// The steps that started a goroutine, sent or received are by their records those of the rules.
+pub fn law_of_history()
+    ensures started { (p : Program) (s t : Contents) (records : List Record) (log : List (Logged p)) (g : List ℕ)
+        → Kept p s records log t
+        → start_of g records ≡ option_map (id_of p) (rules.start_of p g log) }
+    ensures sent { (p : Program) (s t : Contents) (records : List Record) (log : List (Logged p)) (c : ChName) (k : ℕ)
+        → Kept p s records log t
+        → sent c k records ≡ option_map (id_of p) (rules.sent p c k log) }
+    ensures received { (p : Program) (s t : Contents) (records : List Record) (log : List (Logged p)) (c : ChName) (k : ℕ)
+        → Kept p s records log t
+        → received c k records ≡ option_map (id_of p) (rules.received p c k log) }
+{}

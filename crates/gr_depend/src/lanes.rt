@@ -137,6 +137,17 @@ impl Lanes {
         }
     }
 
+    /// The touches in the list with a number.
+    pub(crate) fn list_with(&self, number: usize) -> &[Touch]
+        requires { number < length (keys self.now.map) + 1 }
+        ensures { result.now ≡ list_numbered self.now number }
+    {
+        if number == 0 {
+            return self.run.as_slice();
+        }
+        self.lane(number - 1)
+    }
+
     /// How many lists there are, that of `Run` included.
     pub(crate) fn count(&self) -> usize
         ensures { result ≡ length (keys self.now.map) + 1 }
@@ -165,7 +176,7 @@ impl Lanes {
         ensures none { IfNone result (list_of self.now (seen object.now) ≡ []) }
     {
         let number = self.number(object)?;
-        // The number of lanes is known to be small.
+        // This bounds the number of lanes, so that one can be added to a number below it.
         let _count = self.map.len();
         let touches = self.lane(number);
         Some((number + 1, touches))

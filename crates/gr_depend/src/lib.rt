@@ -3,7 +3,7 @@
 
 mod conflicts;
 mod dependence;
-mod history;
+pub mod history;
 mod key;
 mod lane;
 mod lanes;
@@ -12,8 +12,11 @@ mod marks;
 mod named;
 mod noting;
 mod objects;
+pub mod order;
 pub mod touch;
+mod turning;
 mod walking;
 
 pub use log::Log;
+pub use order::OrderRefused;
 pub use touch::Touch;

@@ -7,7 +7,7 @@ ghost use Rattle.gr_base.specs.declared.objects.Object.{Object};
 ghost use Rattle.gr_causal.specs.Sequences.{Distinct};
 ghost use Rattle.gr_step.specs.Conflicts.{touched_by};
 ghost use Rattle.gr_depend.specs.Lists.{list_of};
-ghost use Rattle.gr_depend.specs.Touches.{touches_in, each_once, if_any};
+ghost use Rattle.gr_depend.specs.Touches.{touches_in, none_twice, if_any};
 
 use crate::key::ObjectRef;
 use crate::lanes::Lanes;
@@ -22,7 +22,7 @@ pub struct Log {
     pub(crate) records: Vec<Record>,
     pub(crate) lanes: Lanes,
     ghost touches: { (o : Object) → list_of lanes o ≡ touches_in o 0 records.items } by { Prim.hlevel props },
-    ghost once: { list_all (λ r. each_once (touched_by r)) records.items ≡ true },
+    ghost once: { list_all (λ r. none_twice (touched_by r)) records.items ≡ true },
 }
 
 impl Log {
@@ -102,6 +102,7 @@ impl Log {
         ensures taken { MatchOption result (records_of self.old ≡ []) (λ step. records_of self.old ≡ records_of self.new ++ step ∷ []) }
         ensures none { IfNone result (records_of self.new ≡ []) }
         ensures room { (rest : List Record) → CanTake self.old rest → IfSome result (λ step. CanTake self.new (step ∷ rest)) }
+        ensures room_none { (rest : List Record) → CanTake self.old rest → IfNone result (CanTake self.new rest) }
     {
         let step = self.records.pop()?;
         self.lanes.forget(&step);

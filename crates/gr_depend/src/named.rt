@@ -13,18 +13,40 @@ impl Log {
     ghost use Rattle.gr_depend.specs.Logs.{records_of};
     ghost use Rattle.gr_step.specs.declared.record.Record.{Record};
 
-    /// The place of the step of a name. It is found at once where no steps of others touched the goroutine.
+    /// The place of the step of a name. The time is logarithmic in the steps of its goroutine where that took one of any two
+    /// touches of it that follow each other.
     pub fn place_of(&self, id: &StepId) -> Option<usize>
         ensures found { IfSome result (λ place. IsNamed (records_of self.now) place id.now) }
         ensures missing { IfNone result ((place : ℕ) → IsNamed (records_of self.now) place id.now → ⊥) }
     {
         let touches = self.lanes.list(&ObjectRef::Go(&id.go));
-        let earliest = id.n.saturating_sub(1).min(touches.len() as u64) as usize;
-        let (before, after) = touches.split_at(earliest);
-        if let Some(place) = self.find_named(after, id) {
+        if let Some(place) = self.leap_to(touches, id) {
             return Some(place);
         }
-        self.find_named(before, id)
+        self.find_named(touches, id)
+    }
+
+    /// The place of the step of a name, looked for by leaps: from each step on, over as many touches as steps are left.
+    fn leap_to(&self, touches: &[Touch], id: &StepId) -> Option<usize>
+        ensures { IfSome result (λ place. IsNamed (records_of self.now) place id.now) }
+    {
+        let mut at = id.n.saturating_sub(1);
+        for _ in 0..touches.len() {
+            let place = touches.get(at as usize)?.place as usize;
+            if self.is_named(place, id) {
+                return Some(place);
+            }
+            at = at.saturating_add(self.steps_left(place, id));
+        }
+        None
+    }
+
+    /// How many steps of the goroutine are left from the one at a place to that of the name; 1 where the place has none before it.
+    fn steps_left(&self, place: usize, id: &StepId) -> u64 {
+        match self.records.get(place) {
+            Some(step) if step.id.go == id.go => id.n.saturating_sub(step.id.n).max(1),
+            _ => 1,
+        }
     }
 
     /// The place of the first of these touches whose step has the name.

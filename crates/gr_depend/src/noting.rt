@@ -1,12 +1,12 @@
 //! The touches of a step, added to the lists of its objects or taken from them.
 
-ghost use Rattle.std.specs.Prelude.{◌≡◌, ◌++◌, ◌∷◌, [], if◌then◌else◌, List, ℕ, true, OnOk, OnErr, IsOk};
-ghost use Rattle.gr_depend.specs.Keys.{seen};
+ghost use Rattle.std.specs.Prelude.{◌≡◌, ◌++◌, List, ℕ, None, OnOk, OnErr, IsOk};
+ghost use Rattle.gr_depend.specs.Told.{seen_in};
 ghost use Rattle.gr_depend.specs.Touches.{touches_for, kept_for};
 
 use crate::key::ObjectRef;
 use crate::lanes::Lanes;
-use crate::objects::{reads, writes};
+use crate::objects::{Objects, reads, writes};
 use crate::touch::Touch;
 use gr_base::{NoMemory, Object};
 use gr_step::Record;
@@ -16,11 +16,25 @@ impl Lanes {
     ghost use Rattle.gr_depend.specs.Room.{Fits, FitsFor, KeepsRoom};
     ghost use Rattle.gr_depend.specs.declared.touch.Touch.{Touch};
     ghost use Rattle.gr_base.specs.declared.objects.Object.{Object};
-    ghost use Rattle.gr_base.specs.declared.objects.Object.TheVariants as variants;
 
     /// Adds the touches of a step at a place. Refused, all lists are as before.
     #[inline]
     pub(crate) fn note(&mut self, place: u64, step: &Record) -> Result<(), NoMemory>
+        ensures ok { OnOk result ((q : Object) → list_of self.new q ≡ list_of self.old q ++ kept_for q place step.now) }
+        ensures err { OnErr result (KeepsLists self.old self.new) }
+        ensures succeeds { Fits self.old (λ q. list_of self.old q ++ kept_for q place step.now) → IsOk result }
+        ensures room { KeepsRoom self.old self.new }
+    {
+        match &step.change.beyond {
+            None => self.note_alone(place, step),
+            Some(_) => self.note_beyond(place, step),
+        }
+    }
+
+    /// The same of a step that reached no further than its goroutine.
+    #[inline]
+    fn note_alone(&mut self, place: u64, step: &Record) -> Result<(), NoMemory>
+        requires { step.now.change.beyond ≡ None }
         ensures ok { OnOk result ((q : Object) → list_of self.new q ≡ list_of self.old q ++ kept_for q place step.now) }
         ensures err { OnErr result (KeepsLists self.old self.new) }
         ensures succeeds { Fits self.old (λ q. list_of self.old q ++ kept_for q place step.now) → IsOk result }
@@ -34,11 +48,35 @@ impl Lanes {
             place,
             writes: true,
         };
-        let (runs, others) = reads(step);
-        self.note_reads(runs, others, read)?;
-        let noted = self.note_after(&ObjectRef::Go(&step.id.go), writes(step), written);
+        self.add(&ObjectRef::Run, read)?;
+        let noted = self.add(&ObjectRef::Go(&step.id.go), written);
         if let Err(error) = noted {
-            self.forget_reads(runs, others);
+            self.take_back(&ObjectRef::Run);
+            return Err(error);
+        }
+        Ok(())
+    }
+
+    /// The same of a step that reached further.
+    fn note_beyond(&mut self, place: u64, step: &Record) -> Result<(), NoMemory>
+        ensures ok { OnOk result ((q : Object) → list_of self.new q ≡ list_of self.old q ++ kept_for q place step.now) }
+        ensures err { OnErr result (KeepsLists self.old self.new) }
+        ensures succeeds { Fits self.old (λ q. list_of self.old q ++ kept_for q place step.now) → IsOk result }
+        ensures room { KeepsRoom self.old self.new }
+    {
+        let read = Touch {
+            place,
+            writes: false,
+        };
+        let written = Touch {
+            place,
+            writes: true,
+        };
+        let objects = reads(step);
+        self.note_list(objects, read)?;
+        let noted = self.note_list(writes(step), written);
+        if let Err(error) = noted {
+            self.forget_list(objects);
             return Err(error);
         }
         Ok(())
@@ -50,66 +88,64 @@ impl Lanes {
         ensures lists { (before : Object → List Touch) (place : ℕ) → ((q : Object) → list_of self.old q ≡ before q ++ kept_for q place step.now) → (q : Object) → list_of self.new q ≡ before q }
         ensures room { KeepsRoom self.old self.new }
     {
-        self.forget_after(&ObjectRef::Go(&step.id.go), writes(step));
-        let (runs, others) = reads(step);
-        self.forget_reads(runs, others);
-    }
-
-    #[inline]
-    fn note_reads(&mut self, runs: bool, others: &[Object], touch: Touch) -> Result<(), NoMemory>
-        ensures ok { OnOk result (AddsFor (if runs then variants.Run ∷ others.now else others.now) touch self.old self.new) }
-        ensures err { OnErr result (KeepsLists self.old self.new) }
-        ensures succeeds { FitsFor (if runs then variants.Run ∷ others.now else others.now) touch self.old → IsOk result }
-        ensures room { KeepsRoom self.old self.new }
-    {
-        if runs {
-            return self.note_after(&ObjectRef::Run, others, touch);
-        }
-        self.note_all(others, touch)
-    }
-
-    #[inline]
-    fn forget_reads(&mut self, runs: bool, others: &[Object])
-        ensures lists { TakesFor (if runs then variants.Run ∷ others.now else others.now) self.old self.new }
-        ensures room { KeepsRoom self.old self.new }
-    {
-        self.forget_all(others);
-        if runs {
-            self.take_back(&ObjectRef::Run);
+        match &step.change.beyond {
+            None => self.forget_alone(step),
+            Some(_) => self.forget_beyond(step),
         }
     }
 
+    /// The same of a step that reached no further than its goroutine.
     #[inline]
-    fn note_after(
-        &mut self,
-        first: &ObjectRef<'_>,
-        others: &[Object],
-        touch: Touch,
-    ) -> Result<(), NoMemory>
-        ensures ok { OnOk result (AddsFor (seen first.now ∷ others.now) touch self.old self.new) }
-        ensures err { OnErr result (KeepsLists self.old self.new) }
-        ensures succeeds { FitsFor (seen first.now ∷ others.now) touch self.old → IsOk result }
+    fn forget_alone(&mut self, step: &Record)
+        requires { step.now.change.beyond ≡ None }
+        ensures lists { (before : Object → List Touch) (place : ℕ) → ((q : Object) → list_of self.old q ≡ before q ++ kept_for q place step.now) → (q : Object) → list_of self.new q ≡ before q }
         ensures room { KeepsRoom self.old self.new }
     {
-        self.add(first, touch)?;
-        let noted = self.note_all(others, touch);
+        self.take_back(&ObjectRef::Go(&step.id.go));
+        self.take_back(&ObjectRef::Run);
+    }
+
+    /// The same of a step that reached further.
+    fn forget_beyond(&mut self, step: &Record)
+        ensures lists { (before : Object → List Touch) (place : ℕ) → ((q : Object) → list_of self.old q ≡ before q ++ kept_for q place step.now) → (q : Object) → list_of self.new q ≡ before q }
+        ensures room { KeepsRoom self.old self.new }
+    {
+        self.forget_list(writes(step));
+        self.forget_list(reads(step));
+    }
+
+    /// Adds a touch to the lists of these objects. Refused, all lists are as before.
+    fn note_list(&mut self, objects: Objects<'_>, touch: Touch) -> Result<(), NoMemory>
+        ensures ok { OnOk result (AddsFor (seen_in objects.entry) touch self.old self.new) }
+        ensures err { OnErr result (KeepsLists self.old self.new) }
+        ensures succeeds { FitsFor (seen_in objects.entry) touch self.old → IsOk result }
+        ensures room { KeepsRoom self.old self.new }
+    {
+        let Some((first, rest)) = objects.split_first() else {
+            return self.note_all(objects.others, touch);
+        };
+        self.add(&first, touch)?;
+        let noted = self.note_list(rest, touch);
         if let Err(error) = noted {
-            self.take_back(first);
+            self.take_back(&first);
             return Err(error);
         }
         Ok(())
     }
 
-    #[inline]
-    fn forget_after(&mut self, first: &ObjectRef<'_>, others: &[Object])
-        ensures lists { TakesFor (seen first.now ∷ others.now) self.old self.new }
+    /// Takes the last touch from the list of each of these objects. It takes no memory.
+    fn forget_list(&mut self, objects: Objects<'_>)
+        ensures lists { TakesFor (seen_in objects.entry) self.old self.new }
         ensures room { KeepsRoom self.old self.new }
     {
-        self.forget_all(others);
-        self.take_back(first);
+        let Some((first, rest)) = objects.split_first() else {
+            return self.forget_all(objects.others);
+        };
+        self.forget_list(rest);
+        self.take_back(&first);
     }
 
-    /// Adds a touch to the lists of these objects. Refused, all lists are as before.
+    /// The same for a slice. Refused, all lists are as before.
     fn note_all(&mut self, objects: &[Object], touch: Touch) -> Result<(), NoMemory>
         ensures ok { OnOk result (AddsFor objects.now touch self.old self.new) }
         ensures err { OnErr result (KeepsLists self.old self.new) }
@@ -126,7 +162,7 @@ impl Lanes {
         Ok(())
     }
 
-    /// Takes the last touch from the list of each of these objects. It takes no memory.
+    /// The same for a slice.
     fn forget_all(&mut self, objects: &[Object])
         ensures lists { TakesFor objects.now self.old self.new }
         ensures room { KeepsRoom self.old self.new }

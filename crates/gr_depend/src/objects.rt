@@ -1,30 +1,238 @@
 //! The objects that a step touched, by its record.
 
-ghost use Rattle.std.specs.Prelude.{◌≡◌, ◌∷◌, if◌then◌else◌};
-ghost use Rattle.gr_base.specs.declared.objects.Object.TheVariants as objects;
+ghost use Rattle.std.specs.Prelude.{◌≡◌, ◌∷◌, ◌<◌, [], List, Some, if◌then◌else◌, MatchOption, IfSome, option_copied, option_map};
+ghost use Rattle.gr_base.specs.declared.objects.Object.TheVariants as variants;
 ghost use Rattle.gr_step.specs.Conflicts.{written_by, read_by};
+ghost use Rattle.gr_step.specs.Parts.{channel_in, parts_before, partner_before, slot_before, read_by_more, written_by_more};
+ghost use Rattle.gr_depend.specs.Keys.{seen};
+ghost use Rattle.gr_depend.specs.Told.{named, seen_in, count_in};
 
-use gr_base::Object;
-use gr_step::Record;
+use crate::key::ObjectRef;
+use gr_base::{ChName, GoName, Object};
+use gr_step::record::{Beyond, Parts};
+use gr_step::{Operation, Record};
 
-/// What a step read and did not write: whether `Run` is among it beside the others, and the others.
-#[inline]
-pub(crate) fn reads(step: &Record) -> (bool, &[Object])
-    ensures { read_by step.now ≡ (if result.0 then objects.Run ∷ result.1.now else result.1.now) }
+/// Objects that a step read, or that it wrote, by their names where they are: `Run` or its goroutine, parts of one channel, a
+/// goroutine that it met, and others, in this order.
+#[derive(Clone, Copy)]
+pub(crate) struct Objects<'a> {
+    front: Option<ObjectRef<'a>>,
+    gate: Option<&'a ChName>,
+    head: Option<&'a ChName>,
+    tail: Option<&'a ChName>,
+    slot: Option<(&'a ChName, u32)>,
+    partner: Option<&'a GoName>,
+    pub(crate) others: &'a [Object],
+}
+
+/// The slot of a channel at a place, if there is one.
+fn slot_at(channel: &ChName, place: Option<u32>) -> Option<(&ChName, u32)>
+    ensures { (os : List Object) → named (λ s. variants.Slot s.0.now s.1) result os ≡ slot_before channel.now place os }
 {
-    match &step.change.beyond {
-        Some(beyond) => (!beyond.stops, beyond.reads.as_slice()),
-        None => (true, &[]),
+    match place {
+        Some(place) => Some((channel, place)),
+        None => None,
     }
 }
 
-/// What a step wrote, but for its goroutine.
-#[inline]
-pub(crate) fn writes(step: &Record) -> &[Object]
-    ensures { written_by step.now ≡ objects.Go step.now.id.go ∷ result.now }
+impl<'a> Objects<'a> {
+    /// Those that belong to no channel.
+    fn without_channel(
+        front: Option<ObjectRef<'a>>,
+        partner: Option<&'a GoName>,
+        others: &'a [Object],
+    ) -> Objects<'a>
+        ensures { seen_in result ≡ named seen front.entry (partner_before (option_copied partner.entry) others.now) }
+    {
+        Objects {
+            front,
+            gate: None,
+            head: None,
+            tail: None,
+            slot: None,
+            partner,
+            others,
+        }
+    }
+
+    /// Those with parts of a channel.
+    fn with_channel(
+        front: Option<ObjectRef<'a>>,
+        parts: Parts,
+        channel: &'a ChName,
+        place: Option<u32>,
+        partner: Option<&'a GoName>,
+        others: &'a [Object],
+    ) -> Objects<'a>
+        ensures { seen_in result ≡ named seen front.entry (parts_before parts place (Some channel.now) (partner_before (option_copied partner.entry) others.now)) }
+    {
+        let named = Some(channel);
+        let slot = slot_at(channel, place);
+        let rest = Objects {
+            front,
+            gate: None,
+            head: None,
+            tail: None,
+            slot: None,
+            partner,
+            others,
+        };
+        match parts {
+            Parts::Nothing => rest,
+            Parts::Gate => Objects {
+                gate: named,
+                ..rest
+            },
+            Parts::Entrance => Objects {
+                tail: named,
+                slot,
+                ..rest
+            },
+            Parts::Exit => Objects {
+                head: named,
+                slot,
+                ..rest
+            },
+            Parts::GateAndExit => Objects {
+                gate: named,
+                head: named,
+                slot,
+                ..rest
+            },
+            Parts::All => Objects {
+                gate: named,
+                head: named,
+                tail: named,
+                slot,
+                ..rest
+            },
+        }
+    }
+
+    /// The first of them, and the rest; none where only the others are left.
+    #[inline]
+    pub(crate) fn split_first(self) -> Option<(ObjectRef<'a>, Objects<'a>)>
+        ensures first { MatchOption result (seen_in self.entry ≡ self.entry.others.now) (λ r. seen_in self.entry ≡ seen r.0 ∷ seen_in r.1) }
+        ensures fewer { IfSome result (λ r. count_in r.1 < count_in self.entry) }
+    {
+        let mut rest = self;
+        if let Some(front) = self.front {
+            rest.front = None;
+            return Some((front, rest));
+        }
+        if let Some(channel) = self.gate {
+            rest.gate = None;
+            return Some((ObjectRef::Gate(channel), rest));
+        }
+        if let Some(channel) = self.head {
+            rest.head = None;
+            return Some((ObjectRef::Head(channel), rest));
+        }
+        if let Some(channel) = self.tail {
+            rest.tail = None;
+            return Some((ObjectRef::Tail(channel), rest));
+        }
+        if let Some((channel, place)) = self.slot {
+            rest.slot = None;
+            return Some((ObjectRef::Slot(channel, place), rest));
+        }
+        let partner = self.partner?;
+        rest.partner = None;
+        Some((ObjectRef::Go(partner), rest))
+    }
+}
+
+/// The channel of an operation.
+fn channel_of(operation: &Operation) -> &ChName
+    ensures { result.now ≡ channel_in operation.now }
 {
-    match &step.change.beyond {
-        Some(beyond) => beyond.writes.as_slice(),
+    match operation {
+        Operation::SendsOn(channel) => channel,
+        Operation::ReceivesFrom(channel) => channel,
+        Operation::TakesLenOf(channel) => channel,
+        Operation::TakesCapOf(channel) => channel,
+        Operation::Closes(channel) => channel,
+    }
+}
+
+/// `Run`, which a step reads that does not write it.
+fn run_unless<'a>(stops: bool) -> Option<ObjectRef<'a>>
+    ensures { (os : List Object) → named seen result os ≡ (if stops then os else variants.Run ∷ os) }
+{
+    if stops { None } else { Some(ObjectRef::Run) }
+}
+
+/// What a step read beside its channel.
+fn others_read(beyond: &Beyond) -> &[Object]
+    ensures { result.now ≡ read_by_more beyond.now.more }
+{
+    match &beyond.more {
+        Some(more) => more.reads.as_slice(),
         None => &[],
     }
+}
+
+/// What a step wrote beside its channel.
+fn others_written(beyond: &Beyond) -> &[Object]
+    ensures { result.now ≡ written_by_more beyond.now.more }
+{
+    match &beyond.more {
+        Some(more) => more.writes.as_slice(),
+        None => &[],
+    }
+}
+
+/// These parts of the channel of a step, with other objects.
+#[tactic(auto, using(crate::proofs::ToldLemmas::no_channel))]
+fn told<'a>(
+    front: Option<ObjectRef<'a>>,
+    beyond: &'a Beyond,
+    parts: Parts,
+    partner: Option<&'a GoName>,
+    others: &'a [Object],
+) -> Objects<'a>
+    ensures { seen_in result ≡ named seen front.entry (parts_before parts beyond.now.touched.slot (option_map channel_in beyond.now.operation) (partner_before (option_copied partner.entry) others.now)) }
+{
+    let Some(operation) = &beyond.operation else {
+        return Objects::without_channel(front, partner, others);
+    };
+    let place = beyond.touched.slot;
+    Objects::with_channel(front, parts, channel_of(operation), place, partner, others)
+}
+
+/// What a step read and did not write.
+#[inline]
+pub(crate) fn reads(step: &Record) -> Objects<'_>
+    ensures { seen_in result ≡ read_by step.now }
+{
+    let Some(beyond) = &step.change.beyond else {
+        return Objects::without_channel(Some(ObjectRef::Run), None, &[]);
+    };
+    let front = run_unless(beyond.stops);
+    told(
+        front,
+        beyond,
+        beyond.touched.read,
+        None,
+        others_read(beyond),
+    )
+}
+
+/// What a step wrote.
+#[inline]
+pub(crate) fn writes(step: &Record) -> Objects<'_>
+    ensures { seen_in result ≡ written_by step.now }
+{
+    let own = Some(ObjectRef::Go(&step.id.go));
+    let Some(beyond) = &step.change.beyond else {
+        return Objects::without_channel(own, None, &[]);
+    };
+    let partner = beyond.partner.as_ref();
+    told(
+        own,
+        beyond,
+        beyond.touched.written,
+        partner,
+        others_written(beyond),
+    )
 }

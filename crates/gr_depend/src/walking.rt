@@ -1,19 +1,19 @@
 //! Marks for the steps that conflict with one.
 
-ghost use Rattle.std.specs.Prelude.{◌≡◌, ◌+◌, ◌∷◌, if◌then◌else◌, length, true, false};
+ghost use Rattle.std.specs.Prelude.{◌≡◌, ◌+◌, length, true, false};
 ghost use Rattle.indexmap.specs.IndexMap.{keys};
 ghost use Rattle.gr_depend.specs.Keys.{seen};
 ghost use Rattle.gr_depend.specs.Marks.{hits, Marks};
+ghost use Rattle.gr_depend.specs.Told.{seen_in};
 
 use crate::key::ObjectRef;
 use crate::lanes::Lanes;
 use crate::marks::{Origin, mark_list};
-use crate::objects::{reads, writes};
+use crate::objects::{Objects, reads, writes};
 use gr_base::Object;
 use gr_step::Record;
 
 impl Lanes {
-    ghost use Rattle.gr_base.specs.declared.objects.Object.TheVariants as variants;
     ghost use Rattle.gr_depend.specs.Lists.{list_of};
     ghost use Rattle.gr_depend.specs.Walks.{AreInReach, AreWalked, hits_any, meets_step};
 
@@ -35,37 +35,15 @@ impl Lanes {
         ensures read_walked { AreWalked self.now origin false read.new marks.new }
         ensures written_walked { AreWalked self.now origin true written.new marks.new }
     {
-        let (runs, others) = reads(step);
-        self.mark_reads(origin, runs, others, read, marks);
-        let own = ObjectRef::Go(&step.id.go);
-        self.mark_after(origin, &own, writes(step), true, written, marks);
+        self.mark_each(origin, reads(step), false, read, marks);
+        self.mark_each(origin, writes(step), true, written, marks);
     }
 
-    fn mark_reads(
+    /// Sets the marks of touches of these objects.
+    fn mark_each(
         &self,
         origin: Origin,
-        runs: bool,
-        others: &[Object],
-        walked: &mut [bool],
-        marks: &mut [bool],
-    )
-        requires reach { AreInReach self.now origin (length marks.old) }
-        requires count { length walked.old ≡ length (keys self.now.map) + 1 }
-        requires walked { AreWalked self.now origin false walked.old marks.old }
-        ensures marks { Marks origin (hits_any self.now false (if runs then variants.Run ∷ others.now else others.now)) marks.old marks.new }
-        ensures walked { AreWalked self.now origin false walked.new marks.new }
-    {
-        if runs {
-            return self.mark_after(origin, &ObjectRef::Run, others, false, walked, marks);
-        }
-        self.mark_all(origin, others, false, walked, marks)
-    }
-
-    fn mark_after(
-        &self,
-        origin: Origin,
-        first: &ObjectRef<'_>,
-        others: &[Object],
+        objects: Objects<'_>,
         all: bool,
         walked: &mut [bool],
         marks: &mut [bool],
@@ -73,14 +51,17 @@ impl Lanes {
         requires reach { AreInReach self.now origin (length marks.old) }
         requires count { length walked.old ≡ length (keys self.now.map) + 1 }
         requires walked { AreWalked self.now origin all walked.old marks.old }
-        ensures marks { Marks origin (hits_any self.now all (seen first.now ∷ others.now)) marks.old marks.new }
+        ensures marks { Marks origin (hits_any self.now all (seen_in objects.entry)) marks.old marks.new }
         ensures walked { AreWalked self.now origin all walked.new marks.new }
     {
-        self.mark_object(origin, first, all, walked, marks);
-        self.mark_all(origin, others, all, walked, marks);
+        let Some((first, rest)) = objects.split_first() else {
+            return self.mark_all(origin, objects.others, all, walked, marks);
+        };
+        self.mark_object(origin, &first, all, walked, marks);
+        self.mark_each(origin, rest, all, walked, marks);
     }
 
-    /// Sets the marks of touches of these objects.
+    /// The same for a slice.
     fn mark_all(
         &self,
         origin: Origin,

@@ -1,16 +1,16 @@
-mod ContentLemmas
-mod TableLemmas
-mod NamedLemmas
-mod RecordLemmas
-mod MovedLemmas
-mod BackLemmas
-mod NeighbourLemmas
-mod SwapLemmas
-mod ChainLemmas
-mod KeptLemmas
-mod OrderLemmas
-mod AlikeLemmas
-mod LiftLemmas
-mod RollbackLemmas
-mod MarkLemmas
-mod FreeLemmas
+pub mod ContentLemmas
+pub mod TableLemmas
+pub mod NamedLemmas
+pub mod RecordLemmas
+pub mod MovedLemmas
+pub mod BackLemmas
+pub mod NeighbourLemmas
+pub mod SwapLemmas
+pub mod ChainLemmas
+pub mod KeptLemmas
+pub mod OrderLemmas
+pub mod AlikeLemmas
+pub mod LiftLemmas
+pub mod RollbackLemmas
+pub mod MarkLemmas
+pub mod FreeLemmas

@@ -135,13 +135,14 @@ pub all_go_back : (p : Program) (s t : Contents) (records : List Record) (log : 
 all_go_back p s t records log i running are = by_pairs p s t (AllBack p s t i) (pairs_go_back p s t i running) records log are
 
 -- the last of the consequences
-abbrev pub StopsThere : (p : Program) → Contents → Contents → List Record → List Record → List (Logged p) → Type 0
-StopsThere p s t gone stay log = (later : List (Logged p)) × (others : List (Logged p))
+abbrev pub StopsThere : (p : Program) → Contents → Contents → ℕ → List Record → List Record → List (Logged p) → Type 0
+StopsThere p s t i gone stay log = (later : List (Logged p)) × (others : List (Logged p))
     × AreTheOthers log later others × Kept p s stay others (all_back gone t) × Kept p (all_back gone t) gone later t
+    × ((before : List (Logged p)) × (dependents (clash p) log i ≡ before ++ later))
 
 lost_pairs : (p : Program) (s t : Contents) (left gone stay : List Record) (i : ℕ) → Running p s → (steps : List (Record × Logged p))
     → Kept p s (records_in p steps) (steps_in p steps) t → dependents conflict_of (records_in p steps) i ≡ left ++ gone
-    → AreTheOthers (records_in p steps) gone stay → StopsThere p s t gone stay (steps_in p steps)
+    → AreTheOthers (records_in p steps) gone stay → StopsThere p s t i gone stay (steps_in p steps)
 lost_pairs p s t left gone stay i running steps are e others =
     let once = records_once p s t (records_in p steps) (steps_in p steps) running are in
     let parts = parts_of (record_of p) (dependents (clash_in p) steps i) left gone (sym (same_dependents p s t steps i are).0 ∙ e) in
@@ -158,10 +159,11 @@ lost_pairs p s t left gone stay i running steps are e others =
       subst {_, _} (λ g. Kept p s stay (steps_in p rest.0) (all_back g t)) parts.3
           (subst {_, _} (λ rs. Kept p s rs (steps_in p rest.0) (all_back (records_in p lost) t)) rest.1 both.0),
       subst {_, _} (λ g. Kept p (all_back g t) g (steps_in p lost) t) parts.3 both.1,
+      (steps_in p parts.0, (same_dependents p s t steps i are).1 ∙ ap (steps_in p) parts.2 ∙ map-append (step_of p) parts.0 lost),
     )
 
 pub may_stop : (p : Program) (s t : Contents) (records left gone stay : List Record) (log : List (Logged p)) (i : ℕ) → Running p s → Kept p s records log t
-    → dependents conflict_of records i ≡ left ++ gone → AreTheOthers records gone stay → StopsThere p s t gone stay log
+    → dependents conflict_of records i ≡ left ++ gone → AreTheOthers records gone stay → StopsThere p s t i gone stay log
 may_stop p s t records left gone stay log i running are =
-    by_pairs p s t (λ rs ls. dependents conflict_of rs i ≡ left ++ gone → AreTheOthers rs gone stay → StopsThere p s t gone stay ls)
+    by_pairs p s t (λ rs ls. dependents conflict_of rs i ≡ left ++ gone → AreTheOthers rs gone stay → StopsThere p s t i gone stay ls)
     (lost_pairs p s t left gone stay i running) records log are

@@ -129,7 +129,8 @@ pub fn law_of_back()
         → dependents conflict_of records i ≡ left ++ gone → AreTheOthers records gone stay
         → let u = all_back gone t in
         (later : List (Logged p)) × (steps : List (Logged p))
-        × AreTheOthers log later steps × Kept p s stay steps u × Kept p u gone later t }
+        × AreTheOthers log later steps × Kept p s stay steps u × Kept p u gone later t
+        × ((before : List (Logged p)) × (dependents (clash p) log i ≡ before ++ later)) }
     ensures closed { (p : Program) (s t : Contents) (steps gone stay : List (Record × Logged p))
         → Running p s → Kept p s (records_in p steps) (steps_in p steps) t
         → IsClosedPart (λ a b. Depends (clash_in p) steps b a) steps gone

@@ -22,6 +22,7 @@ use Rattle.gr_contents.proofs.MachineLemmas.{refusal_is_leaf}
 use Rattle.gr_contents.proofs.LookLemmas.{over_is_refused, unknown_is_refused, done_is_refused, waiting_is_refused}
 use Rattle.gr_step.specs.declared.record.Change.{Change}
 use Rattle.gr_laws.proofs.CellLemmas.{go_is}
+use Rattle.gr_step.specs.Fews.{members}
 use Rattle.gr_step.specs.Records.{beyond, begun_by, go_back, go_undone, is_go, taken_back, goroutines_changed, GoesFit, CanGoBack}
 use Rattle.gr_tables.specs.NamedGoroutines.{At}
 use Rattle.gr_session.specs.Courses.{IsReadyIn, names_met, others_of}
@@ -78,7 +79,7 @@ begun_else (Some n) q f = (neither (same_go q n) false f).0
 pub others_stay : (n : List ℕ) (c : Change) (t : Contents) (q : List ℕ) → same_go q n ≡ false → is_among q (others_of c) ≡ false
     → (taken_back n c t).goroutines q ≡ t.goroutines q
 others_stay n c t q other f =
-    let met : List (List ℕ × GoUndo) = beyond [] (λ b. b.met.items) c in
+    let met : List (List ℕ × GoUndo) = beyond [] (λ b. members b.met) c in
     let both = neither (is_among q (map (λ u. u.0) met)) (is_among q (option_to_list (begun_by c)))
     (sym (list_any-append (same_go q) (map (λ u. u.0) met) (option_to_list (begun_by c))) ∙ f) in
     rw (begun_else (begun_by c) q both.1, other) (back_else met q (t.goroutines q) both.0)
@@ -95,9 +96,9 @@ back_none (u ∷ us) q = rw (back_none us q) (either_way (same_go q u.0) None)
 pub own_is_there : (n : List ℕ) (c : Change) (t : Contents) → CanGoBack n c t → (g : CodeGoroutine) × (t.goroutines n ≡ Some g)
 own_is_there n c t can = by_option (t.goroutines n) can.goroutines.0
   where
-    by_option : (o : Option CodeGoroutine) → At (Fits c.own) (go_back (beyond [] (λ b. b.met.items) c) n o) → (g : CodeGoroutine) × (o ≡ Some g)
+    by_option : (o : Option CodeGoroutine) → At (Fits c.own) (go_back (beyond [] (λ b. members b.met) c) n o) → (g : CodeGoroutine) × (o ≡ Some g)
     by_option (Some g) fits = (g, refl)
-    by_option None fits = absurd (subst (At (Fits c.own)) (back_none (beyond [] (λ b. b.met.items) c) n) fits)
+    by_option None fits = absurd (subst (At (Fits c.own)) (back_none (beyond [] (λ b. members b.met) c) n) fits)
 
 true_is_not_false : {b : Bool} → b ≡ true → b ≡ false → ⊥
 true_is_not_false e f = cc
@@ -122,9 +123,9 @@ met_is_there (u ∷ us) f q fit t = elim (cases_Bool (same_go q u.0)) [
 ]
 
 -- .. and was there before it, unless the step started it
-pub met_was_there : (n : List ℕ) (c : Change) (t : Contents) (q : List ℕ) → CanGoBack n c t → is_among q (names_met (beyond [] (λ b. b.met.items) c)) ≡ true
+pub met_was_there : (n : List ℕ) (c : Change) (t : Contents) (q : List ℕ) → CanGoBack n c t → is_among q (names_met (beyond [] (λ b. members b.met) c)) ≡ true
     → is_go q (begun_by c) ≡ false → (g : CodeGoroutine) × ((taken_back n c t).goroutines q ≡ Some g)
 met_was_there n c t q can among other =
-    let there = met_is_there ((n, c.own) ∷ beyond [] (λ b. b.met.items) c) t.goroutines q can.goroutines
-    (or_right (same_go q n) (is_among q (names_met (beyond [] (λ b. b.met.items) c))) among) in
+    let there = met_is_there ((n, c.own) ∷ beyond [] (λ b. members b.met) c) t.goroutines q can.goroutines
+    (or_right (same_go q n) (is_among q (names_met (beyond [] (λ b. members b.met) c))) among) in
     (there.0, ap (λ b. if b then None else go_back (goroutines_changed n c) q (t.goroutines q)) other ∙ there.1)

@@ -20,6 +20,8 @@ use Rattle.std.specs.Prelude.{Box, Option, Some, None, option_map}
 use Rattle.std.specs.Option.{option_map_or, option_to_list}
 use Rattle.gr_step.specs.declared.record.Beyond.{Beyond}
 use Rattle.gr_step.specs.declared.record.Record.{Record}
+use Rattle.gr_step.specs.Fews.{members}
+use Rattle.gr_step.specs.Parts.{begun_in}
 use Rattle.gr_step.specs.Records.{beyond, begun_by, is_go}
 use Rattle.gr_session.proofs.Basics.{some_inj, or_left, or_right}
 
@@ -269,8 +271,8 @@ met_here (x ∷ met) (suc i) e within is =
 
 -- the goroutine of a step that reached further, those that it met, and the one that it started
 pub follows_all : (r : Record) (b : Beyond) (s : Contents) (old before own met new : pools.Goroutines) → option_map (λ x. x.value) r.change.beyond ≡ Some b
-    → KnowsMet r.change old → AllKnown (option_to_list b.begins) before → KnowsMore old before → before.ready ≡ old.ready
-    → Settles (r.id.go ∷ []) s before own → Settles (names_met b.met.items) s own met → Settles (option_to_list b.begins) s met new → Follows r s old new
+    → KnowsMet r.change old → AllKnown (option_to_list (begun_in b)) before → KnowsMore old before → before.ready ≡ old.ready
+    → Settles (r.id.go ∷ []) s before own → Settles (names_met (members b.met)) s own met → Settles (option_to_list (begun_in b)) s met new → Follows r s old new
 follows_all r b s old before own met new is knows_met child more ready first second third = by r.change.beyond refl
   where
     by : (o : Option (Box Beyond Global)) → r.change.beyond ≡ o → Follows r s old new
@@ -281,23 +283,23 @@ follows_all r b s old before own met new is knows_met child more ready first sec
       more = more;
       same = ready;
       settles = subst (λ names. Settles (r.id.go ∷ names) s before new) (sym others)
-          (settles_both r.id.go (names_met b.met.items ++ option_to_list b.begins) s before own new first
-          (settles_join (names_met b.met.items) (option_to_list b.begins) s own met new second third));
+          (settles_both r.id.go (names_met (members b.met) ++ option_to_list (begun_in b)) s before own new first
+          (settles_join (names_met (members b.met)) (option_to_list (begun_in b)) s own met new second third));
     }
       where
         value : x.value ≡ b
         value = let e : Some x.value ≡ Some b = ap (option_map (λ (y : Box Beyond Global). y.value)) (sym some) ∙ is in some_inj e
 
-        others : others_of r.change ≡ names_met b.met.items ++ option_to_list b.begins
+        others : others_of r.change ≡ names_met (members b.met) ++ option_to_list (begun_in b)
         others =
-            ap (λ o. names_met (option_map_or (λ (y : Box Beyond Global). y.value.met.items) o []) ++ option_to_list (option_map_or (λ (y : Box Beyond Global). y.value.begins) o None)) some
-            ∙ ap (λ (y : Beyond). names_met y.met.items ++ option_to_list y.begins) value
+            ap (λ o. names_met (option_map_or (λ (y : Box Beyond Global). members y.value.met) o []) ++ option_to_list (option_map_or (λ (y : Box Beyond Global). begun_in y.value) o None)) some
+            ∙ ap (λ (y : Beyond). names_met (members y.met) ++ option_to_list (begun_in y)) value
 
-        begun : begun_by r.change ≡ b.begins
-        begun = ap (λ o. option_map_or (λ (y : Box Beyond Global). y.value.begins) o None) some ∙ ap (λ (y : Beyond). y.begins) value
+        begun : begun_by r.change ≡ (begun_in b)
+        begun = ap (λ o. option_map_or (λ (y : Box Beyond Global). begun_in y.value) o None) some ∙ ap (λ (y : Beyond). (begun_in y)) value
 
-        met_is : beyond [] (λ y. y.met.items) r.change ≡ b.met.items
-        met_is = ap (λ o. option_map_or (λ (y : Box Beyond Global). y.value.met.items) o []) some ∙ ap (λ (y : Beyond). y.met.items) value
+        met_is : beyond [] (λ y. (members y.met)) r.change ≡ (members b.met)
+        met_is = ap (λ o. option_map_or (λ (y : Box Beyond Global). members y.value.met) o []) some ∙ ap (λ (y : Beyond). (members y.met)) value
 
         is_child : (n : List ℕ) (o : Option (List ℕ)) → is_go n o ≡ true → is_among n (option_to_list o) ≡ true
         is_child n None e = cc
@@ -305,12 +307,12 @@ follows_all r b s old before own met new is knows_met child more ready first sec
 
         knows : AllKnown (others_of r.change) before
         knows n t = elim (cases_Bool (is_go n (begun_by r.change))) [
-          | inl e ↦ child n (is_child n b.begins (ap (is_go n) (sym begun) ∙ e))
-          | inr e ↦ elim (cases_Bool (is_among n (option_to_list b.begins))) [
+          | inl e ↦ child n (is_child n (begun_in b) (ap (is_go n) (sym begun) ∙ e))
+          | inr e ↦ elim (cases_Bool (is_among n (option_to_list (begun_in b)))) [
             | inl known ↦ child n known
             | inr other ↦ more n (knows_met n (ap (λ us. is_among n (names_met us)) met_is
-                ∙ sym (or_same (is_among n (names_met b.met.items)) (is_among n (option_to_list b.begins)) other)
-                ∙ sym (list_any-append (same_go n) (names_met b.met.items) (option_to_list b.begins))
+                ∙ sym (or_same (is_among n (names_met (members b.met))) (is_among n (option_to_list (begun_in b))) other)
+                ∙ sym (list_any-append (same_go n) (names_met (members b.met)) (option_to_list (begun_in b)))
                 ∙ ap (is_among n) (sym others) ∙ t) e)
           ]
         ]

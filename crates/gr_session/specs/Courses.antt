@@ -26,6 +26,7 @@ use Rattle.gr_step.specs.declared.record.Change.{Change}
 use Rattle.gr_step.specs.declared.record.Record.{Record}
 use Rattle.gr_step.specs.declared.refusal.StepRefused.{StepRefused}
 use Rattle.gr_step.specs.Listings.{state_in}
+use Rattle.gr_step.specs.Fews.{members}
 use Rattle.gr_step.specs.Records.{beyond, begun_by, is_go}
 use Rattle.gr_step.specs.Stores.{program_at, contents_at, IsRun}
 use Rattle.gr_step.specs.Taking.{SaysWhy}
@@ -66,7 +67,7 @@ AllKnown names pool = (n : List ℕ) → is_among n names ≡ true → is_among 
 
 -- the goroutines that a step met, and the one that it started
 abbrev pub others_of : Change → List (List ℕ)
-others_of c = map (λ e. e.0) (beyond [] (λ b. b.met.items) c) ++ option_to_list (begun_by c)
+others_of c = map (λ e. e.0) (beyond [] (λ b. members b.met) c) ++ option_to_list (begun_by c)
 
 -- the names of goroutines with their changes
 abbrev pub names_met : List (List ℕ × GoUndo) → List (List ℕ)
@@ -74,7 +75,7 @@ names_met met = map (λ e. e.0) met
 
 -- the goroutines that a step met are known, but for one that it started
 abbrev pub KnowsMet : Change → pools.Goroutines → Type 0
-KnowsMet c pool = (n : List ℕ) → is_among n (names_met (beyond [] (λ b. b.met.items) c)) ≡ true → is_go n (begun_by c) ≡ false
+KnowsMet c pool = (n : List ℕ) → is_among n (names_met (beyond [] (λ b. members b.met) c)) ≡ true → is_go n (begun_by c) ≡ false
     → is_among n pool.known ≡ true
 
 -- the pool after a step, or after it is taken back: the goroutines that it met and the one that it started are known, and they

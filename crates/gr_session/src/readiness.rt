@@ -1,6 +1,6 @@
 //! Which goroutines are ready, kept in a pool beside the store.
 
-ghost use Rattle.std.specs.Prelude.{◌≡◌, ◌∷◌, [], true, List, ℕ, ◌↔◌, IsTrue, IfOk, OnOk, OnErr, IsOk};
+ghost use Rattle.std.specs.Prelude.{◌≡◌, ◌∷◌, [], true, List, ℕ, ◌↔◌, IsTrue, IfOk, OnOk, OnErr, IsOk, option_copied};
 ghost use Rattle.gr_pool.specs.Goroutines.{is_among};
 ghost use Rattle.gr_step.specs.Stores.{program_at, contents_at};
 ghost use Rattle.std.specs.Option.{option_to_list};
@@ -98,10 +98,11 @@ fn others(alloc: Global, change: &Change) -> Result<Vec<GoName>, NoMemory>
     let Some(beyond) = &change.beyond else {
         return Ok(names);
     };
-    for (go, _) in beyond.met.iter() {
+    let met = beyond.met.as_slice();
+    for (go, _) in met {
         names.push(go.copy(alloc)?)?;
     }
-    if let Some(child) = &beyond.begins {
+    if let Some(child) = beyond.begins() {
         names.push(child.copy(alloc)?)?;
     }
     Ok(names)
@@ -141,9 +142,9 @@ fn settle_met(pool: &mut Pool, store: &Store, met: &[(GoName, GoUndo)])
 }
 
 // Settles the goroutine that a step started, if it started one.
-fn settle_child(pool: &mut Pool, store: &Store, child: &Option<GoName>)
-    requires { AllKnown (option_to_list child.now) pool.old }
-    ensures { Settles (option_to_list child.now) (contents_at store.now) pool.old pool.new }
+fn settle_child(pool: &mut Pool, store: &Store, child: Option<&GoName>)
+    requires { AllKnown (option_to_list (option_copied child)) pool.old }
+    ensures { Settles (option_to_list (option_copied child.entry)) (contents_at store.now) pool.old pool.new }
 {
     if let Some(go) = child {
         settle(pool, store, go);
@@ -151,8 +152,8 @@ fn settle_child(pool: &mut Pool, store: &Store, child: &Option<GoName>)
 }
 
 // Makes the goroutine known that a step started, if it started one.
-fn know_child(pool: &mut Pool, child: &Option<GoName>) -> Result<(), NoMemory>
-    ensures known { OnOk result (AllKnown (option_to_list child.now) pool.new) }
+fn know_child(pool: &mut Pool, child: Option<&GoName>) -> Result<(), NoMemory>
+    ensures known { OnOk result (AllKnown (option_to_list (option_copied child.entry)) pool.new) }
     ensures more { KnowsMore pool.old pool.new }
     ensures ready { pool.new.ready ≡ pool.old.ready }
 {
@@ -176,9 +177,10 @@ pub fn follow(pool: &mut Pool, store: &Store, step: &Record) -> Result<(), NoMem
         settle_own(pool, store, &step.id.go);
         return Ok(());
     };
-    know_child(pool, &beyond.begins)?;
+    let child = beyond.begins();
+    know_child(pool, child)?;
     settle_own(pool, store, &step.id.go);
     settle_met(pool, store, beyond.met.as_slice());
-    settle_child(pool, store, &beyond.begins);
+    settle_child(pool, store, child);
     Ok(())
 }

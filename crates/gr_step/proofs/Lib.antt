@@ -32,7 +32,6 @@ mod Queueing
 mod EachOnce
 mod OwnChanges
 mod WaitTouches
-mod AloneWaits
 mod WaitingLemmas
 mod ProceedLemmas
 mod MayLemmas

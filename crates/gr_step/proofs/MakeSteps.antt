@@ -44,6 +44,7 @@ use Rattle.gr_step.specs.declared.record.Change.{Change}
 use Rattle.gr_step.specs.Listings.{frame_in, state_in}
 use Rattle.gr_step.specs.Objects.{contents_in, run_of}
 use Rattle.gr_step.specs.Premises.{Acting}
+use Rattle.gr_step.specs.Parts.{reads_in}
 use Rattle.gr_step.specs.Records.{operation_of, beyond, stops, go_back, goroutines_changed, channels_changed, begun_by, made_by, is_go, is_channel, writes_of, reads_of}
 use Rattle.gr_step.specs.Records.{taken_back, GoesFit, NeedNoFrame, CanGoBack}
 use Rattle.gr_step.specs.Within.{IsAmong, EachIsAmong, PartsAreAmong, IsUnused, ChangesWithin}
@@ -125,21 +126,21 @@ module _ (p : Program) (e : Event) (number : ℕ) (o : Objects) (acting : Acting
 
       goes_back : taken_back e.go c t ≡ s
       goes_back = λ j. record {
-        run = (ap (λ b. if b then live else s.run) reach.rest.stops) j;
-        goroutines = λ q. (ap (λ o. if is_go q o then None else go_back (goroutines_changed e.go c) q (t.goroutines q)) reach.rest.begins
-            ∙ ap (λ met. go_back ((e.go, u) ∷ met) q (t.goroutines q)) reach.rest.met
+        run = (ap (λ b. if b then live else s.run) reach.stops) j;
+        goroutines = λ q. (ap (λ o. if is_go q o then None else go_back (goroutines_changed e.go c) q (t.goroutines q)) reach.begins
+            ∙ ap (λ met. go_back ((e.go, u) ∷ met) q (t.goroutines q)) reach.met
             ∙ own_back e.go s.goroutines g on.after u acting.there on.own.back on.own.fits q) j;
         channels = λ q. (ap (λ o. if is_channel q o then None else chan_back (channels_changed c) q (t.channels q)) reach.makes
-            ∙ ap (λ us. if is_channel q (Some next) then None else chan_back us q (t.channels q)) reach.rest.channels
+            ∙ ap (λ us. if is_channel q (Some next) then None else chan_back us q (t.channels q)) reach.channels
             ∙ unmade q (same_channel q next) refl) j;
       }
 
       can_go_back : CanGoBack e.go c t
       can_go_back = record {
-        goroutines = subst {_, _} (λ met. GoesFit ((e.go, u) ∷ met) t.goroutines) (sym reach.rest.met)
+        goroutines = subst {_, _} (λ met. GoesFit ((e.go, u) ∷ met) t.goroutines) (sym reach.met)
             (own_fits e.go s.goroutines g on.after u acting.there on.own.back on.own.fits);
-        channels = subst {_, _} (λ us. ChansFit us t.channels) (sym reach.rest.channels) tt;
-        frames = (on.none, subst {_, _} NeedNoFrame (sym reach.rest.met) tt);
+        channels = subst {_, _} (λ us. ChansFit us t.channels) (sym reach.channels) tt;
+        frames = (on.none, subst {_, _} NeedNoFrame (sym reach.met) tt);
       }
 
       valid_after : (k : Bool) (old : Option Content) → ((x : Content) → old ≡ Some x → IsChannel x) → (x : Content)
@@ -149,14 +150,14 @@ module _ (p : Program) (e : Event) (number : ℕ) (o : Objects) (acting : Acting
 
       stays_within : ChangesWithin e.go c t
       stays_within = record {
-        goroutines = subst {_, _} (λ met. EachIsAmong objects.Go ((e.go, u) ∷ met) (writes_of e.go c)) (sym reach.rest.met) (own_is_written e.go c, tt);
-        begun = λ q is. absurd (let no : None ≡ Some q = sym reach.rest.begins ∙ is in cc);
+        goroutines = subst {_, _} (λ met. EachIsAmong objects.Go ((e.go, u) ∷ met) (writes_of e.go c)) (sym reach.met) (own_is_written e.go c, tt);
+        begun = λ q is. absurd (let no : None ≡ Some q = sym reach.begins ∙ is in cc);
         made = λ q is. subst {_, _} (λ k. IsAmong (objects.Gate k) (writes_of e.go c) × IsUnused (t.channels k)) (some_is (sym reach.makes ∙ is)) (
-          subst {_, _} (λ os. IsAmong (objects.Gate next) (objects.Go e.go ∷ os)) (sym reach.rest.writes) (gate_first next []),
+          subst {_, _} (λ os. IsAmong (objects.Gate next) (objects.Go e.go ∷ os)) (sym reach.writes) (gate_first next []),
           (fresh n, ap (λ b. if b then Some (fresh n) else s.channels next) (channel_self next), refl, refl),
         );
-        gates = subst {_, _} (λ us. EachIsAmong objects.Gate us (reads_of c ++ writes_of e.go c)) (sym reach.rest.channels) tt;
-        parts = subst {_, _} (λ us. PartsAreAmong us t.channels (writes_of e.go c)) (sym reach.rest.channels)
+        gates = subst {_, _} (λ us. EachIsAmong objects.Gate us (reads_of c ++ writes_of e.go c)) (sym reach.channels) tt;
+        parts = subst {_, _} (λ us. PartsAreAmong us t.channels (writes_of e.go c)) (sym reach.channels)
             (λ d x q is w. absurd (let no : false ≡ true = w in cc));
         valid = λ d x is. valid_after (same_channel d next) (s.channels d) (are_channels o d) x is;
       }
@@ -170,10 +171,10 @@ module _ (p : Program) (e : Event) (number : ℕ) (o : Objects) (acting : Acting
             ordinal = ap (λ n. n + 1) (sym (count_is p s e.go g acting.there));
             kind = refl;
             printed = on.silent;
-            operation = ap (option_map operation_of) reach.rest.operation;
-            writes = ap (λ os. objects.Go e.go ∷ os) reach.rest.writes ∙ ap (λ (r : Touches). objects.Go e.go ∷ r.writes) (sym row_is);
-            reads = ap (λ s. if s then b.value.reads.items else objects.Run ∷ b.value.reads.items) reach.rest.stops
-                ∙ ap (λ os. objects.Run ∷ os) reach.rest.reads
+            operation = ap (option_map operation_of) reach.operation;
+            writes = ap (λ os. objects.Go e.go ∷ os) reach.writes ∙ ap (λ (r : Touches). objects.Go e.go ∷ r.writes) (sym row_is);
+            reads = ap (λ s. if s then reads_in b.value else objects.Run ∷ reads_in b.value) reach.stops
+                ∙ ap (λ os. objects.Run ∷ os) reach.reads
                 ∙ ap (λ (r : Touches). each_once (objects.Go e.go ∷ r.writes) (objects.Run ∷ r.reads)) (sym row_is);
             back = goes_back;
             fits = can_go_back;

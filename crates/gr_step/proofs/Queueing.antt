@@ -2,6 +2,7 @@
 use Rattle.std.proofs.Common.{◌≡◌, ℕ, ◌+◌, ◌-◌, ◌<◌, ◌≤◌, Bool, true, false, ◌&&◌, ◌||◌, if◌then◌else◌, List, [], ◌∷◌, ◌++◌, length, map, drop, get_or, drop-cons}
 use Rattle.std.proofs.Common.{drop_of_length-le, add-one, zero, suc, refl, ap, sym, ◌∙◌, subst, arith, append-nil, append_assoc, Option, Some, None, option_map, inl, inr}
 use Rattle.std.specs.Prelude.{is_some}
+use Rattle.std.specs.Option.{option_to_list}
 use Rattle.std.specs.List.{list_any, list_all}
 use Rattle.std.proofs.lemmas.Bool.{cases_Bool, and_parts, and_from}
 use Rattle.gr_base.specs.declared.names.ChName.{ChName}
@@ -24,7 +25,7 @@ use Rattle.gr_tables.proofs.Joining.{changes_join}
 use Rattle.gr_tables.proofs.Withdrawals.{gates_join}
 use Rattle.gr_tables.proofs.RoomLemmas.{none_within, within_self}
 use Rattle.gr_step.proofs.InsideLemmas.{or_true, or_assoc, gates_widen}
-use Rattle.gr_step.specs.Parks.{pending_of, channels_awaited, with_channels, queued_for, queued, AreMade, listed, NeedNoRoom}
+use Rattle.gr_step.specs.Parks.{pending_of, channels_awaited, with_channels, queued_for, queued, AreMade, NeedNoRoom}
 
 -- the first of those that are left
 pub first_left : {X : Type 0} (xs : List X) (i : ℕ) (x : X) → i < length xs → x ≡ get_or xs i x → drop i xs ≡ x ∷ drop (i + 1) xs
@@ -35,19 +36,19 @@ waits_of_more : (ws vs : List declared.Wait) → waits_of (ws ++ vs) ≡ waits_o
 waits_of_more [] vs = refl
 waits_of_more (w ∷ ws) vs = ap (λ l. wait_of w ∷ l) (waits_of_more ws vs)
 
-waits_of_one : (o : Option declared.Wait) → waits_of (listed o) ≡ listed (option_map wait_of o)
+waits_of_one : (o : Option declared.Wait) → waits_of (option_to_list o) ≡ option_to_list (option_map wait_of o)
 waits_of_one None = refl
 waits_of_one (Some w) = refl
 
 module _ (ws : List (Option ℕ × Clause)) (i : ℕ) (waits : List declared.Wait) (total : List Wait)
     (told : waits_of waits ++ all_waits (pending_of (drop i ws)) ≡ total) where
   pub waits_next : (w : Option ℕ × Clause) (o : Option declared.Wait) (more : List declared.Wait) → i < length ws → w ≡ get_or ws i w
-      → listed (option_map wait_of o) ≡ waits_for w.0 (communication_of w.1) → more ≡ waits ++ listed o
+      → option_to_list (option_map wait_of o) ≡ waits_for w.0 (communication_of w.1) → more ≡ waits ++ option_to_list o
       → waits_of more ++ all_waits (pending_of (drop (i + 1) ws)) ≡ total
   waits_next w o more h at is are =
       let rest : List Wait = all_waits (pending_of (drop (i + 1) ws)) in
       ap (λ l. waits_of l ++ rest) are
-      ∙ ap (λ l. l ++ rest) (waits_of_more waits (listed o) ∙ ap (λ l. waits_of waits ++ l) (waits_of_one o ∙ is))
+      ∙ ap (λ l. l ++ rest) (waits_of_more waits (option_to_list o) ∙ ap (λ l. waits_of waits ++ l) (waits_of_one o ∙ is))
       ∙ append_assoc (waits_of waits) (waits_for w.0 (communication_of w.1)) rest
       ∙ ap (λ l. waits_of waits ++ all_waits (pending_of l)) (sym (first_left ws i w h at))
       ∙ told

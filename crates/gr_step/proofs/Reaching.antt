@@ -11,6 +11,7 @@ use Rattle.gr_step.specs.declared.record.Operation.{Operation}
 use Rattle.gr_step.specs.declared.record.Beyond.{Beyond}
 use Rattle.gr_step.specs.declared.record.Change.{Change}
 use Rattle.gr_step.specs.Records.{operation_of, operation_in, stops, writes_of, reads_of, NeedNoFrame}
+use Rattle.gr_step.specs.Parts.{reads_in}
 use Rattle.gr_step.specs.Beyonds.{Reaches, ReachesBeyond}
 use Rattle.gr_step.proofs.OwnSteps.{IsOwn}
 
@@ -36,7 +37,7 @@ module _ (did : Option Operation) (read written : List Object) (stopped : Bool) 
     };
     operation = ap (option_map operation_of) h.operation;
     writes = ap (λ os. Go n ∷ os) h.writes;
-    reads = ap (λ s. if s then b.value.reads.items else objects.Run ∷ b.value.reads.items) h.stops
+    reads = ap (λ s. if s then reads_in b.value else objects.Run ∷ reads_in b.value) h.stops
         ∙ ap (λ os. if stopped then os else objects.Run ∷ os) h.reads;
     stops = h.stops;
   }

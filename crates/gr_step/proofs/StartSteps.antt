@@ -42,6 +42,7 @@ use Rattle.gr_step.specs.declared.record.Change.{Change}
 use Rattle.gr_step.specs.Listings.{frame_in, state_in}
 use Rattle.gr_step.specs.Objects.{contents_in, run_of}
 use Rattle.gr_step.specs.Premises.{Acting}
+use Rattle.gr_step.specs.Parts.{reads_in}
 use Rattle.gr_step.specs.Records.{operation_of, beyond, stops, go_undone, go_back, goroutines_changed, channels_changed, begun_by, made_by, is_go, writes_of, reads_of}
 use Rattle.gr_step.specs.Records.{is_channel, taken_back, GoFitsAt, GoesFit, NeedNoFrame, CanGoBack}
 use Rattle.gr_step.specs.Within.{IsAmong, EachIsAmong, PartsAreAmong, ChangesWithin}
@@ -162,13 +163,13 @@ module _ (p : Program) (e : Event) (number : ℕ) (o : Objects) (acting : Acting
 
           goes_back : taken_back e.go c t ≡ s
           goes_back = λ j. record {
-            run = (ap (λ b. if b then live else s.run) reach.rest.stops) j;
+            run = (ap (λ b. if b then live else s.run) reach.stops) j;
             goroutines = λ q. (ap (λ o. if is_go q o then None else go_back (goroutines_changed e.go c) q (t.goroutines q)) reach.begins
-                ∙ ap (λ met. if is_go q (Some next) then None else go_back ((e.go, u) ∷ met) q (t.goroutines q)) reach.rest.met
+                ∙ ap (λ met. if is_go q (Some next) then None else go_back ((e.go, u) ∷ met) q (t.goroutines q)) reach.met
                 ∙ unstarted q (same_go q next) refl (updated same_go s.goroutines e.go (Some on.after) q)
                 (own_back e.go s.goroutines g on.after u acting.there on.own.back on.own.fits q)) j;
-            channels = λ q. (ap (λ o. if is_channel q o then None else chan_back (channels_changed c) q (t.channels q)) reach.rest.makes
-                ∙ ap (λ us. chan_back us q (t.channels q)) reach.rest.channels) j;
+            channels = λ q. (ap (λ o. if is_channel q o then None else chan_back (channels_changed c) q (t.channels q)) reach.makes
+                ∙ ap (λ us. chan_back us q (t.channels q)) reach.channels) j;
           }
 
           own_there : t.goroutines e.go ≡ Some on.after
@@ -178,21 +179,21 @@ module _ (p : Program) (e : Event) (number : ℕ) (o : Objects) (acting : Acting
 
           can_go_back : CanGoBack e.go c t
           can_go_back = record {
-            goroutines = subst {_, _} (λ met. GoesFit ((e.go, u) ∷ met) t.goroutines) (sym reach.rest.met)
+            goroutines = subst {_, _} (λ met. GoesFit ((e.go, u) ∷ met) t.goroutines) (sym reach.met)
                 (subst {_, _} (GoFitsAt u) (sym own_there) on.own.fits, tt);
-            channels = subst {_, _} (λ us. ChansFit us t.channels) (sym reach.rest.channels) tt;
-            frames = (on.none, subst {_, _} NeedNoFrame (sym reach.rest.met) tt);
+            channels = subst {_, _} (λ us. ChansFit us t.channels) (sym reach.channels) tt;
+            frames = (on.none, subst {_, _} NeedNoFrame (sym reach.met) tt);
           }
 
           stays_within : ChangesWithin e.go c t
           stays_within = record {
-            goroutines = subst {_, _} (λ met. EachIsAmong objects.Go ((e.go, u) ∷ met) (writes_of e.go c)) (sym reach.rest.met) (own_is_written e.go c, tt);
+            goroutines = subst {_, _} (λ met. EachIsAmong objects.Go ((e.go, u) ∷ met) (writes_of e.go c)) (sym reach.met) (own_is_written e.go c, tt);
             begun = λ q is. subst {_, _} (λ n. IsAmong (objects.Go n) (writes_of e.go c)) (some_is (sym reach.begins ∙ is))
-                (subst {_, _} (λ os. IsAmong (objects.Go next) (objects.Go e.go ∷ os)) (sym reach.rest.writes)
+                (subst {_, _} (λ os. IsAmong (objects.Go next) (objects.Go e.go ∷ os)) (sym reach.writes)
                 (more_before (objects.Go next) (objects.Go e.go ∷ []) (objects.Go next ∷ []) (first_among next [])));
-            made = λ q is. absurd (let no : None ≡ Some q = sym reach.rest.makes ∙ is in cc);
-            gates = subst {_, _} (λ us. EachIsAmong objects.Gate us (reads_of c ++ writes_of e.go c)) (sym reach.rest.channels) tt;
-            parts = subst {_, _} (λ us. PartsAreAmong us s.channels (writes_of e.go c)) (sym reach.rest.channels)
+            made = λ q is. absurd (let no : None ≡ Some q = sym reach.makes ∙ is in cc);
+            gates = subst {_, _} (λ us. EachIsAmong objects.Gate us (reads_of c ++ writes_of e.go c)) (sym reach.channels) tt;
+            parts = subst {_, _} (λ us. PartsAreAmong us s.channels (writes_of e.go c)) (sym reach.channels)
                 (λ d x q is w. absurd (let no : false ≡ true = w in cc));
             valid = are_channels o;
           }
@@ -209,10 +210,10 @@ module _ (p : Program) (e : Event) (number : ℕ) (o : Objects) (acting : Acting
                 ordinal = ap (λ n. n + 1) (sym (count_is p s e.go g acting.there));
                 kind = refl;
                 printed = on.silent;
-                operation = ap (option_map operation_of) reach.rest.operation;
-                writes = ap (λ os. objects.Go e.go ∷ os) reach.rest.writes ∙ ap (λ (r : Touches). objects.Go e.go ∷ r.writes) (sym row_is);
-                reads = ap (λ s. if s then b.value.reads.items else objects.Run ∷ b.value.reads.items) reach.rest.stops
-                    ∙ ap (λ os. objects.Run ∷ os) reach.rest.reads
+                operation = ap (option_map operation_of) reach.operation;
+                writes = ap (λ os. objects.Go e.go ∷ os) reach.writes ∙ ap (λ (r : Touches). objects.Go e.go ∷ r.writes) (sym row_is);
+                reads = ap (λ s. if s then reads_in b.value else objects.Run ∷ reads_in b.value) reach.stops
+                    ∙ ap (λ os. objects.Run ∷ os) reach.reads
                     ∙ ap (λ (r : Touches). each_once (objects.Go e.go ∷ r.writes) (objects.Run ∷ r.reads)) (sym row_is);
                 back = goes_back;
                 fits = can_go_back;

@@ -19,30 +19,36 @@ use Rattle.gr_step.specs.declared.objects.Run.TheVariants.{Ended, Faulted}
 use Rattle.gr_step.specs.declared.record.Operation.{Operation}
 use Rattle.gr_step.specs.declared.record.Beyond.{Beyond}
 use Rattle.gr_step.specs.declared.record.Change.{Change}
+use Rattle.gr_step.specs.Fews.{members}
+use Rattle.gr_step.specs.Parts.{reads_in, writes_in, begun_in, made_in}
 
--- it did this with a channel, read these and wrote these, ended or stopped the program or not, and reached nothing else
-pub record Reaches (did : Option Operation) (read written : List Object) (stopped : Bool) (b : Beyond) : Type 0 where
+-- it did this with a channel, read these and wrote these, started and made these, ended or stopped the program or not, and reached
+-- nothing else
+pub record ReachesAll (did : Option Operation) (read written : List Object) (begun : Option (List ℕ)) (made : Option ChName) (stopped : Bool)
+    (b : Beyond) : Type 0 where
   pub operation : b.operation ≡ did
-  pub reads : b.reads.items ≡ read
-  pub writes : b.writes.items ≡ written
-  pub met : b.met.items ≡ []
-  pub channels : b.channels.items ≡ []
-  pub begins : b.begins ≡ None
-  pub makes : b.makes ≡ None
+  pub reads : reads_in b ≡ read
+  pub writes : writes_in b ≡ written
+  pub met : members b.met ≡ []
+  pub channels : members b.channels ≡ []
+  pub begins : begun_in b ≡ begun
+  pub makes : made_in b ≡ made
   pub stops : b.stops ≡ stopped
+
+-- .. started and made nothing
+abbrev pub Reaches : Option Operation → List Object → List Object → Bool → Beyond → Type 0
+Reaches did read written stopped b = ReachesAll did read written None None stopped b
 
 -- .. of a change that reaches beyond its goroutine
 abbrev pub ReachesBeyond : Option Operation → List Object → List Object → Bool → Change → Type 0
 ReachesBeyond did read written stopped c = elim c.beyond [ Some b ↦ Reaches did read written stopped b.value | None ↦ ⊥ ]
 
--- .. and made a channel of this name, or started a goroutine of this name
-pub record ReachesChannel (name : ChName) (b : Beyond) : Type 0 where
-  pub rest : Reaches None [] (objects.Gate name ∷ []) false (record b { makes = None })
-  pub makes : b.makes ≡ Some name
+-- .. made a channel of this name, or started a goroutine of this name
+abbrev pub ReachesChannel : ChName → Beyond → Type 0
+ReachesChannel name b = ReachesAll None [] (objects.Gate name ∷ []) None (Some name) false b
 
-pub record ReachesChild (child : List ℕ) (b : Beyond) : Type 0 where
-  pub rest : Reaches None [] (objects.Go child ∷ []) false (record b { begins = None })
-  pub begins : b.begins ≡ Some child
+abbrev pub ReachesChild : List ℕ → Beyond → Type 0
+ReachesChild child b = ReachesAll None [] (objects.Go child ∷ []) (Some child) None false b
 
 -- a size that no channel can have (Go: Making slices, maps and channels)
 abbrev pub IsBadSize : ℤ → Type 0

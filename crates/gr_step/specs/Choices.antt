@@ -1,5 +1,5 @@
 -- What a goroutine may choose, by what a store contains (Go: Select statements).
-use Rattle.std.specs.Prelude.{◌≡◌, ℕ, ◌+◌, true, false, List, [], ◌∷◌, map, Option, Some, None, Err, if◌then◌else◌}
+use Rattle.std.specs.Prelude.{◌≡◌, ℕ, ◌+◌, ◌≤◌, ◌^◌, true, false, List, [], ◌∷◌, length, map, Option, Some, None, Err, if◌then◌else◌}
 use Rattle.gr_base.specs.declared.events.Choice.{Choice}
 use Rattle.gr_base.specs.declared.events.Choice.TheVariants.{Pick, Default, Park}
 use Rattle.gr_base.specs.declared.events.Event.{Event}
@@ -15,13 +15,14 @@ use Rattle.gr_rules.specs.Steps.{attempt}
 use Rattle.gr_rules.specs.Tells.{may}
 use Rattle.gr_rules.specs.Touches.{looked_at, clauses_in}
 use Rattle.gr_code.specs.CodeFrames.{Wants}
+use Rattle.gr_code.specs.Instructions.{Arm}
 use Rattle.gr_code.specs.Goroutines.{CodeGoroutine, faulted, task_of}
 use Rattle.gr_contents.specs.Attempting.{is_plain}
 use Rattle.gr_contents.specs.CodeSteps.{code_report}
 use Rattle.gr_contents.specs.Contents.{Contents, with_goroutine}
 use Rattle.gr_contents.specs.Partners.{can_proceed}
 use Rattle.gr_contents.specs.Performing.{StepsTo}
-use Rattle.gr_goros.specs.Needs.{is_select_in}
+use Rattle.gr_goros.specs.Needs.{is_select_in, SelectsIn}
 use Rattle.gr_goros.specs.declared.needs.Clause.{Clause}
 use Rattle.gr_goros.specs.declared.needs.Clause.TheVariants as clauses
 use Rattle.gr_lower.specs.Lowered.{lowered}
@@ -41,6 +42,14 @@ pub record IsAtSelect (p : Program) (s : Contents) (n : List ℕ) (g : CodeGorou
   pub there : s.goroutines n ≡ Some g
   pub is_ready : g.status ≡ ready
   pub select : is_select_in (lowered p) g.frames ≡ true
+
+-- the goroutine stands at a select of more clauses than 32 bits can number
+pub record HasManyClauses (p : Program) (s : Contents) (n : List ℕ) : Type 0 where
+  pub goroutine : CodeGoroutine
+  pub there : s.goroutines n ≡ Some goroutine
+  pub arms : List Arm
+  pub select : SelectsIn (lowered p) goroutine.frames arms
+  pub many : 2 ^ 32 ≤ length arms
 
 -- no choice of a select is a step of the goroutine
 abbrev pub HasNoChoice : Program → Contents → List ℕ → Type 0

@@ -1,6 +1,8 @@
 -- What a store is, what its steps leave in records, and how they are taken back.
 pub mod Listings
 pub mod Objects
+pub mod Fews
+pub mod Parts
 pub mod Records
 pub mod Premises
 pub mod Beyonds

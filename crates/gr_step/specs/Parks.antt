@@ -47,11 +47,6 @@ queued name ws f = fold (queued_for name) f ws
 abbrev pub AreMade : List (Option ℕ × Communication) → (ChName → Option Content) → Type 0
 AreMade ws f = list_all (λ w. is_made_for (with_channels f) w.1) ws ≡ true
 
--- the one thing that is there, if any
-abbrev pub listed : {A : Type 0} → Option A → List A
-listed None = []
-listed (Some a) = a ∷ []
-
 -- changes that need no room to be taken back
 abbrev pub NeedNoRoom : List (ChName × ChanUndo) → Type 0
 NeedNoRoom [] = Unit {0}

@@ -20,17 +20,19 @@ use Rattle.gr_step.specs.declared.objects.Objects.{Objects}
 use Rattle.gr_step.specs.declared.record.Beyond.{Beyond}
 use Rattle.gr_step.specs.declared.record.Change.{Change}
 use Rattle.gr_step.specs.declared.partners.Prepared.{Prepared}
+use Rattle.gr_step.specs.Fews.{members}
+use Rattle.gr_step.specs.Parts.{reads_in, writes_in, begun_in, made_in}
 use Rattle.gr_step.specs.Records.{operation_of}
 use Rattle.gr_step.specs.Passing.{CanArriveAt, ArrivesAt, Tells, Exchanges}
 
 -- it tells of these, and of no change yet
 pub record IsReached (operation : Operation) (reads writes : List Object) (b : Beyond) : Type 0 where
   pub operation_is : option_map operation_of b.operation ≡ Some operation
-  pub reads_are : b.reads.items ≡ reads
-  pub writes_are : b.writes.items ≡ writes
-  pub met_none : b.met.items ≡ []
-  pub begins_none : b.begins ≡ None
-  pub makes_none : b.makes ≡ None
+  pub reads_are : reads_in b ≡ reads
+  pub writes_are : writes_in b ≡ writes
+  pub met_none : members b.met ≡ []
+  pub begins_none : begun_in b ≡ None
+  pub makes_none : made_in b ≡ None
   pub runs_on : b.stops ≡ false
 
 -- a goroutine that waits for these
@@ -51,7 +53,6 @@ pub record IsPrepared (operation : Operation) (reads touched : List Object) (c :
   pub named : name_at o.goroutines r.number ≡ Some n
   pub names_are : AreToLeave r.names.items c ws
   pub reached : IsReached operation reads (touched ++ objects.Go n ∷ map objects.Gate (channels_but (c ∷ []) ws)) r.beyond.value
-  pub room : vec_len r.beyond.value.met < vec_capacity r.beyond.value.met
   pub done_none : r.done.items ≡ []
   pub done_room : vec_len r.done < vec_capacity r.done
 
@@ -64,7 +65,6 @@ pub record CanExchange (code : ProgramCode) (e : Event) (number : ℕ) (r : Prep
   pub partner_can : CanArriveAt code meets (goroutines_of o.goroutines r.go)
   pub fits : ChansFit ((r.channel, u) ∷ []) (contents_of o.channels)
   pub room : HasRooms ((r.channel, u) ∷ []) (rooms_of o.channels)
-  pub met_room : vec_len r.beyond.value.met < vec_capacity r.beyond.value.met
   pub done_none : r.done.items ≡ []
   pub done_room : vec_len r.done < vec_capacity r.done
 

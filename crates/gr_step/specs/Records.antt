@@ -24,6 +24,8 @@ use Rattle.gr_step.specs.declared.record.Operation.TheVariants.{SendsOn, Receive
 use Rattle.gr_step.specs.declared.record.Beyond.{Beyond}
 use Rattle.gr_step.specs.declared.record.Change.{Change}
 use Rattle.gr_step.specs.declared.record.Record.{Record}
+use Rattle.gr_step.specs.Fews.{members}
+use Rattle.gr_step.specs.Parts.{reads_in, writes_in, begun_in, made_in}
 
 -- what a step did with a channel
 abbrev pub operation_of : Operation → rules.Operation
@@ -50,24 +52,24 @@ stops c = beyond false (λ b. b.stops) c
 
 -- the objects that a step of this goroutine wrote, and those that it read and did not write
 abbrev pub writes_of : List ℕ → Change → List Object
-writes_of n c = Go n ∷ beyond [] (λ b. b.writes.items) c
+writes_of n c = Go n ∷ beyond [] writes_in c
 
 abbrev pub reads_of : Change → List Object
-reads_of c = if stops c then beyond [] (λ b. b.reads.items) c else objects.Run ∷ beyond [] (λ b. b.reads.items) c
+reads_of c = if stops c then beyond [] reads_in c else objects.Run ∷ beyond [] reads_in c
 
 -- its change of each goroutine, and of each channel, in their order
 abbrev pub goroutines_changed : List ℕ → Change → List (List ℕ × GoUndo)
-goroutines_changed n c = (n, c.own) ∷ beyond [] (λ b. b.met.items) c
+goroutines_changed n c = (n, c.own) ∷ beyond [] (λ b. members b.met) c
 
 abbrev pub channels_changed : Change → List (ChName × ChanUndo)
-channels_changed c = beyond [] (λ b. b.channels.items) c
+channels_changed c = beyond [] (λ b. members b.channels) c
 
 -- the goroutine that it started, and the channel that it made
 abbrev pub begun_by : Change → Option (List ℕ)
-begun_by c = beyond None (λ b. b.begins) c
+begun_by c = beyond None begun_in c
 
 abbrev pub made_by : Change → Option ChName
-made_by c = beyond None (λ b. b.makes) c
+made_by c = beyond None made_in c
 
 -- a change of a goroutine taken back
 abbrev pub go_undone : GoUndo → Option CodeGoroutine → Option CodeGoroutine

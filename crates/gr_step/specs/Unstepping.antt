@@ -3,7 +3,8 @@ use Rattle.std.specs.Prelude.{◌≡◌, ℕ, List, Option, None, if◌then◌el
 use Rattle.gr_base.specs.declared.names.ChName.{ChName}
 use Rattle.gr_code.specs.Goroutines.{CodeGoroutine}
 use Rattle.gr_goros.specs.declared.undo.GoUndo.{GoUndo}
-use Rattle.gr_tables.specs.NamedChannels.{contents_of}
+use Rattle.gr_channels.specs.declared.changes.ChanUndo.{ChanUndo}
+use Rattle.gr_tables.specs.NamedChannels.{contents_of, chan_back}
 use Rattle.gr_tables.specs.NamedGoroutines.{goroutines_of}
 use Rattle.gr_tables.specs.declared.channels.Channels.{Channels}
 use Rattle.gr_tables.specs.declared.goroutines.Goroutines.{Goroutines}
@@ -25,6 +26,10 @@ IsForgotten begun old new = (q : List ℕ) → goroutines_of new q ≡ (if is_go
 
 abbrev pub IsUnmade : Option ChName → Channels → Channels → Type 0
 IsUnmade made old new = (q : ChName) → contents_of new q ≡ (if is_channel q made then None else contents_of old q)
+
+-- .. and with changes of channels taken back
+abbrev pub AreUndone : Option ChName → List (ChName × ChanUndo) → Channels → Channels → Type 0
+AreUndone made us old new = (q : ChName) → contents_of new q ≡ (if is_channel q made then None else chan_back us q (contents_of old q))
 
 -- the step of a goroutine is taken back
 abbrev pub IsTakenBack : List ℕ → Change → Objects → Objects → Type 0

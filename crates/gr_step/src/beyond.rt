@@ -1,32 +1,144 @@
 //! What steps reach beyond their goroutine.
 
-ghost use Rattle.gr_step.specs.Beyonds.{Reaches};
+ghost use Rattle.std.specs.Prelude.{◌≡◌, ◌++◌, ◌∷◌, [], List, Some, None, false, map, option_copied, option_map, IfOk};
+ghost use Rattle.gr_base.specs.declared.objects.Object.TheVariants as objects;
+ghost use Rattle.gr_step.specs.Beyonds.{Reaches, ReachesAll};
+ghost use Rattle.gr_step.specs.Parts.{begun_in, channel_in, read_by_more, written_by_more, begun_by_more, made_by_more, AreTouched};
+ghost use Rattle.gr_step.specs.Preparing.{IsReached};
+ghost use Rattle.gr_step.specs.Records.{operation_of};
 
-use crate::record::{Beyond, Operation};
-use gr_base::Object;
+use crate::few::Few;
+use crate::record::{Beyond, More, Operation, Touched};
+use crate::touching::{push_gates, untouched};
+use gr_base::{ChName, GoName, NoMemory, Object};
 use std::alloc::Global;
 
+/// What a step reached that did this with a channel, ended or stopped the program or not, met nobody, and changed no channel.
+pub(crate) fn with_more(
+    alloc: Global,
+    operation: Option<Operation>,
+    more: More,
+    stops: bool,
+) -> Result<Box<Beyond>, NoMemory>
+    ensures { IfOk result (λ beyond. ReachesAll operation more.reads.items more.writes.items more.begins more.makes stops beyond.value) }
+{
+    let more = Box::new(alloc, more)?;
+    let beyond = Beyond {
+        operation,
+        touched: untouched(),
+        partner: None,
+        met: Few::Empty,
+        channels: Few::Empty,
+        more: Some(more),
+        stops,
+    };
+    Ok(Box::new(alloc, beyond)?)
+}
+
+/// What a step reached that did this with a channel, touched these parts of it, and reached nothing else.
+pub(crate) fn waited(
+    alloc: Global,
+    operation: Option<Operation>,
+    touched: Touched,
+) -> Result<Box<Beyond>, NoMemory>
+    ensures { (reads writes : List Object) → AreTouched touched (option_map channel_in operation) reads writes → IfOk result (λ beyond. Reaches operation reads writes false beyond.value) }
+{
+    let beyond = Beyond {
+        operation,
+        touched,
+        partner: None,
+        met: Few::Empty,
+        channels: Few::Empty,
+        more: None,
+        stops: false,
+    };
+    Ok(Box::new(alloc, beyond)?)
+}
+
+/// What a step reached that met nobody, by what it did with a channel and touched of it, before it changes anything.
+pub(crate) fn reached(
+    alloc: Global,
+    operation: Operation,
+    touched: Touched,
+) -> Result<Box<Beyond>, NoMemory>
+    ensures { (reads writes : List Object) → AreTouched touched (Some (channel_in operation)) reads writes → IfOk result (λ beyond. IsReached (operation_of operation) reads writes beyond.value) }
+{
+    waited(alloc, Some(operation), touched)
+}
+
+/// The gates of channels, if there are any.
+fn gates_too(alloc: Global, channels: &[ChName]) -> Result<Option<Box<More>>, NoMemory>
+    ensures reads { IfOk result (λ more. read_by_more more ≡ []) }
+    ensures writes { IfOk result (λ more. written_by_more more ≡ map objects.Gate channels.now) }
+    ensures begins { IfOk result (λ more. begun_by_more more ≡ None) }
+    ensures makes { IfOk result (λ more. made_by_more more ≡ None) }
+{
+    if channels.is_empty() {
+        return Ok(None);
+    }
+    let mut writes = Vec::with_capacity(alloc, channels.len())?;
+    push_gates(alloc, &mut writes, channels)?;
+    let more = More {
+        reads: Vec::new(alloc),
+        writes,
+        begins: None,
+        makes: None,
+    };
+    Ok(Some(Box::new(alloc, more)?))
+}
+
+/// What a step with one channel reached that met a goroutine which waited there, and on the others too, before it changes anything.
+pub(crate) fn reached_with(
+    alloc: Global,
+    operation: Operation,
+    touched: Touched,
+    partner: &GoName,
+    others: &[ChName],
+) -> Result<Box<Beyond>, NoMemory>
+    ensures { (reads writes : List Object) → AreTouched touched (Some (channel_in operation)) reads writes
+        → IfOk result (λ beyond. IsReached (operation_of operation) reads (writes ++ objects.Go partner.now ∷ map objects.Gate others.now) beyond.value) }
+{
+    let more = gates_too(alloc, others)?;
+    let beyond = Beyond {
+        operation: Some(operation),
+        touched,
+        partner: Some(partner.copy(alloc)?),
+        met: Few::Empty,
+        channels: Few::Empty,
+        more,
+        stops: false,
+    };
+    Ok(Box::new(alloc, beyond)?)
+}
+
 impl Beyond {
-    /// What it did with a channel, what it read and wrote, and whether it ended or stopped the program: it met nobody, changed no
-    /// channel, and began and made nothing. It takes no memory.
+    /// What a step reached that did this with a channel, read these and wrote these, ended or stopped the program or not, and reached
+    /// nothing else.
     pub(crate) fn new(
         alloc: Global,
         operation: Option<Operation>,
         reads: Vec<Object>,
         writes: Vec<Object>,
         stops: bool,
-    ) -> Beyond
-        ensures { Reaches operation reads.items writes.items stops result }
+    ) -> Result<Box<Beyond>, NoMemory>
+        ensures { IfOk result (λ beyond. Reaches operation reads.items writes.items stops beyond.value) }
     {
-        Beyond {
-            operation,
+        let more = More {
             reads,
             writes,
-            met: Vec::new(alloc),
-            channels: Vec::new(alloc),
             begins: None,
             makes: None,
-            stops,
+        };
+        with_more(alloc, operation, more, stops)
+    }
+
+    /// The goroutine that it started.
+    pub fn begins(&self) -> Option<&GoName>
+        ensures { option_copied result ≡ begun_in self.now }
+    {
+        match &self.more {
+            Some(more) => more.begins.as_ref(),
+            None => None,
         }
     }
 }

@@ -32,10 +32,11 @@ ghost use Rattle.gr_step.specs.Premises.{Acting, OfGoroutine};
 ghost use Rattle.gr_step.specs.Taking.{Takes};
 
 use crate::awaiting::waiting_on;
+use crate::few::Few;
 use crate::listing::Listing;
 use crate::objects::Objects;
 use crate::record::{Beyond, Change, Operation};
-use crate::touching::push_gates;
+use crate::touching::{gate_side, push_gates};
 use crate::waking::{all_channels, shut, wake_each};
 use gr_base::{ChName, Event, Fault, GoName, Kind, NoMemory, Object};
 use gr_channels::ChanUndo;
@@ -83,8 +84,7 @@ fn beyond_close(
     let channels = all_channels(alloc, goroutines, channel, names)?;
     let writes = written(alloc, names, &channels)?;
     let operation = Operation::Closes(channel.copy(alloc)?);
-    let beyond = Beyond::new(alloc, Some(operation), Vec::new(alloc), writes, false);
-    Ok(Box::new(alloc, beyond)?)
+    Beyond::new(alloc, Some(operation), Vec::new(alloc), writes, false)
 }
 
 /// The change of a close, from what it reaches, with its changes of goroutines and of channels.
@@ -99,8 +99,8 @@ fn closed(
         → Tells result kinds.Close (Some (closes c)) [] writes own met.items channels.items }
 {
     let mut beyond = beyond;
-    beyond.met = met;
-    beyond.channels = channels;
+    beyond.met = Few::of_many(met);
+    beyond.channels = Few::of_many(channels);
     Change {
         kind: Kind::Close,
         own,
@@ -152,8 +152,7 @@ impl Objects {
     {
         let alloc = self.alloc;
         let operation = Operation::Closes(channel.copy(alloc)?);
-        let mut reads = Vec::new(alloc);
-        reads.push(Object::Gate(channel.copy(alloc)?))?;
+        let reads = gate_side(alloc, channel)?;
         self.fault(number, Fault::CloseOfClosed, Some(operation), reads)
     }
 

@@ -25,9 +25,7 @@ pub(crate) fn stopping(
 {
     let mut writes = Vec::new(alloc);
     writes.push(Object::Run)?;
-    let beyond = Beyond::new(alloc, operation, reads, writes, true);
-    let beyond = Box::new(alloc, beyond)?;
-    Ok(beyond)
+    Beyond::new(alloc, operation, reads, writes, true)
 }
 
 impl Objects {

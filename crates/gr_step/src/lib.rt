@@ -11,6 +11,7 @@ mod closing;
 mod communicating;
 mod ending;
 mod faults;
+pub mod few;
 pub mod listing;
 mod local;
 mod making;
@@ -31,6 +32,7 @@ mod usual;
 mod waiting;
 mod waking;
 
+pub use few::Few;
 pub use listing::Listing;
 pub use objects::Run;
 pub use record::{Operation, Record};

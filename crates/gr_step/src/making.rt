@@ -23,9 +23,11 @@ ghost use Rattle.gr_step.specs.Records.{HasRoom};
 ghost use Rattle.gr_step.specs.Premises.{Acting, OfGoroutine};
 ghost use Rattle.gr_step.specs.Taking.{Takes};
 
+use crate::beyond::with_more;
 use crate::listing::Listing;
 use crate::objects::Objects;
-use crate::record::{Beyond, Change, Operation};
+use crate::record::{Beyond, Change, More, Operation};
+use crate::touching::gate_side;
 use gr_base::{ChName, Event, Fault, GoName, Kind, NoMemory, Object, Value};
 use gr_channels::Channel;
 use gr_goros::{Arrival, Goroutine};
@@ -52,28 +54,28 @@ fn places_of(size: i64) -> Option<u32>
 fn making(alloc: Global, name: &ChName) -> Result<Box<Beyond>, NoMemory>
     ensures { IfOk result (λ beyond. ReachesChannel name.now beyond.value) }
 {
-    let gate = Object::Gate(name.copy(alloc)?);
-    let mut writes = Vec::new(alloc);
-    writes.push(gate)?;
-    let nothing = Vec::new(alloc);
-    let mut beyond = Beyond::new(alloc, None, nothing, writes, false);
-    beyond.makes = Some(name.copy(alloc)?);
-    let beyond = Box::new(alloc, beyond)?;
-    Ok(beyond)
+    let more = More {
+        reads: Vec::new(alloc),
+        writes: gate_side(alloc, name)?,
+        begins: None,
+        makes: Some(name.copy(alloc)?),
+    };
+    with_more(alloc, None, more, false)
 }
 
 /// What a step reaches beyond its goroutine that starts a goroutine of this name.
 fn starting(alloc: Global, child: GoName) -> Result<Box<Beyond>, NoMemory>
     ensures { IfOk result (λ beyond. ReachesChild child beyond.value) }
 {
-    let go = Object::Go(child.copy(alloc)?);
-    let mut writes = Vec::new(alloc);
-    writes.push(go)?;
-    let nothing = Vec::new(alloc);
-    let mut beyond = Beyond::new(alloc, None, nothing, writes, false);
-    beyond.begins = Some(child);
-    let beyond = Box::new(alloc, beyond)?;
-    Ok(beyond)
+    let mut writes = Vec::with_capacity(alloc, 1)?;
+    writes.push(Object::Go(child.copy(alloc)?))?;
+    let more = More {
+        reads: Vec::new(alloc),
+        writes,
+        begins: Some(child),
+        makes: None,
+    };
+    with_more(alloc, None, more, false)
 }
 
 /// How many items are in the buffer of a channel, of which it has at most as many as the channel has places.
@@ -102,23 +104,11 @@ fn read_for_len(alloc: Global, channel: &ChName) -> Result<Vec<Object>, NoMemory
     Ok(reads)
 }
 
-/// The one object that a count of the places of a channel reads: its gate.
-fn read_for_cap(alloc: Global, channel: &ChName) -> Result<Vec<Object>, NoMemory>
-    ensures { IfOk result (λ reads. reads.items ≡ objects.Gate channel.now ∷ []) }
-{
-    let mut reads = Vec::with_capacity(alloc, 1)?;
-    reads.push(Object::Gate(channel.copy(alloc)?))?;
-    Ok(reads)
-}
-
 /// What a step reaches beyond its goroutine that did this with a channel and read these.
 fn reading(alloc: Global, operation: Operation, reads: Vec<Object>) -> Result<Box<Beyond>, NoMemory>
     ensures { IfOk result (λ beyond. Reaches (Some operation) reads.items [] false beyond.value) }
 {
-    let nothing = Vec::new(alloc);
-    let beyond = Beyond::new(alloc, Some(operation), reads, nothing, false);
-    let beyond = Box::new(alloc, beyond)?;
-    Ok(beyond)
+    Beyond::new(alloc, Some(operation), reads, Vec::new(alloc), false)
 }
 
 impl Objects {
@@ -292,7 +282,7 @@ impl Objects {
             return self.count(listing, number, 0, None);
         };
         let places = self.channels.get(&channel).unwrap().capacity();
-        let reads = read_for_cap(self.alloc, &channel)?;
+        let reads = gate_side(self.alloc, &channel)?;
         let beyond = reading(self.alloc, Operation::TakesCapOf(channel), reads)?;
         self.count(listing, number, places, Some(beyond))
     }

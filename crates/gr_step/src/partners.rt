@@ -10,45 +10,21 @@ ghost use Rattle.gr_code.specs.CodeViews.{program_code_of};
 ghost use Rattle.gr_goros.specs.Views.{arrival_of};
 ghost use Rattle.gr_tables.specs.NamedChannels.{contents_of, rooms_of, ChansFit, HasRooms, TookBack};
 ghost use Rattle.gr_tables.specs.NamedGoroutines.{At, goroutines_of, name_at, seen_at, CanArrive, Arrives, ChangesBy, KeepsContents};
+ghost use Rattle.gr_step.specs.Parts.{channel_in, AreTouched};
 ghost use Rattle.gr_step.specs.Records.{operation_of};
 ghost use Rattle.gr_step.specs.Passing.{CanArriveAt, BothArrive, Tells};
 ghost use Rattle.gr_step.specs.Preparing.{IsReached, IsPrepared, CanPass, IsPass, CanExchange, IsExchange, WaitsFor};
 
+use crate::beyond::reached_with;
 use crate::channels_named::{channels_but, channels_to_leave};
+use crate::few::Few;
 use crate::objects::Objects;
-use crate::record::{Beyond, Change, Operation};
-use crate::touching::with_woken;
+use crate::record::{Beyond, Change, Operation, Touched};
 use gr_base::{ChName, Event, GoName, Kind, NoMemory, Object};
 use gr_channels::ChanUndo;
 use gr_code::code::Code;
 use gr_goros::{Arrival, GoUndo, Status};
-use std::alloc::Global;
 use std::slice;
-
-/// What a step tells beyond its goroutine, before it changes anything; with room for so many goroutines that it meets.
-pub(crate) fn reached(
-    alloc: Global,
-    operation: Operation,
-    reads: Vec<Object>,
-    writes: Vec<Object>,
-    met: usize,
-) -> Result<Box<Beyond>, NoMemory>
-    ensures told { IfOk result (λ beyond. IsReached (operation_of operation) reads.items writes.items beyond.value) }
-    ensures room { IfOk result (λ beyond. vec_len beyond.value.met + met ≤ vec_capacity beyond.value.met) }
-{
-    let met = Vec::with_capacity(alloc, met)?;
-    let beyond = Beyond {
-        operation: Some(operation),
-        reads,
-        writes,
-        met,
-        channels: Vec::new(alloc),
-        begins: None,
-        makes: None,
-        stops: false,
-    };
-    Ok(Box::new(alloc, beyond)?)
-}
 
 /// The change of a step that met nobody, and changed these channels.
 pub(crate) fn told(
@@ -61,7 +37,7 @@ pub(crate) fn told(
         → Tells result kind (Some operation) reads writes own [] channels.items }
 {
     let mut beyond = beyond;
-    beyond.channels = channels;
+    beyond.channels = Few::of_many(channels);
     Change {
         kind,
         own,
@@ -77,13 +53,12 @@ fn told_with(
     met: (GoName, GoUndo),
     channels: Vec<(ChName, ChanUndo)>,
 ) -> Change
-    requires { vec_len beyond.value.met < vec_capacity beyond.value.met }
     ensures { (operation : attempts.Operation) (reads writes : List Object) → IsReached operation reads writes beyond.value
         → Tells result kind (Some operation) reads writes own (met ∷ []) channels.items }
 {
     let mut beyond = beyond;
-    beyond.met.push_reserved(met);
-    beyond.channels = channels;
+    beyond.met = Few::One(met);
+    beyond.channels = Few::of_many(channels);
     Change {
         kind,
         own,
@@ -110,14 +85,14 @@ impl Objects {
     pub(crate) fn prepare(
         &self,
         operation: Operation,
-        reads: Vec<Object>,
-        touched: Vec<Object>,
+        touched: Touched,
         channel: &ChName,
         go: &GoName,
     ) -> Result<Prepared, NoMemory>
         requires { is_waiting (goroutines_of self.now.goroutines go.now) ≡ true }
-        ensures { (ws : List Wait) → At (WaitsFor ws) (goroutines_of self.now.goroutines go.now)
-            → IfOk result (λ r. IsPrepared (operation_of operation) reads.items touched.items channel.now go.now ws self.now r) }
+        ensures { (ws : List Wait) (reads writes : List Object) → At (WaitsFor ws) (goroutines_of self.now.goroutines go.now)
+            → AreTouched touched (Some (channel_in operation)) reads writes
+            → IfOk result (λ r. IsPrepared (operation_of operation) reads writes channel.now go.now ws self.now r) }
     {
         let number = self.goroutines.number(go).unwrap();
         let Some(goroutine) = self.goroutines.get(number) else {
@@ -127,9 +102,8 @@ impl Objects {
             unreachable!()
         };
         let others = channels_but(self.alloc, slice::from_ref(channel), waits)?;
-        let writes = with_woken(self.alloc, touched, go, &others)?;
+        let beyond = reached_with(self.alloc, operation, touched, go, &others)?;
         let names = channels_to_leave(self.alloc, channel, waits, others)?;
-        let beyond = reached(self.alloc, operation, reads, writes, 1)?;
         let done = Vec::with_capacity(self.alloc, 1)?;
         Ok(Prepared {
             go: go.copy(self.alloc)?,

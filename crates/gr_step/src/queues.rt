@@ -1,13 +1,16 @@
 //! Queues of channels, in which a goroutine comes to stand.
 
 ghost use Rattle.std.specs.Prelude.{◌≡◌, ◌∷◌, [], Some, None, IfOk, IfSome, OnOk, OnErr, option_map};
+ghost use Rattle.std.specs.Option.{option_to_list};
 ghost use Rattle.gr_channels.specs.Channels.{each};
 ghost use Rattle.gr_channels.specs.Changes.{need};
 ghost use Rattle.gr_goros.specs.Views.{communication_of, wait_of, waits_of};
 ghost use Rattle.gr_rules.specs.Communications as rules;
 ghost use Rattle.gr_tables.specs.NamedChannels.{contents_of, AreAtGates, GoesBack};
-ghost use Rattle.gr_step.specs.Parks.{pending_of, channels_awaited, queued, queued_for, listed, AreMade, NeedNoRoom};
+ghost use Rattle.gr_step.specs.Fews.{members};
+ghost use Rattle.gr_step.specs.Parks.{pending_of, channels_awaited, queued, queued_for, AreMade, NeedNoRoom};
 
+use crate::few::Few;
 use gr_base::{ChName, GoName, NoMemory};
 use gr_channels::{ChanUndo, Waiter};
 use gr_goros::{Clause, Wait};
@@ -20,7 +23,7 @@ fn wait_for(
     clause: Option<u32>,
     communication: &Clause,
 ) -> Result<Option<Wait>, NoMemory>
-    ensures { IfOk result (λ wait. listed (option_map wait_of wait) ≡ rules.waits_for clause (communication_of communication.now)) }
+    ensures { IfOk result (λ wait. option_to_list (option_map wait_of wait) ≡ rules.waits_for clause (communication_of communication.now)) }
 {
     match communication {
         Clause::Send {
@@ -62,9 +65,9 @@ fn park_for(
 ) -> Result<Option<(ChName, ChanUndo)>, NoMemory>
     requires { AreMade ((clause, communication_of communication.now) ∷ []) (contents_of channels.old) }
     ensures contents { OnOk result (contents_of channels.new ≡ queued_for go.now (contents_of channels.old) (clause, communication_of communication.now)) }
-    ensures back { IfOk result (λ change. GoesBack (listed change) channels.old channels.new) }
-    ensures room { IfOk result (λ change. NeedNoRoom (listed change)) }
-    ensures gate { IfOk result (λ change. AreAtGates (channels_awaited ((clause, communication_of communication.now) ∷ [])) (listed change)) }
+    ensures back { IfOk result (λ change. GoesBack (option_to_list change) channels.old channels.new) }
+    ensures room { IfOk result (λ change. NeedNoRoom (option_to_list change)) }
+    ensures gate { IfOk result (λ change. AreAtGates (channels_awaited ((clause, communication_of communication.now) ∷ [])) (option_to_list change)) }
     ensures err { OnErr result (contents_of channels.new ≡ contents_of channels.old) }
 {
     match communication {
@@ -99,7 +102,7 @@ fn park_for(
 }
 
 /// Puts a goroutine at the end of the queues for these communications, one after the other. Refused, no content has changed.
-pub(crate) fn park_for_all(
+fn park_for_all(
     channels: &mut Channels,
     alloc: Global,
     go: &GoName,
@@ -126,4 +129,25 @@ pub(crate) fn park_for_all(
         undos.push_reserved(change);
     }
     Ok(undos)
+}
+
+/// The same, mostly for one.
+pub(crate) fn park_for_few(
+    channels: &mut Channels,
+    alloc: Global,
+    go: &GoName,
+    pending: &[(Option<u32>, Clause)],
+) -> Result<Few<(ChName, ChanUndo)>, NoMemory>
+    requires { AreMade (pending_of pending.now) (contents_of channels.old) }
+    ensures contents { OnOk result (contents_of channels.new ≡ queued go.now (pending_of pending.now) (contents_of channels.old)) }
+    ensures back { IfOk result (λ undos. GoesBack (members undos) channels.old channels.new) }
+    ensures gates { IfOk result (λ undos. AreAtGates (channels_awaited (pending_of pending.now)) (members undos)) }
+    ensures err { OnErr result (contents_of channels.new ≡ contents_of channels.old) }
+{
+    if let [(clause, communication)] = pending {
+        let undo = park_for(channels, alloc, go, *clause, communication)?;
+        return Ok(Few::of_one(undo));
+    }
+    let undos = park_for_all(channels, alloc, go, pending)?;
+    Ok(Few::of_many(undos))
 }

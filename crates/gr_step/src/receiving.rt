@@ -13,12 +13,12 @@ ghost use Rattle.gr_step.specs.Records.{HasRoom};
 ghost use Rattle.gr_step.specs.Premises.{Acting, OfGoroutine};
 ghost use Rattle.gr_step.specs.Communicating.{TrialIsSound, Tried};
 
+use crate::beyond::reached;
 use crate::listing::Listing;
 use crate::objects::Objects;
-use crate::partners::reached;
 use crate::record::{Change, Operation};
 use crate::sending::kind_by;
-use crate::touching::{gate_side, head_side, moved_side, receive_side};
+use crate::touching::{end_read, exit_read, left, moved};
 use gr_base::{ChName, Event, Kind, NoMemory, Value};
 use gr_channels::Taken;
 use gr_goros::Arrival;
@@ -47,9 +47,8 @@ impl Objects {
             unreachable!()
         };
         let operation = Operation::ReceivesFrom(channel.copy(self.alloc)?);
-        let reads = gate_side(self.alloc, channel)?;
-        let writes = head_side(self.alloc, channel, found)?;
-        let beyond = reached(self.alloc, operation, reads, writes, 0)?;
+        let touched = left(found);
+        let beyond = reached(self.alloc, operation, touched)?;
         let name = channel.copy(self.alloc)?;
         let mut done = Vec::with_capacity(self.alloc, 1)?;
         let Taken::Item(value, undo) = self.channels.take(channel)? else {
@@ -90,9 +89,8 @@ impl Objects {
         };
         let case = sender.case;
         let operation = Operation::ReceivesFrom(channel.copy(self.alloc)?);
-        let touched = moved_side(self.alloc, channel, found)?;
-        let nothing = Vec::new(self.alloc);
-        let prepared = self.prepare(operation, nothing, touched, channel, &sender.go)?;
+        let touched = moved(found);
+        let prepared = self.prepare(operation, touched, channel, &sender.go)?;
         let Taken::Moved(value, undo) = self.channels.take(channel)? else {
             unreachable!()
         };
@@ -142,9 +140,8 @@ impl Objects {
         };
         let case = sender.case;
         let operation = Operation::ReceivesFrom(channel.copy(self.alloc)?);
-        let reads = head_side(self.alloc, channel, found)?;
-        let touched = gate_side(self.alloc, channel)?;
-        let prepared = self.prepare(operation, reads, touched, channel, &sender.go)?;
+        let touched = exit_read(found);
+        let prepared = self.prepare(operation, touched, channel, &sender.go)?;
         let Taken::Met(value, undo) = self.channels.take(channel)? else {
             unreachable!()
         };
@@ -190,9 +187,8 @@ impl Objects {
             unreachable!()
         };
         let operation = Operation::ReceivesFrom(channel.copy(self.alloc)?);
-        let reads = receive_side(self.alloc, channel, found)?;
-        let writes = Vec::new(self.alloc);
-        let beyond = reached(self.alloc, operation, reads, writes, 0)?;
+        let touched = end_read(found);
+        let beyond = reached(self.alloc, operation, touched)?;
         let done = Vec::new(self.alloc);
         let kind = kind_by(clause, Kind::Closed);
         let got = Some((zero, false));

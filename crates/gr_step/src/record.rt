@@ -1,5 +1,6 @@
 //! Records of steps.
 
+use crate::few::Few;
 use gr_base::{ChName, Choice, GoName, Kind, Object, StepId};
 use gr_channels::ChanUndo;
 use gr_goros::GoUndo;
@@ -14,22 +15,57 @@ pub enum Operation {
     Closes(ChName),
 }
 
-/// What a step reached beyond its goroutine.
+/// Parts of one channel, in the order of gate, head, tail and slot.
+#[derive(Clone, Copy, Debug, PartialEq, Eq)]
+pub enum Parts {
+    Nothing,
+    Gate,
+    /// The tail, and the slot that the next value enters.
+    Entrance,
+    /// The head, and the slot of the front item.
+    Exit,
+    /// The gate, the head, and the slot of the front item.
+    GateAndExit,
+    /// The gate, the head, the tail, and the slot of the front item.
+    All,
+}
+
+/// What a step touched of the channel with which it did something.
+#[derive(Clone, Copy, Debug)]
+pub struct Touched {
+    /// What it read and did not write.
+    pub read: Parts,
+    pub written: Parts,
+    /// The place of the slot, counted from 0; none at capacity 0.
+    pub slot: Option<u32>,
+}
+
+/// What few steps reach.
 #[derive(Debug, Drop)]
-pub struct Beyond {
-    pub operation: Option<Operation>,
-    /// What it read and did not write, but for whether the program runs.
+pub struct More {
+    /// What it read and did not write beside its channel, but for whether the program runs.
     pub reads: Vec<Object>,
-    /// What it wrote, but for its goroutine.
+    /// What it wrote beside its channel, but for its goroutine and the one that it met.
     pub writes: Vec<Object>,
-    /// The goroutines that it met or woke, with their changes.
-    pub met: Vec<(GoName, GoUndo)>,
-    /// Its changes of channels, in their order.
-    pub channels: Vec<(ChName, ChanUndo)>,
     /// The goroutine that it started.
     pub begins: Option<GoName>,
     /// The channel that it made.
     pub makes: Option<ChName>,
+}
+
+/// What a step reached beyond its goroutine.
+#[derive(Debug, Drop)]
+pub struct Beyond {
+    pub operation: Option<Operation>,
+    /// What it touched of the channel of the operation.
+    pub touched: Touched,
+    /// The goroutine that it met, which it wrote.
+    pub partner: Option<GoName>,
+    /// The goroutines that it met or woke, with their changes.
+    pub met: Few<(GoName, GoUndo)>,
+    /// Its changes of channels, in their order.
+    pub channels: Few<(ChName, ChanUndo)>,
+    pub more: Option<Box<More>>,
     /// Whether it ended or stopped the program.
     pub stops: bool,
 }

@@ -45,10 +45,7 @@ use std::alloc::Global;
 fn reading(alloc: Global, reads: Vec<Object>) -> Result<Box<Beyond>, NoMemory>
     ensures { IfOk result (λ beyond. Reaches None reads.items [] false beyond.value) }
 {
-    let nothing = Vec::new(alloc);
-    let beyond = Beyond::new(alloc, None, reads, nothing, false);
-    let beyond = Box::new(alloc, beyond)?;
-    Ok(beyond)
+    Beyond::new(alloc, None, reads, Vec::new(alloc), false)
 }
 
 impl Objects {

@@ -15,11 +15,11 @@ ghost use Rattle.gr_step.specs.Records.{HasRoom};
 ghost use Rattle.gr_step.specs.Premises.{Acting, OfGoroutine};
 ghost use Rattle.gr_step.specs.Communicating.{TrialIsSound, Tried};
 
+use crate::beyond::reached;
 use crate::listing::Listing;
 use crate::objects::Objects;
-use crate::partners::reached;
 use crate::record::{Change, Operation};
-use crate::touching::{gate_side, tail_side};
+use crate::touching::{entered, gate_written};
 use gr_base::{ChName, Event, Kind, NoMemory, Value};
 use gr_channels::Offered;
 use gr_goros::Arrival;
@@ -62,9 +62,8 @@ impl Objects {
         };
         let case = receiver.case;
         let operation = Operation::SendsOn(channel.copy(self.alloc)?);
-        let touched = gate_side(self.alloc, channel)?;
-        let nothing = Vec::new(self.alloc);
-        let prepared = self.prepare(operation, nothing, touched, channel, &receiver.go)?;
+        let touched = gate_written();
+        let prepared = self.prepare(operation, touched, channel, &receiver.go)?;
         let Ok(Offered::Handed(value, undo)) = self.channels.offer(channel, value) else {
             unreachable!()
         };
@@ -106,9 +105,8 @@ impl Objects {
             unreachable!()
         };
         let operation = Operation::SendsOn(channel.copy(self.alloc)?);
-        let reads = gate_side(self.alloc, channel)?;
-        let writes = tail_side(self.alloc, channel, found)?;
-        let beyond = reached(self.alloc, operation, reads, writes, 0)?;
+        let touched = entered(found);
+        let beyond = reached(self.alloc, operation, touched)?;
         let name = channel.copy(self.alloc)?;
         let mut done = Vec::with_capacity(self.alloc, 1)?;
         let Offered::Buffered(undo) = self.channels.offer(channel, value)? else {

@@ -4,6 +4,7 @@ ghost use Rattle.std.specs.Prelude.{◌≡◌, ◌+◌, ◌-◌, ◌<◌, ◌^�
 ghost use Rattle.gr_program.specs.Views.{program_of};
 ghost use Rattle.gr_code.specs.CodeViews.{program_code_of};
 ghost use Rattle.gr_rules.specs.Tells.{ready_clauses, usual_choice as usual_by_rules};
+ghost use Rattle.gr_step.specs.Choices.{HasManyClauses};
 ghost use Rattle.gr_step.specs.Premises.{IsChecked, CanCount};
 ghost use Rattle.gr_step.specs.Taking.{IsRecord, SaysWhy};
 ghost use Rattle.gr_step.specs.Records.{event_of, taken_back, CanGoBack};
@@ -116,10 +117,11 @@ impl Store {
     }
 
     /// The choice of a goroutine where none is asked for: at a select the lowest clause that can proceed, else the default clause,
-    /// else to wait.
+    /// else to wait. It takes no memory, and is refused only at a select of 2^32 clauses or more.
     pub fn usual_choice(&self, go: &GoName) -> Result<Choice, NoMemory>
         requires { IsRun self.now }
-        ensures { IfOk result (λ choice. choice ≡ usual_by_rules (program_at self.now) (state_at self.now) go.now) }
+        ensures choice { IfOk result (λ choice. choice ≡ usual_by_rules (program_at self.now) (state_at self.now) go.now) }
+        ensures refused { OnErr result (HasManyClauses (program_at self.now) (contents_at self.now) go.now) }
     {
         self.objects.usual_choice(&self.listing, go)
     }

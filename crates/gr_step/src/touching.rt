@@ -1,11 +1,13 @@
 //! What steps touch of channels.
 
-ghost use Rattle.std.specs.Prelude.{◌≡◌, ◌∷◌, [], ◌++◌, ℕ, map, IfOk, OnOk};
+ghost use Rattle.std.specs.Prelude.{◌≡◌, ◌∷◌, [], ◌++◌, List, Some, map, IfOk, OnOk};
 ghost use Rattle.gr_base.specs.declared.objects.Object.TheVariants as objects;
 ghost use Rattle.gr_channels.specs.Channels.{tail_of};
 ghost use Rattle.gr_rules.specs.Touches.{slot_numbered};
+ghost use Rattle.gr_step.specs.Parts.{slot_before, AreTouched};
 
-use gr_base::{ChName, GoName, NoMemory, Object};
+use crate::record::{Parts, Touched};
+use gr_base::{ChName, NoMemory, Object};
 use gr_channels::Channel;
 use std::alloc::Global;
 
@@ -27,52 +29,12 @@ fn push_slot(
     Ok(())
 }
 
-/// The gate alone, with room for one more.
+/// The gate alone.
 pub(crate) fn gate_side(alloc: Global, name: &ChName) -> Result<Vec<Object>, NoMemory>
     ensures { IfOk result (λ touched. touched.items ≡ objects.Gate name.now ∷ []) }
 {
-    let mut touched = Vec::with_capacity(alloc, 2)?;
+    let mut touched = Vec::with_capacity(alloc, 1)?;
     touched.push(Object::Gate(name.copy(alloc)?))?;
-    Ok(touched)
-}
-
-/// Where the next value enters: the tail, and its slot.
-pub(crate) fn tail_side(
-    alloc: Global,
-    name: &ChName,
-    channel: &Channel,
-) -> Result<Vec<Object>, NoMemory>
-    ensures { IfOk result (λ touched. touched.items ≡ objects.Tail name.now ∷ slot_numbered name.now channel.now.content.capacity (tail_of channel.now.content)) }
-{
-    let mut touched = Vec::with_capacity(alloc, 2)?;
-    touched.push(Object::Tail(name.copy(alloc)?))?;
-    push_slot(
-        alloc,
-        &mut touched,
-        name,
-        channel.capacity(),
-        channel.tail(),
-    )?;
-    Ok(touched)
-}
-
-/// Where the front item is: the head, and its slot.
-pub(crate) fn head_side(
-    alloc: Global,
-    name: &ChName,
-    channel: &Channel,
-) -> Result<Vec<Object>, NoMemory>
-    ensures { IfOk result (λ touched. touched.items ≡ objects.Head name.now ∷ slot_numbered name.now channel.now.content.capacity channel.now.content.head) }
-{
-    let mut touched = Vec::with_capacity(alloc, 2)?;
-    touched.push(Object::Head(name.copy(alloc)?))?;
-    push_slot(
-        alloc,
-        &mut touched,
-        name,
-        channel.capacity(),
-        channel.head(),
-    )?;
     Ok(touched)
 }
 
@@ -118,29 +80,6 @@ pub(crate) fn receive_side(
     Ok(touched)
 }
 
-/// What a receive touches of a channel whose front item leaves, and into which a waiting sender's value moves; with room for one
-/// more.
-pub(crate) fn moved_side(
-    alloc: Global,
-    name: &ChName,
-    channel: &Channel,
-) -> Result<Vec<Object>, NoMemory>
-    ensures { IfOk result (λ touched. touched.items ≡ objects.Gate name.now ∷ objects.Head name.now ∷ objects.Tail name.now ∷ slot_numbered name.now channel.now.content.capacity channel.now.content.head) }
-{
-    let mut touched = Vec::with_capacity(alloc, 5)?;
-    touched.push(Object::Gate(name.copy(alloc)?))?;
-    touched.push(Object::Head(name.copy(alloc)?))?;
-    touched.push(Object::Tail(name.copy(alloc)?))?;
-    push_slot(
-        alloc,
-        &mut touched,
-        name,
-        channel.capacity(),
-        channel.head(),
-    )?;
-    Ok(touched)
-}
-
 /// Adds the gates of these channels.
 pub(crate) fn push_gates(
     alloc: Global,
@@ -155,17 +94,117 @@ pub(crate) fn push_gates(
     Ok(())
 }
 
-/// These, a goroutine that is met or woken, and the gates of the other channels on which it waited.
-pub(crate) fn with_woken(
-    alloc: Global,
-    touched: Vec<Object>,
-    go: &GoName,
-    others: &[ChName],
-) -> Result<Vec<Object>, NoMemory>
-    ensures { IfOk result (λ all. all.items ≡ touched.items ++ objects.Go go.now ∷ map objects.Gate others.now) }
+/// The place of the slot of a number, if the channel has any.
+fn slot(capacity: u32, number: u64) -> Option<u32>
+    ensures alone { (c : ChName) → slot_before c result [] ≡ slot_numbered c capacity number }
+    ensures before { (c : ChName) (os : List Object) → slot_before c result os ≡ slot_numbered c capacity number ++ os }
 {
-    let mut all = touched;
-    all.push(Object::Go(go.copy(alloc)?))?;
-    push_gates(alloc, &mut all, others)?;
-    Ok(all)
+    if capacity == 0 {
+        return None;
+    }
+    Some((number % capacity as u64) as u32)
+}
+
+/// The place of the slot that the next value enters.
+fn slot_at_tail(channel: &Channel) -> Option<u32>
+    ensures alone { (c : ChName) → slot_before c result [] ≡ slot_numbered c channel.now.content.capacity (tail_of channel.now.content) }
+    ensures before { (c : ChName) (os : List Object) → slot_before c result os ≡ slot_numbered c channel.now.content.capacity (tail_of channel.now.content) ++ os }
+{
+    slot(channel.capacity(), channel.tail())
+}
+
+/// The place of the slot of the front item.
+fn slot_at_head(channel: &Channel) -> Option<u32>
+    ensures alone { (c : ChName) → slot_before c result [] ≡ slot_numbered c channel.now.content.capacity channel.now.content.head }
+    ensures before { (c : ChName) (os : List Object) → slot_before c result os ≡ slot_numbered c channel.now.content.capacity channel.now.content.head ++ os }
+{
+    slot(channel.capacity(), channel.head())
+}
+
+/// No part of a channel.
+pub(crate) fn untouched() -> Touched
+    ensures { result ≡ record { read = Parts.Nothing; written = Parts.Nothing; slot = None } }
+{
+    Touched {
+        read: Parts::Nothing,
+        written: Parts::Nothing,
+        slot: None,
+    }
+}
+
+/// What a send touches that hands its value to one who waits: it writes the gate.
+pub(crate) fn gate_written() -> Touched
+    ensures { (c : ChName) → AreTouched result (Some c) [] (objects.Gate c ∷ []) }
+{
+    Touched {
+        read: Parts::Nothing,
+        written: Parts::Gate,
+        slot: None,
+    }
+}
+
+/// What a send touches whose value enters the buffer: it writes the tail and its slot.
+pub(crate) fn entered(channel: &Channel) -> Touched
+    ensures { (c : ChName) → AreTouched result (Some c) (objects.Gate c ∷ []) (objects.Tail c ∷ slot_numbered c channel.now.content.capacity (tail_of channel.now.content)) }
+{
+    Touched {
+        read: Parts::Gate,
+        written: Parts::Entrance,
+        slot: slot_at_tail(channel),
+    }
+}
+
+/// What a receive touches that takes the front item: it writes the head and its slot.
+pub(crate) fn left(channel: &Channel) -> Touched
+    ensures { (c : ChName) → AreTouched result (Some c) (objects.Gate c ∷ []) (objects.Head c ∷ slot_numbered c channel.now.content.capacity channel.now.content.head) }
+{
+    Touched {
+        read: Parts::Gate,
+        written: Parts::Exit,
+        slot: slot_at_head(channel),
+    }
+}
+
+/// What a receive touches that takes the front item, into whose place a waiting sender's value moves: it writes all parts.
+pub(crate) fn moved(channel: &Channel) -> Touched
+    ensures { (c : ChName) → AreTouched result (Some c) [] (objects.Gate c ∷ objects.Head c ∷ objects.Tail c ∷ slot_numbered c channel.now.content.capacity channel.now.content.head) }
+{
+    Touched {
+        read: Parts::Nothing,
+        written: Parts::All,
+        slot: slot_at_head(channel),
+    }
+}
+
+/// What a send touches that waits: it writes the gate, and reads where the next value enters.
+pub(crate) fn entrance_read(channel: &Channel) -> Touched
+    ensures { (c : ChName) → AreTouched result (Some c) (objects.Tail c ∷ slot_numbered c channel.now.content.capacity (tail_of channel.now.content)) (objects.Gate c ∷ []) }
+{
+    Touched {
+        read: Parts::Entrance,
+        written: Parts::Gate,
+        slot: slot_at_tail(channel),
+    }
+}
+
+/// What a receive touches that waits or meets a sender: it writes the gate, and reads where the front item is.
+pub(crate) fn exit_read(channel: &Channel) -> Touched
+    ensures { (c : ChName) → AreTouched result (Some c) (objects.Head c ∷ slot_numbered c channel.now.content.capacity channel.now.content.head) (objects.Gate c ∷ []) }
+{
+    Touched {
+        read: Parts::Exit,
+        written: Parts::Gate,
+        slot: slot_at_head(channel),
+    }
+}
+
+/// What a receive reads that finds a closed channel empty: the gate, and where the front item is.
+pub(crate) fn end_read(channel: &Channel) -> Touched
+    ensures { (c : ChName) → AreTouched result (Some c) (objects.Gate c ∷ objects.Head c ∷ slot_numbered c channel.now.content.capacity channel.now.content.head) [] }
+{
+    Touched {
+        read: Parts::GateAndExit,
+        written: Parts::Nothing,
+        slot: slot_at_head(channel),
+    }
 }

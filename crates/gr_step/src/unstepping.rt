@@ -2,18 +2,22 @@
 
 ghost use Rattle.std.specs.Prelude.{◌≡◌, ◌≤◌, ◌∷◌, [], if◌then◌else◌, Some, IfErr, OnOk, OnErr, IsOk};
 ghost use Rattle.gr_goros.specs.Undoing.{need};
+ghost use Rattle.gr_tables.specs.NamedChannels.{contents_of, rooms_of, ChansFit, HasRooms, TookBack};
 ghost use Rattle.gr_tables.specs.NamedGoroutines.{goroutines_of, go_rooms_of};
+ghost use Rattle.gr_step.specs.Fews.{members};
+ghost use Rattle.gr_step.specs.Parts.{begun_in, made_in, begun_by_more, made_by_more};
 ghost use Rattle.gr_step.specs.Objects.{contents_in};
 ghost use Rattle.gr_step.specs.Records.{GoesFit, NeedNoFrame, CanGoBack, HasRoom};
-ghost use Rattle.gr_step.specs.Unstepping.{GoBack, after_back, IsForgotten, IsUnmade, IsTakenBack};
+ghost use Rattle.gr_step.specs.Unstepping.{GoBack, after_back, IsForgotten, IsUnmade, AreUndone, IsTakenBack};
 
+use crate::few::Few;
 use crate::objects::{Objects, Run};
-use crate::record::{Beyond, Change};
+use crate::record::{Beyond, Change, More};
 use gr_base::{ChName, GoName, Kind, NoMemory};
+use gr_channels::ChanUndo;
 use gr_goros::GoUndo;
 use gr_tables::channels::Channels;
 use gr_tables::goroutines::Goroutines;
-use std::mem;
 
 /// Takes a change of the goroutine of a name back. Refused, no content has changed.
 #[inline]
@@ -35,7 +39,7 @@ fn undo_at(
 }
 
 /// Takes changes of goroutines back, the last first, none of which needs a frame to come back.
-fn undo_all(goroutines: &mut Goroutines, undos: Vec<(GoName, GoUndo)>)
+fn undo_each(goroutines: &mut Goroutines, undos: Vec<(GoName, GoUndo)>)
     requires fits { GoesFit undos.items (goroutines_of goroutines.old) }
     requires frames { NeedNoFrame undos.items }
     ensures { GoBack undos.items goroutines.old goroutines.new }
@@ -43,6 +47,32 @@ fn undo_all(goroutines: &mut Goroutines, undos: Vec<(GoName, GoUndo)>)
     let mut undos = undos;
     while let Some((name, undo)) = undos.pop() {
         undo_at(goroutines, &name, undo).unwrap();
+    }
+}
+
+/// Takes changes of goroutines back, as `undo_each` does, mostly one.
+fn undo_all(goroutines: &mut Goroutines, undos: Few<(GoName, GoUndo)>)
+    requires fits { GoesFit (members undos) (goroutines_of goroutines.old) }
+    requires frames { NeedNoFrame (members undos) }
+    ensures { GoBack (members undos) goroutines.old goroutines.new }
+{
+    match undos {
+        Few::Empty => {}
+        Few::One((name, undo)) => undo_at(goroutines, &name, undo).unwrap(),
+        Few::Many(undos) => undo_each(goroutines, undos),
+    }
+}
+
+/// Takes changes of channels back, the last first, for which there is room.
+fn put_back(channels: &mut Channels, undos: Few<(ChName, ChanUndo)>)
+    requires fits { ChansFit (members undos) (contents_of channels.old) }
+    requires room { HasRooms (members undos) (rooms_of channels.old) }
+    ensures { TookBack (members undos) channels.old channels.new }
+{
+    match undos {
+        Few::Empty => {}
+        Few::One((name, undo)) => channels.put_back(&name, undo),
+        Few::Many(undos) => channels.put_all_back(undos),
     }
 }
 
@@ -113,41 +143,44 @@ impl Objects {
         ensures returned { IfErr result (λ e. e.0 ≡ record { kind = kind; own = own; beyond = Some beyond }) }
         ensures succeeds { HasRoom go.now (record { kind = kind; own = own; beyond = Some beyond }) self.old → IsOk result }
     {
-        let mut beyond = beyond;
-        let undos = mem::replace(&mut beyond.channels, Vec::new(self.alloc));
-        match self.channels.take_back(undos) {
-            Ok(()) => {
-                self.take_rest_back(go, own, Box::into_inner(beyond));
-                Ok(())
-            }
-            Err((undos, error)) => {
-                beyond.channels = undos;
-                Err((
-                    Change {
-                        kind,
-                        own,
-                        beyond: Some(beyond),
-                    },
-                    error,
-                ))
-            }
+        if let Err(error) = self.channels.make_room(beyond.channels.as_slice()) {
+            let beyond = Some(beyond);
+            return Err((Change { kind, own, beyond }, error));
         }
+        self.take_rest_back(go, own, Box::into_inner(beyond));
+        Ok(())
     }
 
-    /// Takes back what a step did but for its changes of channels, where no frame has to come back.
+    /// Takes back what a step did that reached beyond its goroutine, where no frame has to come back, and there is room for the rest.
     fn take_rest_back(&mut self, go: &GoName, own: GoUndo, beyond: Beyond)
-        requires fits { GoesFit ((go.now, own) ∷ beyond.met.items) (goroutines_of self.old.goroutines) }
-        requires frames { NeedNoFrame ((go.now, own) ∷ beyond.met.items) }
-        ensures goroutines { IsForgotten beyond.begins (after_back ((go.now, own) ∷ beyond.met.items) self.old.goroutines) self.new.goroutines }
-        ensures channels { IsUnmade beyond.makes self.old.channels self.new.channels }
+        requires fits { GoesFit ((go.now, own) ∷ members beyond.met) (goroutines_of self.old.goroutines) }
+        requires frames { NeedNoFrame ((go.now, own) ∷ members beyond.met) }
+        requires channels { ChansFit (members beyond.channels) (contents_of self.old.channels) }
+        requires room { HasRooms (members beyond.channels) (rooms_of self.old.channels) }
+        ensures goroutines { IsForgotten (begun_in beyond) (after_back ((go.now, own) ∷ members beyond.met) self.old.goroutines) self.new.goroutines }
+        ensures channels { AreUndone (made_in beyond) (members beyond.channels) self.old.channels self.new.channels }
         ensures run { self.new.run ≡ (if beyond.stops then Run.Live else self.old.run) }
     {
+        put_back(&mut self.channels, beyond.channels);
         undo_all(&mut self.goroutines, beyond.met);
         undo_at(&mut self.goroutines, go, own).unwrap();
-        forget(&mut self.goroutines, beyond.begins);
-        unmake(&mut self.channels, beyond.makes);
+        self.without(beyond.more);
         if beyond.stops {
             self.run = Run::Live;
         }
+    }
+
+    /// Without the goroutine that a step started, and the channel that it made.
+    fn without(&mut self, more: Option<Box<More>>)
+        ensures goroutines { IsForgotten (begun_by_more more) (goroutines_of self.old.goroutines) self.new.goroutines }
+        ensures channels { IsUnmade (made_by_more more) self.old.channels self.new.channels }
+        ensures run { self.new.run ≡ self.old.run }
+    {
+        let Some(more) = more else {
+            return;
+        };
+        let more = Box::into_inner(more);
+        forget(&mut self.goroutines, more.begins);
+        unmake(&mut self.channels, more.makes);
     }
 }

@@ -1,10 +1,11 @@
 //! The choice that is taken where none is asked for, found without memory (Go: Select statements).
 
-ghost use Rattle.std.specs.Prelude.{◌≡◌, IfOk};
+ghost use Rattle.std.specs.Prelude.{◌≡◌, ◌≤◌, ◌^◌, length, IfOk, OnErr};
 ghost use Rattle.gr_code.specs.CodeViews.{arms_of};
 ghost use Rattle.gr_rules.specs.Tells.{usual_choice as usual_by_rules};
 ghost use Rattle.gr_step.specs.Listings.{program_in, state_in, IsCoded};
 ghost use Rattle.gr_step.specs.Objects.{contents_in};
+ghost use Rattle.gr_step.specs.Choices.{HasManyClauses};
 ghost use Rattle.gr_step.specs.Possible.{usual_of as usual_by_arms};
 ghost use Rattle.gr_step.specs.Premises.{Running};
 
@@ -17,7 +18,8 @@ use gr_code::code::Arm;
 impl Objects {
     /// The lowest clause that can proceed, else the default clause, else to wait.
     fn usual_of(&self, cells: &[Option<Value>], arms: &[Arm]) -> Result<Choice, NoMemory>
-        ensures { IfOk result (λ choice. choice ≡ usual_by_arms (contents_in self.now) cells.now (arms_of arms.now)) }
+        ensures choice { IfOk result (λ choice. choice ≡ usual_by_arms (contents_in self.now) cells.now (arms_of arms.now)) }
+        ensures refused { OnErr result (2 ^ 32 ≤ length arms.now) }
     {
         let mut left = arms;
         let mut number: u32 = 0;
@@ -38,11 +40,12 @@ impl Objects {
     }
 
     /// The choice of a goroutine where none is asked for: at a select the lowest clause that can proceed, else the default
-    /// clause, else to wait. It takes no memory; want of memory stands for a clause whose number 32 bits do not hold.
+    /// clause, else to wait. It takes no memory; want of memory stands for clauses whose number 32 bits do not hold.
     pub fn usual_choice(&self, listing: &Listing, go: &GoName) -> Result<Choice, NoMemory>
         requires coded { IsCoded listing.now }
         requires running { Running (program_in listing.now) (contents_in self.now) }
-        ensures { IfOk result (λ choice. choice ≡ usual_by_rules (program_in listing.now) (state_in (program_in listing.now) (contents_in self.now)) go.now) }
+        ensures choice { IfOk result (λ choice. choice ≡ usual_by_rules (program_in listing.now) (state_in (program_in listing.now) (contents_in self.now)) go.now) }
+        ensures refused { OnErr result (HasManyClauses (program_in listing.now) (contents_in self.now) go.now) }
     {
         let Some(goroutine) = self.at_select(listing, go) else {
             return Ok(Choice::Plain);

@@ -1,6 +1,6 @@
 //! The step of a goroutine that comes to wait (Go: Send statements, Receive operator, Select statements).
 
-ghost use Rattle.std.specs.Prelude.{◌≡◌, ◌∷◌, [], ◌++◌, true, false, Some, None, option_map, map, length, IfOk, IfErr, OnOk, OnErr, IsOk, List};
+ghost use Rattle.std.specs.Prelude.{◌≡◌, ◌∷◌, [], ◌++◌, true, false, Some, None, option_map, map, length, IfOk, IfErr, OnOk, OnErr, IsOk, List, Option};
 ghost use Rattle.gr_base.specs.declared.events.Choice.TheVariants as choices;
 ghost use Rattle.gr_base.specs.declared.kinds.Kind.TheVariants as kinds;
 ghost use Rattle.gr_rules.specs.Outcomes.{gives, faults};
@@ -23,7 +23,8 @@ ghost use Rattle.gr_rules.specs.Actors as actors;
 ghost use Rattle.gr_tables.specs.NamedChannels.{contents_of};
 ghost use Rattle.gr_tables.specs.NamedGoroutines.{seen_at, At, CanPark};
 ghost use Rattle.gr_step.specs.Parks.{pending_of, gates_of, with_channels, AreMade, Parks};
-ghost use Rattle.gr_base.specs.declared.objects.Object.{Object as ObjectMade};
+ghost use Rattle.gr_step.specs.Beyonds.{Reaches};
+ghost use Rattle.gr_step.specs.Parts.{channel_in, channel_on, AreTouched};
 ghost use Rattle.gr_laws.specs.Touched.{each_once as each_read};
 ghost use Rattle.gr_rules.specs.Touches.{side as side_by};
 ghost use Rattle.gr_rules.specs.Frames.{Frame};
@@ -35,13 +36,14 @@ ghost use Rattle.gr_step.specs.Premises.{Acting, OfGoroutine, OfActor};
 ghost use Rattle.gr_step.specs.Taking.{Takes};
 ghost use Rattle.gr_step.specs.Communicating.{HasValues};
 
-use crate::channels_named::{channel_of, channels_but};
+use crate::beyond::waited;
+use crate::channels_named::channels_but;
 use crate::listing::Listing;
 use crate::objects::Objects;
-use crate::queues::{all_waits, park_for_all};
-use crate::record::{Beyond, Change, Operation};
+use crate::queues::{all_waits, park_for_few};
+use crate::record::{Beyond, Change, Operation, Touched};
 use crate::sides::{each_once, sides};
-use crate::touching::{head_side, push_gates, tail_side};
+use crate::touching::{entrance_read, exit_read, push_gates, untouched};
 use gr_base::{ChName, Event, Kind, NoMemory, Object, Value};
 use gr_goros::{Clause, Wait};
 use gr_tables::channels::Channels;
@@ -65,7 +67,8 @@ fn numbered(alloc: Global, clauses: Vec<Clause>) -> Result<Vec<(Option<u32>, Cla
 
 /// What a send does with its channel.
 fn send_operation(alloc: Global, channel: &Option<ChName>) -> Result<Option<Operation>, NoMemory>
-    ensures { IfOk result (λ operation. option_map operation_of operation ≡ option_map attempts.sends_on channel.now) }
+    ensures is { IfOk result (λ operation. option_map operation_of operation ≡ option_map attempts.sends_on channel.now) }
+    ensures channel { IfOk result (λ operation. option_map channel_in operation ≡ channel.now) }
 {
     match channel {
         Some(name) => Ok(Some(Operation::SendsOn(name.copy(alloc)?))),
@@ -75,7 +78,8 @@ fn send_operation(alloc: Global, channel: &Option<ChName>) -> Result<Option<Oper
 
 /// What a receive does with its channel.
 fn receive_operation(alloc: Global, channel: &Option<ChName>) -> Result<Option<Operation>, NoMemory>
-    ensures { IfOk result (λ operation. option_map operation_of operation ≡ option_map attempts.receives_from channel.now) }
+    ensures is { IfOk result (λ operation. option_map operation_of operation ≡ option_map attempts.receives_from channel.now) }
+    ensures channel { IfOk result (λ operation. option_map channel_in operation ≡ channel.now) }
 {
     match channel {
         Some(name) => Ok(Some(Operation::ReceivesFrom(name.copy(alloc)?))),
@@ -83,86 +87,58 @@ fn receive_operation(alloc: Global, channel: &Option<ChName>) -> Result<Option<O
     }
 }
 
-/// The gate of a channel.
-fn gate_alone(alloc: Global, channel: &ChName) -> Result<Vec<Object>, NoMemory>
-    ensures { IfOk result (λ gates. gates.items ≡ objects.Gate channel.now ∷ []) }
-{
-    let mut gates = Vec::with_capacity(alloc, 1)?;
-    gates.push(Object::Gate(channel.copy(alloc)?))?;
-    Ok(gates)
-}
-
 /// The gates of the channels on which one waits.
 fn gates(alloc: Global, waits: &[Wait]) -> Result<Vec<Object>, NoMemory>
     ensures { IfOk result (λ gates. gates.items ≡ map objects.Gate (actors.channels_but [] (waits_of waits.now))) }
 {
-    if let [wait] = waits {
-        return gate_alone(alloc, channel_of(wait));
-    }
     let names = channels_but(alloc, &[], waits)?;
     let mut gates = Vec::with_capacity(alloc, names.len())?;
     push_gates(alloc, &mut gates, &names)?;
     Ok(gates)
 }
 
-/// What a wait for one communication reads beside the gate: where the next value enters, or where the front item is. Its channel
-/// is there, where it is on one.
-fn read_alone(
-    alloc: Global,
-    channels: &Channels,
-    communication: &Clause,
-) -> Result<Vec<Object>, NoMemory>
+/// What a wait for one communication touches of its channel: it writes the gate, and reads where the next value enters, or where
+/// the front item is. The channel is there, where it is on one.
+fn touched_alone(channels: &Channels, communication: &Clause) -> Touched
     requires { is_made_for (with_channels (contents_of channels.now)) (communication_of communication.now) ≡ true }
-    ensures { IfOk result (λ reads. (frame : CodeFrame → Frame) → reads.items ≡ each_read (gates_of ((None, communication_of communication.now) ∷ [])) (side_by (state_of frame (with_channels (contents_of channels.now))) (communication_of communication.now))) }
+    ensures { (frame : CodeFrame → Frame) → AreTouched result (channel_on (communication_of communication.now))
+        (each_read (gates_of ((None, communication_of communication.now) ∷ [])) (side_by (state_of frame (with_channels (contents_of channels.now))) (communication_of communication.now)))
+        (gates_of ((None, communication_of communication.now) ∷ [])) }
 {
     match communication {
         Clause::Send {
             channel: Some(name),
             ..
-        } => tail_side(alloc, name, channels.get(name).unwrap()),
+        } => entrance_read(channels.get(name).unwrap()),
         Clause::Receive {
             channel: Some(name),
             ..
-        } => head_side(alloc, name, channels.get(name).unwrap()),
-        _ => Ok(Vec::new(alloc)),
+        } => exit_read(channels.get(name).unwrap()),
+        _ => untouched(),
     }
 }
 
 impl Objects {
-    /// Begins to wait for these, each with the number of its clause where it is one of a select, having read and writing what is
-    /// given. Refused, nothing has changed.
+    /// Begins to wait for these, each with the number of its clause where it is one of a select, which reaches what is given but for
+    /// its changes of channels. Refused, nothing has changed.
     fn begin_to_wait(
         &mut self,
         event: &Event,
         number: usize,
         kind: Kind,
-        operation: Option<Operation>,
-        reads: Vec<Object>,
-        writes: Vec<Object>,
+        beyond: Box<Beyond>,
         waits: Vec<Wait>,
         pending: &[(Option<u32>, Clause)],
     ) -> Result<Change, NoMemory>
         requires parks { At CanPark (seen_at self.old.goroutines number) }
         requires made { AreMade (pending_of pending.now) (contents_of self.old.channels) }
         requires waits { waits_of waits.items ≡ rules.all_waits (pending_of pending.now) }
-        requires writes { writes.items ≡ gates_of (pending_of pending.now) }
-        ensures ok { (sides : List ObjectMade) → reads.items ≡ each_read (gates_of (pending_of pending.now)) sides
+        ensures ok { (operation : Option Operation) (sides : List Object) → Reaches operation (each_read (gates_of (pending_of pending.now)) sides) (gates_of (pending_of pending.now)) false beyond.value
             → IfOk result (λ change. Parks event.now number kind operation sides (pending_of pending.now) change self.old self.new) }
         ensures err { OnErr result (contents_in self.new ≡ contents_in self.old) }
     {
-        let alloc = self.alloc;
-        let beyond = Beyond {
-            operation,
-            reads,
-            writes,
-            met: Vec::new(alloc),
-            channels: Vec::new(alloc),
-            begins: None,
-            makes: None,
-            stops: false,
-        };
-        let mut beyond = Box::new(alloc, beyond)?;
-        beyond.channels = park_for_all(&mut self.channels, alloc, &event.go, pending)?;
+        let mut beyond = beyond;
+        beyond.channels = park_for_few(&mut self.channels, self.alloc, &event.go, pending)?;
         let own = self.goroutines.park(number, waits);
         Ok(Change {
             kind,
@@ -190,9 +166,8 @@ impl Objects {
         let waits = all_waits(alloc, pending)?;
         let writes = gates(alloc, &waits)?;
         let reads = each_once(alloc, &writes, sides)?;
-        self.begin_to_wait(
-            event, number, kind, operation, reads, writes, waits, pending,
-        )
+        let beyond = Beyond::new(alloc, operation, reads, writes, false)?;
+        self.begin_to_wait(event, number, kind, beyond, waits, pending)
     }
 
     /// Begins to wait for one communication, which is no clause of a select. Refused, nothing has changed.
@@ -206,19 +181,18 @@ impl Objects {
     ) -> Result<Change, NoMemory>
         requires parks { At CanPark (seen_at self.old.goroutines number) }
         requires made { AreMade ((None, communication_of communication) ∷ []) (contents_of self.old.channels) }
+        requires on { option_map channel_in operation ≡ channel_on (communication_of communication) }
         ensures ok { (frame : CodeFrame → Frame) → IfOk result (λ change. Parks event.now number kind operation
             (side_by (state_of frame (with_channels (contents_of self.old.channels))) (communication_of communication))
             ((None, communication_of communication) ∷ []) change self.old self.new) }
         ensures err { OnErr result (contents_in self.new ≡ contents_in self.old) }
     {
         let alloc = self.alloc;
-        let reads = read_alone(alloc, &self.channels, &communication)?;
+        let touched = touched_alone(&self.channels, &communication);
+        let beyond = waited(alloc, operation, touched)?;
         let pending = [(None, communication)];
         let waits = all_waits(alloc, &pending)?;
-        let writes = gates(alloc, &waits)?;
-        self.begin_to_wait(
-            event, number, kind, operation, reads, writes, waits, &pending,
-        )
+        self.begin_to_wait(event, number, kind, beyond, waits, &pending)
     }
 
     /// Waits to send a value. Refused, nothing has changed.

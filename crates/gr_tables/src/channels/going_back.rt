@@ -33,7 +33,7 @@ impl Channels {
     }
 
     /// Makes room for taking these back. No content changes.
-    fn make_room(&mut self, undos: &[(ChName, ChanUndo)]) -> Result<(), NoMemory>
+    pub fn make_room(&mut self, undos: &[(ChName, ChanUndo)]) -> Result<(), NoMemory>
         requires { ChansFit undos.now (contents_of self.old) }
         ensures contents { contents_of self.new ≡ contents_of self.old }
         ensures ok { OnOk result (HasRooms undos.now (rooms_of self.new)) }

@@ -1,18 +1,18 @@
 use Rattle.std.proofs.Common.{drop, ap, ◌∙◌, arith}
 use Rattle.std.proofs.lemmas.List.{take_at}
 use Rattle.gr_step.specs.Conflicts.{conflict_of}
-use Rattle.gr_depend.specs.Marked.{chosen, passed}
-use Rattle.gr_depend.proofs.MarkedLemmas.{dependents_chosen, kept_passed}
+use Rattle.gr_kept.specs.Back.{marked, unmarked}
+use Rattle.gr_depend.proofs.MarkedLemmas.{dependents_marked, kept_unmarked}
 use Rattle.gr_depend.proofs.log.Log.dependents.Goals as goal
 
 pub returns-clause-members : goal.returns-clause-members
 returns-clause-members c =
     let rs = c.args.self.now.records.items in
-    ap (λ m. chosen m (drop c.args.at rs)) (take_at c.mark_dependents.new.marks _ c.in_ok-marks.marks.len (omega (arith, c.in_ok-marks.marks.ok.0)))
-    ∙ ap (λ m. chosen m (drop c.args.at rs)) c.mark_dependents.ensures ∙ dependents_chosen conflict_of rs c.args.at
+    ap (λ m. marked m (drop c.args.at rs)) (take_at c.mark_dependents.new.marks _ c.in_ok-marks.marks.len (omega (arith, c.in_ok-marks.marks.ok.0)))
+    ∙ ap (λ m. marked m (drop c.args.at rs)) c.mark_dependents.ensures ∙ dependents_marked conflict_of rs c.args.at
 
 pub returns-clause-others : goal.returns-clause-others
 returns-clause-others c =
     let rs = c.args.self.now.records.items in
-    ap (λ m. passed m (drop c.args.at rs)) (take_at c.mark_dependents.new.marks _ c.in_ok-marks.marks.len (omega (arith, c.in_ok-marks.marks.ok.0)))
-    ∙ ap (λ m. passed m (drop c.args.at rs)) c.mark_dependents.ensures ∙ kept_passed conflict_of rs c.args.at
+    ap (λ m. unmarked m (drop c.args.at rs)) (take_at c.mark_dependents.new.marks _ c.in_ok-marks.marks.len (omega (arith, c.in_ok-marks.marks.ok.0)))
+    ∙ ap (λ m. unmarked m (drop c.args.at rs)) c.mark_dependents.ensures ∙ kept_unmarked conflict_of rs c.args.at

@@ -1,7 +1,7 @@
 use Rattle.std.proofs.Common.{◌≡◌, ◌+◌, ◌++◌, ◌∷◌, [], true, length, subst, sym, ap, ◌∙◌, append_assoc, arith}
 use Rattle.std.specs.List.{list_all}
 use Rattle.gr_step.specs.Conflicts.{touched_by}
-use Rattle.gr_depend.specs.Touches.{touches_in, each_once}
+use Rattle.gr_depend.specs.Touches.{touches_in, none_twice}
 use Rattle.gr_depend.specs.Lists.{list_of}
 use Rattle.gr_depend.proofs.TouchLemmas.{without_step, all_once_split}
 use Rattle.gr_depend.proofs.RoomLemmas.{takes_on}
@@ -11,7 +11,7 @@ pub invariant_of-self-2 : goal.invariant_of-self-2
 invariant_of-self-2 c =
     let log = c.args.self.now in
     let rs = c.pop.new.self.items in
-    let once = all_once_split rs c.in_ok-step.step (subst (λ l. list_all (λ r. each_once (touched_by r)) l ≡ true) c.in_ok-step.ensures.items log.once) in
+    let once = all_once_split rs c.in_ok-step.step (subst (λ l. list_all (λ r. none_twice (touched_by r)) l ≡ true) c.in_ok-step.ensures.items log.once) in
     record {
       touches = c.forget.ensures.lists (λ q. touches_in q 0 rs) (0 + length rs)
           (λ q. without_step rs c.in_ok-step.step once.1 q (list_of log.lanes q) (log.touches q ∙ ap (touches_in q 0) c.in_ok-step.ensures.items));

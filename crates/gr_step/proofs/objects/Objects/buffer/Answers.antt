@@ -24,7 +24,7 @@ pub returns-clause-ok : goal.returns-clause-ok
 returns-clause-ok c =
     let done = c.push_reserved.ensures.items ∙ ap (λ l. l ++ (c.in_ok-name.name, c.in-Buffered.undo) ∷ []) c.in_ok-done.ensures.items
     ∙ ap (λ k. (k, c.in-Buffered.undo) ∷ []) c.in_ok-name.ensures in
-    let told = rw (c.in_ok-copy.ensures, c.in_ok-reads.ensures, c.in_ok-writes.ensures) at c.in_ok-beyond.ensures.told in
+    let told = rw c.in_ok-copy.ensures at (c.in_ok-beyond.ensures (Gate c.in_ok-copy.field-0 ∷ []) (Tail c.in_ok-copy.field-0 ∷ slot_numbered c.in_ok-copy.field-0 c.in-Some.found.now.content.capacity (tail_of c.in-Some.found.now.content)) (c.entered-touched.ensures c.in_ok-copy.field-0)) in
     if_ok c.pass.result (rw c.kind_by-kind.ensures at (c.pass.ensures.ok (sends_on c.args.channel.now) (Gate c.args.channel.now ∷ [])
     (Tail c.args.channel.now ∷ slot_numbered c.args.channel.now c.in-Some.found.now.content.capacity (tail_of c.in-Some.found.now.content)) told))
     (λ change x. was_buffered (program_in c.args.listing.now) c.args.event.now c.args.number c.args.self.now c.requires.acting c.args.clause c.requires.clause
@@ -36,7 +36,7 @@ pub returns-clause-room : goal.returns-clause-room
 returns-clause-room c =
     let done = c.push_reserved.ensures.items ∙ ap (λ l. l ++ (c.in_ok-name.name, c.in-Buffered.undo) ∷ []) c.in_ok-done.ensures.items
     ∙ ap (λ k. (k, c.in-Buffered.undo) ∷ []) c.in_ok-name.ensures in
-    let told = rw (c.in_ok-copy.ensures, c.in_ok-reads.ensures, c.in_ok-writes.ensures) at c.in_ok-beyond.ensures.told in
+    let told = rw c.in_ok-copy.ensures at (c.in_ok-beyond.ensures (Gate c.in_ok-copy.field-0 ∷ []) (Tail c.in_ok-copy.field-0 ∷ slot_numbered c.in_ok-copy.field-0 c.in-Some.found.now.content.capacity (tail_of c.in-Some.found.now.content)) (c.entered-touched.ensures c.in_ok-copy.field-0)) in
     if_ok c.pass.result (rw c.kind_by-kind.ensures at (c.pass.ensures.ok (sends_on c.args.channel.now) (Gate c.args.channel.now ∷ [])
     (Tail c.args.channel.now ∷ slot_numbered c.args.channel.now c.in-Some.found.now.content.capacity (tail_of c.in-Some.found.now.content)) told))
     (λ change x. buffer_room (program_in c.args.listing.now) c.args.event.now c.args.number c.args.self.now c.requires.acting c.args.clause c.requires.clause

@@ -1,4 +1,4 @@
-use Rattle.std.proofs.Common.{◌≡◌, ℕ, List, [], ◌∷◌, ◌++◌, Some, ap, subst, ◌∙◌}
+use Rattle.std.proofs.Common.{◌≡◌, ℕ, List, [], ◌∷◌, Some, subst}
 use Rattle.std.proofs.lemmas.Result.{IfOk-weaker}
 use Rattle.gr_base.specs.declared.kinds.Fault.TheVariants.{CloseOfClosed}
 use Rattle.gr_base.specs.declared.names.ChName.{ChName}
@@ -17,15 +17,12 @@ returns-clause-ok c =
     let old = c.args.self.now in
     let s = contents_in old in
     let t = contents_in c.fault.new.self in
-    let reads : c.push.new.self.items ≡ Gate c.args.channel.now ∷ [] =
-    c.in_ok-push.ensures.items ∙ ap (λ l. l ++ Gate c.in_ok-copy-2.field-0 ∷ []) c.new-reads.ensures.items
-    ∙ ap (λ (k : ChName). Gate k ∷ []) c.in_ok-copy-2.ensures in
     IfOk-weaker c.fault.result
     (λ change. (n : List ℕ) (g : CodeGoroutine) → name_at old.goroutines c.args.number ≡ Some n → s.goroutines n ≡ Some g
-    → Stops n CloseOfClosed (Some (Closes c.in_ok-copy.field-0)) c.push.new.self.items s g change t)
+    → Stops n CloseOfClosed (Some (Closes c.in_ok-copy.field-0)) c.in_ok-reads.reads.items s g change t)
     (λ change. (n : List ℕ) (g : CodeGoroutine) → name_at old.goroutines c.args.number ≡ Some n → s.goroutines n ≡ Some g
     → Stops n CloseOfClosed (Some (Closes c.args.channel.now)) (Gate c.args.channel.now ∷ []) s g change t)
     (λ change stops n g named there.
-    subst (λ os. Stops n CloseOfClosed (Some (Closes c.args.channel.now)) os s g change t) reads
-    (subst (λ (k : ChName). Stops n CloseOfClosed (Some (Closes k)) c.push.new.self.items s g change t) c.in_ok-copy.ensures (stops n g named there)))
+    subst (λ os. Stops n CloseOfClosed (Some (Closes c.args.channel.now)) os s g change t) c.in_ok-reads.ensures
+    (subst (λ (k : ChName). Stops n CloseOfClosed (Some (Closes k)) c.in_ok-reads.reads.items s g change t) c.in_ok-copy.ensures (stops n g named there)))
     c.fault.ensures.ok

@@ -2,6 +2,7 @@ use Rattle.std.proofs.Common.{refl, ap, length, arith}
 use Rattle.gr_goros.specs.declared.arrivals.Halt.TheVariants.{Faulted}
 use Rattle.gr_goros.specs.Views.{halted}
 use Rattle.gr_rules.specs.States.{faulted}
+use Rattle.gr_step.specs.Fews.{members}
 use Rattle.gr_step.proofs.FrameNeeds.{need_none}
 use Rattle.gr_step.proofs.PlacedLemmas.{placed, no_rooms}
 use Rattle.gr_tables.specs.NamedChannels.{contents_of, rooms_of}
@@ -25,5 +26,5 @@ returns-clause-room c = λ n.
     let none = need_none h.0.content h.1.content c.halt-own.result h.3.1.back (ap (λ g. length g.frames) h.3.0) in
     record {
       frames = rw none (omega arith);
-      places = no_rooms c.in_ok-beyond.beyond.value.channels.items (rooms_of c.args.self.now.channels) c.in_ok-beyond.ensures.channels;
+      places = no_rooms (members c.in_ok-beyond.beyond.value.channels) (rooms_of c.args.self.now.channels) c.in_ok-beyond.ensures.channels;
     }

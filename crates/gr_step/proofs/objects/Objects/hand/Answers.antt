@@ -20,7 +20,7 @@ exchange-requires c =
     let its = its_receiver (program_in c.args.listing.now) c.args.event.now c.args.number c.args.self.now c.requires.acting c.args.clause c.requires.clause
     c.args.channel.now c.args.value c.requires.sound c.in-Some.found.now c.in-Some.ensures c.requires.waits c.in-Some-receiver.receiver.now
     c.in-Some-receiver.ensures in
-    let ready = rw (c.in_ok-copy.ensures, c.new-nothing.ensures.items, c.in_ok-touched.ensures) at (c.in_ok-prepared.ensures its.m.waits its.waits_for) in
+    let ready = rw c.in_ok-copy.ensures at (c.in_ok-prepared.ensures its.m.waits [] (Gate c.in_ok-copy.field-0 ∷ []) its.waits_for (c.gate_written-touched.ensures c.in_ok-copy.field-0)) in
     can_hand_over (program_in c.args.listing.now) c.args.event.now c.args.number c.args.self.now c.requires.acting c.args.clause c.requires.clause
     c.args.channel.now c.args.value c.requires.sound c.in-Some.found.now c.in-Some.ensures c.requires.waits c.in-Some-receiver.receiver.now
     c.in-Some-receiver.ensures c.in_ok-prepared.prepared ready (program_code_of c.deref.result.now)
@@ -32,7 +32,7 @@ returns-clause-ok c =
     let its = its_receiver (program_in c.args.listing.now) c.args.event.now c.args.number c.args.self.now c.requires.acting c.args.clause c.requires.clause
     c.args.channel.now c.args.value c.requires.sound c.in-Some.found.now c.in-Some.ensures c.requires.waits c.in-Some-receiver.receiver.now
     c.in-Some-receiver.ensures in
-    let ready = rw (c.in_ok-copy.ensures, c.new-nothing.ensures.items, c.in_ok-touched.ensures) at (c.in_ok-prepared.ensures its.m.waits its.waits_for) in
+    let ready = rw c.in_ok-copy.ensures at (c.in_ok-prepared.ensures its.m.waits [] (Gate c.in_ok-copy.field-0 ∷ []) its.waits_for (c.gate_written-touched.ensures c.in_ok-copy.field-0)) in
     if_ok c.exchange.result (rw c.kind_by-kind.ensures at (c.exchange.ensures.ok (sends_on c.args.channel.now) []
     (Gate c.args.channel.now ∷ Go c.in-Some-receiver.receiver.now.go ∷ map Gate (channels_but (c.args.channel.now ∷ []) its.m.waits)) ready.reached))
     (λ change done. was_handed (program_in c.args.listing.now) c.args.event.now c.args.number c.args.self.now c.requires.acting c.args.clause c.requires.clause
@@ -46,7 +46,7 @@ returns-clause-room c =
     let its = its_receiver (program_in c.args.listing.now) c.args.event.now c.args.number c.args.self.now c.requires.acting c.args.clause c.requires.clause
     c.args.channel.now c.args.value c.requires.sound c.in-Some.found.now c.in-Some.ensures c.requires.waits c.in-Some-receiver.receiver.now
     c.in-Some-receiver.ensures in
-    let ready = rw (c.in_ok-copy.ensures, c.new-nothing.ensures.items, c.in_ok-touched.ensures) at (c.in_ok-prepared.ensures its.m.waits its.waits_for) in
+    let ready = rw c.in_ok-copy.ensures at (c.in_ok-prepared.ensures its.m.waits [] (Gate c.in_ok-copy.field-0 ∷ []) its.waits_for (c.gate_written-touched.ensures c.in_ok-copy.field-0)) in
     if_ok c.exchange.result (rw c.kind_by-kind.ensures at (c.exchange.ensures.ok (sends_on c.args.channel.now) []
     (Gate c.args.channel.now ∷ Go c.in-Some-receiver.receiver.now.go ∷ map Gate (channels_but (c.args.channel.now ∷ []) its.m.waits)) ready.reached))
     (λ change done. hand_room (program_in c.args.listing.now) c.args.event.now c.args.number c.args.self.now c.requires.acting c.args.clause c.requires.clause
@@ -60,7 +60,7 @@ returns-clause-err c =
     let its = its_receiver (program_in c.args.listing.now) c.args.event.now c.args.number c.args.self.now c.requires.acting c.args.clause c.requires.clause
     c.args.channel.now c.args.value c.requires.sound c.in-Some.found.now c.in-Some.ensures c.requires.waits c.in-Some-receiver.receiver.now
     c.in-Some-receiver.ensures in
-    let ready = rw (c.in_ok-copy.ensures, c.new-nothing.ensures.items, c.in_ok-touched.ensures) at (c.in_ok-prepared.ensures its.m.waits its.waits_for) in
+    let ready = rw c.in_ok-copy.ensures at (c.in_ok-prepared.ensures its.m.waits [] (Gate c.in_ok-copy.field-0 ∷ []) its.waits_for (c.gate_written-touched.ensures c.in_ok-copy.field-0)) in
     if_err c.exchange.result c.exchange.ensures.err_goroutines c.exchange.ensures.err_channels (λ gos took.
     as_before (program_in c.args.listing.now) c.args.event.now c.args.number c.args.self.now c.requires.acting c.args.clause None c.args.channel.now
     c.in-Some-receiver.receiver.now.go c.in-Some-receiver.receiver.now.case (Some (c.args.value, true)) its (sends_on c.args.channel.now) []

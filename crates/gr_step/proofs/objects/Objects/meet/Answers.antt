@@ -21,7 +21,7 @@ exchange-requires c =
     let its = its_sender (program_in c.args.listing.now) c.args.event.now c.args.number c.args.self.now c.requires.acting c.args.clause c.requires.clause
     c.args.channel.now c.args.zero c.requires.sound c.in-Some.found.now c.in-Some.ensures c.in-Some-sender.sender.now
     c.in-Some-sender.ensures c.requires.empty in
-    let ready = rw (c.in_ok-copy.ensures, c.in_ok-reads.ensures, c.in_ok-touched.ensures) at (c.in_ok-prepared.ensures its.m.waits its.waits_for) in
+    let ready = rw c.in_ok-copy.ensures at (c.in_ok-prepared.ensures its.m.waits (Head c.in_ok-copy.field-0 ∷ slot_numbered c.in_ok-copy.field-0 c.in-Some.found.now.content.capacity c.in-Some.found.now.content.head) (Gate c.in_ok-copy.field-0 ∷ []) its.waits_for (c.exit_read-touched.ensures c.in_ok-copy.field-0)) in
     can_meet_sender (program_in c.args.listing.now) c.args.event.now c.args.number c.args.self.now c.requires.acting c.args.clause c.requires.clause
     c.args.channel.now c.args.zero c.requires.sound c.in-Some.found.now c.in-Some.ensures c.in-Some-sender.sender.now
     c.in-Some-sender.ensures c.requires.empty c.in_ok-prepared.prepared ready (program_code_of c.deref.result.now)
@@ -33,7 +33,7 @@ returns-clause-ok c =
     let its = its_sender (program_in c.args.listing.now) c.args.event.now c.args.number c.args.self.now c.requires.acting c.args.clause c.requires.clause
     c.args.channel.now c.args.zero c.requires.sound c.in-Some.found.now c.in-Some.ensures c.in-Some-sender.sender.now
     c.in-Some-sender.ensures c.requires.empty in
-    let ready = rw (c.in_ok-copy.ensures, c.in_ok-reads.ensures, c.in_ok-touched.ensures) at (c.in_ok-prepared.ensures its.m.waits its.waits_for) in
+    let ready = rw c.in_ok-copy.ensures at (c.in_ok-prepared.ensures its.m.waits (Head c.in_ok-copy.field-0 ∷ slot_numbered c.in_ok-copy.field-0 c.in-Some.found.now.content.capacity c.in-Some.found.now.content.head) (Gate c.in_ok-copy.field-0 ∷ []) its.waits_for (c.exit_read-touched.ensures c.in_ok-copy.field-0)) in
     if_ok c.exchange.result (rw c.kind_by-kind.ensures at (c.exchange.ensures.ok (receives_from c.args.channel.now) (Head c.args.channel.now ∷ slot_numbered c.args.channel.now c.in-Some.found.now.content.capacity c.in-Some.found.now.content.head)
     ((Gate c.args.channel.now ∷ []) ++ Go c.in-Some-sender.sender.now.go ∷ map Gate (channels_but (c.args.channel.now ∷ []) its.m.waits)) ready.reached))
     (λ change done. sender_was_met (program_in c.args.listing.now) c.args.event.now c.args.number c.args.self.now c.requires.acting c.args.clause c.requires.clause
@@ -47,7 +47,7 @@ returns-clause-room c =
     let its = its_sender (program_in c.args.listing.now) c.args.event.now c.args.number c.args.self.now c.requires.acting c.args.clause c.requires.clause
     c.args.channel.now c.args.zero c.requires.sound c.in-Some.found.now c.in-Some.ensures c.in-Some-sender.sender.now
     c.in-Some-sender.ensures c.requires.empty in
-    let ready = rw (c.in_ok-copy.ensures, c.in_ok-reads.ensures, c.in_ok-touched.ensures) at (c.in_ok-prepared.ensures its.m.waits its.waits_for) in
+    let ready = rw c.in_ok-copy.ensures at (c.in_ok-prepared.ensures its.m.waits (Head c.in_ok-copy.field-0 ∷ slot_numbered c.in_ok-copy.field-0 c.in-Some.found.now.content.capacity c.in-Some.found.now.content.head) (Gate c.in_ok-copy.field-0 ∷ []) its.waits_for (c.exit_read-touched.ensures c.in_ok-copy.field-0)) in
     if_ok c.exchange.result (rw c.kind_by-kind.ensures at (c.exchange.ensures.ok (receives_from c.args.channel.now) (Head c.args.channel.now ∷ slot_numbered c.args.channel.now c.in-Some.found.now.content.capacity c.in-Some.found.now.content.head)
     ((Gate c.args.channel.now ∷ []) ++ Go c.in-Some-sender.sender.now.go ∷ map Gate (channels_but (c.args.channel.now ∷ []) its.m.waits)) ready.reached))
     (λ change done. meeting_room (program_in c.args.listing.now) c.args.event.now c.args.number c.args.self.now c.requires.acting c.args.clause c.requires.clause
@@ -61,7 +61,7 @@ returns-clause-err c =
     let its = its_sender (program_in c.args.listing.now) c.args.event.now c.args.number c.args.self.now c.requires.acting c.args.clause c.requires.clause
     c.args.channel.now c.args.zero c.requires.sound c.in-Some.found.now c.in-Some.ensures c.in-Some-sender.sender.now
     c.in-Some-sender.ensures c.requires.empty in
-    let ready = rw (c.in_ok-copy.ensures, c.in_ok-reads.ensures, c.in_ok-touched.ensures) at (c.in_ok-prepared.ensures its.m.waits its.waits_for) in
+    let ready = rw c.in_ok-copy.ensures at (c.in_ok-prepared.ensures its.m.waits (Head c.in_ok-copy.field-0 ∷ slot_numbered c.in_ok-copy.field-0 c.in-Some.found.now.content.capacity c.in-Some.found.now.content.head) (Gate c.in_ok-copy.field-0 ∷ []) its.waits_for (c.exit_read-touched.ensures c.in_ok-copy.field-0)) in
     if_err c.exchange.result c.exchange.ensures.err_goroutines c.exchange.ensures.err_channels (λ gos took.
     as_before (program_in c.args.listing.now) c.args.event.now c.args.number c.args.self.now c.requires.acting c.args.clause
     (Some (c.in-Some-sender.sender.now.value, true)) c.args.channel.now c.in-Some-sender.sender.now.go c.in-Some-sender.sender.now.case None its (receives_from c.args.channel.now) (Head c.args.channel.now ∷ slot_numbered c.args.channel.now c.in-Some.found.now.content.capacity c.in-Some.found.now.content.head)

@@ -21,7 +21,7 @@ exchange-requires c =
     let its = its_mover (program_in c.args.listing.now) c.args.event.now c.args.number c.args.self.now c.requires.acting c.args.clause c.requires.clause
     c.args.channel.now c.args.zero c.requires.sound c.in-Some.found.now c.in-Some.ensures c.in-Some-sender.sender.now
     c.in-Some-sender.ensures c.requires.filled in
-    let ready = rw (c.in_ok-copy.ensures, c.new-nothing.ensures.items, c.in_ok-touched.ensures) at (c.in_ok-prepared.ensures its.m.waits its.waits_for) in
+    let ready = rw c.in_ok-copy.ensures at (c.in_ok-prepared.ensures its.m.waits [] (Gate c.in_ok-copy.field-0 ∷ Head c.in_ok-copy.field-0 ∷ Tail c.in_ok-copy.field-0 ∷ slot_numbered c.in_ok-copy.field-0 c.in-Some.found.now.content.capacity c.in-Some.found.now.content.head) its.waits_for (c.moved-touched.ensures c.in_ok-copy.field-0)) in
     can_meet_mover (program_in c.args.listing.now) c.args.event.now c.args.number c.args.self.now c.requires.acting c.args.clause c.requires.clause
     c.args.channel.now c.args.zero c.requires.sound c.in-Some.found.now c.in-Some.ensures c.in-Some-sender.sender.now
     c.in-Some-sender.ensures c.requires.filled c.in_ok-prepared.prepared ready (program_code_of c.deref.result.now)
@@ -33,7 +33,7 @@ returns-clause-ok c =
     let its = its_mover (program_in c.args.listing.now) c.args.event.now c.args.number c.args.self.now c.requires.acting c.args.clause c.requires.clause
     c.args.channel.now c.args.zero c.requires.sound c.in-Some.found.now c.in-Some.ensures c.in-Some-sender.sender.now
     c.in-Some-sender.ensures c.requires.filled in
-    let ready = rw (c.in_ok-copy.ensures, c.new-nothing.ensures.items, c.in_ok-touched.ensures) at (c.in_ok-prepared.ensures its.m.waits its.waits_for) in
+    let ready = rw c.in_ok-copy.ensures at (c.in_ok-prepared.ensures its.m.waits [] (Gate c.in_ok-copy.field-0 ∷ Head c.in_ok-copy.field-0 ∷ Tail c.in_ok-copy.field-0 ∷ slot_numbered c.in_ok-copy.field-0 c.in-Some.found.now.content.capacity c.in-Some.found.now.content.head) its.waits_for (c.moved-touched.ensures c.in_ok-copy.field-0)) in
     if_ok c.exchange.result (rw c.kind_by-kind.ensures at (c.exchange.ensures.ok (receives_from c.args.channel.now) []
     ((Gate c.args.channel.now ∷ Head c.args.channel.now ∷ Tail c.args.channel.now
     ∷ slot_numbered c.args.channel.now c.in-Some.found.now.content.capacity c.in-Some.found.now.content.head) ++ Go c.in-Some-sender.sender.now.go ∷ map Gate (channels_but (c.args.channel.now ∷ []) its.m.waits)) ready.reached))
@@ -48,7 +48,7 @@ returns-clause-room c =
     let its = its_mover (program_in c.args.listing.now) c.args.event.now c.args.number c.args.self.now c.requires.acting c.args.clause c.requires.clause
     c.args.channel.now c.args.zero c.requires.sound c.in-Some.found.now c.in-Some.ensures c.in-Some-sender.sender.now
     c.in-Some-sender.ensures c.requires.filled in
-    let ready = rw (c.in_ok-copy.ensures, c.new-nothing.ensures.items, c.in_ok-touched.ensures) at (c.in_ok-prepared.ensures its.m.waits its.waits_for) in
+    let ready = rw c.in_ok-copy.ensures at (c.in_ok-prepared.ensures its.m.waits [] (Gate c.in_ok-copy.field-0 ∷ Head c.in_ok-copy.field-0 ∷ Tail c.in_ok-copy.field-0 ∷ slot_numbered c.in_ok-copy.field-0 c.in-Some.found.now.content.capacity c.in-Some.found.now.content.head) its.waits_for (c.moved-touched.ensures c.in_ok-copy.field-0)) in
     if_ok c.exchange.result (rw c.kind_by-kind.ensures at (c.exchange.ensures.ok (receives_from c.args.channel.now) []
     ((Gate c.args.channel.now ∷ Head c.args.channel.now ∷ Tail c.args.channel.now
     ∷ slot_numbered c.args.channel.now c.in-Some.found.now.content.capacity c.in-Some.found.now.content.head) ++ Go c.in-Some-sender.sender.now.go ∷ map Gate (channels_but (c.args.channel.now ∷ []) its.m.waits)) ready.reached))
@@ -63,7 +63,7 @@ returns-clause-err c =
     let its = its_mover (program_in c.args.listing.now) c.args.event.now c.args.number c.args.self.now c.requires.acting c.args.clause c.requires.clause
     c.args.channel.now c.args.zero c.requires.sound c.in-Some.found.now c.in-Some.ensures c.in-Some-sender.sender.now
     c.in-Some-sender.ensures c.requires.filled in
-    let ready = rw (c.in_ok-copy.ensures, c.new-nothing.ensures.items, c.in_ok-touched.ensures) at (c.in_ok-prepared.ensures its.m.waits its.waits_for) in
+    let ready = rw c.in_ok-copy.ensures at (c.in_ok-prepared.ensures its.m.waits [] (Gate c.in_ok-copy.field-0 ∷ Head c.in_ok-copy.field-0 ∷ Tail c.in_ok-copy.field-0 ∷ slot_numbered c.in_ok-copy.field-0 c.in-Some.found.now.content.capacity c.in-Some.found.now.content.head) its.waits_for (c.moved-touched.ensures c.in_ok-copy.field-0)) in
     if_err c.exchange.result c.exchange.ensures.err_goroutines c.exchange.ensures.err_channels (λ gos took.
     as_before (program_in c.args.listing.now) c.args.event.now c.args.number c.args.self.now c.requires.acting c.args.clause
     (Some (

@@ -14,7 +14,7 @@ channels_to_leave-requires c =
     ∙ ap (λ l. channels_but (c.args.channel.now ∷ []) (waits_of l)) (c.deref.ensures.value ∙ sym c.deref-3.ensures.value)
 
 pub returns : goal.returns
-returns c = λ ws h.
+returns c = λ ws reads writes h t.
     let named = rw c.unwrap-number.ensures at c.number.ensures.named in
     let seen = c.in-Some.ensures.named c.args.go.now named in
     let waits : waits_of c.in-Waiting.waits.items ≡ ws = waits_alike c.args.self.now.goroutines c.args.go.now c.in-Some.goroutine.now
@@ -23,14 +23,13 @@ returns c = λ ws h.
     c.in_ok-others.ensures ∙ ap (λ l. channels_but l (waits_of c.deref.result.now)) c.from_ref.ensures.value
     ∙ ap (λ l. channels_but (c.args.channel.now ∷ []) (waits_of l)) c.deref.ensures.value
     ∙ ap (channels_but (c.args.channel.now ∷ [])) waits in
-    let writes = c.in_ok-writes.ensures ∙ ap (λ l. c.args.touched.items ++ objects.Go c.args.go.now ∷ map objects.Gate l) (c.deref-2.ensures.value ∙ others) in
     record {
       go_is = c.in_ok-copy.ensures;
       channel_is = c.in_ok-copy-2.ensures;
       named = named;
       names_are = subst {_, _} (AreToLeave c.in_ok-names.names.items c.args.channel.now) (ap waits_of c.deref-3.ensures.value ∙ waits) c.in_ok-names.ensures;
-      reached = subst {_, _} (λ l. IsReached (operation_of c.args.operation) c.args.reads.items l c.in_ok-beyond.beyond.value) writes c.in_ok-beyond.ensures.told;
-      room = omega (arith, c.in_ok-beyond.ensures.room);
+      reached = subst {_, _} (λ l. IsReached (operation_of c.args.operation) reads (writes ++ objects.Go c.args.go.now ∷ map objects.Gate l) c.in_ok-beyond.beyond.value)
+          (c.deref-2.ensures.value ∙ others) (c.in_ok-beyond.ensures reads writes t);
       done_none = c.in_ok-done.ensures.items;
       done_room = omega (arith, c.in_ok-done.ensures.capacity, c.in_ok-done.ensures.len);
     }

@@ -36,7 +36,7 @@ returns-clause-ok c =
     (λ change. Parks e c.args.number kinds.RecvWait operation sides ((None, Receiving c.args.channel c.args.zero) ∷ []) change c.args.self.now c.wait_alone.new.self)
     (λ change. OfActor p e s (λ a. Takes p e (rules.wait a (option_map attempts.receives_from c.args.channel) kinds.RecvWait ((None, Receiving c.args.channel c.args.zero) ∷ [])) s change t))
     (λ change. waits_to_receive p e c.args.number c.args.self.now c.wait_alone.new.self c.requires.acting operation sides change c.args.channel c.args.zero
-    c.in_ok-operation.ensures refl c.requires.sound)
+    c.in_ok-operation.ensures.is refl c.requires.sound)
     (c.wait_alone.ensures.ok (frame_in p))
 
 pub returns-clause-room : goal.returns-clause-room

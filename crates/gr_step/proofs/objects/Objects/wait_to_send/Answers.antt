@@ -37,7 +37,7 @@ returns-clause-ok c =
     (λ change. Parks e c.args.number kinds.SendWait operation sides ((None, Sending c.args.channel (gives c.args.value)) ∷ []) change c.args.self.now c.wait_alone.new.self)
     (λ change. OfActor p e s (λ a. Takes p e (rules.wait a (option_map attempts.sends_on c.args.channel) kinds.SendWait ((None, Sending c.args.channel (gives c.args.value)) ∷ [])) s change t))
     (λ change. waits_to_send p e c.args.number c.args.self.now c.wait_alone.new.self c.requires.acting operation sides change c.args.channel c.args.value
-    c.in_ok-operation.ensures refl c.requires.sound)
+    c.in_ok-operation.ensures.is refl c.requires.sound)
     (c.wait_alone.ensures.ok (frame_in p))
 
 pub returns-clause-room : goal.returns-clause-room
