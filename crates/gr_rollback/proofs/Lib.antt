@@ -1,0 +1,19 @@
+pub mod Basics
+mod PoolLemmas
+pub mod KeptLemmas
+mod OwnLemmas
+mod CourseLemmas
+mod StepLemmas
+mod UndoLemmas
+mod StartLemmas
+mod TurnLemmas
+mod NextTurn
+mod RedoLemmas
+mod AlikeLemmas
+mod OrderLemmas
+mod ReorderLemmas
+mod RoomLemmas
+mod MarkLemmas
+mod StandLemmas
+mod WalkLemmas
+mod BackLemmas

@@ -1,0 +1,10 @@
+pub mod Pasts
+pub mod Readiness
+pub mod Courses
+pub mod Machines
+pub mod Steps
+pub mod Backs
+pub mod Retracting
+pub mod Redoing
+pub mod Reordering
+pub mod Walks

@@ -1,0 +1,132 @@
+//! Steps that join the log, and the last record of the log, whose step is taken back.
+
+ghost use Rattle.std.specs.Prelude.{◌≡◌, ◌≤◌, ◌++◌, ◌∷◌, [], length, true, IfOk, OnOk, IfErr, OnErr};
+ghost use Rattle.std.specs.Option.{option_to_list};
+ghost use Rattle.gr_causal.specs.Sequences.{Distinct};
+ghost use Rattle.gr_pool.specs.Goroutines.{is_among};
+ghost use Rattle.gr_program.specs.Programs.{Program};
+ghost use Rattle.gr_step.specs.Conflicts.{touched_by};
+ghost use Rattle.gr_step.specs.Records.{begun_by, event_of, taken_back, CanGoBack};
+ghost use Rattle.gr_step.specs.Stores.{contents_at, taken_at, SameListing, HasRoomFor};
+ghost use Rattle.gr_depend.specs.Logs.{records_of};
+ghost use Rattle.gr_rollback.specs.Readiness.{KnowsMore, AllKnown, Follows};
+
+use crate::LOG_LIMIT;
+use crate::course::Course;
+use crate::readiness::{know_child, know_others, settle_others, settle_taken};
+use gr_base::{Event, NoMemory};
+use gr_depend::Log;
+use gr_pool::Pool;
+use gr_step::{Record, StepRefused, Store};
+use std::alloc::Global;
+
+/// Takes a step back directly after it, which takes no memory.
+fn withdraw(store: &mut Store, step: Record)
+    requires fits { CanGoBack step.id.go step.change (contents_at store.old) }
+    requires room { HasRoomFor step store.old }
+    ensures back { contents_at store.new ≡ taken_back step.id.go step.change (contents_at store.old) }
+    ensures listing { SameListing store.old store.new }
+{
+    let _ = store.unstep(step);
+}
+
+/// Lets the record of a step join the log, and makes the goroutine known that the step started. Refused, the record is handed
+/// back, and no record has changed.
+fn enter(log: &mut Log, pool: &mut Pool, step: Record) -> Result<(), Record>
+    requires { Distinct (touched_by step) }
+    ensures ok { OnOk result (records_of log.new ≡ records_of log.old ++ step ∷ []) }
+    ensures short { OnOk result (length (records_of log.new) ≤ LOG_LIMIT) }
+    ensures child { OnOk result (AllKnown (option_to_list (begun_by step.change)) pool.new) }
+    ensures err { OnErr result (records_of log.new ≡ records_of log.old) }
+    ensures handed_back { IfErr result (λ handed. handed ≡ step) }
+    ensures more { KnowsMore pool.old pool.new }
+    ensures ready { pool.new.ready ≡ pool.old.ready }
+{
+    if log.len() >= LOG_LIMIT {
+        return Err(step);
+    }
+    if let Err(NoMemory) = know_child(pool, &step.change) {
+        return Err(step);
+    }
+    match log.push(step) {
+        Ok(()) => Ok(()),
+        Err((step, NoMemory)) => Err(step),
+    }
+}
+
+/// Takes a step back whose record has left the log. Refused, the record is handed back, and nothing has changed.
+fn take_back(
+    alloc: Global,
+    store: &mut Store,
+    pool: &mut Pool,
+    step: Record,
+) -> Result<Event, Record>
+    requires fits { CanGoBack step.id.go step.change (contents_at store.old) }
+    requires known { is_among step.id.go pool.old.known ≡ true }
+    ensures back { OnOk result (contents_at store.new ≡ taken_back step.id.go step.change (contents_at store.old)) }
+    ensures event { IfOk result (λ event. event ≡ event_of step) }
+    ensures err { OnErr result (contents_at store.new ≡ contents_at store.old) }
+    ensures returned { IfErr result (λ handed. handed ≡ step) }
+    ensures listing { SameListing store.old store.new }
+    ensures taken { taken_at store.new ≡ taken_at store.old }
+    ensures follows { OnOk result (Follows step (contents_at store.new) pool.old pool.new) }
+    ensures more { OnErr result (KnowsMore pool.old pool.new) }
+    ensures ready { OnErr result (pool.new.ready ≡ pool.old.ready) }
+{
+    let Ok(others) = know_others(alloc, pool, &step.change) else {
+        return Err(step);
+    };
+    match store.unstep(step) {
+        Ok(event) => {
+            settle_others(pool, store, &event.go, others.as_slice());
+            Ok(event)
+        }
+        Err((step, NoMemory)) => Err(step),
+    }
+}
+
+impl Course {
+    ghost use Rattle.gr_rollback.specs.Pasts.{Past};
+    ghost use Rattle.gr_rollback.specs.Courses.{IsCourse, Holds};
+    ghost use Rattle.gr_rollback.specs.Steps.{Kept};
+    ghost use Rattle.gr_rollback.specs.Retracting.{LastGoesBack, Retracts, SameCourse, KeepsLogRoom};
+
+    /// Takes the step of an event, whose record joins the log. Refused, nothing has changed.
+    pub(crate) fn keep(&mut self, event: Event) -> Result<(), StepRefused>
+        requires { IsCourse self.old }
+        ensures kept { (p : Program) (w : Past p) → Holds p w self.old → Kept p w event result self.new }
+        ensures listing { SameListing self.old.store self.new.store }
+    {
+        let step = self.store.step(event)?;
+        let entered = enter(&mut self.log, &mut self.pool, step);
+        if let Err(step) = entered {
+            withdraw(&mut self.store, step);
+            return Err(StepRefused::NoMemory);
+        }
+        if let Some(last) = self.log.last() {
+            settle_taken(&mut self.pool, &self.store, last);
+        }
+        Ok(())
+    }
+
+    /// Takes the last record out of the log, and its step back. Refused, nothing has changed.
+    pub(crate) fn retract(&mut self, alloc: Global) -> Result<Event, NoMemory>
+        requires { LastGoesBack self.old }
+        ensures ok { IfOk result (λ event. Retracts self.old event self.new) }
+        ensures err { OnErr result (SameCourse self.old self.new) }
+        ensures room { OnErr result (KeepsLogRoom self.old self.new) }
+        ensures taken { taken_at self.new.store ≡ taken_at self.old.store }
+        ensures listing { SameListing self.old.store self.new.store }
+    {
+        let Some(step) = self.log.pop() else {
+            return Err(NoMemory);
+        };
+        match take_back(alloc, &mut self.store, &mut self.pool, step) {
+            Ok(event) => Ok(event),
+            Err(step) => {
+                self.log.push(step).unwrap();
+                Err(NoMemory)
+            }
+        }
+    }
+}

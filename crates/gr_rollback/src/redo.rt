@@ -1,0 +1,88 @@
+//! The steps that were taken back last, done again.
+
+ghost use Rattle.std.specs.Prelude.{◌≡◌, ◌+◌, ◌<◌, ◌≤◌, [], vec_len, vec_capacity, OnOk, OnErr};
+ghost use Rattle.gr_program.specs.Programs.{Program};
+ghost use Rattle.gr_step.specs.declared.refusal.StepRefused.TheVariants as refusals;
+ghost use Rattle.gr_step.specs.Stores.{SameListing};
+
+use crate::machine::Machine;
+use crate::refusal::BackRefused;
+use gr_base::{NoMemory, StepId};
+use gr_step::StepRefused;
+use std::alloc::Global;
+
+/// Why a step is refused that the rules allow.
+fn only_memory(why: StepRefused) -> NoMemory
+    requires { why ≡ refusals.NoMemory }
+{
+    match why {
+        StepRefused::NoMemory => NoMemory,
+        _ => unreachable!(),
+    }
+}
+
+impl Machine {
+    ghost use Rattle.gr_rollback.specs.Pasts.{World};
+    ghost use Rattle.gr_rollback.specs.Machines.{store_of, again_of, Stands, IsMachine};
+    ghost use Rattle.gr_rollback.specs.Redoing.{GoesOn};
+    ghost use Rattle.gr_rollback.specs.Backs.{TakenAgain};
+
+    /// Takes the next of the steps again, whose name joins the others. Refused, nothing has changed.
+    fn take_next(&mut self, alloc: Global, ids: &mut Vec<StepId>) -> Result<(), NoMemory>
+        requires machine { IsMachine self.old }
+        requires some { 0 < vec_len self.old.again }
+        requires room { vec_len ids.old < vec_capacity ids.old }
+        ensures goes { (p : Program) (w : World p) → Stands p w self.old → GoesOn p w ids.old.items ids.new.items self.new }
+        ensures ok { OnOk result (vec_len self.new.again + 1 ≡ vec_len self.old.again) }
+        ensures ok_ids { OnOk result (vec_len ids.new ≡ vec_len ids.old + 1) }
+        ensures ok_room { OnOk result (vec_capacity ids.new ≡ vec_capacity ids.old) }
+        ensures err { OnErr result (vec_len self.new.again ≡ vec_len self.old.again) }
+        ensures listing { SameListing (store_of self.old) (store_of self.new) }
+    {
+        let event = self.again.last().unwrap().copy(alloc)?;
+        let go = event.go.copy(alloc)?;
+        if let Err(why) = self.course.keep(event) {
+            return Err(only_memory(why));
+        }
+        let _ = self.again.pop();
+        let n = self.course.log.last().unwrap().id.n;
+        ids.push_reserved(StepId { go, n });
+        Ok(())
+    }
+
+    /// Takes the steps again, whose names join the others. Refused, it stands where it came to.
+    fn take_all(&mut self, alloc: Global, ids: &mut Vec<StepId>) -> Result<(), NoMemory>
+        requires machine { IsMachine self.old }
+        requires room { vec_len ids.old + vec_len self.old.again ≤ vec_capacity ids.old }
+        ensures goes { (p : Program) (w : World p) → Stands p w self.old → GoesOn p w ids.old.items ids.new.items self.new }
+        ensures all { OnOk result (vec_len self.new.again ≡ 0) }
+        ensures left { OnErr result (0 < vec_len self.new.again) }
+        ensures listing { SameListing (store_of self.old) (store_of self.new) }
+    {
+        while !self.again.is_empty() {
+            self.take_next(alloc, ids)?;
+        }
+        Ok(())
+    }
+
+    /// Takes the steps again that the last `undo` or `back` took back, in their old order and with their choices; none where another
+    /// step or order came since. It answers their names. Where memory is wanting on the way, the first of these steps are taken,
+    /// which the refusal names, and the others may still be done.
+    pub fn redo(&mut self, alloc: Global) -> Result<Vec<StepId>, BackRefused>
+        requires { IsMachine self.old }
+        ensures again { (p : Program) (w : World p) → Stands p w self.old → TakenAgain p w result self.new }
+        ensures listing { SameListing (store_of self.old) (store_of self.new) }
+    {
+        if self.again.is_empty() {
+            return Err(BackRefused::NothingToRedo);
+        }
+        let Ok(ids) = Vec::with_capacity(alloc, self.again.len()) else {
+            return Err(BackRefused::NoMemory(Vec::new(alloc)));
+        };
+        let mut ids = ids;
+        match self.take_all(alloc, &mut ids) {
+            Ok(()) => Ok(ids),
+            Err(NoMemory) => Err(BackRefused::NoMemory(ids)),
+        }
+    }
+}

@@ -1,0 +1,20 @@
+//! Why steps are not taken back, done again or put in another order.
+
+use gr_base::StepId;
+
+/// Why steps are not taken back, done again or put in another order.
+#[derive(Debug, Drop)]
+pub enum BackRefused {
+    /// B1: no step is kept.
+    NothingToUndo,
+    /// B2: no step of this name is kept.
+    NotKept,
+    /// B3: the names are not those of the steps that are kept, each once.
+    NotTheSteps,
+    /// B4: these two steps conflict, and would change places; the first is the earlier one in the log.
+    BreaksDependence(StepId, StepId),
+    /// B5: no step may be done again.
+    NothingToRedo,
+    /// B6: a growth was refused. These steps were taken back, or done again, before that.
+    NoMemory(Vec<StepId>),
+}
