@@ -1,24 +1,52 @@
 -- Worked examples of lines and of replies.
-use Rattle.std.specs.Prelude.{◌≡◌, pos, true, false, [], ◌∷◌, ◌++◌, map, Some, None, codes}
+use Rattle.std.specs.Prelude.{◌≡◌, pos, true, false, List, ℕ, [], ◌∷◌, ◌++◌, map, Some, None, codes}
 use Rattle.gr_base.specs.declared.kinds.Fault.TheVariants.{BadSize}
 use Rattle.gr_base.specs.declared.kinds.Kind.TheVariants as kinds
+use Rattle.gr_base.specs.declared.names.ChName.{ChName}
+use Rattle.gr_base.specs.declared.names.StepId.{StepId}
 use Rattle.gr_base.specs.declared.values.Value.TheVariants as values
 use Rattle.gr_rules.specs.Goroutines as rules
-use Rattle.gr_command.specs.declared.command.Command.TheVariants.{Step, Run, Undo, Show, Chan, Text, Console, Log}
+use Rattle.gr_command.specs.declared.command.Command.TheVariants.{Step, Run, Undo, Back, Redo, Order, Dependents, Causes, Break, Clear, Show, Chan, Text, Console, Log}
 use Rattle.gr_command.specs.declared.command.Line.TheVariants.{Command, Quit, Blank, Rejected}
-use Rattle.gr_command.specs.declared.refusal.Refusal.TheVariants.{Waits, NotUndone}
+use Rattle.gr_command.specs.declared.refusal.Refusal.TheVariants.{Waits, NothingToUndo, NotKept, NotTheSteps, NothingToRedo}
 use Rattle.gr_command.specs.declared.reply.RunEnd.TheVariants as ends
+use Rattle.gr_command.specs.declared.target.Target.TheVariants as targets
 use Rattle.gr_command.specs.Commands.{meaning}
 use Rattle.gr_command.specs.Replies as said
 use Rattle.gr_command.specs.Texts.{said_text}
 
--- every command, between spaces and tabs, one with a carriage return behind it
+-- a step, and a channel, by the counts of its goroutine and its own
+abbrev step_of : List ℕ → ℕ → StepId
+step_of go n = record { go = go; n = n }
+
+abbrev channel_of : List ℕ → ℕ → ChName
+channel_of go n = record { go = go; n = n }
+
+-- commands that ask for steps, and questions, between spaces and tabs, one with a carriage return behind it
 abbrev pub CommandsAreRead : Type 0
 CommandsAreRead =
     map meaning (codes "step g0" ∷ codes "  step g0.2  4294967295 " ∷ codes "run 1000000" ∷ (codes "undo" ++ 13 ∷ []) ∷ (codes "show" ++ 9 ∷ codes "g0.10.1")
     ∷ codes "chan g0/c1" ∷ codes "text g0.1" ∷ codes "console" ∷ codes "log" ∷ codes "quit" ∷ [])
     ≡ Command (Step [] None) ∷ Command (Step (2 ∷ []) (Some 4294967295)) ∷ Command (Run 1000000) ∷ Command Undo ∷ Command (Show (10 ∷ 1 ∷ []))
     ∷ Command (Chan (record { go = []; n = 1 })) ∷ Command (Text (1 ∷ [])) ∷ Command Console ∷ Command Log ∷ Quit ∷ []
+
+-- each way to take steps back, and to take them again
+abbrev pub WaysBackAreRead : Type 0
+WaysBackAreRead =
+    map meaning (codes "back g0.1#12" ∷ codes "back go g0.2" ∷ codes "back send g0/c1 3" ∷ codes " back recv  g0.1/c2 4294967295" ∷ codes "back var g0 x_1"
+    ∷ codes "back var g0.1 _" ∷ codes "redo" ∷ [])
+    ≡ Command (Back (targets.Step (step_of (1 ∷ []) 12))) ∷ Command (Back (targets.Start (2 ∷ []))) ∷ Command (Back (targets.Send (channel_of [] 1) 3))
+    ∷ Command (Back (targets.Receive (channel_of (1 ∷ []) 2) 4294967295)) ∷ Command (Back (targets.Variable [] (codes "x_1")))
+    ∷ Command (Back (targets.Variable (1 ∷ []) (codes "_"))) ∷ Command Redo ∷ []
+
+-- an order, what depends on what, and breakpoints
+abbrev pub OrdersAreRead : Type 0
+OrdersAreRead =
+    map meaning (codes "order g0#1" ∷ codes "order g0.1#1  g0#2 g0.1#1" ∷ codes "deps g0#18446744073709551615" ∷ codes "causes g0.3#7"
+    ∷ codes "break 12" ∷ codes "clear 4294967295" ∷ [])
+    ≡ Command (Order (step_of [] 1 ∷ [])) ∷ Command (Order (step_of (1 ∷ []) 1 ∷ step_of [] 2 ∷ step_of (1 ∷ []) 1 ∷ []))
+    ∷ Command (Dependents (step_of [] 18446744073709551615)) ∷ Command (Causes (step_of (3 ∷ []) 7))
+    ∷ Command (Break 12) ∷ Command (Clear 4294967295) ∷ []
 
 -- a number that is too great or too small, or begins with 0; a name that is none; a word too few, or too many
 abbrev pub OthersAreRejected : Type 0
@@ -27,6 +55,24 @@ OthersAreRejected =
     ∷ codes "step g00" ∷ codes "stp g0" ∷ codes "Step g0" ∷ codes "chan g0" ∷ codes "show" ∷ codes "undo g0" ∷ codes "step g0 1 2" ∷ [])
     ≡ Rejected ∷ Rejected ∷ Rejected ∷ Rejected ∷ Rejected ∷ Rejected ∷ Rejected
     ∷ Rejected ∷ Rejected ∷ Rejected ∷ Rejected ∷ Rejected ∷ Rejected ∷ Rejected ∷ []
+
+-- a way back that is none: no name of a step, no number, a keyword, a digit first, a word too few, or too many
+abbrev pub OtherWaysAreRejected : Type 0
+OtherWaysAreRejected =
+    map meaning (codes "back" ∷ codes "back g0" ∷ codes "back g0#0" ∷ codes "back go" ∷ codes "back go g0#1" ∷ codes "back send g0/c1" ∷ codes "back send g0/c1 0"
+    ∷ codes "back recv g0/c1 4294967296" ∷ codes "back recv g0 1" ∷ codes "back var g0 func" ∷ codes "back var g0 1x" ∷ codes "back var g0 a-b"
+    ∷ codes "back var g0 x y" ∷ codes "back x g0" ∷ codes "redo 1" ∷ [])
+    ≡ Rejected ∷ Rejected ∷ Rejected ∷ Rejected ∷ Rejected ∷ Rejected ∷ Rejected
+    ∷ Rejected ∷ Rejected ∷ Rejected ∷ Rejected ∷ Rejected
+    ∷ Rejected ∷ Rejected ∷ Rejected ∷ []
+
+-- an order of no step, or of one that is none; a question about no step, or about two; a line that is no number
+abbrev pub OtherOrdersAreRejected : Type 0
+OtherOrdersAreRejected =
+    map meaning (codes "order" ∷ codes "order g0#1 g0" ∷ codes "order g0#01" ∷ codes "deps" ∷ codes "deps g0#1 g0#2" ∷ codes "causes g0"
+    ∷ codes "causes g0#18446744073709551616" ∷ codes "break" ∷ codes "break 0" ∷ codes "break 007" ∷ codes "clear 4294967296" ∷ codes "clear x" ∷ [])
+    ≡ Rejected ∷ Rejected ∷ Rejected ∷ Rejected ∷ Rejected ∷ Rejected
+    ∷ Rejected ∷ Rejected ∷ Rejected ∷ Rejected ∷ Rejected ∷ Rejected ∷ []
 
 -- a line without a word
 abbrev pub LinesAreBlank : Type 0
@@ -37,9 +83,21 @@ abbrev pub LinesAreWritten : Type 0
 LinesAreWritten =
     map said_text (said.Stepped (record { go = 2 ∷ []; n = 1 }) (kinds.Pick 2)
     ∷ said.Ran 8 ends.Ended ∷ said.Ran 4 (ends.Fault BadSize) ∷ said.Ran 0 ends.Memory
-    ∷ said.Undone (record { go = []; n = 6 }) ∷ said.Lines [] ∷ said.Log [] ∷ said.No Waits ∷ said.No NotUndone ∷ [])
+    ∷ said.Undone (record { go = []; n = 6 }) ∷ said.Lines [] ∷ said.Log [] ∷ said.No Waits ∷ [])
     ≡ codes "ok g0.2#1 pick 2\n" ∷ codes "ok 8 ended\n" ∷ codes "ok 4 fault\n" ∷ codes "ok 0 memory\n"
-    ∷ codes "ok g0#6\n" ∷ codes "ok\n" ∷ codes "ok 0\n" ∷ codes "no N3\n" ∷ codes "no B6 0\n" ∷ []
+    ∷ codes "ok g0#6\n" ∷ codes "ok\n" ∷ codes "ok 0\n" ∷ codes "no N3\n" ∷ []
+
+-- replies to commands that take steps back, take them again or put them in an order, and to questions about steps
+abbrev pub StepsAreWritten : Type 0
+StepsAreWritten =
+    map said_text (said.Steps (step_of [] 7 ∷ []) ∷ said.Steps (step_of [] 1 ∷ step_of (1 ∷ []) 12 ∷ []) ∷ said.Steps []
+    ∷ said.PartlyDone [] ∷ said.PartlyDone (step_of (2 ∷ []) 3 ∷ step_of [] 4 ∷ [])
+    ∷ said.BreaksDependence (step_of [] 2) (step_of (1 ∷ []) 1) ∷ said.Acknowledged ∷ said.Ran 3 (ends.Break 14)
+    ∷ said.No NothingToUndo ∷ said.No NotKept ∷ said.No NotTheSteps ∷ said.No NothingToRedo ∷ [])
+    ≡ codes "ok 1 g0#7\n" ∷ codes "ok 2 g0#1 g0.1#12\n" ∷ codes "ok 0\n"
+    ∷ codes "no B6 0\n" ∷ codes "no B6 2 g0.2#3 g0#4\n"
+    ∷ codes "no B4 g0#2 g0.1#1\n" ∷ codes "ok\n" ∷ codes "ok 3 break 14\n"
+    ∷ codes "no B1\n" ∷ codes "no B2\n" ∷ codes "no B3\n" ∷ codes "no B5\n" ∷ []
 
 -- a goroutine that waits, and one that is done
 abbrev pub GoroutinesAreShown : Type 0

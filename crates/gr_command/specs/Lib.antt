@@ -1,4 +1,5 @@
 pub mod Words
+pub mod Arguments
 pub mod Commands
 pub mod Replies
 pub mod Texts

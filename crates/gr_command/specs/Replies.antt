@@ -29,6 +29,13 @@ pub data Said : Type 0 where
   Channel : (shown : ChannelShown) → Said
   Lines : (lines : List (List ℕ)) → Said
   Log : (steps : List (StepId × Kind)) → Said
+  -- these steps were asked for, or were taken back, or taken again
+  Steps : (ids : List StepId) → Said
+  -- only these were taken back, or taken again: there was no memory for more
+  PartlyDone : (ids : List StepId) → Said
+  -- these two conflict and would change places
+  BreaksDependence : (earlier later : StepId) → Said
+  Acknowledged : Said
   No : (why : Refusal) → Said
 
 -- the lines of a list of lines
@@ -66,6 +73,10 @@ said_of (replies.Shown g) = Shown g.go (goroutine_in g)
 said_of (replies.Channel c) = Channel (channel_in c)
 said_of (replies.Lines lines) = Lines (lines_in lines.items)
 said_of (replies.Log steps) = Log steps.items
+said_of (replies.Steps ids) = Steps ids.items
+said_of (replies.PartlyDone ids) = PartlyDone ids.items
+said_of (replies.BreaksDependence earlier later) = BreaksDependence earlier later
+said_of replies.Acknowledged = Acknowledged
 said_of (replies.Refused why) = No why
 
 -- what is told of a status: not what is waited for
@@ -85,6 +96,7 @@ end_in (ends.Fault fault) = Some (turns.program_faulted fault)
 end_in ends.Count = Some turns.all_taken
 end_in ends.Stuck = Some turns.none_ready
 end_in ends.Full = Some turns.log_full
+end_in (ends.Break line) = Some (turns.at_break line)
 end_in ends.Memory = None
 
 -- why a step is not possible, as a reply tells it; the last reason holds in no state that a checked program reaches

@@ -15,7 +15,7 @@ use Rattle.gr_command.specs.declared.refusal.Refusal.TheVariants as refusals
 use Rattle.gr_command.specs.declared.reply.RunEnd.{RunEnd}
 use Rattle.gr_command.specs.declared.reply.RunEnd.TheVariants as ends
 use Rattle.gr_command.specs.declared.reply.Reply.{Reply}
-use Rattle.gr_command.specs.Replies.{Said, Stepped, Ran, Undone, Shown, Channel, Lines, Log, No, said_of}
+use Rattle.gr_command.specs.Replies.{Said, Stepped, Ran, Undone, Shown, Channel, Lines, Log, Steps, PartlyDone, BreaksDependence, Acknowledged, No, said_of}
 
 -- a refusal by its code
 abbrev pub refusal_text : Refusal → List ℕ
@@ -26,7 +26,9 @@ refusal_text refusals.Done = codes "no N4\n"
 refusal_text refusals.NoChoice = codes "no N5\n"
 refusal_text refusals.NoMemory = codes "no N6\n"
 refusal_text refusals.NothingToUndo = codes "no B1\n"
-refusal_text refusals.NotUndone = codes "no B6 0\n"
+refusal_text refusals.NotKept = codes "no B2\n"
+refusal_text refusals.NotTheSteps = codes "no B3\n"
+refusal_text refusals.NothingToRedo = codes "no B5\n"
 refusal_text refusals.LogFull = codes "no Q1\n"
 
 -- why many steps ended
@@ -36,6 +38,7 @@ end_text (ends.Fault fault) = codes "fault"
 end_text ends.Count = codes "count"
 end_text ends.Stuck = codes "stuck"
 end_text ends.Full = codes "full"
+end_text (ends.Break line) = codes "break " ++ decimal line
 end_text ends.Memory = codes "memory"
 
 -- a line after `| `
@@ -127,6 +130,14 @@ ran_text steps end = decimal steps ++ (codes " " ++ (end_text end ++ codes "\n")
 abbrev pub total_text : ℕ → List ℕ
 total_text n = codes "ok " ++ (decimal n ++ codes "\n")
 
+-- a count of steps and their names, as the end of a line
+abbrev pub ids_text : List StepId → List ℕ
+ids_text ids = decimal (length ids) ++ (each_spaced step_text ids ++ codes "\n")
+
+-- two steps
+abbrev pub pair_text : StepId → StepId → List ℕ
+pair_text first second = step_text first ++ (codes " " ++ step_text second)
+
 -- the text of a reply: rows, and a last line that begins `ok` or `no`
 abbrev pub said_text : Said → List ℕ
 said_text (Stepped id kind) = codes "ok " ++ (taken_text (id, kind) ++ codes "\n")
@@ -136,6 +147,10 @@ said_text (Shown go g) = row (goroutine_text go g) ++ (rows frame_text g.frames 
 said_text (Channel c) = channel_rows c ++ codes "ok\n"
 said_text (Lines lines) = rows (λ line. line) lines ++ codes "ok\n"
 said_text (Log steps) = rows taken_text steps ++ total_text (length steps)
+said_text (Steps ids) = codes "ok " ++ ids_text ids
+said_text (PartlyDone ids) = codes "no B6 " ++ ids_text ids
+said_text (BreaksDependence earlier later) = codes "no B4 " ++ (pair_text earlier later ++ codes "\n")
+said_text Acknowledged = codes "ok\n"
 said_text (No why) = refusal_text why
 
 -- the text of a reply of the code

@@ -2,7 +2,9 @@
 
 ghost use Rattle.std.specs.Prelude.{◌≡◌, IfOk, OnErr};
 
-use gr_base::{ChName, GoName, NoMemory};
+use crate::step_list::StepList;
+use crate::target::Target;
+use gr_base::{ChName, GoName, NoMemory, StepId};
 use std::alloc::Global;
 
 /// What an asker asks.
@@ -15,6 +17,20 @@ pub enum Command {
     Run { count: u32 },
     /// To take the last step back.
     Undo,
+    /// To take a step back with its consequences.
+    Back(Target),
+    /// To take the steps again that were taken back last.
+    Redo,
+    /// To put the steps that are kept in this order.
+    Order(StepList),
+    /// The steps that depend on the step, itself included.
+    Dependents(StepId),
+    /// The steps on which the step depends, itself included.
+    Causes(StepId),
+    /// To end runs before a step on this line.
+    Break(u32),
+    /// No longer to end runs there.
+    Clear(u32),
     /// How the goroutine stands: its status, its steps, its line and its frames.
     Show(GoName),
     /// How the channel stands: its capacity, its items and who waits on it.
@@ -42,6 +58,13 @@ impl Command {
             }
             Command::Run { count } => Ok(Command::Run { count: *count }),
             Command::Undo => Ok(Command::Undo),
+            Command::Back(target) => Ok(Command::Back(target.copy(alloc)?)),
+            Command::Redo => Ok(Command::Redo),
+            Command::Order(ids) => Ok(Command::Order(ids.copy(alloc)?)),
+            Command::Dependents(id) => Ok(Command::Dependents(id.copy(alloc)?)),
+            Command::Causes(id) => Ok(Command::Causes(id.copy(alloc)?)),
+            Command::Break(line) => Ok(Command::Break(*line)),
+            Command::Clear(line) => Ok(Command::Clear(*line)),
             Command::Show(go) => Ok(Command::Show(go.copy(alloc)?)),
             Command::Chan(channel) => Ok(Command::Chan(channel.copy(alloc)?)),
             Command::Text(go) => Ok(Command::Text(go.copy(alloc)?)),

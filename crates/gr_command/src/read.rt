@@ -1,14 +1,19 @@
 //! What a line of bytes asks.
 
-ghost use Rattle.std.specs.Prelude.{◌≡◌, ◌+◌, ◌≤◌, ◌∷◌, IfOk, IfSome, OnErr, option_and_then, option_copied};
+ghost use Rattle.std.specs.Prelude.{◌≡◌, ◌∷◌, IfOk, OnErr};
 ghost use Rattle.std.specs.Io.BufRead.{strip_last};
-ghost use Rattle.gr_base.specs.Names.{with_digit, go_named, ch_named};
 ghost use Rattle.gr_command.specs.Words.{words_of};
-ghost use Rattle.gr_command.specs.Commands.{alone as if_alone, only, number_named, step_asked, by_table, commands, meaning, MayName};
+ghost use Rattle.gr_command.specs.Commands.{alone as if_alone, about, step_asked, back_asked, order_asked, by_table, questions, commands, meaning, MayName};
+ghost use Rattle.gr_command.specs.Arguments.{number_named};
+ghost use Rattle.gr_command.specs.declared.command.Command.TheVariants.{Run};
 
+use crate::arguments::{
+    only_ch, only_go, only_ordinal, only_step, only_word, read_number, read_ordinal, read_steps,
+};
+use crate::back::read_target;
 use crate::command::{Command, Line};
 use crate::words::next_word;
-use gr_base::{ChName, GoName, NoMemory, read_ch, read_go};
+use gr_base::{NoMemory, read_go};
 use std::alloc::Global;
 
 /// The most bytes of a line that is a command; its newline is not counted.
@@ -16,65 +21,6 @@ pub const LINE_LIMIT: usize = 1_048_576;
 
 /// The most steps that one `run` may ask for.
 pub const RUN_LIMIT: u64 = 1_000_000;
-
-// The number with one more digit, if it is then from 1 to `largest`.
-fn push_digit(largest: u64, n: u64, byte: u8) -> Option<u64>
-    ensures value { result ≡ with_digit (largest + 1) n byte }
-    ensures range { IfSome result (λ longer. longer ≤ largest) }
-{
-    if !byte.is_ascii_digit() {
-        return None;
-    }
-    let longer = n.checked_mul(10)?.checked_add(u64::from(byte - b'0'))?;
-    if longer > 0 && longer <= largest {
-        Some(longer)
-    } else {
-        None
-    }
-}
-
-// The number from 1 to `largest` that the digits spell, if they spell one with no leading zero.
-fn read_number(largest: u64, digits: &[u8]) -> Option<u64>
-    ensures value { result ≡ number_named largest digits.now }
-    ensures range { IfSome result (λ n. n ≤ largest) }
-{
-    let mut count = 0;
-    for digit in digits {
-        count = push_digit(largest, count, *digit)?;
-    }
-    if count == 0 { None } else { Some(count) }
-}
-
-// The word of a text, if it has just one.
-fn only_word(text: &[u8]) -> Option<&[u8]>
-    ensures { option_copied result ≡ only (words_of text.now) }
-{
-    let (word, rest) = next_word(text)?;
-    match next_word(rest) {
-        None => Some(word),
-        Some(_) => None,
-    }
-}
-
-// The goroutine that the text names, if it is one word that names one.
-fn only_go(alloc: Global, text: &[u8]) -> Result<Option<GoName>, NoMemory>
-    ensures { IfOk result (λ go. go ≡ option_and_then go_named (only (words_of text.now))) }
-{
-    match only_word(text) {
-        None => Ok(None),
-        Some(word) => read_go(alloc, word),
-    }
-}
-
-// The channel that the text names, if it is one word that names one.
-fn only_ch(alloc: Global, text: &[u8]) -> Result<Option<ChName>, NoMemory>
-    ensures { IfOk result (λ channel. channel ≡ option_and_then ch_named (only (words_of text.now))) }
-{
-    match only_word(text) {
-        None => Ok(None),
-        Some(word) => read_ch(alloc, word),
-    }
-}
 
 // A step of the goroutine that the text names, with the clause of a select if a second word names that.
 fn step(alloc: Global, text: &[u8]) -> Result<Option<Line>, NoMemory>
@@ -89,11 +35,38 @@ fn step(alloc: Global, text: &[u8]) -> Result<Option<Line>, NoMemory>
     let None = next_word(rest) else {
         return Ok(None);
     };
-    let Some(case) = read_number(u64::from(u32::MAX), clause) else {
+    let Some(clause) = read_ordinal(clause) else {
         return Ok(None);
     };
-    let case = Some(case as u32);
+    let case = Some(clause);
     Ok(read_go(alloc, name)?.map(|go| Line::Command(Command::Step { go, case })))
+}
+
+// To take many steps, if the text is one word that says how many.
+fn run(text: &[u8]) -> Option<Line>
+    ensures { result ≡ about (number_named 1_000_000) Run (words_of text.now) }
+{
+    let count = read_number(RUN_LIMIT, only_word(text)?)?;
+    Some(Line::Command(Command::Run {
+        count: count as u32,
+    }))
+}
+
+// To take a step back, if the text says which.
+fn back(alloc: Global, text: &[u8]) -> Result<Option<Line>, NoMemory>
+    ensures { IfOk result (λ line. line ≡ back_asked (words_of text.now)) }
+{
+    Ok(read_target(alloc, text)?.map(|target| Line::Command(Command::Back(target))))
+}
+
+// To put the steps that the text names in their order, if it has a word and each names a step.
+fn order(alloc: Global, text: &[u8]) -> Result<Option<Line>, NoMemory>
+    ensures { IfOk result (λ line. line ≡ order_asked (words_of text.now)) }
+{
+    let Some(_) = next_word(text) else {
+        return Ok(None);
+    };
+    Ok(read_steps(alloc, text)?.map(|ids| Line::Command(Command::Order(ids))))
 }
 
 // The command of one word, if no word follows it.
@@ -115,22 +88,16 @@ fn without_return(line: &[u8]) -> &[u8]
     }
 }
 
-// What a word and the text after it ask, if they are a command.
-fn asked(alloc: Global, word: &[u8], rest: &[u8]) -> Result<Option<Line>, NoMemory>
-    ensures ok { IfOk result (λ line. line ≡ by_table commands word.now (words_of rest.now)) }
+// What a word and the text after it ask, if they are a question.
+fn question(alloc: Global, word: &[u8], rest: &[u8]) -> Result<Option<Line>, NoMemory>
+    ensures ok { IfOk result (λ line. line ≡ by_table questions word.now (words_of rest.now)) }
     ensures needed { OnErr result (MayName (word.now ∷ words_of rest.now)) }
 {
-    if word == b"step".as_slice() {
-        return step(alloc, rest);
+    if word == b"deps".as_slice() {
+        return Ok(only_step(alloc, rest)?.map(|id| Line::Command(Command::Dependents(id))));
     }
-    if word == b"run".as_slice() {
-        let count = only_word(rest).and_then(|word| read_number(RUN_LIMIT, word));
-        return Ok(count.map(|count| Line::Command(Command::Run {
-            count: count as u32,
-        })));
-    }
-    if word == b"undo".as_slice() {
-        return Ok(alone(Line::Command(Command::Undo), rest));
+    if word == b"causes".as_slice() {
+        return Ok(only_step(alloc, rest)?.map(|id| Line::Command(Command::Causes(id))));
     }
     if word == b"show".as_slice() {
         return Ok(only_go(alloc, rest)?.map(|go| Line::Command(Command::Show(go))));
@@ -147,19 +114,53 @@ fn asked(alloc: Global, word: &[u8], rest: &[u8]) -> Result<Option<Line>, NoMemo
     if word == b"log".as_slice() {
         return Ok(alone(Line::Command(Command::Log), rest));
     }
-    if word == b"quit".as_slice() {
-        return Ok(alone(Line::Quit, rest));
-    }
     Ok(None)
 }
 
+// What a word and the text after it ask, if they are a command.
+fn asked(alloc: Global, word: &[u8], rest: &[u8]) -> Result<Option<Line>, NoMemory>
+    ensures ok { IfOk result (λ line. line ≡ by_table commands word.now (words_of rest.now)) }
+    ensures needed { OnErr result (MayName (word.now ∷ words_of rest.now)) }
+{
+    if word == b"step".as_slice() {
+        return step(alloc, rest);
+    }
+    if word == b"run".as_slice() {
+        return Ok(run(rest));
+    }
+    if word == b"undo".as_slice() {
+        return Ok(alone(Line::Command(Command::Undo), rest));
+    }
+    if word == b"back".as_slice() {
+        return back(alloc, rest);
+    }
+    if word == b"redo".as_slice() {
+        return Ok(alone(Line::Command(Command::Redo), rest));
+    }
+    if word == b"order".as_slice() {
+        return order(alloc, rest);
+    }
+    if word == b"break".as_slice() {
+        return Ok(only_ordinal(rest).map(|line| Line::Command(Command::Break(line))));
+    }
+    if word == b"clear".as_slice() {
+        return Ok(only_ordinal(rest).map(|line| Line::Command(Command::Clear(line))));
+    }
+    if word == b"quit".as_slice() {
+        return Ok(alone(Line::Quit, rest));
+    }
+    question(alloc, word, rest)
+}
+
 /// What a line says. Its words stand between spaces or tabs, and a carriage return at its end is dropped. These are
-/// commands, where G names a goroutine and C a channel: `step G`, `step G CASE` with CASE from 1 to 4,294,967,295,
-/// `run N` with N from 1 to 1,000,000, `undo`, `show G`, `chan C`, `text G`, `console`, `log` and `quit`. Numbers are
-/// decimal and have no leading zero. A line with no word is blank; every other line, and one of more than 1,048,576
-/// bytes, is rejected.
+/// commands, where G names a goroutine, C a channel and ID a step, and where I is from 1 to 4,294,967,295: `step G`,
+/// `step G I` with the clause of a select, `run N` with N from 1 to 1,000,000, `undo`, `back ID`, `back go G`,
+/// `back send C I`, `back recv C I`, `back var G X` with an identifier X that is no keyword, `redo`, `order ID ..` with
+/// one step at least, `deps ID`, `causes ID`, `break I` and `clear I` with a line, `show G`, `chan C`, `text G`,
+/// `console`, `log` and `quit`. Numbers are decimal and have no leading zero. A line with no word is blank; every other
+/// line, and one of more than 1,048,576 bytes, is rejected.
 ///
-/// The one error is want of memory for a name, where the first word is one of the four that are followed by one.
+/// The one error is want of memory for a name, where the first word is one of the eight that are followed by one.
 pub fn read_command(alloc: Global, line: &[u8]) -> Result<Line, NoMemory>
     ensures ok { IfOk result (λ read. read ≡ meaning line.now) }
     ensures needed { OnErr result (MayName (words_of (strip_last 13 line.now))) }

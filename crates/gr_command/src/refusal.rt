@@ -17,8 +17,12 @@ pub enum Refusal {
     NoMemory,
     /// B1: no step is kept.
     NothingToUndo,
-    /// B6: a growth for taking the step back was refused, and the step stands.
-    NotUndone,
+    /// B2: no step of this name, or none as was asked for, is kept.
+    NotKept,
+    /// B3: the names are not those of the steps that are kept, each once.
+    NotTheSteps,
+    /// B5: no step may be done again.
+    NothingToRedo,
     /// Q1: the log has no room for the step.
     LogFull,
 }

@@ -17,6 +17,8 @@ pub enum RunEnd {
     Stuck,
     /// The log has as many steps as it may.
     Full,
+    /// The next step belongs to a statement that begins on this line, which has a breakpoint.
+    Break(u32),
     /// A growth was refused.
     Memory,
 }
@@ -81,5 +83,13 @@ pub enum Reply {
     Lines(Vec<Vec<u8>>),
     /// The steps that are kept, with their kinds, the oldest first.
     Log(Vec<(StepId, Kind)>),
+    /// These steps were asked for, or were taken back, or taken again, in the order of the log.
+    Steps(Vec<StepId>),
+    /// A growth was refused; these steps were taken back, or taken again, before that.
+    PartlyDone(Vec<StepId>),
+    /// These two steps conflict and would change places; the first is the earlier one.
+    BreaksDependence { earlier: StepId, later: StepId },
+    /// It was done, and there is nothing to tell.
+    Acknowledged,
     Refused(Refusal),
 }

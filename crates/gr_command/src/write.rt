@@ -3,12 +3,13 @@
 ghost use Rattle.std.specs.Prelude.{◌≡◌, ◌++◌, ◌+◌, ◌<◌, ◌≤◌, length, map, codes, vec_capacity, OnOk, OnErr};
 ghost use Rattle.gr_command.specs.Room.{Grows, IsFull};
 ghost use Rattle.gr_command.specs.Replies.{frame_in, lines_in};
-ghost use Rattle.gr_command.specs.Texts.{refusal_text, end_text, frame_text, rows, total_text, said_text, reply_text};
+ghost use Rattle.gr_command.specs.Texts.{refusal_text, end_text, frame_text, ids_text, pair_text, rows, total_text, said_text, reply_text};
 ghost use Rattle.gr_command.specs.Replies as said;
+ghost use Rattle.gr_command.specs.declared.reply.RunEnd.TheVariants as ends;
 
 use crate::channels::put_channel;
 use crate::parts::put_taken;
-use crate::pieces::{Written, put, put_number, put_row, put_rows};
+use crate::pieces::{Written, put, put_number, put_row, put_rows, put_spaced};
 use crate::refusal::Refusal;
 use crate::reply::{ChannelShown, FrameShown, GoroutineShown, Reply, RunEnd};
 use gr_base::{Kind, NoMemory, StepId};
@@ -24,21 +25,38 @@ fn refused(why: Refusal) -> &'static [u8]
         Refusal::NoChoice => b"no N5\n",
         Refusal::NoMemory => b"no N6\n",
         Refusal::NothingToUndo => b"no B1\n",
-        Refusal::NotUndone => b"no B6 0\n",
+        Refusal::NotKept => b"no B2\n",
+        Refusal::NotTheSteps => b"no B3\n",
+        Refusal::NothingToRedo => b"no B5\n",
         Refusal::LogFull => b"no Q1\n",
     }
 }
 
-fn end_name(end: RunEnd) -> &'static [u8]
-    ensures { result.now ≡ end_text end }
+// Appends that a line with a breakpoint comes next.
+#[tactic(auto, using(crate::proofs::Growing::grows_then))]
+fn put_break(text: &mut Vec<u8>, line: u32) -> Result<(), NoMemory>
+    ensures ok { OnOk result (text.new.items ≡ text.old.items ++ end_text (ends.Break line)) }
+    ensures full { OnErr result (IsFull text.old (end_text (ends.Break line))) }
+    ensures grows { Grows text.old text.new }
+{
+    put(text, b"break ")?;
+    put_number(text, u64::from(line))
+}
+
+// Appends why many steps ended.
+fn put_reason(text: &mut Vec<u8>, end: RunEnd) -> Result<(), NoMemory>
+    ensures ok { OnOk result (text.new.items ≡ text.old.items ++ end_text end) }
+    ensures full { OnErr result (IsFull text.old (end_text end)) }
+    ensures grows { Grows text.old text.new }
 {
     match end {
-        RunEnd::Ended => b"ended",
-        RunEnd::Fault(_) => b"fault",
-        RunEnd::Count => b"count",
-        RunEnd::Stuck => b"stuck",
-        RunEnd::Full => b"full",
-        RunEnd::Memory => b"memory",
+        RunEnd::Ended => put(text, b"ended"),
+        RunEnd::Fault(_) => put(text, b"fault"),
+        RunEnd::Count => put(text, b"count"),
+        RunEnd::Stuck => put(text, b"stuck"),
+        RunEnd::Full => put(text, b"full"),
+        RunEnd::Break(line) => put_break(text, line),
+        RunEnd::Memory => put(text, b"memory"),
     }
 }
 
@@ -72,7 +90,7 @@ fn put_end(text: &mut Vec<u8>, end: RunEnd) -> Result<(), NoMemory>
     ensures grows { Grows text.old text.new }
 {
     put(text, b" ")?;
-    put(text, end_name(end))?;
+    put_reason(text, end)?;
     put(text, b"\n")
 }
 
@@ -159,6 +177,61 @@ fn put_log(text: &mut Vec<u8>, steps: &[(StepId, Kind)]) -> Result<(), NoMemory>
     put_total(text, steps.len() as u64)
 }
 
+// Appends a count of steps and their names, as the end of a line.
+#[tactic(auto, using(crate::proofs::Growing::grows_then))]
+fn put_ids(text: &mut Vec<u8>, ids: &[StepId]) -> Result<(), NoMemory>
+    ensures ok { OnOk result (text.new.items ≡ text.old.items ++ ids_text ids.now) }
+    ensures full { OnErr result (IsFull text.old (ids_text ids.now)) }
+    ensures grows { Grows text.old text.new }
+{
+    put_number(text, ids.len() as u64)?;
+    put_spaced(text, ids)?;
+    put(text, b"\n")
+}
+
+#[tactic(auto, using(crate::proofs::Growing::grows_then))]
+fn put_steps(text: &mut Vec<u8>, ids: &[StepId]) -> Result<(), NoMemory>
+    ensures ok { OnOk result (text.new.items ≡ text.old.items ++ said_text (said.Steps ids.now)) }
+    ensures full { OnErr result (IsFull text.old (said_text (said.Steps ids.now))) }
+    ensures grows { Grows text.old text.new }
+{
+    put(text, b"ok ")?;
+    put_ids(text, ids)
+}
+
+#[tactic(auto, using(crate::proofs::Growing::grows_then))]
+fn put_partly_done(text: &mut Vec<u8>, ids: &[StepId]) -> Result<(), NoMemory>
+    ensures ok { OnOk result (text.new.items ≡ text.old.items ++ said_text (said.PartlyDone ids.now)) }
+    ensures full { OnErr result (IsFull text.old (said_text (said.PartlyDone ids.now))) }
+    ensures grows { Grows text.old text.new }
+{
+    put(text, b"no B6 ")?;
+    put_ids(text, ids)
+}
+
+#[tactic(auto, using(crate::proofs::Growing::grows_then))]
+fn put_breaks(text: &mut Vec<u8>, earlier: &StepId, later: &StepId) -> Result<(), NoMemory>
+    ensures ok { OnOk result (text.new.items ≡ text.old.items ++ said_text (said.BreaksDependence earlier.now later.now)) }
+    ensures full { OnErr result (IsFull text.old (said_text (said.BreaksDependence earlier.now later.now))) }
+    ensures grows { Grows text.old text.new }
+{
+    put(text, b"no B4 ")?;
+    put_pair(text, earlier, later)?;
+    put(text, b"\n")
+}
+
+// Appends two steps.
+#[tactic(auto, using(crate::proofs::Growing::grows_then))]
+fn put_pair(text: &mut Vec<u8>, first: &StepId, second: &StepId) -> Result<(), NoMemory>
+    ensures ok { OnOk result (text.new.items ≡ text.old.items ++ pair_text first.now second.now) }
+    ensures full { OnErr result (IsFull text.old (pair_text first.now second.now)) }
+    ensures grows { Grows text.old text.new }
+{
+    first.put_into(text)?;
+    put(text, b" ")?;
+    second.put_into(text)
+}
+
 fn put_reply(text: &mut Vec<u8>, reply: &Reply) -> Result<(), NoMemory>
     ensures ok { OnOk result (text.new.items ≡ text.old.items ++ reply_text reply.now) }
     ensures full { OnErr result (IsFull text.old (reply_text reply.now)) }
@@ -172,6 +245,10 @@ fn put_reply(text: &mut Vec<u8>, reply: &Reply) -> Result<(), NoMemory>
         Reply::Channel(channel) => put_channel_shown(text, channel),
         Reply::Lines(lines) => put_lines(text, lines.as_slice()),
         Reply::Log(steps) => put_log(text, steps.as_slice()),
+        Reply::Steps(ids) => put_steps(text, ids.as_slice()),
+        Reply::PartlyDone(ids) => put_partly_done(text, ids.as_slice()),
+        Reply::BreaksDependence { earlier, later } => put_breaks(text, earlier, later),
+        Reply::Acknowledged => put(text, b"ok\n"),
         Reply::Refused(why) => put(text, refused(*why)),
     }
 }

@@ -17,3 +17,8 @@ pub mod TurnedLemmas
 pub mod ArrangeLemmas
 pub mod ReportLemmas
 pub mod HistoryLemmas
+pub mod InstructionLemmas
+pub mod SpotLemmas
+pub mod KindLemmas
+pub mod CalledLemmas
+pub mod AssignmentLemmas

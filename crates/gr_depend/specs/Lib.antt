@@ -10,5 +10,6 @@ pub mod Walks
 pub mod Marked
 pub mod Named
 pub mod Histories
+pub mod Given
 pub mod Turned
 pub mod Ordering

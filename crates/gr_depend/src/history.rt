@@ -25,7 +25,7 @@ fn has_started(step: &Record, go: &GoName) -> bool
 }
 
 /// Whether a step was a fault.
-fn has_faulted(step: &Record) -> bool
+pub(crate) fn has_faulted(step: &Record) -> bool
     ensures { result ≡ is_fault step.now.change.kind }
 {
     matches!(step.change.kind, Kind::Fault(_))

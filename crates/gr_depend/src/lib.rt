@@ -1,6 +1,7 @@
 //! The log of the steps that were taken, and what depends on what in it.
 #![tactic(auto)]
 
+pub mod assigning;
 mod conflicts;
 mod dependence;
 pub mod history;

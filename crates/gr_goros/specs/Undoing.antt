@@ -7,6 +7,7 @@ use Rattle.gr_rules.specs.Goroutines.{ready, finished}
 use Rattle.gr_code.specs.CodeFrames.{CodeFrame}
 use Rattle.gr_code.specs.Goroutines.{CodeGoroutine}
 use Rattle.gr_goros.specs.Views.{Seen, status_of, is_finished}
+use Rattle.gr_goros.specs.declared.undo.Spot.{Spot}
 use Rattle.gr_goros.specs.declared.undo.Former.{Former}
 use Rattle.gr_goros.specs.declared.undo.Former.TheVariants as former
 use Rattle.gr_goros.specs.declared.undo.FrameUndo.{FrameUndo}
@@ -29,9 +30,13 @@ restored (former.Nil k) cells = slice_set cells k (Some (values.Chan None))
 restored (former.Channel k name) cells = slice_set cells k (Some (values.Chan (Some name)))
 restored (former.Each ws) cells = each_restored ws.items cells
 
+-- a frame where it stood
+abbrev pub at_spot : Spot → CodeFrame → CodeFrame
+at_spot s f = record f { function = s.function; number = s.number }
+
 -- a frame before it went on
 abbrev pub frame_before : FrameUndo → CodeFrame → CodeFrame
-frame_before u f = record f { number = u.number; cells = restored u.cells f.cells }
+frame_before u f = at_spot u.spot (record f { cells = restored u.cells f.cells })
 
 -- with another innermost frame
 abbrev pub on_innermost : (CodeFrame → CodeFrame) → List CodeFrame → List CodeFrame
@@ -49,15 +54,15 @@ before_step g fs = record g { frames = fs; steps = g.steps - 1 }
 -- the goroutine before the change, from the goroutine after it
 abbrev pub undone : GoUndo → CodeGoroutine → CodeGoroutine
 undone (undos.Went u) g = before_step g (on_innermost (frame_before u) g.frames)
-undone (undos.Printed n) g = record (before_step g (on_innermost (λ f. record f { number = n }) g.frames)) { text = front g.text }
-undone undos.Entered g = before_step g (drop 1 g.frames)
+undone (undos.Printed s) g = record (before_step g (on_innermost (at_spot s) g.frames)) { text = front g.text }
+undone (undos.Entered s) g = before_step g (on_innermost (at_spot s) (drop 1 g.frames))
 undone (undos.Left l) g = before_step g (l.value.frame ∷ on_innermost (frame_before l.value.caller) g.frames)
 undone (undos.Made u) g = record (before_step g (on_innermost (frame_before u) g.frames)) { channels = g.channels - 1 }
-undone (undos.Began n) g = record (before_step g (on_innermost (λ f. record f { number = n }) g.frames)) { children = g.children - 1 }
+undone (undos.Began s) g = record (before_step g (on_innermost (at_spot s) g.frames)) { children = g.children - 1 }
 undone (undos.Met m) g = record g { status = status_of m.value.status; frames = on_innermost (frame_before m.value.frame) g.frames }
-undone undos.Parked g = record g { status = ready; steps = g.steps - 1 }
+undone (undos.Parked s) g = record (before_step g (on_innermost (at_spot s) g.frames)) { status = ready }
 undone (undos.Finished f) g = record g { status = ready; frames = f ∷ []; steps = g.steps - 1 }
-undone undos.Faulted g = record g { steps = g.steps - 1 }
+undone (undos.Faulted s) g = before_step g (on_innermost (at_spot s) g.frames)
 undone (undos.Retried s) g = record g { status = status_of s }
 
 -- it has frames
@@ -67,15 +72,15 @@ IsLive g = is_finished g.status ≡ false
 -- what taking a change back needs of the content: counts that were raised can be lowered, what came in is there
 abbrev pub Fits : GoUndo → CodeGoroutine → Type 0
 Fits (undos.Went u) g = IsLive g × (0 < g.steps)
-Fits (undos.Printed n) g = IsLive g × (0 < g.steps) × (0 < length g.text)
-Fits undos.Entered g = IsLive g × (0 < g.steps) × (1 < length g.frames)
+Fits (undos.Printed s) g = IsLive g × (0 < g.steps) × (0 < length g.text)
+Fits (undos.Entered s) g = IsLive g × (0 < g.steps) × (1 < length g.frames)
 Fits (undos.Left l) g = IsLive g × (0 < g.steps)
 Fits (undos.Made u) g = IsLive g × (0 < g.steps) × (0 < g.channels)
-Fits (undos.Began n) g = IsLive g × (0 < g.steps) × (0 < g.children)
+Fits (undos.Began s) g = IsLive g × (0 < g.steps) × (0 < g.children)
 Fits (undos.Met m) g = IsLive g × (is_finished (status_of m.value.status) ≡ false)
-Fits undos.Parked g = IsLive g × (0 < g.steps)
+Fits (undos.Parked s) g = IsLive g × (0 < g.steps)
 Fits (undos.Finished f) g = (g.status ≡ finished) × (0 < g.steps)
-Fits undos.Faulted g = 0 < g.steps
+Fits (undos.Faulted s) g = 0 < g.steps
 Fits (undos.Retried s) g = IsLive g × (is_finished (status_of s) ≡ false)
 
 -- how much room for frames taking it back needs
@@ -85,7 +90,7 @@ need u = 0
 
 -- how many frames came in with the change
 abbrev pub entered : GoUndo → ℕ
-entered undos.Entered = 1
+entered (undos.Entered s) = 1
 entered u = 0
 
 -- the change from a to b is undone by u; directly after it no memory is needed for that, and what left gave its room back

@@ -78,18 +78,18 @@ impl Goroutine {
                 Ok(GoUndo::Made(undo))
             }
             Arrival::Completion => {
-                let number = self.top.complete(instruction);
+                let spot = self.top.complete(instruction);
                 self.steps += 1;
                 Ok(GoUndo::Went(FrameUndo {
-                    number,
+                    spot,
                     cells: Former::Same,
                 }))
             }
             Arrival::Child => {
-                let number = self.top.complete(instruction);
+                let spot = self.top.complete(instruction);
                 self.steps += 1;
                 self.children += 1;
-                Ok(GoUndo::Began(number))
+                Ok(GoUndo::Began(spot))
             }
             Arrival::Passes { clause, got } => {
                 let undo = self.top.pass(alloc, instruction, clause, got)?;
@@ -102,7 +102,7 @@ impl Goroutine {
                     Met {
                         status: Status::Ready,
                         frame: FrameUndo {
-                            number: 0,
+                            spot: self.top.spot(),
                             cells: Former::Same,
                         },
                     },
@@ -123,7 +123,7 @@ impl Goroutine {
     {
         self.status = Status::Waiting(waits);
         self.steps += 1;
-        GoUndo::Parked
+        GoUndo::Parked(self.top.spot())
     }
 
     /// Comes to an end: from its outermost frame, or by a fault.
@@ -139,7 +139,7 @@ impl Goroutine {
                 self.status = Status::Finished;
                 GoUndo::Finished(mem::replace(&mut self.top, Frame::unseen(alloc)))
             }
-            Halt::Faulted => GoUndo::Faulted,
+            Halt::Faulted => GoUndo::Faulted(self.top.spot()),
         }
     }
 

@@ -7,12 +7,12 @@ ghost use Rattle.gr_code.specs.CodeFrames.{Steps, acted, at_number, with_cell, w
 ghost use Rattle.gr_code.specs.Instructions.{Assigns};
 ghost use Rattle.gr_code.specs.CodeViews.{action_of, arm_of, ask_of, instruction_of, program_code_of};
 ghost use Rattle.gr_code.specs.Goroutines.{instruction_in, line_of};
-ghost use Rattle.gr_goros.specs.Undoing.{frame_before};
+ghost use Rattle.gr_goros.specs.Undoing.{at_spot, frame_before};
 
 use crate::cells;
 use crate::copying::copy_all;
 use crate::lookups::{arm_at, code_of, function_at, instruction_at, line_at};
-use crate::undo::{Former, FrameUndo};
+use crate::undo::{Former, FrameUndo, Spot};
 use gr_base::{NoMemory, Value};
 use gr_code::code::{Action, Arm, Ask, Code, Instruction};
 use gr_eval::settles;
@@ -94,6 +94,19 @@ impl Frame {
         self.number
     }
 
+    /// Where it stands.
+    #[inline]
+    pub(crate) fn spot(&self) -> Spot
+        ensures stays { at_spot result self.now ≡ self.now }
+        ensures function { result.function ≡ self.now.function }
+        ensures number { result.number ≡ self.now.number }
+    {
+        Spot {
+            function: self.function,
+            number: self.number,
+        }
+    }
+
     /// The variables by their numbers, and then the temporaries; `None` has no value yet.
     #[inline]
     pub fn cells(&self) -> &[Option<Value>]
@@ -139,9 +152,10 @@ impl Frame {
         ensures after { self.new ≡ at_number self.old on }
         ensures back { frame_before result self.new ≡ self.old }
     {
-        let number = mem::replace(&mut self.number, on);
+        let spot = self.spot();
+        self.number = on;
         FrameUndo {
-            number,
+            spot,
             cells: Former::Same,
         }
     }
@@ -152,9 +166,10 @@ impl Frame {
         ensures after { self.new ≡ with_cell self.old slot value on }
         ensures back { frame_before result self.new ≡ self.old }
     {
-        let number = mem::replace(&mut self.number, on);
+        let spot = self.spot();
+        self.number = on;
         let cells = cells::write(&mut self.cells, slot, value);
-        FrameUndo { number, cells }
+        FrameUndo { spot, cells }
     }
 
     /// Goes on with the value of its part, which is kept nowhere where the part is the whole statement.
@@ -182,9 +197,10 @@ impl Frame {
         ensures err { OnErr result (self.new ≡ self.old) }
     {
         let written = cells::assign(alloc, &mut self.cells, targets, values)?;
-        let number = mem::replace(&mut self.number, on);
+        let spot = self.spot();
+        self.number = on;
         Ok(FrameUndo {
-            number,
+            spot,
             cells: Former::Each(written),
         })
     }
@@ -211,26 +227,29 @@ impl Frame {
             (value_slot, value),
             (sent_slot, Value::Bool(sent)),
         )?;
-        let number = mem::replace(&mut self.number, on);
+        let spot = self.spot();
+        self.number = on;
         Ok(FrameUndo {
-            number,
+            spot,
             cells: Former::Each(written),
         })
     }
 
     /// Goes on after it printed, closed or started something.
-    pub(crate) fn complete(&mut self, instruction: &Instruction) -> usize
+    pub(crate) fn complete(&mut self, instruction: &Instruction) -> Spot
         requires { ¬ (after_in self.old (instruction_of instruction.now) ≡ wrong) }
         ensures after { after_in self.old (instruction_of instruction.now) ≡ gives self.new }
-        ensures back { at_number self.new result ≡ self.old }
+        ensures back { at_spot result self.new ≡ self.old }
     {
+        let spot = self.spot();
         match instruction {
             Instruction::Perform {
                 action: Action::Print { on, .. } | Action::Close { on } | Action::Start { on, .. },
                 ..
-            } => mem::replace(&mut self.number, *on),
+            } => self.number = *on,
             _ => unreachable!(),
         }
+        spot
     }
 
     /// Goes on with the value of its part.
@@ -355,8 +374,17 @@ impl Frame {
     pub(crate) fn undo(&mut self, undo: FrameUndo)
         ensures { self.new ≡ frame_before undo self.old }
     {
-        let FrameUndo { number, cells } = undo;
-        self.number = number;
+        let FrameUndo { spot, cells } = undo;
+        self.stand_at(spot);
         cells::put_back(&mut self.cells, cells);
+    }
+
+    /// Stands there.
+    #[inline]
+    pub(crate) fn stand_at(&mut self, spot: Spot)
+        ensures { self.new ≡ at_spot spot self.old }
+    {
+        self.function = spot.function;
+        self.number = spot.number;
     }
 }

@@ -68,7 +68,7 @@ impl Goroutine {
         ensures undone { Undoes result.1 self.old self.new }
     {
         self.steps += 1;
-        (Kind::Fault(fault), GoUndo::Faulted)
+        (Kind::Fault(fault), GoUndo::Faulted(self.top.spot()))
     }
 
     /// Prints a line. Refused, nothing has changed.
@@ -81,9 +81,9 @@ impl Goroutine {
         ensures err { OnErr result (self.new ≡ self.old) }
     {
         self.text.push(line)?;
-        let number = self.top.complete(self.top.instruction(code));
+        let spot = self.top.complete(self.top.instruction(code));
         self.steps += 1;
-        Ok((Kind::Pure, GoUndo::Printed(number)))
+        Ok((Kind::Pure, GoUndo::Printed(spot)))
     }
 
     /// Calls a function. Refused, nothing has changed.
@@ -108,9 +108,10 @@ impl Goroutine {
         let frame = Frame::enter(alloc, code, function, arguments)?;
         self.below.reserve(1)?;
         let caller = mem::replace(&mut self.top, frame);
+        let spot = caller.spot();
         self.below.push_reserved(caller);
         self.steps += 1;
-        Ok((Kind::Call, GoUndo::Entered))
+        Ok((Kind::Call, GoUndo::Entered(spot)))
     }
 
     /// Returns a value to the caller. Refused, nothing has changed.
@@ -131,7 +132,7 @@ impl Goroutine {
             Left {
                 frame: Frame::unseen(alloc),
                 caller: FrameUndo {
-                    number: 0,
+                    spot: self.top.spot(),
                     cells: Former::Same,
                 },
             },

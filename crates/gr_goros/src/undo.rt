@@ -27,11 +27,17 @@ pub enum Former {
     Each(Vec<(usize, Option<Value>)>),
 }
 
+/// Where a frame stands: the number of its function, and that of the next instruction there.
+#[derive(Clone, Copy, Debug)]
+pub struct Spot {
+    pub function: usize,
+    pub number: usize,
+}
+
 /// A frame before it went on.
 #[derive(Debug, Drop)]
 pub struct FrameUndo {
-    /// The number of its instruction.
-    pub number: usize,
+    pub spot: Spot,
     pub cells: Former,
 }
 
@@ -49,29 +55,29 @@ pub struct Met {
     pub frame: FrameUndo,
 }
 
-/// What a change of a goroutine replaced, by which it is undone.
+/// What a change of a goroutine replaced, by which it is undone. Each step of its own keeps where the innermost frame stood.
 #[derive(Debug, Drop)]
 pub enum GoUndo {
     /// The innermost frame went on, in a step.
     Went(FrameUndo),
-    /// It printed a line, at the instruction with this number.
-    Printed(usize),
+    /// It printed a line.
+    Printed(Spot),
     /// A function was called.
-    Entered,
+    Entered(Spot),
     /// A function returned to its caller.
     Left(Box<Left>),
     /// A channel was made.
     Made(FrameUndo),
-    /// A goroutine was started, at the instruction with this number.
-    Began(usize),
+    /// A goroutine was started.
+    Began(Spot),
     /// A partner met it.
     Met(Box<Met>),
     /// It began to wait.
-    Parked,
+    Parked(Spot),
     /// It returned from its outermost frame, or ended the program, in this frame.
     Finished(Frame),
     /// It stopped the program.
-    Faulted,
+    Faulted(Spot),
     /// It was made ready again.
     Retried(Status),
 }
@@ -127,13 +133,14 @@ impl Goroutine {
                 self.top.undo(undo);
                 self.steps -= 1;
             }
-            GoUndo::Printed(number) => {
-                let _ = self.top.go_on(number);
+            GoUndo::Printed(spot) => {
+                self.top.stand_at(spot);
                 drop_line(&mut self.text);
                 self.steps -= 1;
             }
-            GoUndo::Entered => {
+            GoUndo::Entered(spot) => {
                 self.top = self.below.pop().unwrap();
+                self.top.stand_at(spot);
                 self.steps -= 1;
             }
             GoUndo::Left(left) => {
@@ -148,8 +155,8 @@ impl Goroutine {
                 self.steps -= 1;
                 self.channels -= 1;
             }
-            GoUndo::Began(number) => {
-                let _ = self.top.go_on(number);
+            GoUndo::Began(spot) => {
+                self.top.stand_at(spot);
                 self.steps -= 1;
                 self.children -= 1;
             }
@@ -158,7 +165,8 @@ impl Goroutine {
                 self.top.undo(frame);
                 self.status = status;
             }
-            GoUndo::Parked => {
+            GoUndo::Parked(spot) => {
+                self.top.stand_at(spot);
                 self.status = Status::Ready;
                 self.steps -= 1;
             }
@@ -167,7 +175,10 @@ impl Goroutine {
                 self.top = frame;
                 self.steps -= 1;
             }
-            GoUndo::Faulted => self.steps -= 1,
+            GoUndo::Faulted(spot) => {
+                self.top.stand_at(spot);
+                self.steps -= 1;
+            }
             GoUndo::Retried(status) => self.status = status,
         }
     }

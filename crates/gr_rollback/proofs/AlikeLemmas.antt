@@ -1,5 +1,5 @@
 -- Orders that are given by names: what is answered for lists whose items have their names and conflicts alike is the same.
-use Rattle.std.proofs.Common.{◌≡◌, Bool, true, false, List, [], ◌∷◌, ◌++◌, map, find, Option, Some, None, option_map, option_and_then, refl, sym, ap₂, subst, inl, inr}
+use Rattle.std.proofs.Common.{◌≡◌, Bool, List, [], ◌∷◌, ◌++◌, map, find, Option, Some, None, option_map, option_and_then, refl, sym, ap₂, subst, inl, inr}
 use Rattle.std.specs.Option.{option_map_or, option_or}
 use Rattle.gr_causal.specs.OrderByNames.{Ordered, without, steps_named, first_before, first_change, ordered}
 use Rattle.gr_causal.specs.OrderByNames.Ordered.{accepted, other_steps, broken}

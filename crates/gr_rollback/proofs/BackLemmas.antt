@@ -1,7 +1,6 @@
 -- A step taken back with its consequences: the marks that tell them, and what is left.
 use Rattle.std.proofs.Common.{◌≡◌, ℕ, zero, suc, ◌+◌, ◌≤◌, ◌<◌, Bool, true, false, List, [], ◌∷◌, ◌++◌, length, map, drop, reverse, inl, inr, refl, sym, ap, subst, ◌∙◌, arith, length-append, append-nil, cond}
 use Rattle.std.specs.Prelude.{slice_get, Some, replicate, ◌-◌}
-use Rattle.gr_base.specs.declared.events.Event.{Event}
 use Rattle.gr_base.specs.declared.names.StepId.{StepId}
 use Rattle.gr_causal.specs.Dependence.{dependents, kept, collect, hits, AreTheOthers}
 use Rattle.gr_causal.specs.Machine.{IsLog}
@@ -14,10 +13,9 @@ use Rattle.gr_laws.specs.Reached.{Logged, IsRun}
 use Rattle.gr_contents.specs.Contents.{Contents}
 use Rattle.gr_step.specs.declared.record.Record.{Record}
 use Rattle.gr_step.specs.Conflicts.{touched_by, conflict_of}
-use Rattle.gr_step.specs.Kept.{Kept, Tells}
+use Rattle.gr_step.specs.Kept.{Kept}
 use Rattle.gr_step.specs.Listings.{state_in}
 use Rattle.gr_step.specs.Premises.{Running}
-use Rattle.gr_step.specs.Records.{event_of}
 use Rattle.gr_step.specs.declared.store.Store.{Store}
 use Rattle.gr_step.specs.Stores.{contents_at, SameListing}
 use Rattle.gr_kept.specs.Back.{all_back, marked, unmarked}
@@ -32,7 +30,7 @@ use Rattle.gr_rollback.specs.declared.TheConstants.{LOG_LIMIT}
 use Rattle.gr_rollback.specs.declared.back.Rollback.{Rollback}
 use Rattle.gr_rollback.specs.declared.course.Course.{Course}
 use Rattle.gr_rollback.specs.declared.machine.Machine.{Machine}
-use Rattle.gr_rollback.specs.Backs.{IsNamed, LosesAll, LosesSome, again_after, TakesBack, TakesSomeBack}
+use Rattle.gr_rollback.specs.Backs.{IsNamed, again_after, TakesBack, TakesSomeBack}
 use Rattle.gr_rollback.specs.Courses.{Holds}
 use Rattle.gr_rollback.specs.Machines.{steps_of, again_of, CanGo, Stands}
 use Rattle.gr_rollback.specs.Pasts.{Past, World, id_of, ids_of, events_in}

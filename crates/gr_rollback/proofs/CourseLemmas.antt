@@ -1,15 +1,13 @@
 -- Courses that go on, and that stay.
-use Rattle.std.proofs.Common.{◌≡◌, ℕ, ◌+◌, ◌≤◌, ◌<◌, ◌^◌, Bool, true, false, ◌||◌, List, [], ◌∷◌, ◌++◌, length, Option, Some, None, inl, inr, refl, sym, ap, subst, ◌∙◌, arith}
+use Rattle.std.proofs.Common.{◌≡◌, ℕ, ◌+◌, ◌≤◌, ◌<◌, ◌^◌, true, false, ◌||◌, List, [], ◌∷◌, ◌++◌, length, Option, Some, None, inl, inr, refl, sym, ap, subst, ◌∙◌, arith}
 use Rattle.std.specs.Prelude.{option_map}
 use Rattle.std.specs.Option.{option_map_or, option_to_list}
 use Rattle.std.proofs.lemmas.Bool.{cases_Bool}
 use Rattle.std.proofs.lemmas.List.{length_push}
 use Rattle.std.proofs.lemmas.List.Folds.{list_any-append}
-use Rattle.gr_base.specs.declared.names.ChName.{ChName}
-use Rattle.gr_base.specs.declared.events.Event.{Event}
 use Rattle.gr_causal.specs.Machine.{saved_of, IsLog}
 use Rattle.gr_causal.proofs.PathLemmas.{step_log}
-use Rattle.gr_channels.specs.Channels.{Content, CanEnter, tail_of}
+use Rattle.gr_channels.specs.Channels.{tail_of}
 use Rattle.gr_pool.specs.Goroutines as pools
 use Rattle.gr_pool.specs.Goroutines.{is_among}
 use Rattle.gr_program.specs.Programs.{Program}
@@ -32,7 +30,7 @@ use Rattle.gr_depend.specs.Logs.{records_of}
 use Rattle.gr_step.specs.Stores.{program_at, contents_at, SameListing}
 use Rattle.gr_step.specs.Stores as stores
 use Rattle.gr_step.specs.Taking.{IsRecord}
-use Rattle.gr_step.specs.Kept.{Kept, one_more, Tells}
+use Rattle.gr_step.specs.Kept.{one_more, Tells}
 use Rattle.gr_rollback.specs.declared.TheConstants.{LOG_LIMIT}
 use Rattle.gr_rollback.specs.declared.course.Course.{Course}
 use Rattle.gr_rollback.specs.Pasts.{Past}
@@ -43,7 +41,7 @@ use Rattle.gr_rollback.specs.Steps.{Keeps}
 use Rattle.gr_kept.proofs.KeptLemmas.{kept_is_run}
 use Rattle.gr_rollback.proofs.Basics.{or_left, neither}
 use Rattle.gr_rollback.proofs.KeptLemmas.{kept_length}
-use Rattle.gr_rollback.proofs.OwnLemmas.{own_is_ready, own_is_there, others_stay, met_was_there}
+use Rattle.gr_rollback.proofs.OwnLemmas.{own_is_ready, others_stay, met_was_there}
 
 -- a course of a world is one
 pub is_course : (p : Program) (w : Past p) (c : Course) → Holds p w c → IsCourse c

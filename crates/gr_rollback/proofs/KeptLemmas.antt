@@ -1,12 +1,11 @@
 -- Records that are kept: the last of them, how many they are, and the names and events of their steps.
-use Rattle.std.proofs.Common.{◌≡◌, ℕ, ◌+◌, List, [], ◌∷◌, ◌++◌, map, length, refl, sym, ap, ap₂, subst, ◌∙◌}
+use Rattle.std.proofs.Common.{◌≡◌, ◌+◌, List, [], ◌∷◌, ◌++◌, map, length, refl, sym, ap, ap₂, subst, ◌∙◌}
 use Rattle.std.proofs.lemmas.List.{length_push, map-append}
 use Rattle.gr_base.specs.declared.events.Event.{Event}
 use Rattle.gr_program.specs.Programs.{Program}
 use Rattle.gr_laws.specs.Reached.{Logged, IsRun}
 use Rattle.gr_contents.specs.Contents.{Contents}
 use Rattle.gr_step.specs.declared.record.Record.{Record}
-use Rattle.gr_step.specs.Listings.{state_in}
 use Rattle.gr_step.specs.Premises.{IsChecked, Running}
 use Rattle.gr_step.specs.Records.{event_of}
 use Rattle.gr_step.specs.Kept.{Kept, none, one_more, Tells}

@@ -17,3 +17,5 @@ mod MarkLemmas
 mod StandLemmas
 mod WalkLemmas
 mod BackLemmas
+mod DependenceLemmas
+mod AskLemmas

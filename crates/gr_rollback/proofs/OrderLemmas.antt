@@ -1,8 +1,8 @@
 -- The order of a log that names give, by its records.
-use Rattle.std.proofs.Common.{◌≡◌, suc, Bool, List, [], ◌∷◌, ◌++◌, map, length, refl, sym, ap, ap₂, subst, ◌∙◌, arith}
+use Rattle.std.proofs.Common.{◌≡◌, suc, Bool, List, [], ◌∷◌, map, length, refl, sym, ap, subst, ◌∙◌}
 use Rattle.gr_base.specs.declared.events.Event.{Event}
 use Rattle.gr_base.specs.declared.names.StepId.{StepId}
-use Rattle.gr_causal.specs.OrderByNames.{Ordered, NamesEach, FirstToChange, ordered}
+use Rattle.gr_causal.specs.OrderByNames.{Ordered, NamesEach, FirstToChange}
 use Rattle.gr_causal.specs.OrderByNames.Ordered.{accepted, other_steps, broken}
 use Rattle.gr_causal.specs.Orders.{IsOrder, Swaps, none, here, there, and}
 use Rattle.gr_causal.specs.Sequences.{In, Distinct, Rearranges}
@@ -43,7 +43,7 @@ abbrev told : Record → StepName
 told r = pair r.id
 
 -- the record is that of the step
-record IsOf (p : Program) (r : Record) (l : Logged p) : Type 0 where
+pub record IsOf (p : Program) (r : Record) (l : Logged p) : Type 0 where
   pub before : Contents
   pub after : Contents
   pub tells : Tells p before r l after
@@ -52,13 +52,13 @@ module _ (p : Program) where
   name_is : (r : Record) (l : Logged p) → IsOf p r l → told r ≡ step_name p l
   name_is r l is = λ i. (ap (λ (e : Event). e.go) (sym is.tells.event) i, sym is.tells.ordinal i)
 
-  id_is : (r : Record) (l : Logged p) → IsOf p r l → id_of p l ≡ r.id
+  pub id_is : (r : Record) (l : Logged p) → IsOf p r l → id_of p l ≡ r.id
   id_is r l is = pair_inj (id_of p l) r.id (sym (name_is r l is))
 
-  conflict_is : (a b : Record) (k l : Logged p) → IsOf p a k → IsOf p b l → conflict_of a b ≡ clash p k l
+  pub conflict_is : (a b : Record) (k l : Logged p) → IsOf p a k → IsOf p b l → conflict_of a b ≡ clash p k l
   conflict_is a b k l first second = conflicts_alike p first.before first.after second.before second.after a b k l first.tells second.tells
 
-  kept_both : (s : Contents) (records : List Record) (log : List (Logged p)) (t : Contents) → Kept p s records log t → Both (IsOf p) records log
+  pub kept_both : (s : Contents) (records : List Record) (log : List (Logged p)) (t : Contents) → Kept p s records log t → Both (IsOf p) records log
   kept_both s _ _ _ none = tt
   kept_both s _ _ _ (one_more {records} {log} {t} r l u kept tells) =
       both_push (IsOf p) records log r l (kept_both s records log t kept) (record { before = t; after = u; tells = tells })

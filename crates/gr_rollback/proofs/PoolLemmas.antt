@@ -1,6 +1,5 @@
 -- Names that are made ready or not in a pool.
-use Rattle.std.proofs.Common.{◌≡◌, ℕ, zero, suc, arith, ◌+◌, ◌<◌, Bool, true, false, ◌||◌, if◌then◌else◌, List, [], ◌∷◌, ◌++◌, length, take, inl, inr, get_or, Global, refl, ap, sym, ◌∙◌, subst}
-use Rattle.std.specs.List.{list_any}
+use Rattle.std.proofs.Common.{◌≡◌, ℕ, zero, suc, arith, ◌+◌, ◌<◌, Bool, true, false, ◌||◌, if◌then◌else◌, List, [], ◌∷◌, ◌++◌, length, take, inl, inr, get_or, refl, ap, sym, ◌∙◌, subst}
 use Rattle.std.specs.declared.cmp.Ordering.{Ordering}
 use Rattle.std.specs.declared.cmp.Ordering.TheVariants.{Less, Equal, Greater}
 use Rattle.std.proofs.lemmas.Bool.{cases_Bool}
@@ -9,13 +8,12 @@ use Rattle.std.proofs.lemmas.Map.Lookups.{exact_bytes}
 use Rattle.gr_base.specs.Names.{go_cmp}
 use Rattle.gr_rules.specs.States.{same_go}
 use Rattle.gr_laws.proofs.CellLemmas.{go_self, go_is}
-use Rattle.gr_contents.proofs.NameLemmas.{go_sym}
 use Rattle.gr_contents.specs.Contents.{Contents}
 use Rattle.gr_pool.specs.Goroutines as pools
 use Rattle.gr_pool.specs.Goroutines.{is_among, lesser, greater, with_name, without_name}
 use Rattle.gr_pool.proofs.Order.{ties_itself}
 use Rattle.gr_goros.specs.declared.undo.GoUndo.{GoUndo}
-use Rattle.gr_rollback.specs.Readiness.{IsReadyIn, IsAsIn, Settles, KnowsMore, AllKnown, Follows, names_met, others_of}
+use Rattle.gr_rollback.specs.Readiness.{IsReadyIn, IsAsIn, Settles, KnowsMore, AllKnown, names_met}
 use Rattle.gr_rollback.proofs.Basics.{or_left, or_right, true_not_false, neither}
 
 no_tie : {o : Ordering} → o ≡ Equal → o ≡ Less → ⊥

@@ -1,5 +1,5 @@
 -- A machine whose log is put in another order.
-use Rattle.std.proofs.Common.{◌≡◌, ℕ, zero, suc, ◌+◌, ◌≤◌, ◌<◌, List, [], ◌∷◌, length, reverse, map, Some, refl, sym, ap, subst, ◌∙◌, arith, Global}
+use Rattle.std.proofs.Common.{◌≡◌, ℕ, zero, suc, ◌≤◌, ◌<◌, List, [], ◌∷◌, length, reverse, map, Some, refl, sym, ap, subst, ◌∙◌, arith, Global}
 use Rattle.std.specs.Prelude.{slice_get, Vec, Err}
 use Rattle.gr_base.specs.declared.events.Event.{Event}
 use Rattle.gr_base.specs.declared.names.StepId.{StepId}
@@ -26,7 +26,7 @@ use Rattle.gr_rollback.specs.declared.refusal.BackRefused.TheVariants as refusal
 use Rattle.gr_rollback.specs.Backs.{Reorders, Reordered}
 use Rattle.gr_rollback.specs.Courses.{Holds}
 use Rattle.gr_rollback.specs.Machines.{steps_of, Stands}
-use Rattle.gr_rollback.specs.Pasts.{Past, World}
+use Rattle.gr_rollback.specs.Pasts.{World}
 use Rattle.gr_rollback.specs.Reordering.{NamesPair}
 use Rattle.gr_rollback.proofs.CourseLemmas.{stays}
 use Rattle.gr_rollback.proofs.KeptLemmas.{begins_running}

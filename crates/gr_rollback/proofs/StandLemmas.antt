@@ -1,12 +1,12 @@
 -- Machines before their first step, and after a step.
-use Rattle.std.proofs.Common.{◌≡◌, ◌+◌, ◌≤◌, ℕ, [], length, refl, sym, ap, ◌∙◌, arith}
+use Rattle.std.proofs.Common.{◌≡◌, ◌+◌, ◌≤◌, ℕ, [], refl, arith}
 use Rattle.gr_base.specs.declared.events.Event.{Event}
 use Rattle.gr_program.specs.Programs.{Program}
 use Rattle.gr_rollback.specs.declared.TheConstants.{LOG_LIMIT}
 use Rattle.gr_rollback.specs.declared.machine.Machine.{Machine}
 use Rattle.gr_rollback.specs.Courses.{Holds}
 use Rattle.gr_rollback.specs.Machines.{again_of, Stands}
-use Rattle.gr_rollback.specs.Pasts.{Past, World, first_past, first_world}
+use Rattle.gr_rollback.specs.Pasts.{Past, World}
 use Rattle.gr_rollback.specs.Steps.{Keeps, Takes}
 
 no_more : (n limit : ℕ) → n ≤ limit → n + 0 ≤ limit

@@ -1,27 +1,26 @@
 -- The course of a program before its first step.
-use Rattle.std.proofs.Common.{◌≡◌, ℕ, Bool, true, false, if◌then◌else◌, List, [], ◌∷◌, Option, Some, None, inl, inr, refl, sym, ap, subst, ◌∙◌, arith}
+use Rattle.std.proofs.Common.{◌≡◌, ℕ, true, List, [], ◌∷◌, Option, Some, None, inl, inr, refl, sym, ap, subst, ◌∙◌, arith}
 use Rattle.std.specs.Prelude.{option_map}
 use Rattle.std.proofs.lemmas.Bool.{cases_Bool}
 use Rattle.gr_pool.specs.Goroutines as pools
 use Rattle.gr_pool.specs.Goroutines.{is_among}
 use Rattle.gr_program.specs.Programs.{Program}
-use Rattle.gr_rules.specs.Goroutines.{Goroutine, Status, ready}
+use Rattle.gr_rules.specs.Goroutines.{Goroutine, ready}
 use Rattle.gr_rules.specs.States.{State, same_go, start}
-use Rattle.gr_laws.proofs.CellLemmas.{go_is, go_self}
+use Rattle.gr_laws.proofs.CellLemmas.{go_is}
 use Rattle.gr_code.specs.Goroutines.{CodeGoroutine}
 use Rattle.gr_contents.specs.Contents.{Contents, goroutine_of}
 use Rattle.gr_contents.specs.Standing.{ContentsStand}
 use Rattle.gr_lower.specs.Lowered.{lowered, meaning}
-use Rattle.gr_step.specs.declared.store.Store.{Store}
 use Rattle.gr_step.specs.Listings.{frame_in, state_in}
 use Rattle.gr_step.specs.Premises.{IsChecked}
-use Rattle.gr_step.specs.Stores.{program_at, contents_at, state_at, IsStart}
+use Rattle.gr_step.specs.Stores.{contents_at, IsStart}
 use Rattle.type_safety.proofs.CheckedRuns.{checked_begins}
 use Rattle.gr_step.specs.Kept.{none}
 use Rattle.gr_depend.specs.Logs.{records_of}
 use Rattle.gr_rollback.specs.declared.course.Course.{Course}
 use Rattle.gr_rollback.specs.Pasts.{first_past}
-use Rattle.gr_rollback.specs.Courses.{Begins, Holds}
+use Rattle.gr_rollback.specs.Courses.{Holds}
 use Rattle.gr_rollback.specs.Readiness.{IsReadyIn, HasReady}
 use Rattle.gr_rollback.proofs.Basics.{some_inj}
 

@@ -1,5 +1,5 @@
 -- Events that are no steps, and steps that the rules allow.
-use Rattle.std.proofs.Common.{◌≡◌, ℕ, Some, None, sym, ap, subst, ◌∙◌}
+use Rattle.std.proofs.Common.{◌≡◌, None, ap, subst, ◌∙◌}
 use Rattle.gr_base.specs.declared.events.Event.{Event}
 use Rattle.gr_program.specs.Programs.{Program}
 use Rattle.gr_rules.specs.Steps.{refusal}

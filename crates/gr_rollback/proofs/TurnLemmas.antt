@@ -1,16 +1,15 @@
 -- Whose turn it is, by the names in a pool.
-use Rattle.std.proofs.Common.{◌≡◌, ℕ, zero, suc, ◌+◌, ◌<◌, Bool, true, false, ◌||◌, if◌then◌else◌, List, [], ◌∷◌, ◌++◌, length, filter, Option, Some, None, inl, inr, refl, sym, ap, subst, ◌∙◌, arith}
-use Rattle.std.specs.Prelude.{option_map, slice_get, slice_index_or}
+use Rattle.std.proofs.Common.{◌≡◌, ℕ, suc, ◌<◌, Bool, true, false, ◌||◌, List, [], ◌∷◌, ◌++◌, length, Option, Some, None, inl, inr, refl, sym, ap, subst, ◌∙◌, arith}
+use Rattle.std.specs.Prelude.{slice_get, slice_index_or}
 use Rattle.std.specs.Ordering.{is_gt}
 use Rattle.std.specs.declared.cmp.Ordering.{Ordering}
 use Rattle.std.specs.declared.cmp.Ordering.TheVariants.{Less, Equal, Greater}
 use Rattle.std.proofs.lemmas.Bool.{cases_Bool}
 use Rattle.gr_base.specs.Names.{go_cmp}
-use Rattle.gr_pool.specs.Goroutines as pools
 use Rattle.gr_pool.specs.Goroutines.{is_among, IsInOrder, greater, next_name}
 use Rattle.gr_pool.proofs.Order.{less_trans, greater_back, less_back, ties_itself}
 use Rattle.gr_rules.specs.States.{State, same_go}
-use Rattle.gr_rules.specs.Turns.{IsReady, IsFirst, IsLater, HasTurn, IsTurn}
+use Rattle.gr_rules.specs.Turns.{IsReady, IsFirst, IsLater, IsTurn}
 use Rattle.gr_laws.proofs.CellLemmas.{go_is, go_self}
 use Rattle.gr_rollback.proofs.Basics.{or_left, or_right, head_same}
 

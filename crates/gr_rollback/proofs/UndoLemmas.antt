@@ -13,8 +13,8 @@ use Rattle.gr_step.specs.Conflicts.{touched_by}
 use Rattle.gr_step.specs.Kept.{Kept}
 use Rattle.gr_step.specs.Listings.{state_in}
 use Rattle.gr_step.specs.Premises.{Running}
-use Rattle.gr_step.specs.Records.{taken_back, CanGoBack}
-use Rattle.gr_step.specs.Stores.{program_at, contents_at, SameListing}
+use Rattle.gr_step.specs.Records.{CanGoBack}
+use Rattle.gr_step.specs.Stores.{contents_at, SameListing}
 use Rattle.gr_kept.proofs.KeptLemmas.{kept_is_run, runs_on}
 use Rattle.gr_kept.proofs.RecordLemmas.{no_object_twice}
 use Rattle.gr_depend.specs.Logs.{records_of}

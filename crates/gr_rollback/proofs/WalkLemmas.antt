@@ -1,5 +1,5 @@
 -- A rollback on its way: the next step is taken back or laid aside.
-use Rattle.std.proofs.Common.{◌≡◌, ℕ, zero, suc, ◌+◌, ◌≤◌, ◌<◌, Bool, true, false, List, [], ◌∷◌, ◌++◌, length, map, reverse, refl, sym, ap, subst, ◌∙◌, arith, append_assoc, append-nil}
+use Rattle.std.proofs.Common.{◌≡◌, ℕ, zero, suc, ◌+◌, ◌≤◌, ◌<◌, Bool, true, false, List, [], ◌∷◌, ◌++◌, length, reverse, refl, sym, ap, subst, ◌∙◌, arith, append_assoc, append-nil}
 use Rattle.std.proofs.Common.{Global, inl, get_or}
 use Rattle.std.specs.Prelude.{Vec, ◌-◌, Result, Ok, Err, OnOk, OnErr, vec_len, vec_capacity}
 use Rattle.gr_base.specs.declared.memory.NoMemory.{NoMemory}
@@ -8,19 +8,19 @@ use Rattle.gr_base.specs.declared.names.StepId.{StepId}
 use Rattle.std.proofs.lemmas.List.{reverse-append, length_push}
 use Rattle.gr_causal.specs.Sequences.{In, Distinct}
 use Rattle.gr_pool.specs.Goroutines.{is_among}
-use Rattle.gr_causal.proofs.ListLemmas.{In-append_left, In-append_right}
+use Rattle.gr_causal.proofs.ListLemmas.{In-append_right}
 use Rattle.gr_step.specs.declared.record.Record.{Record}
 use Rattle.gr_step.specs.Conflicts.{touched_by}
 use Rattle.gr_step.specs.Records.{event_of, taken_back, CanGoBack}
 use Rattle.gr_step.specs.Stores.{contents_at}
-use Rattle.gr_kept.specs.Back.{all_back, marked, unmarked}
+use Rattle.gr_kept.specs.Back.{unmarked}
 use Rattle.gr_depend.specs.Logs.{records_of}
 use Rattle.gr_depend.specs.Room.{CanTake}
 use Rattle.gr_rollback.specs.declared.back.Rollback.{Rollback}
 use Rattle.gr_rollback.specs.declared.course.Course.{Course}
 use Rattle.gr_rollback.specs.Readiness.{HasReady}
-use Rattle.gr_rollback.specs.Retracting.{GoesBack, LastGoesBack, SameCourse, KeepsLogRoom}
-use Rattle.gr_rollback.specs.Walks.{count_set, count_unset, HasRoomFor, IsNew, RollsBack, IsOnTheWay, Removes, GoesOn}
+use Rattle.gr_rollback.specs.Retracting.{LastGoesBack, SameCourse, KeepsLogRoom}
+use Rattle.gr_rollback.specs.Walks.{count_set, count_unset, IsNew, RollsBack, IsOnTheWay, Removes, GoesOn}
 use Rattle.gr_rollback.proofs.CourseLemmas.{ready_still, ready_after, only_these_back, OnlyThese}
 use Rattle.gr_rollback.proofs.MarkLemmas.{LastMark, last_mark, mark_there, set_at_end, unset_at_end}
 use Rattle.gr_rollback.proofs.OwnLemmas.{own_is_there}

@@ -8,7 +8,6 @@ use Rattle.gr_causal.specs.Dependence.{dependents, kept, AreTheOthers}
 use Rattle.gr_causal.specs.Machine.{IsLog}
 use Rattle.gr_causal.specs.OrderByNames.Ordered.{accepted, other_steps, broken}
 use Rattle.gr_program.specs.Programs.{Program}
-use Rattle.gr_rules.specs.States.{State}
 use Rattle.gr_rules.specs.Steps.{machine}
 use Rattle.gr_laws.specs.Dependence.{clash, StepName, ordered_by}
 use Rattle.gr_laws.specs.Reached.{Logged, IsRun}

@@ -4,6 +4,7 @@ pub mod Courses
 pub mod Machines
 pub mod Steps
 pub mod Backs
+pub mod Asking
 pub mod Retracting
 pub mod Redoing
 pub mod Reordering

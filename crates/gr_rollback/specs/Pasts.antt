@@ -1,13 +1,12 @@
 -- What is known of a program that runs: the steps that are kept, the state to which they lead, and the steps that may be done again.
 -- Lanese, Nishida, Palacios and Vidal, A theory of reversibility for Erlang (2018): a system with its history.
-use Rattle.std.specs.Prelude.{◌≡◌, ℕ, List, [], map}
+use Rattle.std.specs.Prelude.{List, [], map}
 use Rattle.gr_base.specs.declared.events.Event.{Event}
 use Rattle.gr_base.specs.declared.names.StepId.{StepId}
-use Rattle.gr_causal.specs.Machine.{IsLog}
 use Rattle.gr_program.specs.Programs.{Program}
 use Rattle.gr_rules.specs.States.{State, start}
-use Rattle.gr_rules.specs.Steps.{machine}
 use Rattle.gr_laws.specs.Reached.{Logged}
+pub use Rattle.gr_kept.specs.Pairs.{id_of}
 
 -- the steps that are kept, the oldest first, and the state to which they lead
 pub record Past (p : Program) : Type 0 where
@@ -30,9 +29,6 @@ first_world p = record { past = first_past p; again = [] }
 abbrev pub events_in : (p : Program) → List (Logged p) → List Event
 events_in p steps = map (λ r. r.event) steps
 
--- the name of a step, and the names of steps
-abbrev pub id_of : (p : Program) → Logged p → StepId
-id_of p r = record { go = r.event.go; n = r.note.kind.ordinal }
-
+-- the names of steps
 abbrev pub ids_of : (p : Program) → List (Logged p) → List StepId
 ids_of p steps = map (id_of p) steps

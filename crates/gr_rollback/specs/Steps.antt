@@ -1,7 +1,6 @@
 -- A step that is taken: it joins those that are kept, and nothing may be done again.
-use Rattle.std.specs.Prelude.{◌≡◌, ◌<◌, List, [], ◌∷◌, ◌++◌, length, Result, Ok, Err, Some, None}
+use Rattle.std.specs.Prelude.{◌≡◌, ◌<◌, [], ◌∷◌, ◌++◌, length, Result, Ok, Err, Some, None}
 use Rattle.gr_base.specs.declared.events.Event.{Event}
-use Rattle.gr_base.specs.declared.names.StepId.{StepId}
 use Rattle.gr_causal.specs.Machine.{IsLog}
 use Rattle.gr_program.specs.Programs.{Program}
 use Rattle.gr_rules.specs.Attempts as rules
@@ -13,7 +12,7 @@ use Rattle.gr_step.specs.declared.refusal.StepRefused.{StepRefused}
 use Rattle.gr_step.specs.declared.refusal.StepRefused.TheVariants as refusals
 use Rattle.gr_rollback.specs.declared.course.Course.{Course}
 use Rattle.gr_rollback.specs.declared.machine.Machine.{Machine}
-use Rattle.gr_rollback.specs.Pasts.{Past, World, id_of}
+use Rattle.gr_rollback.specs.Pasts.{Past, World}
 use Rattle.gr_rollback.specs.Courses.{Holds}
 use Rattle.gr_rollback.specs.Machines.{Stands}
 

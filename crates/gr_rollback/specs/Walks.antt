@@ -1,6 +1,5 @@
 -- A rollback on its way from the end of the log down to a place.
-use Rattle.std.specs.Prelude.{◌≡◌, ◌+◌, ◌≤◌, ℕ, Bool, true, false, not, List, [], ◌∷◌, ◌++◌, length, filter, map, reverse, vec_len, vec_capacity}
-use Rattle.gr_base.specs.declared.names.StepId.{StepId}
+use Rattle.std.specs.Prelude.{◌≡◌, ◌+◌, ◌≤◌, ℕ, Bool, true, not, List, [], ◌∷◌, ◌++◌, length, filter, map, reverse, vec_len, vec_capacity}
 use Rattle.gr_causal.specs.Sequences.{In, Distinct}
 use Rattle.gr_step.specs.declared.record.Record.{Record}
 use Rattle.gr_step.specs.Conflicts.{touched_by}

@@ -1,6 +1,7 @@
 //! A program that runs, with its steps: taken, taken back with their consequences, done again, and put in another order.
 #![tactic(auto)]
 
+mod asking;
 mod back;
 mod course;
 mod keeping;

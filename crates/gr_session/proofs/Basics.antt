@@ -1,5 +1,5 @@
 -- Facts of options and truth values.
-use Rattle.std.proofs.Common.{◌≡◌, Bool, true, false, ◌||◌, Option, Some, None, refl, ap}
+use Rattle.std.proofs.Common.{◌≡◌, Bool, true, false, ◌||◌, Some, None, refl, ap}
 
 pub some_inj : {A : Type 0} {x y : A} → Some x ≡ Some y → x ≡ y
 some_inj {A} {x} h = ap (λ o. elim o [ Some z ↦ z | None ↦ x ]) h

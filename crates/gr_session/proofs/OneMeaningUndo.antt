@@ -1,27 +1,17 @@
--- A step is taken back in one way.
-use Rattle.std.proofs.Common.{◌≡◌, List, [], ◌∷◌, ◌++◌, sym, ◌∙◌, subst}
+-- The last step is taken back in one way.
+use Rattle.std.proofs.Common.{◌≡◌, List, [], ◌∷◌, ◌++◌, sym, ◌∙◌}
 use Rattle.std.proofs.lemmas.List.{same_from_push}
-use Rattle.gr_causal.proofs.PathLemmas.{one_end}
 use Rattle.gr_program.specs.Programs.{Program}
-use Rattle.gr_rules.specs.States.{State, start}
-use Rattle.gr_rules.specs.Steps.{machine}
-use Rattle.gr_laws.specs.Reached.{Logged, IsRun}
+use Rattle.gr_laws.specs.Reached.{Logged}
+use Rattle.gr_rollback.specs.Backs.{LosesLast}
+use Rattle.gr_rollback.specs.Pasts.{Past}
+use Rattle.gr_session.proofs.OneMeaningPasts.{one_past}
 
--- a run is split at its last step in one way
-pub record SameBefore (p : Program) (old new : List (Logged p)) (s t : State) (r q : Logged p) : Type 0 where
-  pub log : old ≡ new
-  pub state : s ≡ t
-  pub last : r ≡ q
-
-pub one_before : (p : Program) (log old new : List (Logged p)) (s t : State) (r q : Logged p)
-    → log ≡ old ++ r ∷ [] → log ≡ new ++ q ∷ [] → IsRun p old s → IsRun p new t → SameBefore p old new s t r q
-one_before p log old new s t r q first second a b =
-    let same = same_from_push old new r q (sym first ∙ second) in
-    record {
-      log = same.0;
-      state = one_end (machine p) (start p) s t new (subst (λ l. IsRun p l s) same.0 a) b;
-      last = same.1;
-    }
+-- what is left is one, and the last step is one
+pub one_before : (p : Program) (w u v : Past p) (r q : Logged p) → LosesLast p w r u → LosesLast p w q v → (u ≡ v) × (r ≡ q)
+one_before p w u v r q first second =
+    let same = same_from_push u.log v.log r q (sym first.log ∙ second.log) in
+    (one_past p u v first.run second.run same.0, same.1)
 
 not_empty : {A : Type 0} (x : A) (xs : List A) → x ∷ xs ≡ [] → ⊥
 not_empty x xs e = cc

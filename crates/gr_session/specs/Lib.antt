@@ -1,5 +1,8 @@
+pub mod Targets
 pub mod Journal
-pub mod Courses
+pub mod Debuggees
+pub mod Refusing
+pub mod Turning
 pub mod Carried
 pub mod Keeps
 pub mod Source

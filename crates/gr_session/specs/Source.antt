@@ -1,5 +1,5 @@
 -- The program of a source.
-use Rattle.std.specs.Prelude.{◌≡◌, ℕ, List}
+use Rattle.std.specs.Prelude.{ℕ, List}
 use Rattle.gr_scan.specs.Tokens.{Tok}
 use Rattle.gr_scan.specs.Scan.{IsScan}
 use Rattle.gr_tree.specs.Files.{FileTree}

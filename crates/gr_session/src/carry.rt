@@ -1,42 +1,63 @@
-//! Commands carried out on a course.
+//! Commands carried out on a program under the debugger.
 
 ghost use Rattle.gr_program.specs.Programs.{Program};
 ghost use Rattle.gr_step.specs.Stores.{SameListing};
 ghost use Rattle.gr_session.specs.Journal.{World};
-ghost use Rattle.gr_session.specs.Courses.{IsCourse, Stands};
+ghost use Rattle.gr_session.specs.Debuggees.{Stands, IsDebuggee, store_in};
 ghost use Rattle.gr_session.specs.Carried.{Carries};
 
-use crate::course::Course;
+use crate::breakpoints;
+use crate::debuggee::Debuggee;
+use crate::dependence::{causes, dependents};
 use crate::journal::Memory;
+use crate::rollback::{back, order, redo, undo};
 use crate::running::run;
-use crate::stepping::{step, undo};
+use crate::stepping::step;
 use gr_base::NoMemory;
 use gr_command::{Command, Reply};
 use gr_show::{chan, console, log, show, text};
 use std::alloc::Global;
 
-/// Carries a command out, and tells how far memory allowed it. An error means that there was no memory to ask for the step, or
-/// for the answer to a query; nothing has changed then.
-pub fn carry_out(
+/// Carries a command out, and tells how far memory allowed it. An error means that there was no memory to ask for the step, to
+/// look for it, or for the answer to a query; nothing has changed then.
+pub(crate) fn carry_out(
     alloc: Global,
-    course: &mut Course,
+    debuggee: &mut Debuggee,
     command: &Command,
 ) -> Result<(Memory, Reply), NoMemory>
-    requires { IsCourse course.old }
-    ensures leads { (p : Program) → (w : World p) → Stands p w course.old → Carries p w command.now result course.new }
-    ensures listing { SameListing course.old.store course.new.store }
+    requires { IsDebuggee debuggee.old }
+    ensures leads { (p : Program) → (w : World p) → Stands p w debuggee.old → Carries p w command.now result debuggee.new }
+    ensures listing { SameListing (store_in debuggee.old) (store_in debuggee.new) }
 {
     match command {
-        Command::Step { go, case } => step(alloc, course, go, *case),
-        Command::Run { count } => Ok(run(alloc, course, *count)),
-        Command::Undo => Ok(undo(alloc, course)),
-        Command::Show(go) => Ok((Memory::Enough, show(alloc, &course.store, go)?)),
-        Command::Chan(channel) => Ok((Memory::Enough, chan(alloc, &course.store, channel)?)),
-        Command::Text(go) => Ok((Memory::Enough, text(alloc, &course.store, go)?)),
-        Command::Console => Ok((
+        Command::Step { go, case } => step(alloc, debuggee, go, *case),
+        Command::Run { count } => Ok(run(alloc, debuggee, *count)),
+        Command::Undo => Ok(undo(alloc, debuggee)),
+        Command::Back(target) => back(alloc, debuggee, target),
+        Command::Redo => Ok(redo(alloc, debuggee)),
+        Command::Order(ids) => Ok(order(alloc, debuggee, ids.as_slice())),
+        Command::Dependents(id) => dependents(alloc, debuggee, id),
+        Command::Causes(id) => causes(alloc, debuggee, id),
+        Command::Break(line) => breakpoints::set(debuggee, *line),
+        Command::Clear(line) => Ok(breakpoints::clear(debuggee, *line)),
+        Command::Show(go) => Ok((Memory::Enough, show(alloc, debuggee.machine.store(), go)?)),
+        Command::Chan(channel) => {
+            Ok((
+                Memory::Enough,
+                chan(alloc, debuggee.machine.store(), channel)?,
+            ))
+        }
+        Command::Text(go) => Ok((Memory::Enough, text(alloc, debuggee.machine.store(), go)?)),
+        Command::Console => {
+            let steps = debuggee.machine.log().as_slice();
+            Ok((
+                Memory::Enough,
+                console(alloc, debuggee.machine.store(), steps)?,
+            ))
+        }
+        Command::Log => Ok((
             Memory::Enough,
-            console(alloc, &course.store, course.log.as_slice())?,
+            log(alloc, debuggee.machine.log().as_slice())?,
         )),
-        Command::Log => Ok((Memory::Enough, log(alloc, course.log.as_slice())?)),
     }
 }

@@ -9,11 +9,12 @@ ghost use Rattle.gr_session.specs.declared.journal.Memory.{Memory};
 ghost use Rattle.gr_session.specs.declared.journal.Entry.{Entry};
 ghost use Rattle.gr_session.specs.Journal.{World, first_world, Leads, Lead, Enters};
 
-/// A legal journal has one meaning: each entry, by what it keeps of how far memory allowed it, leads from a world to one
-/// next world, with one reply. So the journal before an entry and after it fix the entry's number and its reply. The world
-/// after each entry is one of a run: its steps lead from the start of the program to its state.
+/// A legal journal has one meaning: in a world of a run each entry, by what it keeps of how far memory allowed it, leads to one
+/// next world, with one reply; and that is again one of a run: its steps lead from the start of the program to its state. So the
+/// journal fixes its world, and the journal before an entry and after it fix the entry's number and its reply.
 pub fn law_of_journals()
     ensures next { (p : Program) (w u v : World p) (command : Command) (memory : Memory) (a b : Said)
+        → IsRun p w.log w.state
         → Leads p w command memory u a → Leads p w command memory v b
         → (u ≡ v) × (a ≡ b) }
     ensures runs { (p : Program) (w u : World p) (command : Command) (memory : Memory) (a : Said)

@@ -1,24 +1,25 @@
-//! A session: a program, its course so far, and the journal of what was asked.
+//! A session: a program under the debugger, and the journal of what was asked.
 #![tactic(auto)]
 
+mod breakpoints;
 mod carry;
-pub mod course;
+mod debuggee;
+mod dependence;
 pub mod journal;
 pub mod laws;
 pub mod open;
-mod readiness;
+mod refusing;
+mod rollback;
 mod running;
 pub mod session;
 mod stepping;
+mod targets;
 
 pub use gr_command::{Command, Refusal, Reply};
 pub use gr_scan::position::Position;
 pub use journal::{AskRefused, DeskId, EnrolRefused, Entry, Memory, Receipt};
 pub use open::OpenError;
 pub use session::Session;
-
-/// The most steps that a log keeps.
-pub const LOG_LIMIT: usize = 1_000_000;
 
 /// The most entries that a journal keeps.
 pub const JOURNAL_LIMIT: usize = 2_000_000;

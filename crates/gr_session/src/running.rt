@@ -1,43 +1,34 @@
 //! Steps by turns.
 
-ghost use Rattle.std.specs.Prelude.{◌≡◌, IfOk, IfErr, OnOk, option_copied};
+ghost use Rattle.std.specs.Prelude.{◌≡◌, IfOk, IfErr, OnOk};
 ghost use Rattle.gr_program.specs.Programs.{Program};
 ghost use Rattle.gr_rules.specs.Tells.{usual_choice};
-ghost use Rattle.gr_rules.specs.Turns.{IsTurn, last_owner};
 ghost use Rattle.gr_command.specs.Replies.{said_of};
 ghost use Rattle.gr_command.specs.declared.command.Command.TheVariants as commands;
 ghost use Rattle.gr_step.specs.Stores.{program_at, state_at, IsRun, SameListing};
 ghost use Rattle.gr_session.specs.Journal.{World};
-ghost use Rattle.gr_session.specs.Courses.{IsCourse, Stands};
-ghost use Rattle.gr_session.specs.Carried.{HasTurn, Ends, Turns, LeadsTo, memory_at};
+ghost use Rattle.gr_session.specs.Debuggees.{Stands, IsDebuggee, store_in};
+ghost use Rattle.gr_session.specs.Turning.{HasTurn, Ends, Turns, memory_at};
+ghost use Rattle.gr_session.specs.Carried.{LeadsTo};
 
-use crate::LOG_LIMIT;
-use crate::course::Course;
+use crate::breakpoints::breakpoint_at;
+use crate::debuggee::Debuggee;
 use crate::journal::Memory;
-use crate::stepping::keep_step;
 use gr_base::{Event, GoName, NoMemory};
 use gr_command::{Reply, RunEnd};
+use gr_rollback::LOG_LIMIT;
 use gr_step::{Run, Store};
 use std::alloc::Global;
 
-// Whose turn it is: the first ready goroutine after that of the last step, in the order of names, else the first of all.
-fn whose_turn(course: &Course) -> Option<&GoName>
-    ensures { (p : Program) → (w : World p) → Stands p w course.now → IsTurn w.state (last_owner p w.log) (option_copied result) }
-{
-    let Some(record) = course.log.last() else {
-        return course.pool.next_after(&course.first);
-    };
-    course.pool.next_after(&record.id.go)
-}
-
 // The goroutine whose turn it is, or else why no more steps are taken: the first reason that holds, in the order of `RunEnd`.
-fn next_turn(course: &Course, wanted: u64, taken: u64) -> Result<&GoName, RunEnd>
-    ensures turn { (p : Program) → (w : World p) → Stands p w course.now → IfOk result (λ go. HasTurn p w wanted taken go.now) }
-    ensures end { (p : Program) → (w : World p) → Stands p w course.now → IfErr result (Ends p w wanted taken) }
+fn next_turn(debuggee: &Debuggee, wanted: u64, taken: u64) -> Result<&GoName, RunEnd>
+    requires { IsDebuggee debuggee.now }
+    ensures turn { (p : Program) → (w : World p) → Stands p w debuggee.now → IfOk result (λ go. HasTurn p w wanted taken go.now) }
+    ensures end { (p : Program) → (w : World p) → Stands p w debuggee.now → IfErr result (Ends p w wanted taken) }
     ensures more { OnOk result (¬ (taken ≡ wanted)) }
 {
-    let turn = whose_turn(course);
-    match course.store.run() {
+    let turn = debuggee.machine.next_turn();
+    match debuggee.machine.store().run() {
         Run::Live => {}
         Run::Ended => return Err(RunEnd::Ended),
         Run::Faulted(fault) => return Err(RunEnd::Fault(fault)),
@@ -48,10 +39,16 @@ fn next_turn(course: &Course, wanted: u64, taken: u64) -> Result<&GoName, RunEnd
     let Some(go) = turn else {
         return Err(RunEnd::Stuck);
     };
-    if course.log.len() >= LOG_LIMIT {
+    if debuggee.machine.log().len() >= LOG_LIMIT {
         return Err(RunEnd::Full);
     }
-    Ok(go)
+    if taken == 0 {
+        return Ok(go);
+    }
+    match breakpoint_at(debuggee, go) {
+        None => Ok(go),
+        Some(line) => Err(RunEnd::Break(line)),
+    }
 }
 
 // The step of a goroutine with its usual choice.
@@ -65,18 +62,18 @@ fn usual_event(alloc: Global, store: &Store, go: &GoName) -> Result<Event, NoMem
 }
 
 // Takes the next step by turns, where so many are wanted and so many were taken. Refused, nothing has changed.
-fn take_turn(alloc: Global, course: &mut Course, wanted: u64, taken: u64) -> Result<(), RunEnd>
-    requires { IsCourse course.old }
+fn take_turn(alloc: Global, debuggee: &mut Debuggee, wanted: u64, taken: u64) -> Result<(), RunEnd>
+    requires { IsDebuggee debuggee.old }
     ensures more { OnOk result (¬ (taken ≡ wanted)) }
-    ensures turns { (p : Program) → (w : World p) → Stands p w course.old → Turns p w wanted taken result course.new }
-    ensures listing { SameListing course.old.store course.new.store }
+    ensures turns { (p : Program) → (w : World p) → Stands p w debuggee.old → Turns p w wanted taken result debuggee.new }
+    ensures listing { SameListing (store_in debuggee.old) (store_in debuggee.new) }
 {
-    let go = next_turn(course, wanted, taken)?;
-    let Ok(event) = usual_event(alloc, &course.store, go) else {
+    let go = next_turn(debuggee, wanted, taken)?;
+    let Ok(event) = usual_event(alloc, debuggee.machine.store(), go) else {
         return Err(RunEnd::Memory);
     };
-    match keep_step(course, event) {
-        Ok(_) => Ok(()),
+    match debuggee.machine.step(event) {
+        Ok(()) => Ok(()),
         Err(_) => Err(RunEnd::Memory),
     }
 }
@@ -93,15 +90,16 @@ fn ran(steps: u64, end: RunEnd) -> (Memory, Reply)
 }
 
 /// Takes up to so many steps by turns.
-pub fn run(alloc: Global, course: &mut Course, count: u32) -> (Memory, Reply)
-    requires { IsCourse course.old }
-    ensures leads { (p : Program) → (w : World p) → Stands p w course.old → LeadsTo p w (commands.Run count) result.0 (said_of result.1) course.new }
-    ensures listing { SameListing course.old.store course.new.store }
+pub(crate) fn run(alloc: Global, debuggee: &mut Debuggee, count: u32) -> (Memory, Reply)
+    requires { IsDebuggee debuggee.old }
+    ensures leads { (p : Program) → (w : World p) → Stands p w debuggee.old
+        → LeadsTo p w (commands.Run count) result.0 (said_of result.1) debuggee.new }
+    ensures listing { SameListing (store_in debuggee.old) (store_in debuggee.new) }
 {
     let wanted = u64::from(count);
     let mut taken: u64 = 0;
     loop {
-        match take_turn(alloc, course, wanted, taken) {
+        match take_turn(alloc, debuggee, wanted, taken) {
             Ok(()) => taken += 1,
             Err(end) => return ran(taken, end),
         }

@@ -1,4 +1,4 @@
-//! Sessions: what a program did so far, asked of under one journal.
+//! Sessions: a program under the debugger, asked of under one journal.
 
 ghost use Rattle.std.specs.Prelude.{◌≡◌, ◌↔◌, ◌+◌, ◌≤◌, [], length, IfOk, OnOk, OnErr, IsErrOf};
 ghost use Rattle.gr_program.specs.Views.{program_of};
@@ -7,7 +7,7 @@ ghost use Rattle.gr_session.specs.Journal.{Enters, IsLegal};
 ghost use Rattle.gr_step.specs.Premises.{IsChecked};
 
 use crate::carry::carry_out;
-use crate::course::Course;
+use crate::debuggee::Debuggee;
 use crate::journal::{AskRefused, DeskId, EnrolRefused, Entry, Receipt};
 use crate::{ASKER_LIMIT, JOURNAL_LIMIT};
 use gr_base::NoMemory;
@@ -16,11 +16,10 @@ use gr_program::program::Program;
 use std::alloc::Global;
 use std::marker::Model;
 
-/// A program, its course so far, and the journal of what was asked. The journal is legal, and the course is the one that it
-/// means.
+/// A program under the debugger, and the journal of what was asked. The journal is legal, and the program stands where it means.
 #[derive(Drop)]
 pub struct Session {
-    course: Course,
+    debuggee: Debuggee,
     journal: Vec<Entry>,
     askers: u32,
 }
@@ -30,15 +29,16 @@ impl Model for Session {
     ghost use Rattle.gr_program.specs.contracts.program.Stmt as stmt;
     ghost use Rattle.gr_program.specs.contracts.types.Type as types;
     ghost use Rattle.std.specs.Coded.{codes};
+    ghost use Rattle.gr_session.specs.Debuggees.{store_in};
     ghost use Rattle.gr_session.specs.Keeps.{Seen, Keeps, program_held};
 
     ghost Value = { Seen };
 
     ghost coded = { Prim.hlevel (codes, expr.the_row.coded, stmt.the_row.coded, types.the_row.coded) };
 
-    ghost view = { λ s. record { program = program_held s.course.store; journal = s.journal.items; askers = s.askers } };
+    ghost view = { λ s. record { program = program_held (store_in s.debuggee); journal = s.journal.items; askers = s.askers } };
 
-    ghost invariant = { λ s. Keeps s.course s.journal.items s.askers };
+    ghost invariant = { λ s. Keeps s.debuggee s.journal.items s.askers };
 }
 
 impl Session {
@@ -49,9 +49,9 @@ impl Session {
         ensures journal { IfOk result (λ s. s.journal ≡ []) }
         ensures askers { IfOk result (λ s. s.askers ≡ 0) }
     {
-        let course = Course::start(alloc, program)?;
+        let debuggee = Debuggee::start(alloc, program)?;
         Ok(Session {
-            course,
+            debuggee,
             journal: Vec::new(alloc),
             askers: 0,
         })
@@ -102,7 +102,7 @@ impl Session {
         if self.journal.reserve(1).is_err() {
             return Err(AskRefused::NoMemory);
         }
-        match carry_out(alloc, &mut self.course, &command) {
+        match carry_out(alloc, &mut self.debuggee, &command) {
             Err(NoMemory) => {
                 drop(command);
                 Err(AskRefused::NoMemory)

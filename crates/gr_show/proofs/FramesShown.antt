@@ -12,6 +12,7 @@ use Rattle.gr_program.specs.Views.{function_of, functions_of, program_of}
 use Rattle.gr_rules.specs.Goroutines.{Status}
 use Rattle.gr_rules.specs.Tells.{FrameShown, GoroutineShown, holding, frame_shown, next_line, shown}
 use Rattle.gr_rules.specs.Tells as tells
+use Rattle.gr_rules.specs.Turns.{line_of as line_of_next}
 use Rattle.gr_code.specs.Code.{Meanings}
 use Rattle.gr_code.specs.CodeFrames.{ProgramCode, CodeFrame}
 use Rattle.gr_code.specs.Goroutines.{CodeGoroutine, line_of}
@@ -139,3 +140,11 @@ pub text_answer : (p : Program) (s : Contents) (n : List ℕ) (g : CodeGoroutine
     → text ≡ g.text → said.Lines lines ≡ text_said ((state_in p s).goroutines n)
 text_answer p s n g lines text there copied is =
     ap said.Lines (copied ∙ is) ∙ ap (λ o. text_said (option_map (goroutine_of (frame_in p)) o)) there
+
+-- the line of the next statement of the goroutine of a name
+pub next_line_is : (p : Program) (code : ProgramCode) (s : Contents) (go : List ℕ) (g : CodeGoroutine) (at : Option ℕ)
+    → IsChecked p → code ≡ lowered p → AllStand (meaning p) (lowered p) g.frames → s.goroutines go ≡ Some g
+    → at ≡ option_and_then (line_of code) (slice_get g.frames 0) → at ≡ line_of_next ((state_in p s).goroutines go)
+next_line_is p code s go g at checked coded stand there is =
+    is ∙ ap (λ c. option_and_then (line_of c) (slice_get g.frames 0)) coded ∙ line_is p checked g.frames stand
+    ∙ sym (ap (λ o. line_of_next (option_map (goroutine_of (frame_in p)) o)) there)

@@ -11,7 +11,8 @@ use Rattle.gr_contents.specs.Contents.{Contents}
 use Rattle.gr_step.specs.declared.record.Record.{Record}
 use Rattle.gr_step.specs.Listings.{state_in}
 use Rattle.gr_step.specs.Kept.{Kept, none, one_more, Tells}
-use Rattle.gr_show.specs.Said.{id_of, step_kind}
+use Rattle.gr_kept.specs.Pairs.{id_of}
+use Rattle.gr_show.specs.Said.{step_kind}
 use Rattle.gr_show.proofs.Copying.{map_last}
 
 -- a step with its kind, as a record and as a log tells it

@@ -2,7 +2,6 @@
 use Rattle.std.specs.Prelude.{ℕ, List, map, Option, Some, None}
 use Rattle.gr_base.specs.declared.kinds.Kind.{Kind}
 use Rattle.gr_base.specs.declared.names.ChName.{ChName}
-use Rattle.gr_base.specs.declared.names.StepId.{StepId}
 use Rattle.gr_channels.specs.Objects.{GateContent}
 use Rattle.gr_program.specs.Programs.{Program}
 use Rattle.gr_rules.specs.Attempts.{kind_of}
@@ -14,11 +13,9 @@ use Rattle.gr_command.specs.declared.refusal.Refusal.TheVariants as refusals
 use Rattle.gr_command.specs.Replies.{Said, told}
 use Rattle.gr_command.specs.Replies as said
 use Rattle.gr_step.specs.declared.record.Record.{Record}
+use Rattle.gr_kept.specs.Pairs.{id_of}
 
--- the name of a step, and its kind
-abbrev pub id_of : (p : Program) → Logged p → StepId
-id_of p l = record { go = l.event.go; n = l.note.kind.ordinal }
-
+-- the kind of a step
 abbrev pub step_kind : (p : Program) → Logged p → Kind
 step_kind p l = kind_of l.note.kind
 

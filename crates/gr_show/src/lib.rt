@@ -5,5 +5,5 @@
 pub mod showing;
 pub mod telling;
 
-pub use showing::{chan, show, text};
+pub use showing::{chan, next_line, show, text};
 pub use telling::{console, log};

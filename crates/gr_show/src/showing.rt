@@ -4,6 +4,7 @@ ghost use Rattle.std.specs.Prelude.{◌≡◌, map, slice_get, option_and_then, 
 ghost use Rattle.gr_program.specs.TypeViews.{declared_of};
 ghost use Rattle.gr_program.specs.Views.{program_of};
 ghost use Rattle.gr_rules.specs.Tells.{holding, shown};
+ghost use Rattle.gr_rules.specs.Turns.{line_of as line_of_next};
 ghost use Rattle.gr_code.specs.CodeViews.{program_code_of};
 ghost use Rattle.gr_code.specs.Goroutines.{line_of};
 ghost use Rattle.gr_code.specs.Programs.{Stands};
@@ -69,6 +70,16 @@ pub fn text(alloc: Global, store: &Store, go: &GoName) -> Result<Reply, NoMemory
     };
     let lines = lines_shown(alloc, goroutine.text())?;
     Ok(Reply::Lines(lines))
+}
+
+/// The line on which the statement of a goroutine's next step begins. There is none where there is no such goroutine, or it is
+/// done.
+pub fn next_line(store: &Store, go: &GoName) -> Option<usize>
+    requires { IsRun store.now }
+    ensures { result ≡ line_of_next ((state_at store.now).goroutines go.now) }
+{
+    let goroutine = store.goroutine(go)?;
+    line_shown(store.code(), goroutine)
 }
 
 /// A goroutine of this name, as it is shown.

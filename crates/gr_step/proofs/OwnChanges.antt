@@ -38,7 +38,7 @@ acting_at p e number o a P so =
 pub no_frame : (u : GoUndo) (a b : CodeGoroutine) → undone u b ≡ a → length b.frames ≡ length a.frames → need u ≡ 0
 no_frame (undos.Went u) a b back same = refl
 no_frame (undos.Printed n) a b back same = refl
-no_frame undos.Entered a b back same = refl
+no_frame (undos.Entered x) a b back same = refl
 no_frame (undos.Left l) a b back same = absurd (more b.frames (ap (λ g. length g.frames) back ∙ sym same))
   where
     more : (fs : List CodeFrame) → length (l.value.frame ∷ on_innermost (frame_before l.value.caller) fs) ≡ length fs → ⊥
@@ -47,9 +47,9 @@ no_frame (undos.Left l) a b back same = absurd (more b.frames (ap (λ g. length 
 no_frame (undos.Made u) a b back same = refl
 no_frame (undos.Began n) a b back same = refl
 no_frame (undos.Met m) a b back same = refl
-no_frame undos.Parked a b back same = refl
+no_frame (undos.Parked x) a b back same = refl
 no_frame (undos.Finished f) a b back same = refl
-no_frame undos.Faulted a b back same = refl
+no_frame (undos.Faulted x) a b back same = refl
 no_frame (undos.Retried s) a b back same = refl
 
 pub frames_stay : (n : List ℕ) (c : Change) → NeedNoFrame (goroutines_changed n c) → FramesStay n c

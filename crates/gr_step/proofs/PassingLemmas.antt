@@ -68,7 +68,7 @@ innermost_count change (f ∷ below) = refl
 pub needs_none : (u : GoUndo) (g after : CodeGoroutine) → undone u after ≡ g → length after.frames ≡ length g.frames → need u ≡ 0
 needs_none (undos.Went u) g after back count = refl
 needs_none (undos.Printed n) g after back count = refl
-needs_none undos.Entered g after back count = refl
+needs_none (undos.Entered x) g after back count = refl
 needs_none (undos.Left l) g after back count =
     let longer = ap (λ (h : CodeGoroutine). length h.frames) back in
     let same = innermost_count (frame_before l.value.caller) after.frames in
@@ -76,9 +76,9 @@ needs_none (undos.Left l) g after back count =
 needs_none (undos.Made u) g after back count = refl
 needs_none (undos.Began n) g after back count = refl
 needs_none (undos.Met m) g after back count = refl
-needs_none undos.Parked g after back count = refl
+needs_none (undos.Parked x) g after back count = refl
 needs_none (undos.Finished f) g after back count = refl
-needs_none undos.Faulted g after back count = refl
+needs_none (undos.Faulted x) g after back count = refl
 needs_none (undos.Retried s) g after back count = refl
 
 -- these changes lead from the first goroutines to the second, and no frame has to come back

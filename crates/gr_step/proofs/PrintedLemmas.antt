@@ -18,14 +18,14 @@ module _ (a b : CodeGoroutine) where
   not_printed (undos.Went u) back fits text = refl
   not_printed (undos.Printed n) back fits text =
       absurd (let more = one_more a.text b.text (ap (λ g. g.text) back) fits.2 in omega (arith, more, ap length text))
-  not_printed undos.Entered back fits text = refl
+  not_printed (undos.Entered x) back fits text = refl
   not_printed (undos.Left l) back fits text = refl
   not_printed (undos.Made u) back fits text = refl
   not_printed (undos.Began n) back fits text = refl
   not_printed (undos.Met m) back fits text = refl
-  not_printed undos.Parked back fits text = refl
+  not_printed (undos.Parked x) back fits text = refl
   not_printed (undos.Finished f) back fits text = refl
-  not_printed undos.Faulted back fits text = refl
+  not_printed (undos.Faulted x) back fits text = refl
   not_printed (undos.Retried s) back fits text = refl
 
   -- where a line came to the text, it was printed
@@ -35,12 +35,12 @@ module _ (a b : CodeGoroutine) where
   pub printed : (u : GoUndo) (line : List ℕ) → undone u b ≡ a → b.text ≡ a.text ++ line ∷ [] → is_printed u ≡ true
   printed (undos.Went u) line back text = absurd (same line text (ap (λ g. g.text) back))
   printed (undos.Printed n) line back text = refl
-  printed undos.Entered line back text = absurd (same line text (ap (λ g. g.text) back))
+  printed (undos.Entered x) line back text = absurd (same line text (ap (λ g. g.text) back))
   printed (undos.Left l) line back text = absurd (same line text (ap (λ g. g.text) back))
   printed (undos.Made u) line back text = absurd (same line text (ap (λ g. g.text) back))
   printed (undos.Began n) line back text = absurd (same line text (ap (λ g. g.text) back))
   printed (undos.Met m) line back text = absurd (same line text (ap (λ g. g.text) back))
-  printed undos.Parked line back text = absurd (same line text (ap (λ g. g.text) back))
+  printed (undos.Parked x) line back text = absurd (same line text (ap (λ g. g.text) back))
   printed (undos.Finished f) line back text = absurd (same line text (ap (λ g. g.text) back))
-  printed undos.Faulted line back text = absurd (same line text (ap (λ g. g.text) back))
+  printed (undos.Faulted x) line back text = absurd (same line text (ap (λ g. g.text) back))
   printed (undos.Retried s) line back text = absurd (same line text (ap (λ g. g.text) back))

@@ -17,3 +17,7 @@ returns-clause-channels c = refl
 pub returns-clause-rows : goal.returns-clause-rows
 unfolding digits
 returns-clause-rows c = refl
+
+pub returns-clause-steps : goal.returns-clause-steps
+unfolding digits
+returns-clause-steps c = refl

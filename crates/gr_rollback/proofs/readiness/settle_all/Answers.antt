@@ -1,6 +1,6 @@
 use Rattle.std.proofs.Common.{ap, ◌∙◌}
 use Rattle.gr_pool.specs.Goroutines.{is_among}
-use Rattle.gr_rollback.proofs.PoolLemmas.{settles_none, settles_more, among_here}
+use Rattle.gr_rollback.proofs.PoolLemmas.{among_here}
 use Rattle.gr_rollback.proofs.readiness.settle_all.Goals as goal
 
 pub settle-requires : goal.settle-requires

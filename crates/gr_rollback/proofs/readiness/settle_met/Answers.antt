@@ -2,7 +2,7 @@ use Rattle.std.proofs.Common.{ap, ◌∙◌}
 use Rattle.gr_pool.specs.Goroutines.{is_among}
 use Rattle.gr_step.specs.Stores.{contents_at}
 use Rattle.gr_rollback.specs.Readiness.{names_met}
-use Rattle.gr_rollback.proofs.PoolLemmas.{settles_none, settles_more, among_here, met_here}
+use Rattle.gr_rollback.proofs.PoolLemmas.{settles_more, among_here, met_here}
 use Rattle.gr_rollback.proofs.readiness.settle_met.Goals as goal
 
 pub settle-requires : goal.settle-requires

@@ -1,6 +1,8 @@
 use Rattle.std.proofs.Common.{refl}
 use Rattle.gr_session.specs.Journal.{first_world}
-use Rattle.gr_session.proofs.OneMeaningJournals.{one_next, next_of_run, one_world, all_of_runs, one_receipt}
+use Rattle.gr_session.proofs.OneMeaningNext.{one_next}
+use Rattle.gr_session.proofs.OneMeaningJournals.{one_world, all_of_runs, one_receipt}
+use Rattle.gr_session.proofs.ReachedWorlds.{next_of_run}
 use Rattle.gr_session.proofs.laws.law_of_journals.Goals as goal
 
 pub returns-clause-next : goal.returns-clause-next
@@ -10,7 +12,7 @@ pub returns-clause-runs : goal.returns-clause-runs
 returns-clause-runs c p w u command memory a = next_of_run p w u command memory a
 
 pub returns-clause-whole : goal.returns-clause-whole
-returns-clause-whole c p journal u v = one_world p (first_world p) u v journal journal refl
+returns-clause-whole c p journal u v = one_world p (first_world p) u v journal journal refl refl
 
 pub returns-clause-reached : goal.returns-clause-reached
 returns-clause-reached c p journal u = all_of_runs p (first_world p) u journal refl

@@ -1,4 +1,3 @@
-use Rattle.std.proofs.Common.{◌≡◌}
 use Rattle.gr_session.proofs.Sources.{scan_refused, parse_refused}
 use Rattle.gr_session.proofs.open.read_file.Goals as goal
 

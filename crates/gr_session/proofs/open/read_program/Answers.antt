@@ -1,4 +1,3 @@
-use Rattle.std.proofs.Common.{◌≡◌}
 use Rattle.gr_session.proofs.Sources.{check_refused}
 use Rattle.gr_session.proofs.open.read_program.Goals as goal
 

@@ -1,8 +1,8 @@
-use Rattle.std.proofs.Common.{◌≡◌, ◌≤◌, ◌-◌}
+use Rattle.std.proofs.Common.{◌≤◌, ◌-◌}
 use Rattle.gr_program.specs.Programs.{Program}
 use Rattle.gr_step.specs.Stores.{SameListing}
 use Rattle.gr_session.specs.Journal.{World}
-use Rattle.gr_session.specs.Courses.{IsCourse, Stands}
+use Rattle.gr_session.specs.Debuggees.{IsDebuggee, Stands, store_in}
 use Rattle.gr_session.proofs.RunLemmas.{HasGone}
 use Rattle.gr_session.proofs.running.run.Given as goal
 
@@ -10,9 +10,9 @@ use Rattle.gr_session.proofs.running.run.Given as goal
 abbrev pub invariant-loop-taken : goal.invariant-loop-taken
 invariant-loop-taken l = record {
   few : l.taken ≤ l.count;
-  course : IsCourse l.course;
-  gone : (p : Program) (w : World p) → Stands p w l.fn.course → HasGone p w l.taken l.course;
-  listing : SameListing l.fn.course.store l.course.store;
+  debuggee : IsDebuggee l.debuggee;
+  gone : (p : Program) (w : World p) → Stands p w l.fn.debuggee → HasGone p w l.taken l.debuggee;
+  listing : SameListing (store_in l.fn.debuggee) (store_in l.debuggee);
 }
 
 abbrev pub decreases-loop-taken : goal.decreases-loop-taken

@@ -1,46 +1,24 @@
-use Rattle.std.proofs.Common.{◌∷◌, ◌++◌, [], refl, ◌∙◌, ap, subst}
-use Rattle.gr_step.specs.Stores.{contents_at}
-use Rattle.gr_session.specs.Courses.{IsNoStep}
-use Rattle.gr_session.proofs.CourseLemmas.{can_count, stays, joins, own_in_pool, met_in_pool}
-use Rattle.gr_session.proofs.StepLemmas.{record_is_allowed}
+use Rattle.std.proofs.Common.{refl, []}
+use Rattle.gr_step.specs.Stores.{program_at}
+use Rattle.gr_session.specs.Journal.{course_of}
+use Rattle.gr_session.specs.Debuggees.{Stands, store_in}
+use Rattle.gr_session.proofs.StepLemmas.{took_step, is_some_step}
 use Rattle.gr_session.proofs.stepping.keep_step.Goals as goal
 
-pub step-requires-clause-counted : goal.step-requires-clause-counted
-step-requires-clause-counted c = can_count _ c.requires.world c.args.course.now c.requires.stands
-
-pub prepare-prepared-requires-clause-known : goal.prepare-prepared-requires-clause-known
-prepare-prepared-requires-clause-known c =
-    (own_in_pool _ c.requires.world c.args.course.now c.requires.stands c.in-Ok.record (contents_at c.step.new.self) c.in-Ok.ensures.step).0
-
-pub prepare-prepared-requires-clause-was_ready : goal.prepare-prepared-requires-clause-was_ready
-prepare-prepared-requires-clause-was_ready c =
-    (own_in_pool _ c.requires.world c.args.course.now c.requires.stands c.in-Ok.record (contents_at c.step.new.self) c.in-Ok.ensures.step).1
-
-pub prepare-prepared-requires-clause-met : goal.prepare-prepared-requires-clause-met
-prepare-prepared-requires-clause-met c =
-    met_in_pool _ c.requires.world c.args.course.now c.requires.stands c.in-Ok.record (contents_at c.step.new.self) c.in-Ok.ensures.step
-
-pub returns-in_default-clause-takes : goal.returns-in_default-clause-takes
-returns-in_default-clause-takes c = λ p w s.
-    let stands = stays p w c.args.course.now _ s (record {
-      store = record { listing = c.withdraw.ensures.listing ∙ c.in-Ok.ensures.listing; contents = c.withdraw.ensures.back ∙ c.in-Ok.ensures.step.takes.back };
-      log = c.in_default.ensures.log;
-      more = c.in_default.ensures.more;
-      ready = c.in_default.ensures.ready;
-      first = refl;
-    }) in
-    let allowed = record_is_allowed p w c.args.course.now c.in-Ok.record (contents_at c.step.new.self) s c.in-Ok.ensures.step in
-    (subst (λ e. IsNoStep p w e c.unkept.result) c.in-Ok.ensures.event (c.unkept.ensures _ p w stands allowed), stands)
+pub returns-in-Err-clause-takes : goal.returns-in-Err-clause-takes
+returns-in-Err-clause-takes c = λ p w s.
+    let none = c.in-Err.ensures.taken p (course_of p w) s.machine in
+    let stands : Stands p w (record { machine = c.step.new.self; lines = c.args.debuggee.now.lines }) = record { machine = none.1; lines = s.lines } in
+    (c.told.ensures p w c.args.event stands none.0, stands)
 
 pub returns-clause-takes : goal.returns-clause-takes
 returns-clause-takes c = λ p w s.
-    rw (← c.in-Ok.ensures.event)
-    (joins p w c.args.course.now _ c.in-Ok.record s (record {
-      is = c.in-Ok.ensures.step;
-      run = c.in-Ok.ensures.run;
-      listing = c.in-Ok.ensures.listing;
-      follows = c.in-Ok-prepared.ensures.follows;
-      log = c.push_reserved.ensures.items ∙ ap (λ xs. xs ++ c.in-Ok.record ∷ []) c.in-Ok-prepared.ensures.log;
-      short = c.in-Ok-prepared.ensures.short;
-      first = refl;
-    }))
+    let takes = c.in_default.ensures.taken p (course_of p w) s.machine in
+    took_step p w _ takes.step takes.state [] (record { machine = takes.stands; lines = s.lines }) c.args.event c.in-Some.step.now takes.joins refl
+    (rw c.log.ensures at c.in-Some.ensures)
+
+pub unreachable-requires : goal.unreachable-requires
+unreachable-requires c =
+    let takes = c.in_default.ensures.taken (program_at (store_in c.args.debuggee.now)) (course_of _ c.requires.world) c.requires.stands.machine in
+    is_some_step (program_at (store_in c.args.debuggee.now)) c.requires.world (record { machine = c.step.new.self; lines = c.args.debuggee.now.lines })
+    takes.step takes.state [] (record { machine = takes.stands; lines = c.requires.stands.lines }) (rw c.log.ensures at c.in-None.ensures)

@@ -1,4 +1,4 @@
-use Rattle.std.proofs.Common.{◌≡◌, sym, subst}
+use Rattle.std.proofs.Common.{sym, subst}
 use Rattle.gr_rules.specs.Turns.{IsTurn, last_owner}
 use Rattle.gr_depend.specs.Logs.{records_of}
 use Rattle.gr_rollback.proofs.Basics.{last_item, no_item}

@@ -1,4 +1,4 @@
-use Rattle.std.proofs.Common.{◌≡◌, [], reverse, refl, ap}
+use Rattle.std.proofs.Common.{reverse, ap}
 use Rattle.gr_program.specs.Views.{program_of}
 use Rattle.gr_rollback.proofs.StandLemmas.{stands_alone}
 use Rattle.gr_rollback.specs.Pasts.{first_past}

@@ -1,4 +1,4 @@
-use Rattle.std.proofs.Common.{◌≡◌, reverse, refl, ap, ◌∙◌}
+use Rattle.std.proofs.Common.{reverse, refl, ap}
 use Rattle.std.proofs.lemmas.Result.{err_from_is_err_and}
 use Rattle.gr_rollback.proofs.RedoLemmas.{stands_still}
 use Rattle.gr_rollback.proofs.StandLemmas.{takes}

@@ -1,4 +1,4 @@
-use Rattle.std.proofs.Common.{◌≡◌, ◌+◌, ◌≤◌, vec_len, vec_capacity}
+use Rattle.std.proofs.Common.{◌+◌, ◌≤◌, vec_len, vec_capacity}
 use Rattle.gr_program.specs.Programs.{Program}
 use Rattle.gr_step.specs.Stores.{SameListing}
 use Rattle.gr_rollback.specs.Pasts.{World}

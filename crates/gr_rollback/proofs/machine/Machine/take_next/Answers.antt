@@ -1,4 +1,4 @@
-use Rattle.std.proofs.Common.{◌≡◌, reverse, refl, sym, ap, subst, ◌∙◌}
+use Rattle.std.proofs.Common.{reverse, refl, sym, ap, subst, ◌∙◌}
 use Rattle.gr_base.specs.declared.events.Event.{Event}
 use Rattle.gr_depend.specs.Logs.{records_of}
 use Rattle.gr_rollback.specs.Steps.{IsNoStep, Keeps}

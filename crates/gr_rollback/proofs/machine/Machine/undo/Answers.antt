@@ -1,5 +1,4 @@
-use Rattle.std.proofs.Common.{◌≡◌, [], reverse, sym, ap, ◌∙◌, rules}
-use Rattle.gr_base.specs.declared.names.StepId.{StepId}
+use Rattle.std.proofs.Common.{reverse, ap, ◌∙◌, rules}
 use Rattle.gr_depend.specs.Logs.{records_of}
 use Rattle.gr_rollback.proofs.Basics.{last_item, last_same, no_item}
 use Rattle.gr_rollback.proofs.CourseLemmas.{stays}

@@ -6,14 +6,14 @@ use Rattle.gr_session.proofs.session.Session.ask.Goals as goal
 pub invariant_of-self-in-Err : goal.invariant_of-self-in-Err
 invariant_of-self-in-Err c =
     rw c.reserve.ensures.items
-    (keeps_still c.self.inside.course c.carry_out.new.course _ _ c.self.invariant (c.in-Err.ensures.leads _ c.self.invariant.world c.self.invariant.stands))
+    (keeps_still c.self.inside.debuggee c.carry_out.new.debuggee _ _ c.self.invariant (c.in-Err.ensures.leads _ c.self.invariant.world c.self.invariant.stands))
 
 pub invariant_of-self-in-Ok : goal.invariant_of-self-in-Ok
 invariant_of-self-in-Ok c =
     let asker : (1 ≤ c.args.desk.number) × (c.args.desk.number ≤ c.self.inside.askers) = search rules in
     let room : length c.self.inside.journal.items < JOURNAL_LIMIT = omega arith in
     rw (c.push_reserved.ensures.items, c.reserve.ensures.items)
-    (keeps_entry c.self.inside.course c.carry_out.new.course _ _ _ _ c.self.invariant asker.0 asker.1 room
+    (keeps_entry c.self.inside.debuggee c.carry_out.new.debuggee _ _ _ _ c.self.invariant asker.0 asker.1 room
     (c.in-Ok.ensures.leads _ c.self.invariant.world c.self.invariant.stands))
 
 pub returns-in-Ok-clause-entry : goal.returns-in-Ok-clause-entry

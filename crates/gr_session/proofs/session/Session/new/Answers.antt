@@ -3,4 +3,4 @@ use Rattle.gr_session.proofs.JournalLemmas.{keeps_first}
 use Rattle.gr_session.proofs.session.Session.new.Goals as goal
 
 pub invariant_of-result : goal.invariant_of-result
-invariant_of-result c = rw c.new.ensures.items (keeps_first (program_of c.args.program) c.in_ok-course.course c.in_ok-course.ensures)
+invariant_of-result c = rw c.new.ensures.items (keeps_first (program_of c.args.program) c.in_ok-debuggee.debuggee c.in_ok-debuggee.ensures)

@@ -1,0 +1,146 @@
+//! Identifiers of the language, as words of commands.
+
+ghost use Rattle.std.specs.Prelude.{◌≡◌, IfOk, IsTrue, nat_eq};
+ghost use Rattle.std.specs.Cmp.Lexicographic.{pointwise};
+ghost use Rattle.std.specs.List.{list_any, list_all};
+ghost use Rattle.gr_scan.specs.Pieces.{is_letter, is_word};
+ghost use Rattle.gr_command.specs.Arguments.{is_keyword as keyword, is_name as name, is_identifier as identifier, identifier_named};
+
+use gr_base::NoMemory;
+use std::alloc::Global;
+use std::marker::Model;
+
+const KEYWORDS: [&[u8]; 25] = [
+    b"break",
+    b"case",
+    b"chan",
+    b"const",
+    b"continue",
+    b"default",
+    b"defer",
+    b"else",
+    b"fallthrough",
+    b"for",
+    b"func",
+    b"go",
+    b"goto",
+    b"if",
+    b"import",
+    b"interface",
+    b"map",
+    b"package",
+    b"range",
+    b"return",
+    b"select",
+    b"struct",
+    b"switch",
+    b"type",
+    b"var",
+];
+
+/// An identifier of the language: letters, digits and `_`, with no digit first, and no keyword.
+#[derive(Debug, Drop)]
+pub struct Identifier {
+    bytes: Vec<u8>,
+}
+
+impl Model for Identifier {
+    ghost use Rattle.std.specs.Prelude.{List, ℕ, IsTrue};
+    ghost use Rattle.gr_command.specs.Arguments.{is_identifier};
+
+    ghost Value = { List ℕ };
+
+    ghost view = { λ name. name.bytes.items };
+
+    ghost invariant = { λ name. IsTrue (is_identifier name.bytes.items) };
+}
+
+impl Identifier {
+    /// The identifier that a word is, if it is one. The one error is want of memory for it.
+    pub fn read(alloc: Global, word: &[u8]) -> Result<Option<Identifier>, NoMemory>
+        ensures { IfOk result (λ name. name ≡ identifier_named word.now) }
+    {
+        if !is_identifier(word) {
+            return Ok(None);
+        }
+        let bytes = copied(alloc, word)?;
+        Ok(Some(Identifier { bytes }))
+    }
+
+    /// Its bytes.
+    pub fn as_slice(&self) -> &[u8]
+        ensures value { result.now ≡ self.now }
+        ensures valid { IsTrue (identifier self.now) }
+    {
+        self.bytes.as_slice()
+    }
+
+    /// The same identifier once more.
+    pub fn copy(&self, alloc: Global) -> Result<Identifier, NoMemory>
+        ensures { IfOk result (λ name. name ≡ self.now) }
+    {
+        let bytes = copied(alloc, self.as_slice())?;
+        Ok(Identifier { bytes })
+    }
+}
+
+fn copied(alloc: Global, bytes: &[u8]) -> Result<Vec<u8>, NoMemory>
+    ensures { IfOk result (λ copy. copy.items ≡ bytes.now) }
+{
+    let mut copy = Vec::with_capacity(alloc, bytes.len())?;
+    copy.extend_from_slice(bytes)?;
+    Ok(copy)
+}
+
+fn is_among(mut spellings: &[&[u8]], word: &[u8]) -> bool
+    ensures { result ≡ list_any (λ spelling. pointwise nat_eq spelling.now word.now) spellings.entry.now }
+{
+    while let [spelling, rest @ ..] = spellings {
+        if *spelling == word {
+            return true;
+        }
+        spellings = rest;
+    }
+    false
+}
+
+#[tactic(auto, unfolding(gr_scan::specs::Marks::keywords))]
+fn is_keyword(word: &[u8]) -> bool
+    ensures { result ≡ keyword word.now }
+{
+    is_among(&KEYWORDS, word)
+}
+
+fn is_first_byte(byte: u8) -> bool
+    ensures { result ≡ is_letter byte }
+{
+    byte.is_ascii_alphabetic() || byte == b'_'
+}
+
+fn is_word_byte(byte: u8) -> bool
+    ensures { result ≡ is_word byte }
+{
+    is_first_byte(byte) || byte.is_ascii_digit()
+}
+
+fn has_word_bytes(bytes: &[u8]) -> bool
+    ensures { result ≡ list_all is_word bytes.now }
+{
+    bytes.iter().all(|byte| is_word_byte(*byte))
+}
+
+// Whether a word has letters, digits and `_` alone, and no digit first.
+fn is_name(word: &[u8]) -> bool
+    ensures { result ≡ name word.now }
+{
+    match word.split_first() {
+        None => false,
+        Some((first, rest)) => is_first_byte(*first) && has_word_bytes(rest),
+    }
+}
+
+fn is_identifier(word: &[u8]) -> bool
+    ensures { result ≡ identifier word.now }
+{
+    is_name(word) && !is_keyword(word)
+}

@@ -1,8 +1,0 @@
-use Rattle.gr_session.proofs.PoolLemmas.{settles_ready, settles_unready, true_not_false}
-use Rattle.gr_session.proofs.readiness.settle.Goals as goal
-
-pub returns-then-is_ready : goal.returns-then-is_ready
-returns-then-is_ready c = settles_ready _ _ _ _ (c.is_ready.ensures.0 c.if-is_ready.true) c.insert.ensures.ready c.insert.ensures.known
-
-pub returns-else-is_ready : goal.returns-else-is_ready
-returns-else-is_ready c = settles_unready _ _ _ _ (λ r. true_not_false (c.is_ready.ensures.1 r) c.if-is_ready.false) c.remove.ensures.ready c.remove.ensures.known

@@ -1,0 +1,35 @@
+//! A program under the debugger.
+
+ghost use Rattle.std.specs.Prelude.{IfOk};
+ghost use Rattle.gr_program.specs.Views.{program_of};
+ghost use Rattle.gr_step.specs.Premises.{IsChecked};
+ghost use Rattle.gr_session.specs.Journal.{first_world};
+ghost use Rattle.gr_session.specs.Debuggees.{Stands};
+
+use gr_base::NoMemory;
+use gr_program::program::Program;
+use gr_rollback::Machine;
+use indexmap::IndexMap;
+use std::alloc::Global;
+
+/// A program under the debugger: its machine, and the lines with a breakpoint.
+#[derive(Drop)]
+pub struct Debuggee {
+    pub(crate) machine: Machine,
+    /// The lines with a breakpoint, each with its number as replies tell it.
+    pub(crate) lines: IndexMap<usize, u32>,
+}
+
+impl Debuggee {
+    /// A checked program before its first step, with no breakpoint.
+    pub(crate) fn start(alloc: Global, program: Program) -> Result<Debuggee, NoMemory>
+        requires { IsChecked (program_of program) }
+        ensures { IfOk result (Stands (program_of program) (first_world (program_of program))) }
+    {
+        let machine = Machine::start(alloc, program)?;
+        Ok(Debuggee {
+            machine,
+            lines: IndexMap::new(alloc),
+        })
+    }
+}
