@@ -1,6 +1,6 @@
 # Rewind. `rt` is the command of the Rattle kit; `make bench` and `make gate-times` need python3 too.
 
-.PHONY: all demo test edits bench refused gate-times clean
+.PHONY: all demo test edits bench replay refused gate-times clean
 
 # Proves the program and what it stands on, and installs it as bin/rewind.
 all: bin/rewind
@@ -38,8 +38,14 @@ bin/front_bench: FORCE
 bench: bin/rewind bin/channel_bench bin/front_bench
 	bench/steps.py bin/rewind
 	bench/core.py bin/rewind
+	bench/rollback.py bin/rewind
 	bench/channels.py bin/channel_bench
 	bench/front.py bin/front_bench
+
+# The steps that random sessions keep, taken once more in fresh sessions and in other orders: each goroutine, channel and text must
+# be the same.
+replay: bin/rewind
+	bench/replay.py bin/rewind
 
 # Each growth of whole sessions refused in turn: nothing else may come of it. Needs a C compiler, `cc`.
 refused: bin/rewind
