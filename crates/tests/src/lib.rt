@@ -6,13 +6,9 @@ mod base;
 #[cfg(test)]
 mod channels;
 #[cfg(test)]
-mod commands;
-#[cfg(test)]
 mod debugger;
 #[cfg(test)]
 mod pool;
-#[cfg(test)]
-mod replay;
 #[cfg(test)]
 mod scan;
 #[cfg(test)]
