@@ -1,6 +1,6 @@
-# Rewind. `rt` is the command of the Rattle kit; `make bench` and `make gate-times` need python3 too.
+# Rewind. `rt` is the command of the Rattle kit; `make bench`, `make gate-times` and `make dap-test` need python3 too.
 
-.PHONY: all demo test edits bench replay refused gate-times clean
+.PHONY: all demo test edits bench replay refused gate-times dap-test clean
 
 # Proves the program and what it stands on, and installs it as bin/rewind.
 all: bin/rewind
@@ -55,6 +55,12 @@ refused: bin/rewind
 gate-times:
 	mkdir -p bin
 	bench/gate.py --table bin/gate.md --log bin/gate.log
+
+# The adapter for editors, with bin/rewind, or with another: make dap-test REWIND=PATH.
+REWIND ?= bin/rewind
+
+dap-test: $(REWIND)
+	REWIND=$(REWIND) editors/dap/tests/run
 
 clean:
 	rm -rf bin crates/*/out

@@ -1,0 +1,1 @@
+"""A Debug Adapter Protocol server over the command protocol of Rewind."""

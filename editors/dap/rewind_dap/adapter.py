@@ -1,0 +1,260 @@
+"""The adapter: requests of an editor in, responses and events out."""
+import time
+from typing import Any, Callable, Dict, List, Optional
+
+from .arguments import Arguments, BadRequest
+from .child import Cancelled, ChildError
+from .debuggee import Debuggee
+from .launching import SourceRefused, described, program_of, start
+from .looks import Looks
+from .motion import Motion, Stop, at_once, forward
+from .moves import Moves
+from .printed import changes_in_words
+from .session import Refused
+from .transport import Closed, Malformed, Transport
+
+Body = Dict[str, Any]
+Handler = Callable[[Arguments], Optional[Body]]
+
+SECONDS_BETWEEN_OUTPUTS = 1.0
+TROUBLE = frozenset(("exception", "deadlock"))
+
+CAPABILITIES = {
+    "supportsConfigurationDoneRequest": True,
+    "supportsStepBack": True,
+    "supportsTerminateRequest": True,
+    "supportsEvaluateForHovers": True,
+    "supportsExceptionInfoRequest": True,
+    "supportsBreakpointLocationsRequest": True,
+    "supportsDelayedStackTraceLoading": True,
+}
+
+
+class Adapter:
+    """Answers the requests of one editor until it disconnects."""
+
+    def __init__(self, transport: Transport, rewind: Optional[str], journal: Callable[[str], None]) -> None:
+        """`rewind` is the program to use, where the command line names one; `journal` is told each command for it."""
+        self.transport = transport
+        self.rewind = rewind
+        self.journal = journal
+        self.first_line = 1
+        self.first_column = 1
+        self.greeted = False
+        self.finished = False
+        self.debuggee: Optional[Debuggee] = None
+        self.motion: Optional[Motion] = None
+        self.later: List[Callable[[], None]] = []
+        self.handlers: Dict[str, Handler] = {
+            "initialize": self.initialize,
+            "launch": self.launch,
+            "attach": self.attach,
+            "configurationDone": self.configuration_done,
+            "pause": self.pause,
+            "terminate": self.terminate,
+            "disconnect": self.disconnect,
+            **Looks(self).handlers(),
+            **Moves(self).handlers(),
+        }
+
+    # Messages.
+
+    def serve(self) -> None:
+        """Answers until the editor disconnects or closes its end; the program under the debugger is ended then."""
+        try:
+            while not self.finished:
+                message = self.transport.next_message(wait=self.motion is None)
+                if isinstance(message, Closed):
+                    break
+                if message is None:
+                    self.advance()
+                elif isinstance(message, Malformed):
+                    self.say("stderr", "This message was dropped: %s" % message.reason)
+                else:
+                    self.answer(message)
+        except Cancelled:
+            pass
+        finally:
+            self.end_program()
+
+    def answer(self, message: Body) -> None:
+        """Answers one message, and then does what comes after the answer."""
+        command = message.get("command")
+        if message.get("type") != "request" or not isinstance(command, str):
+            self.say("stderr", "This message was dropped: it is no request with a command")
+            return
+        seq = message.get("seq")
+        response: Body = {"type": "response", "request_seq": seq if isinstance(seq, int) else 0, "command": command}
+        self.later = []
+        try:
+            body = self.body_for(command, message.get("arguments"))
+            self.transport.send({**response, "success": True, **({"body": body} if body is not None else {})})
+        except (BadRequest, Refused, ChildError) as fault:
+            self.refuse(response, str(fault))
+            if isinstance(fault, ChildError):
+                self.lost(str(fault))
+        for action in self.later:
+            action()
+
+    def body_for(self, command: str, arguments: Any) -> Optional[Body]:
+        handler = self.handlers.get(command)
+        if handler is None:
+            raise BadRequest("there is no request '%s' here" % command[:80])
+        if not self.greeted and command not in ("initialize", "disconnect"):
+            raise BadRequest("'initialize' comes first")
+        return handler(Arguments(arguments))
+
+    def refuse(self, response: Body, why: str) -> None:
+        error = {"id": 1, "format": why.replace("{", "(").replace("}", ")"), "showUser": True}
+        self.transport.send({**response, "success": False, "message": why, "body": {"error": error}})
+
+    def event(self, name: str, body: Optional[Body] = None) -> None:
+        self.transport.send({"type": "event", "event": name, **({"body": body} if body is not None else {})})
+
+    def say(self, category: str, text: str, more: Optional[Body] = None) -> None:
+        """A line, or several, in the console of the editor."""
+        self.event("output", {"category": category, "output": text + "\n", **(more or {})})
+
+    # The life of a session.
+
+    def initialize(self, arguments: Arguments) -> Body:
+        if self.greeted:
+            raise BadRequest("'initialize' was sent before")
+        if arguments.text("pathFormat", "path") != "path":
+            raise BadRequest("sources are named by paths alone")
+        self.first_line = 1 if arguments.flag("linesStartAt1", True) else 0
+        self.first_column = 1 if arguments.flag("columnsStartAt1", True) else 0
+        self.greeted = True
+        return CAPABILITIES
+
+    def launch(self, arguments: Arguments) -> None:
+        if self.debuggee is not None:
+            raise BadRequest("a program was launched before")
+        program = program_of(arguments, self.rewind)
+        try:
+            session = start(program, self.transport.closed.is_set, self.journal)
+        except SourceRefused as refusal:
+            place = {"source": described(program.path), "line": refusal.line, "column": refusal.column}
+            self.say("stderr", str(refusal), place if refusal.line else None)
+            raise
+        try:
+            self.debuggee = Debuggee(program, session, self.first_line, self.first_column)
+        except BadRequest:
+            session.child.end("the session is over")
+            raise
+        self.later.append(lambda: self.event("initialized"))
+
+    def attach(self, _arguments: Arguments) -> None:
+        raise BadRequest("Rewind runs programs itself and attaches to none: use launch")
+
+    def configuration_done(self, _arguments: Arguments) -> None:
+        debuggee = self.stopped_debuggee()
+        if debuggee.program.stop_on_entry:
+            self.begin(at_once(Stop("entry", "g0", "The start of the program")))
+        else:
+            self.begin(forward(debuggee.session, debuggee.view, debuggee.breakpoints.lines, "g0"))
+
+    def terminate(self, _arguments: Arguments) -> None:
+        self.any_debuggee()
+        self.later.append(self.gone)
+
+    def disconnect(self, _arguments: Arguments) -> None:
+        self.end_program()
+        self.finished = True
+
+    def gone(self) -> None:
+        """Ends the program under the debugger, and tells the editor."""
+        self.end_program()
+        self.event("terminated")
+
+    def lost(self, why: str) -> None:
+        """Rewind itself is gone."""
+        if self.debuggee is not None:
+            self.say("stderr", why)
+            self.gone()
+
+    def end_program(self) -> None:
+        self.motion = None
+        if self.debuggee is not None:
+            self.debuggee.session.child.end("the session is over")
+            self.debuggee = None
+
+    def any_debuggee(self) -> Debuggee:
+        if self.debuggee is None:
+            raise BadRequest("no program runs under the debugger")
+        return self.debuggee
+
+    def stopped_debuggee(self) -> Debuggee:
+        if self.motion is not None:
+            raise BadRequest("the program runs: pause it first")
+        return self.any_debuggee()
+
+    # Movement.
+
+    def begin(self, motion: Motion) -> None:
+        """Sets the program going, once the request is answered."""
+        self.motion = motion
+
+    def advance(self) -> None:
+        """A portion of the movement under way."""
+        try:
+            stop = self.portion()
+            if stop is not None:
+                self.stopped(stop)
+            elif time.monotonic() > self.any_debuggee().told + SECONDS_BETWEEN_OUTPUTS:
+                self.tell_output()
+        except ChildError as fault:
+            self.lost(str(fault))
+
+    def portion(self) -> Optional[Stop]:
+        """A portion of the movement, and where it stopped, if it did."""
+        try:
+            next(self.motion)
+        except StopIteration as stop:
+            return stop.value
+        except Refused as refusal:
+            return Stop("pause", self.any_debuggee().focus, "No step was taken: %s" % refusal)
+        return None
+
+    def pause(self, _arguments: Arguments) -> None:
+        debuggee = self.any_debuggee()
+        if self.motion is not None:
+            self.motion.close()
+            self.begin(at_once(Stop("pause", debuggee.focus, "Paused")))
+
+    def stopped(self, stop: Stop) -> None:
+        """Tells the editor where and why the program stopped, and what was printed."""
+        self.motion = None
+        debuggee = self.any_debuggee()
+        debuggee.focus = stop.goroutine
+        debuggee.fault = stop if stop.reason == "exception" else None
+        self.tell_output()
+        if stop.text:
+            self.say("stderr" if stop.reason in TROUBLE else "console", stop.text)
+        if debuggee.program.no_debug:
+            self.say("console", stop.description)
+            self.gone()
+            return
+        body: Body = {"reason": stop.reason, "description": stop.description}
+        body["threadId"] = debuggee.view.thread_number(stop.goroutine)
+        body["allThreadsStopped"] = True
+        if stop.reason in TROUBLE:
+            body["text"] = stop.text.split("\n")[0]
+        if stop.line in debuggee.breakpoints.numbers:
+            body["hitBreakpointIds"] = debuggee.breakpoints.numbers[stop.line]
+        self.event("stopped", body)
+
+    def tell_output(self) -> None:
+        """Tells the lines that were printed since it was last told, and those that no longer are."""
+        debuggee = self.any_debuggee()
+        debuggee.told = time.monotonic()
+        if debuggee.printed_at == debuggee.session.changes:
+            return
+        before = debuggee.printed
+        try:
+            debuggee.printed = debuggee.session.console()
+        except Refused as refusal:
+            self.say("stderr", "What is printed cannot be told: %s" % refusal)
+        debuggee.printed_at = debuggee.session.changes
+        for category, text in changes_in_words(before, debuggee.printed):
+            self.say(category, text)

@@ -1,0 +1,103 @@
+"""Requests that only look, and those that set breakpoints."""
+from typing import TYPE_CHECKING, Any, Callable, Dict, List, Optional, TypeVar
+
+from .arguments import Arguments, BadRequest
+from .debuggee import Debuggee
+
+if TYPE_CHECKING:
+    from .adapter import Adapter
+
+Body = Dict[str, Any]
+Part = TypeVar("Part")
+
+
+class Looks:
+    """What an editor asks of a program that stands still, and its breakpoints."""
+
+    def __init__(self, adapter: "Adapter") -> None:
+        self.adapter = adapter
+
+    def handlers(self) -> Dict[str, Callable[[Arguments], Optional[Body]]]:
+        return {
+            "setBreakpoints": self.set_breakpoints,
+            "setExceptionBreakpoints": lambda arguments: None,
+            "breakpointLocations": self.breakpoint_locations,
+            "threads": self.threads,
+            "stackTrace": self.stack_trace,
+            "scopes": self.scopes,
+            "variables": self.variables,
+            "exceptionInfo": self.exception_info,
+            "rewind/causes": lambda arguments: self.related("causes", arguments),
+            "rewind/dependents": lambda arguments: self.related("deps", arguments),
+            "rewind/log": self.log,
+        }
+
+    def set_breakpoints(self, arguments: Arguments) -> Body:
+        """Sets the breakpoints of a source; it may come while the program runs."""
+        debuggee = self.adapter.any_debuggee()
+        path = arguments.object("source").text("path", "")
+        return {"breakpoints": debuggee.breakpoints.replace(path, arguments.objects("breakpoints"))}
+
+    def breakpoint_locations(self, arguments: Arguments) -> Body:
+        debuggee = self.adapter.any_debuggee()
+        first = arguments.number("line")
+        last = arguments.number("endLine", first)
+        path = arguments.object("source").text("path", "")
+        return {"breakpoints": debuggee.breakpoints.between(path, first, last)}
+
+    def threads(self, _arguments: Arguments) -> Body:
+        return {"threads": self.adapter.any_debuggee().view.threads()}
+
+    def stack_trace(self, arguments: Arguments) -> Body:
+        view = self.adapter.stopped_debuggee().view
+        places = view.places(view.goroutine_of(arguments.number("threadId")))
+        return {"stackFrames": view.stack(portion(places, arguments, "startFrame", "levels")), "totalFrames": len(places)}
+
+    def scopes(self, arguments: Arguments) -> Body:
+        return {"scopes": self.adapter.stopped_debuggee().view.scopes(arguments.number("frameId"))}
+
+    def variables(self, arguments: Arguments) -> Body:
+        bodies = self.adapter.stopped_debuggee().view.variables(arguments.number("variablesReference"))
+        return {"variables": portion(bodies, arguments, "start", "count")}
+
+    def exception_info(self, _arguments: Arguments) -> Body:
+        """The fault that stopped the program, in Go's words."""
+        stop = self.adapter.stopped_debuggee().fault
+        if stop is None:
+            raise BadRequest("no fault stopped the program")
+        return {"exceptionId": stop.description.split(" ")[-1], "description": stop.text, "breakMode": "always"}
+
+    def related(self, word: str, arguments: Arguments) -> Body:
+        """The steps that a step rests on, or that rest on it."""
+        debuggee = self.adapter.stopped_debuggee()
+        return {"steps": debuggee.session.related(word, step_name(debuggee, arguments))}
+
+    def log(self, arguments: Arguments) -> Body:
+        """The kept steps, or a part of them."""
+        entries = self.adapter.stopped_debuggee().session.log()
+        bodies = [{"step": entry.step, "kind": entry.kind} for entry in entries]
+        return {"steps": portion(bodies, arguments, "start", "count"), "total": len(entries)}
+
+
+def portion(members: List[Part], arguments: Arguments, start: str, count: str) -> List[Part]:
+    """The part of a list that a request wants: all where the count is 0 or left out."""
+    first = arguments.number(start, 0)
+    number = arguments.number(count, 0)
+    return members[first : first + number] if number else members[first:]
+
+
+def step_name(debuggee: Debuggee, arguments: Arguments) -> str:
+    """The name of a step that a request is about: `step`, or the last one of the goroutine of `threadId`."""
+    if arguments.has("step"):
+        return one_word(arguments.text("step"))
+    goroutine = debuggee.view.goroutine_of(arguments.number("threadId"))
+    if goroutine.steps == 0:
+        raise BadRequest("%s has taken no step" % goroutine.name)
+    return goroutine.last_step
+
+
+def one_word(text: str) -> str:
+    """A word of a command; more than one is refused."""
+    if not text or any(character <= " " for character in text):
+        raise BadRequest("'%s' is no name of a step" % text[:80])
+    return text

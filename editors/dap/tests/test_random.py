@@ -1,0 +1,147 @@
+"""1,000 random requests: none hangs, and after each the editor sees what a fresh `rewind` tells after the same commands.
+
+    test_random.py [--seed S]      the sessions are those of the seeds S, S + 1, ..
+"""
+import os
+import random
+import re
+import subprocess
+import sys
+import tempfile
+import unittest
+from typing import Any, Dict, List, Tuple
+
+sys.path.insert(0, os.path.dirname(os.path.abspath(__file__)))
+from client import DATA, REWIND, Client, Message  # noqa: E402
+
+PROGRAMS = ("lost_update", "deadlock", "prime_sieve", "race_in_select", "send_on_closed", "buffered_channel", "leaked_goroutine")
+REQUESTS = 1000
+SEED = int(sys.argv.pop(sys.argv.index("--seed") + 1)) if "--seed" in sys.argv else 1
+if "--seed" in sys.argv:
+    sys.argv.remove("--seed")
+
+MOVES = ("next", "stepIn", "stepIn", "stepOut", "stepBack", "stepBack", "continue", "reverseContinue", "pause")
+LOOKS = ("threads", "stackTrace", "scopes", "variables", "exceptionInfo", "rewind/log", "rewind/causes", "rewind/dependents")
+COMMANDS = ("step g0", "step g0.1", "step g0.2 2", "run 3", "run 1000", "undo", "redo", "back g0#2", "back g0.1#1", "back go g0.1")
+COMMANDS += ("back send g0/c1 1", "break 6", "clear 6", "log", "console", "order g0#1", "deps g0#1", "nonsense", "show g0", "\t")
+ODD = (None, -1, 0, 3.5, True, "g0", "g0#1", [], {}, 2**70, "\x00", "x" * 5000)
+
+
+class Wanderer:
+    """An editor that sends requests at random, and what it has seen."""
+
+    def __init__(self, seed: int, commands: str) -> None:
+        self.chance = random.Random(seed)
+        self.path = os.path.join(DATA, self.chance.choice(PROGRAMS) + ".go")
+        self.commands = commands
+        self.client = Client(commands=commands)
+        self.printed: List[str] = []
+        self.client.launch(self.path, [self.chance.randint(1, 30)], stopOnEntry=self.chance.random() < 0.5)
+        self.see_all()
+
+    def see_all(self) -> None:
+        """Waits for the stop that follows a movement, and notes what was printed up to it."""
+        self.client.event("stopped")
+        self.note_output(self.client.passed)
+
+    def note_output(self, events: List[Message]) -> None:
+        for event in events:
+            if event["event"] == "output":
+                self.note(event["body"]["category"], event["body"]["output"].rstrip("\n").split("\n"))
+
+    def note(self, category: str, lines: List[str]) -> None:
+        if category == "stdout":
+            self.printed += lines
+        elif lines[0].startswith("The printed lines stand in another order"):
+            self.printed = lines[1:]
+        for line in lines:
+            if line.startswith("No longer printed: "):
+                self.printed.remove(line[len("No longer printed: ") :])
+
+    def request(self) -> Tuple[str, Dict[str, Any]]:
+        """A random request, most of them of the right form."""
+        choose = self.chance.choice
+        thread = {"threadId": self.chance.randint(1, 4)}
+        kind = self.chance.random()
+        if kind < 0.4:
+            return choose(MOVES), thread
+        if kind < 0.6:
+            return "evaluate", {"expression": choose(COMMANDS), "context": choose(("repl", "repl", "hover"))}
+        if kind < 0.7:
+            lines = [{"line": self.chance.randint(1, 30)} for _ in range(self.chance.randint(0, 3))]
+            return "setBreakpoints", {"source": {"path": self.path}, "breakpoints": lines}
+        if kind < 0.8:
+            step = "g0%s#%d" % (choose(("", ".1", ".2")), self.chance.randint(1, 5))
+            return choose(("rewind/back", "rewind/redo", "rewind/causes")), {"step": step}
+        names = ("threadId", "frameId", "variablesReference", "step", "expression", "source", "breakpoints", "start", "target")
+        odd = {choose(names): choose(ODD) for _ in range(2)}
+        return choose(LOOKS + MOVES + ("initialize", "launch", "attach", "evaluate", "fly", "rewind/back")), {**thread, **odd}
+
+    def one(self) -> None:
+        """One request, up to the stop that comes of it."""
+        command, arguments = self.request()
+        response = self.client.ask(command, arguments)
+        moved = command in MOVES and command != "pause" or command in ("rewind/back", "rewind/redo")
+        if command == "evaluate" and response["success"]:
+            word = arguments["expression"].split()[:1]
+            ok = response["body"]["result"].split("\n")[-1].startswith("ok")
+            moved = ok and word and word[0] in ("step", "run", "undo", "back", "redo", "order")
+        if moved and response["success"]:
+            self.see_all()
+
+    # What the editor sees, in the form in which Rewind tells it.
+
+    def seen(self) -> List[str]:
+        lines = []
+        for thread in self.client.body("threads")["threads"]:
+            lines += self.goroutine(thread)
+        return lines + ["console"] + sorted(self.printed)
+
+    def goroutine(self, thread: Dict[str, Any]) -> List[str]:
+        """The lines of `show`, from the frames and variables of a thread."""
+        frames = self.client.body("stackTrace", {"threadId": thread["id"]})["stackFrames"]
+        scopes = self.client.body("scopes", {"frameId": frames[0]["id"]})["scopes"]
+        state = {one["name"]: one["value"] for one in self.variables(scopes[1])}
+        first = "| %s %s %s" % (state["name"], state["state"], state["steps"])
+        if state["state"] == "done":
+            return [first]
+        first += " line %d" % frames[0]["line"]
+        return [first] + [self.frame(frame) for frame in frames]
+
+    def frame(self, frame: Dict[str, Any]) -> str:
+        scopes = self.client.body("scopes", {"frameId": frame["id"]})["scopes"]
+        pairs = [(re.sub(r" \(\d+\)$", "", one["name"]), one["value"].split(" ")[0]) for one in self.variables(scopes[0])]
+        return " ".join(["|", frame["name"]] + ["%s=%s" % pair for pair in pairs])
+
+    def variables(self, scope: Dict[str, Any]) -> List[Dict[str, Any]]:
+        return self.client.body("variables", {"variablesReference": scope["variablesReference"]})["variables"]
+
+    # What a fresh session tells.
+
+    def fresh(self) -> List[str]:
+        """What a new `rewind` tells after all commands that the adapter gave to its own."""
+        with open(self.commands, "rb") as file:
+            before = file.read()
+        names = [re.split(r"[ ,]", thread["name"])[0] for thread in self.client.body("threads")["threads"]]
+        questions = b"".join(b"nonsense\nshow %s\n" % name.encode() for name in names)
+        done = subprocess.run([REWIND, self.path], input=before + questions + b"console\n", stdout=subprocess.PIPE, check=True)
+        replies = done.stdout.decode().split("? bad command\n")[-len(names) :]
+        shown, console = replies[-1].split("ok\n")[:2]
+        lines = "".join(replies[:-1]).replace("ok\n", "") + shown
+        return lines.split("\n")[:-1] + ["console"] + sorted(line[2:] for line in console.split("\n")[:-1])
+
+
+class Random(unittest.TestCase):
+    def test_random_requests(self) -> None:
+        with tempfile.TemporaryDirectory() as folder:
+            for number in range(REQUESTS // 50):
+                wanderer = Wanderer(SEED + number, os.path.join(folder, "commands"))
+                for place in range(50):
+                    wanderer.one()
+                    with self.subTest(seed=SEED + number, request=place):
+                        self.assertEqual(wanderer.seen(), wanderer.fresh())
+                self.assertEqual(wanderer.client.close(), "")
+
+
+if __name__ == "__main__":
+    unittest.main()
