@@ -1,6 +1,6 @@
 # Rewind. `rt` is the command of the Rattle kit; `make bench`, `make gate-times` and `make dap-test` need python3 too.
 
-.PHONY: all demo test edits bench replay refused gate-times dap-test clean
+.PHONY: all demo test edits bench replay refused gate-times dap-test page page-test page-pictures clean
 
 # Proves the program and what it stands on, and installs it as bin/rewind.
 all: bin/rewind
@@ -62,7 +62,27 @@ REWIND ?= bin/rewind
 dap-test: $(REWIND)
 	REWIND=$(REWIND) editors/dap/tests/run
 
+# The debugger in a web page: bin/rewind.html, one file that works from disk. Its program is that of the proved crates, compiled to
+# WebAssembly. Installs Debian's libjs-codemirror where it is missing.
+page: bin/rewind
+	page/needs.sh libjs-codemirror
+	mkdir -p page/out
+	page/module/build.py page/out/rewind.wasm
+	page/inline.py page/out/rewind.wasm bin/rewind.html
+
+# The page in headless Chromium: every example session byte for byte, stories by clicks and keys, and pictures of the page for people
+# to look at (page/out/looks). Installs Debian's chromium and nodejs where they are missing.
+page-test: page
+	page/needs.sh chromium nodejs
+	page/test.sh bin/rewind.html
+
+# The pictures of docs/SESSIONS.md, drawn by the page.
+page-pictures: page
+	page/needs.sh chromium nodejs
+	mkdir -p docs/pictures
+	node page/test/pictures.mjs $(CURDIR)/bin/rewind.html page/pictures.json docs/pictures
+
 clean:
-	rm -rf bin crates/*/out
+	rm -rf bin crates/*/out page/out
 
 FORCE:

@@ -1,0 +1,70 @@
+// looks.mjs PAGE.html FOLDER: pictures of the page, wide and narrow, light and dark, for people to look at; and what can be measured
+// of a look: nothing is wider than the window, and every text has the contrast that it needs.
+
+import { Browser } from "./browser.mjs";
+import { Hands } from "./hands.mjs";
+import { equal, verdict } from "./expected.mjs";
+
+const [page, folder] = process.argv.slice(2);
+const ENOUGH = 4.5;
+
+// Runs in the page: texts whose colour is too close to what is behind them.
+function faintTexts(enough) {
+  const parts = (text) => (text.match(/[\d.]+/g) || []).map(Number);
+  const light = (channel) => (channel <= 10 ? channel / 3294 : ((channel / 255 + 0.055) / 1.055) ** 2.4);
+  const brightness = ([red, green, blue]) => 0.2126 * light(red) + 0.7152 * light(green) + 0.0722 * light(blue);
+  const behind = (it) => {
+    const colour = parts(getComputedStyle(it).backgroundColor);
+    return (colour.length === 4 && !colour[3]) || !colour.length ? (it.parentElement ? behind(it.parentElement) : [255, 255, 255]) : colour;
+  };
+  const contrast = (it) => {
+    const style = getComputedStyle(it);
+    const [one, other] = [brightness(parts(it.closest("svg") ? style.fill : style.color)), brightness(behind(it))];
+    return (Math.max(one, other) + 0.05) / (Math.min(one, other) + 0.05);
+  };
+  const hasText = (it) => [...it.childNodes].some((node) => node.nodeType === 3 && node.textContent.trim());
+  const shown = (it) => it.getClientRects().length && !it.closest("[disabled], .take-back, .unseen, script, style, option, optgroup");
+  const faint = [...document.querySelectorAll("body *")].filter((it) => hasText(it) && shown(it) && contrast(it) < enough);
+  return [...new Set(faint.map((it) => `${it.tagName} ${it.getAttribute("class") || it.id}: ${it.textContent.trim().slice(0, 20)} ${contrast(it).toFixed(1)}`))];
+}
+
+// Runs in the page: controls without a name.
+function unnamed() {
+  const named = (it) => it.getAttribute("aria-label") || it.labels?.length || it.textContent.trim() || it.getAttribute("aria-labelledby");
+  const roles = ["listbox", "option", "toolbar", "group", "log"].map((role) => `[role=${role}]`);
+  const all = [...document.querySelectorAll(["button", "input", "select", ...roles].join())].filter((it) => !it.closest(".CodeMirror"));
+  return all.filter((it) => !named(it)).map((it) => it.outerHTML.slice(0, 80));
+}
+
+async function look(browser, hands, width, scheme) {
+  const height = width > 1000 ? 800 : 2300;
+  await browser.size(width, height, scheme);
+  await hands.story("lost_update");
+  for (let count = 0; count < 19; count++) await browser.run("rewind.app.nextOfStory()");
+  await hands.settled();
+  await browser.run("rewind.app.choose('g0.3#3').then(() => rewind.app.picture.reveal('g0.2#2'))");
+  equal(`faint texts at ${width}, ${scheme}`, await browser.run(`(${faintTexts})(${ENOUGH})`), []);
+  equal(`controls without a name at ${width}`, await browser.run(`(${unnamed})()`), []);
+  equal(`width of the page at ${width}`, await browser.run("document.documentElement.scrollWidth"), width);
+  await browser.shot(`${folder}/page-${width}-${scheme}.png`);
+  await hands.story("number_too_large");
+  equal(`faint texts of a refusal at ${width}, ${scheme}`, await browser.run(`(${faintTexts})(${ENOUGH})`), []);
+  await browser.shot(`${folder}/refused-${width}-${scheme}.png`);
+}
+
+const browser = await Browser.open();
+let status = 1;
+try {
+  await browser.size(1280, 800);
+  await browser.load(page);
+  for (const width of [1280, 400]) for (const scheme of ["light", "dark"]) await look(browser, new Hands(browser), width, scheme);
+  await browser.size(1280, 800, "light");
+  await browser.run("document.getElementById('help').click()");
+  await browser.shot(`${folder}/help-1280-light.png`);
+  status = verdict("looks", browser.faults);
+} catch (fault) {
+  console.log(fault, browser.faults);
+} finally {
+  await browser.close();
+}
+process.exit(status);
