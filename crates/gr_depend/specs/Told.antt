@@ -1,7 +1,6 @@
 -- Objects as the record of a step tells them.
-use Rattle.std.specs.Prelude.{ℕ, ◌+◌, List, ◌∷◌, Option, Some, None, option_copied}
+use Rattle.std.specs.Prelude.{ℕ, ◌+◌, List, ◌∷◌, Option, option_copied}
 use Rattle.std.specs.Option.{option_map_or}
-use Rattle.gr_base.specs.declared.names.ChName.{ChName}
 use Rattle.gr_base.specs.declared.objects.Object.{Object}
 use Rattle.gr_base.specs.declared.objects.Object.TheVariants.{Gate, Tail, Head, Slot}
 use Rattle.gr_step.specs.Parts.{partner_before}

@@ -6,6 +6,7 @@ ghost use Rattle.gr_rules.specs.States.{same};
 ghost use Rattle.gr_depend.specs.Keys.{same_key, key_of, seen};
 ghost use Rattle.indexmap.specs.IndexMap.{IsUnique, keys, get};
 
+use crate::guesses::Guesses;
 use crate::key::{Key, ObjectRef};
 use crate::lane::Lane;
 use crate::touch::Touch;
@@ -25,6 +26,7 @@ pub(crate) struct Lanes {
     alloc: Global,
     /// The number of the lane that was asked for last.
     last: Cell<usize>,
+    guesses: Guesses,
     ghost unique: { IsUnique same_key map } by { Prim.hlevel props },
     ghost writers: { stops.items ≡ filter (λ t. t.writes) run.items },
 }
@@ -46,6 +48,7 @@ impl Lanes {
             map: IndexMap::new(alloc),
             alloc,
             last: Cell::new(0),
+            guesses: Guesses::new(),
         }
     }
 
@@ -55,14 +58,29 @@ impl Lanes {
         ensures named { IfSome result (λ i. slice_get (keys self.now.map) i ≡ Some (key_of (seen object.now))) }
         ensures absent { IfNone result (get same_key self.now.map (key_of (seen object.now)) ≡ None) }
     {
-        let before = self.last.get();
-        let guess = match self.map.get_index(before) {
-            Some((_, lane)) => lane.next(),
-            None => 0,
-        };
+        let guess = self.guesses.of(object);
         if self.is_at(object, guess) {
             self.last.set(guess);
             return Some(guess);
+        }
+        self.look_further(object)
+    }
+
+    /// The same, by a second guess: the lane that came last after the one that was asked for before.
+    #[inline(never)]
+    fn look_further(&self, object: &ObjectRef<'_>) -> Option<usize>
+        ensures named { IfSome result (λ i. slice_get (keys self.now.map) i ≡ Some (key_of (seen object.now))) }
+        ensures absent { IfNone result (get same_key self.now.map (key_of (seen object.now)) ≡ None) }
+    {
+        let before = self.last.get();
+        let next = match self.map.get_index(before) {
+            Some((_, lane)) => lane.next(),
+            None => 0,
+        };
+        if self.is_at(object, next) {
+            self.guesses.keep(object, next);
+            self.last.set(next);
+            return Some(next);
         }
         self.look_up(object, before)
     }
@@ -78,8 +96,8 @@ impl Lanes {
         }
     }
 
-    /// The number of the lane of an object, which becomes the guess after the lane that was asked for before.
-    #[inline(never)]
+    /// The number of the lane of an object, found by its key. It becomes the guess for objects like this, and after the lane
+    /// that was asked for before.
     fn look_up(&self, object: &ObjectRef<'_>, before: usize) -> Option<usize>
         ensures named { IfSome result (λ i. slice_get (keys self.now.map) i ≡ Some (key_of (seen object.now))) }
         ensures absent { IfNone result (get same_key self.now.map (key_of (seen object.now)) ≡ None) }
@@ -88,6 +106,7 @@ impl Lanes {
         if let Some((_, lane)) = self.map.get_index(before) {
             lane.guess_next(number);
         }
+        self.guesses.keep(object, number);
         self.last.set(number);
         Some(number)
     }
@@ -206,7 +225,7 @@ impl Lanes {
 
     /// Adds a touch to the list of `Run`.
     #[inline]
-    fn add_to_run(&mut self, touch: Touch) -> Result<(), NoMemory>
+    pub(crate) fn add_to_run(&mut self, touch: Touch) -> Result<(), NoMemory>
         ensures ok { OnOk result (Adds objects.Run touch self.old self.new) }
         ensures err { OnErr result (KeepsLists self.old self.new) }
         ensures succeeds { FitsFor (objects.Run ∷ []) touch self.old → IsOk result }
@@ -222,7 +241,11 @@ impl Lanes {
 
     /// Adds a touch to the list of an object that is not `Run`.
     #[inline]
-    fn add_to_other(&mut self, object: &ObjectRef<'_>, touch: Touch) -> Result<(), NoMemory>
+    pub(crate) fn add_to_other(
+        &mut self,
+        object: &ObjectRef<'_>,
+        touch: Touch,
+    ) -> Result<(), NoMemory>
         requires { same objects.Run (seen object.now) ≡ false }
         ensures ok { OnOk result (Adds (seen object.now) touch self.old self.new) }
         ensures err { OnErr result (KeepsLists self.old self.new) }
@@ -272,8 +295,9 @@ impl Lanes {
         }
     }
 
+    /// The same of `Run`.
     #[inline]
-    fn take_from_run(&mut self)
+    pub(crate) fn take_from_run(&mut self)
         ensures lists { TakesBack objects.Run self.old self.new }
         ensures room { KeepsRoom self.old self.new }
     {
@@ -284,8 +308,9 @@ impl Lanes {
         }
     }
 
+    /// The same of an object that is not `Run`.
     #[inline]
-    fn take_from_other(&mut self, object: &ObjectRef<'_>)
+    pub(crate) fn take_from_other(&mut self, object: &ObjectRef<'_>)
         requires { same objects.Run (seen object.now) ≡ false }
         ensures lists { TakesBack (seen object.now) self.old self.new }
         ensures room { KeepsRoom self.old self.new }

@@ -4,6 +4,7 @@
 pub mod assigning;
 mod conflicts;
 mod dependence;
+mod guesses;
 pub mod history;
 mod key;
 mod lane;

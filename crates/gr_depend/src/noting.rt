@@ -48,10 +48,10 @@ impl Lanes {
             place,
             writes: true,
         };
-        self.add(&ObjectRef::Run, read)?;
-        let noted = self.add(&ObjectRef::Go(&step.id.go), written);
+        self.add_to_run(read)?;
+        let noted = self.add_to_other(&ObjectRef::Go(&step.id.go), written);
         if let Err(error) = noted {
-            self.take_back(&ObjectRef::Run);
+            self.take_from_run();
             return Err(error);
         }
         Ok(())
@@ -72,11 +72,12 @@ impl Lanes {
             place,
             writes: true,
         };
-        let objects = reads(step);
-        self.note_list(objects, read)?;
-        let noted = self.note_list(writes(step), written);
+        let mut read_objects = reads(step);
+        self.note_list(&mut read_objects, read)?;
+        let mut written_objects = writes(step);
+        let noted = self.note_list(&mut written_objects, written);
         if let Err(error) = noted {
-            self.forget_list(objects);
+            self.forget_list(&mut reads(step));
             return Err(error);
         }
         Ok(())
@@ -101,8 +102,8 @@ impl Lanes {
         ensures lists { (before : Object → List Touch) (place : ℕ) → ((q : Object) → list_of self.old q ≡ before q ++ kept_for q place step.now) → (q : Object) → list_of self.new q ≡ before q }
         ensures room { KeepsRoom self.old self.new }
     {
-        self.take_back(&ObjectRef::Go(&step.id.go));
-        self.take_back(&ObjectRef::Run);
+        self.take_from_other(&ObjectRef::Go(&step.id.go));
+        self.take_from_run();
     }
 
     /// The same of a step that reached further.
@@ -110,22 +111,22 @@ impl Lanes {
         ensures lists { (before : Object → List Touch) (place : ℕ) → ((q : Object) → list_of self.old q ≡ before q ++ kept_for q place step.now) → (q : Object) → list_of self.new q ≡ before q }
         ensures room { KeepsRoom self.old self.new }
     {
-        self.forget_list(writes(step));
-        self.forget_list(reads(step));
+        self.forget_list(&mut writes(step));
+        self.forget_list(&mut reads(step));
     }
 
     /// Adds a touch to the lists of these objects. Refused, all lists are as before.
-    fn note_list(&mut self, objects: Objects<'_>, touch: Touch) -> Result<(), NoMemory>
-        ensures ok { OnOk result (AddsFor (seen_in objects.entry) touch self.old self.new) }
+    fn note_list(&mut self, objects: &mut Objects<'_>, touch: Touch) -> Result<(), NoMemory>
+        ensures ok { OnOk result (AddsFor (seen_in objects.old) touch self.old self.new) }
         ensures err { OnErr result (KeepsLists self.old self.new) }
-        ensures succeeds { FitsFor (seen_in objects.entry) touch self.old → IsOk result }
+        ensures succeeds { FitsFor (seen_in objects.old) touch self.old → IsOk result }
         ensures room { KeepsRoom self.old self.new }
     {
-        let Some((first, rest)) = objects.split_first() else {
+        let Some(first) = objects.next() else {
             return self.note_all(objects.others, touch);
         };
         self.add(&first, touch)?;
-        let noted = self.note_list(rest, touch);
+        let noted = self.note_list(objects, touch);
         if let Err(error) = noted {
             self.take_back(&first);
             return Err(error);
@@ -134,14 +135,14 @@ impl Lanes {
     }
 
     /// Takes the last touch from the list of each of these objects. It takes no memory.
-    fn forget_list(&mut self, objects: Objects<'_>)
-        ensures lists { TakesFor (seen_in objects.entry) self.old self.new }
+    fn forget_list(&mut self, objects: &mut Objects<'_>)
+        ensures lists { TakesFor (seen_in objects.old) self.old self.new }
         ensures room { KeepsRoom self.old self.new }
     {
-        let Some((first, rest)) = objects.split_first() else {
+        let Some(first) = objects.next() else {
             return self.forget_all(objects.others);
         };
-        self.forget_list(rest);
+        self.forget_list(objects);
         self.take_back(&first);
     }
 

@@ -109,6 +109,37 @@ impl<'a> Objects<'a> {
         }
     }
 
+    /// Takes the first of them off; none where only the others are left.
+    #[inline]
+    pub(crate) fn next(&mut self) -> Option<ObjectRef<'a>>
+        ensures first { MatchOption result (seen_in self.old ≡ self.new.others.now) (λ first. seen_in self.old ≡ seen first ∷ seen_in self.new) }
+        ensures fewer { IfSome result (λ _. count_in self.new < count_in self.old) }
+    {
+        if let Some(front) = self.front {
+            self.front = None;
+            return Some(front);
+        }
+        if let Some(channel) = self.gate {
+            self.gate = None;
+            return Some(ObjectRef::Gate(channel));
+        }
+        if let Some(channel) = self.head {
+            self.head = None;
+            return Some(ObjectRef::Head(channel));
+        }
+        if let Some(channel) = self.tail {
+            self.tail = None;
+            return Some(ObjectRef::Tail(channel));
+        }
+        if let Some((channel, place)) = self.slot {
+            self.slot = None;
+            return Some(ObjectRef::Slot(channel, place));
+        }
+        let partner = self.partner?;
+        self.partner = None;
+        Some(ObjectRef::Go(partner))
+    }
+
     /// The first of them, and the rest; none where only the others are left.
     #[inline]
     pub(crate) fn split_first(self) -> Option<(ObjectRef<'a>, Objects<'a>)>

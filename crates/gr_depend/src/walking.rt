@@ -1,6 +1,6 @@
 //! Marks for the steps that conflict with one.
 
-ghost use Rattle.std.specs.Prelude.{◌≡◌, ◌+◌, length, true, false};
+ghost use Rattle.std.specs.Prelude.{◌≡◌, ◌+◌, length, true, false, None};
 ghost use Rattle.indexmap.specs.IndexMap.{keys};
 ghost use Rattle.gr_depend.specs.Keys.{seen};
 ghost use Rattle.gr_depend.specs.Marks.{hits, Marks};
@@ -19,6 +19,53 @@ impl Lanes {
 
     /// Sets the marks of the steps on one side of a place that wrote what this step read, or touched what it wrote.
     pub(crate) fn mark_step(
+        &self,
+        origin: Origin,
+        step: &Record,
+        read: &mut [bool],
+        written: &mut [bool],
+        marks: &mut [bool],
+    )
+        requires reach { AreInReach self.now origin (length marks.old) }
+        requires read_count { length read.old ≡ length (keys self.now.map) + 1 }
+        requires read_walked { AreWalked self.now origin false read.old marks.old }
+        requires written_count { length written.old ≡ length (keys self.now.map) + 1 }
+        requires written_walked { AreWalked self.now origin true written.old marks.old }
+        ensures marks { Marks origin (meets_step self.now step.now) marks.old marks.new }
+        ensures read_walked { AreWalked self.now origin false read.new marks.new }
+        ensures written_walked { AreWalked self.now origin true written.new marks.new }
+    {
+        match &step.change.beyond {
+            None => self.mark_alone(origin, step, read, written, marks),
+            Some(_) => self.mark_beyond(origin, step, read, written, marks),
+        }
+    }
+
+    /// The same of a step that reached no further than its goroutine.
+    fn mark_alone(
+        &self,
+        origin: Origin,
+        step: &Record,
+        read: &mut [bool],
+        written: &mut [bool],
+        marks: &mut [bool],
+    )
+        requires alone { step.now.change.beyond ≡ None }
+        requires reach { AreInReach self.now origin (length marks.old) }
+        requires read_count { length read.old ≡ length (keys self.now.map) + 1 }
+        requires read_walked { AreWalked self.now origin false read.old marks.old }
+        requires written_count { length written.old ≡ length (keys self.now.map) + 1 }
+        requires written_walked { AreWalked self.now origin true written.old marks.old }
+        ensures marks { Marks origin (meets_step self.now step.now) marks.old marks.new }
+        ensures read_walked { AreWalked self.now origin false read.new marks.new }
+        ensures written_walked { AreWalked self.now origin true written.new marks.new }
+    {
+        self.mark_object(origin, &ObjectRef::Run, false, read, marks);
+        self.mark_object(origin, &ObjectRef::Go(&step.id.go), true, written, marks);
+    }
+
+    /// The same of a step that reached further.
+    fn mark_beyond(
         &self,
         origin: Origin,
         step: &Record,

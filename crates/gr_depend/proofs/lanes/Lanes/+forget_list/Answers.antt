@@ -13,5 +13,5 @@ returns-in_default-clause-lists n c before t had =
 pub returns-clause-lists : goal.returns-clause-lists
 returns-clause-lists n c =
     subst {_, _} (λ os. TakesFor os c.args.self.now c.take_back.new.self) (sym c.in-Some.ensures.first)
-    (taken_after c.args.self.now c.forget_list.new.self c.take_back.new.self (seen c.in-Some.first) (seen_in c.in-Some.rest) c.forget_list.ensures.lists
+    (taken_after c.args.self.now c.forget_list.new.self c.take_back.new.self (seen c.in-Some.first) (seen_in c.next.new.self) c.forget_list.ensures.lists
     c.take_back.ensures.lists)

@@ -1,0 +1,63 @@
+//! Guesses of which lane an object has.
+
+ghost use Rattle.std.specs.Prelude.{◌<◌};
+
+use crate::key::ObjectRef;
+use std::array;
+use std::cell::Cell;
+
+/// How many guesses are kept.
+const GUESSES: usize = 256;
+
+/// For each class of objects the number of the lane of the one that was found last.
+#[derive(Drop)]
+pub(crate) struct Guesses {
+    numbers: [Cell<usize>; GUESSES],
+}
+
+/// The class of the objects of a kind with a count. Few counts have a class each.
+#[inline]
+fn class(kind: u32, count: u32) -> usize
+    ensures { result < 256 }
+{
+    count.wrapping_mul(8).wrapping_add(kind) as usize % GUESSES
+}
+
+/// The class of an object.
+#[inline]
+fn class_of(object: &ObjectRef<'_>) -> usize
+    ensures { result < 256 }
+{
+    match object {
+        ObjectRef::Run => 0,
+        ObjectRef::Go(go) => match go.counts().last() {
+            Some(count) => class(1, *count),
+            None => 1,
+        },
+        ObjectRef::Gate(channel) => class(2, channel.n),
+        ObjectRef::Tail(channel) => class(3, channel.n),
+        ObjectRef::Head(channel) => class(4, channel.n),
+        ObjectRef::Slot(channel, place) => class(5, channel.n.wrapping_mul(8).wrapping_add(*place)),
+    }
+}
+
+impl Guesses {
+    /// No object was found yet.
+    pub(crate) fn new() -> Guesses {
+        Guesses {
+            numbers: array::from_fn(|_| Cell::new(0)),
+        }
+    }
+
+    /// A guess of the number of the lane of an object.
+    #[inline]
+    pub(crate) fn of(&self, object: &ObjectRef<'_>) -> usize {
+        self.numbers[class_of(object)].get()
+    }
+
+    /// Keeps the number of the lane of an object.
+    #[inline]
+    pub(crate) fn keep(&self, object: &ObjectRef<'_>, number: usize) {
+        self.numbers[class_of(object)].set(number);
+    }
+}
