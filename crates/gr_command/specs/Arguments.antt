@@ -1,7 +1,8 @@
 -- What the words after the first one of a command name.
-use Rattle.std.specs.Prelude.{ℕ, ◌+◌, nat_eq, Bool, false, ◌&&◌, not, if◌then◌else◌, List, [], ◌∷◌, Option, Some, None, option_map, option_and_then}
+use Rattle.std.specs.Prelude.{ℕ, ◌+◌, nat_eq, Bool, false, ◌&&◌, not, if◌then◌else◌, List, [], ◌∷◌, codes, Option, Some, None, option_map, option_and_then}
 use Rattle.std.specs.Cmp.Lexicographic.{pointwise}
 use Rattle.std.specs.List.{list_any, list_all}
+use Rattle.std.specs.Str.{bytes_eq}
 use Rattle.gr_base.specs.Names.{count_from, step_named}
 use Rattle.gr_base.specs.declared.names.StepId.{StepId}
 use Rattle.gr_scan.specs.Marks.{keywords}
@@ -10,6 +11,10 @@ use Rattle.gr_scan.specs.Pieces.{is_letter, is_word}
 -- the number from 1 to the largest that a word spells, in decimal and with no leading zero
 abbrev pub number_named : ℕ → List ℕ → Option ℕ
 number_named largest word = count_from (largest + 1) 0 word
+
+-- .. or the number 0, which is spelt `0`
+abbrev pub number_or_zero_named : ℕ → List ℕ → Option ℕ
+number_or_zero_named largest word = if bytes_eq word (codes "0") then Some 0 else number_named largest word
 
 -- a clause of a select, a line, or a send or receive among those on a channel, counted from 1
 abbrev pub ordinal_named : List ℕ → Option ℕ

@@ -4,9 +4,9 @@ use Rattle.std.specs.Io.BufRead.{strip_last}
 use Rattle.std.specs.List.{list_any}
 use Rattle.std.specs.Str.{bytes_eq}
 use Rattle.gr_base.specs.Names.{go_named, ch_named, step_named}
-use Rattle.gr_command.specs.Arguments.{number_named, ordinal_named, identifier_named, steps_named, one_named, both_named}
+use Rattle.gr_command.specs.Arguments.{number_named, number_or_zero_named, ordinal_named, identifier_named, steps_named, one_named, both_named}
 use Rattle.gr_command.specs.declared.command.Command.{Command as Asked}
-use Rattle.gr_command.specs.declared.command.Command.TheVariants.{Step, Run, Undo, Back, Redo, Order, Dependents, Causes, Break, Clear, Show, Chan, Text, Console, Log}
+use Rattle.gr_command.specs.declared.command.Command.TheVariants.{Step, Run, Undo, Back, Redo, Order, Dependents, Causes, Break, Clear, Free, Turn, Show, Chan, Text, Console, Log}
 use Rattle.gr_command.specs.declared.command.Line.{Line}
 use Rattle.gr_command.specs.declared.command.Line.TheVariants.{Command, Quit, Blank, Rejected}
 use Rattle.gr_command.specs.declared.target.Target.{Target}
@@ -81,6 +81,7 @@ commands =
     ∷ (codes "order", order_asked)
     ∷ (codes "break", about ordinal_named Break)
     ∷ (codes "clear", about ordinal_named Clear)
+    ∷ (codes "free", about (number_or_zero_named 1_000_000) Free)
     ∷ (codes "quit", alone Quit)
     ∷ questions
 
@@ -105,6 +106,8 @@ Names (Dependents id) = Unit {0}
 Names (Causes id) = Unit {0}
 Names (Break line) = ⊥
 Names (Clear line) = ⊥
+Names (Free steps) = ⊥
+Names Turn = ⊥
 Names (Show go) = Unit {0}
 Names (Chan channel) = Unit {0}
 Names (Text go) = Unit {0}

@@ -6,7 +6,7 @@ use Rattle.gr_base.specs.declared.names.ChName.{ChName}
 use Rattle.gr_base.specs.declared.names.StepId.{StepId}
 use Rattle.gr_base.specs.declared.values.Value.TheVariants as values
 use Rattle.gr_rules.specs.Goroutines as rules
-use Rattle.gr_command.specs.declared.command.Command.TheVariants.{Step, Run, Undo, Back, Redo, Order, Dependents, Causes, Break, Clear, Show, Chan, Text, Console, Log}
+use Rattle.gr_command.specs.declared.command.Command.TheVariants.{Step, Run, Undo, Back, Redo, Order, Dependents, Causes, Break, Clear, Free, Show, Chan, Text, Console, Log}
 use Rattle.gr_command.specs.declared.command.Line.TheVariants.{Command, Quit, Blank, Rejected}
 use Rattle.gr_command.specs.declared.refusal.Refusal.TheVariants.{Waits, NothingToUndo, NotKept, NotTheSteps, NothingToRedo}
 use Rattle.gr_command.specs.declared.reply.RunEnd.TheVariants as ends
@@ -39,14 +39,14 @@ WaysBackAreRead =
     ∷ Command (Back (targets.Receive (channel_of (1 ∷ []) 2) 4294967295)) ∷ Command (Back (targets.Variable [] (codes "x_1")))
     ∷ Command (Back (targets.Variable (1 ∷ []) (codes "_"))) ∷ Command Redo ∷ []
 
--- an order, what depends on what, and breakpoints
+-- an order, what depends on what, breakpoints, and what workers may do
 abbrev pub OrdersAreRead : Type 0
 OrdersAreRead =
     map meaning (codes "order g0#1" ∷ codes "order g0.1#1  g0#2 g0.1#1" ∷ codes "deps g0#18446744073709551615" ∷ codes "causes g0.3#7"
-    ∷ codes "break 12" ∷ codes "clear 4294967295" ∷ [])
+    ∷ codes "break 12" ∷ codes "clear 4294967295" ∷ codes "free 0" ∷ codes " free 1000000" ∷ [])
     ≡ Command (Order (step_of [] 1 ∷ [])) ∷ Command (Order (step_of (1 ∷ []) 1 ∷ step_of [] 2 ∷ step_of (1 ∷ []) 1 ∷ []))
     ∷ Command (Dependents (step_of [] 18446744073709551615)) ∷ Command (Causes (step_of (3 ∷ []) 7))
-    ∷ Command (Break 12) ∷ Command (Clear 4294967295) ∷ []
+    ∷ Command (Break 12) ∷ Command (Clear 4294967295) ∷ Command (Free 0) ∷ Command (Free 1000000) ∷ []
 
 -- a number that is too great or too small, or begins with 0; a name that is none; a word too few, or too many
 abbrev pub OthersAreRejected : Type 0
@@ -66,13 +66,15 @@ OtherWaysAreRejected =
     ∷ Rejected ∷ Rejected ∷ Rejected ∷ Rejected ∷ Rejected
     ∷ Rejected ∷ Rejected ∷ Rejected ∷ []
 
--- an order of no step, or of one that is none; a question about no step, or about two; a line that is no number
+-- an order of no step, or of one that is none; a question about no step, or about two; a line or a grant that is no number
 abbrev pub OtherOrdersAreRejected : Type 0
 OtherOrdersAreRejected =
     map meaning (codes "order" ∷ codes "order g0#1 g0" ∷ codes "order g0#01" ∷ codes "deps" ∷ codes "deps g0#1 g0#2" ∷ codes "causes g0"
-    ∷ codes "causes g0#18446744073709551616" ∷ codes "break" ∷ codes "break 0" ∷ codes "break 007" ∷ codes "clear 4294967296" ∷ codes "clear x" ∷ [])
+    ∷ codes "causes g0#18446744073709551616" ∷ codes "break" ∷ codes "break 0" ∷ codes "break 007" ∷ codes "clear 4294967296" ∷ codes "clear x"
+    ∷ codes "free" ∷ codes "free 00" ∷ codes "free 01" ∷ codes "free 1000001" ∷ codes "free 1 2" ∷ codes "free -1" ∷ codes "turn" ∷ [])
     ≡ Rejected ∷ Rejected ∷ Rejected ∷ Rejected ∷ Rejected ∷ Rejected
-    ∷ Rejected ∷ Rejected ∷ Rejected ∷ Rejected ∷ Rejected ∷ Rejected ∷ []
+    ∷ Rejected ∷ Rejected ∷ Rejected ∷ Rejected ∷ Rejected ∷ Rejected
+    ∷ Rejected ∷ Rejected ∷ Rejected ∷ Rejected ∷ Rejected ∷ Rejected ∷ Rejected ∷ []
 
 -- a line without a word
 abbrev pub LinesAreBlank : Type 0
@@ -87,16 +89,18 @@ LinesAreWritten =
     ≡ codes "ok g0.2#1 pick 2\n" ∷ codes "ok 8 ended\n" ∷ codes "ok 4 fault\n" ∷ codes "ok 0 memory\n"
     ∷ codes "ok g0#6\n" ∷ codes "ok\n" ∷ codes "ok 0\n" ∷ codes "no N3\n" ∷ []
 
--- replies to commands that take steps back, take them again or put them in an order, and to questions about steps
+-- replies to commands that take steps back, take them again or put them in an order, to questions about steps, and to grants
 abbrev pub StepsAreWritten : Type 0
 StepsAreWritten =
     map said_text (said.Steps (step_of [] 7 ∷ []) ∷ said.Steps (step_of [] 1 ∷ step_of (1 ∷ []) 12 ∷ []) ∷ said.Steps []
     ∷ said.PartlyDone [] ∷ said.PartlyDone (step_of (2 ∷ []) 3 ∷ step_of [] 4 ∷ [])
     ∷ said.BreaksDependence (step_of [] 2) (step_of (1 ∷ []) 1) ∷ said.Acknowledged ∷ said.Ran 3 (ends.Break 14)
+    ∷ said.Granted 0 ∷ said.Granted 1000
     ∷ said.No NothingToUndo ∷ said.No NotKept ∷ said.No NotTheSteps ∷ said.No NothingToRedo ∷ [])
     ≡ codes "ok 1 g0#7\n" ∷ codes "ok 2 g0#1 g0.1#12\n" ∷ codes "ok 0\n"
     ∷ codes "no B6 0\n" ∷ codes "no B6 2 g0.2#3 g0#4\n"
     ∷ codes "no B4 g0#2 g0.1#1\n" ∷ codes "ok\n" ∷ codes "ok 3 break 14\n"
+    ∷ codes "ok grant 0\n" ∷ codes "ok grant 1000\n"
     ∷ codes "no B1\n" ∷ codes "no B2\n" ∷ codes "no B3\n" ∷ codes "no B5\n" ∷ []
 
 -- a goroutine that waits, and one that is done

@@ -36,6 +36,8 @@ pub data Said : Type 0 where
   -- these two conflict and would change places
   BreaksDependence : (earlier later : StepId) → Said
   Acknowledged : Said
+  -- workers may take so many steps
+  Granted : (steps : ℕ) → Said
   No : (why : Refusal) → Said
 
 -- the lines of a list of lines
@@ -77,6 +79,7 @@ said_of (replies.Steps ids) = Steps ids.items
 said_of (replies.PartlyDone ids) = PartlyDone ids.items
 said_of (replies.BreaksDependence earlier later) = BreaksDependence earlier later
 said_of replies.Acknowledged = Acknowledged
+said_of (replies.Granted steps) = Granted steps
 said_of (replies.Refused why) = No why
 
 -- what is told of a status: not what is waited for

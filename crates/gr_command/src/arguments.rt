@@ -3,7 +3,7 @@
 ghost use Rattle.std.specs.Prelude.{◌≡◌, ◌+◌, ◌≤◌, IfOk, IfSome, option_copied, option_map};
 ghost use Rattle.gr_base.specs.Names.{with_digit, go_named, ch_named, step_named};
 ghost use Rattle.gr_command.specs.Words.{words_of};
-ghost use Rattle.gr_command.specs.Arguments.{number_named, ordinal_named, steps_named, only, one_named};
+ghost use Rattle.gr_command.specs.Arguments.{number_named, number_or_zero_named, ordinal_named, steps_named, only, one_named};
 
 use crate::step_list::StepList;
 use crate::words::next_word;
@@ -36,6 +36,17 @@ pub(crate) fn read_number(largest: u64, digits: &[u8]) -> Option<u64>
         count = push_digit(largest, count, *digit)?;
     }
     if count == 0 { None } else { Some(count) }
+}
+
+/// The number from 0 to `largest` that the digits spell, if they spell one with no leading zero; zero is `0`.
+pub(crate) fn read_number_or_zero(largest: u64, digits: &[u8]) -> Option<u64>
+    ensures value { result ≡ number_or_zero_named largest digits.now }
+    ensures range { IfSome result (λ n. n ≤ largest) }
+{
+    if digits == b"0".as_slice() {
+        return Some(0);
+    }
+    read_number(largest, digits)
 }
 
 /// The number from 1 to 4,294,967,295 that a word spells.

@@ -31,6 +31,10 @@ pub enum Command {
     Break(u32),
     /// No longer to end runs there.
     Clear(u32),
+    /// To grant the workers this many steps, from 0 to 1,000,000, in place of what is left of the last grant.
+    Free(u32),
+    /// One step by turns out of the workers' grant, if that is above 0. A worker asks it, and no line says it.
+    Turn,
     /// How the goroutine stands: its status, its steps, its line and its frames.
     Show(GoName),
     /// How the channel stands: its capacity, its items and who waits on it.
@@ -65,6 +69,8 @@ impl Command {
             Command::Causes(id) => Ok(Command::Causes(id.copy(alloc)?)),
             Command::Break(line) => Ok(Command::Break(*line)),
             Command::Clear(line) => Ok(Command::Clear(*line)),
+            Command::Free(steps) => Ok(Command::Free(*steps)),
+            Command::Turn => Ok(Command::Turn),
             Command::Show(go) => Ok(Command::Show(go.copy(alloc)?)),
             Command::Chan(channel) => Ok(Command::Chan(channel.copy(alloc)?)),
             Command::Text(go) => Ok(Command::Text(go.copy(alloc)?)),

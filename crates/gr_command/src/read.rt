@@ -4,11 +4,12 @@ ghost use Rattle.std.specs.Prelude.{◌≡◌, ◌∷◌, IfOk, OnErr};
 ghost use Rattle.std.specs.Io.BufRead.{strip_last};
 ghost use Rattle.gr_command.specs.Words.{words_of};
 ghost use Rattle.gr_command.specs.Commands.{alone as if_alone, about, step_asked, back_asked, order_asked, by_table, questions, commands, meaning, MayName};
-ghost use Rattle.gr_command.specs.Arguments.{number_named};
-ghost use Rattle.gr_command.specs.declared.command.Command.TheVariants.{Run};
+ghost use Rattle.gr_command.specs.Arguments.{number_named, number_or_zero_named};
+ghost use Rattle.gr_command.specs.declared.command.Command.TheVariants.{Run, Free};
 
 use crate::arguments::{
-    only_ch, only_go, only_ordinal, only_step, only_word, read_number, read_ordinal, read_steps,
+    only_ch, only_go, only_ordinal, only_step, only_word, read_number, read_number_or_zero,
+    read_ordinal, read_steps,
 };
 use crate::back::read_target;
 use crate::command::{Command, Line};
@@ -21,6 +22,9 @@ pub const LINE_LIMIT: usize = 1_048_576;
 
 /// The most steps that one `run` may ask for.
 pub const RUN_LIMIT: u64 = 1_000_000;
+
+/// The most steps that one `free` may grant.
+pub const GRANT_LIMIT: u64 = 1_000_000;
 
 // A step of the goroutine that the text names, with the clause of a select if a second word names that.
 fn step(alloc: Global, text: &[u8]) -> Result<Option<Line>, NoMemory>
@@ -50,6 +54,14 @@ fn run(text: &[u8]) -> Option<Line>
     Some(Line::Command(Command::Run {
         count: count as u32,
     }))
+}
+
+// To grant the workers steps, if the text is one word that says how many.
+fn free(text: &[u8]) -> Option<Line>
+    ensures { result ≡ about (number_or_zero_named 1_000_000) Free (words_of text.now) }
+{
+    let steps = read_number_or_zero(GRANT_LIMIT, only_word(text)?)?;
+    Some(Line::Command(Command::Free(steps as u32)))
 }
 
 // To take a step back, if the text says which.
@@ -146,6 +158,9 @@ fn asked(alloc: Global, word: &[u8], rest: &[u8]) -> Result<Option<Line>, NoMemo
     if word == b"clear".as_slice() {
         return Ok(only_ordinal(rest).map(|line| Line::Command(Command::Clear(line))));
     }
+    if word == b"free".as_slice() {
+        return Ok(free(rest));
+    }
     if word == b"quit".as_slice() {
         return Ok(alone(Line::Quit, rest));
     }
@@ -156,9 +171,9 @@ fn asked(alloc: Global, word: &[u8], rest: &[u8]) -> Result<Option<Line>, NoMemo
 /// commands, where G names a goroutine, C a channel and ID a step, and where I is from 1 to 4,294,967,295: `step G`,
 /// `step G I` with the clause of a select, `run N` with N from 1 to 1,000,000, `undo`, `back ID`, `back go G`,
 /// `back send C I`, `back recv C I`, `back var G X` with an identifier X that is no keyword, `redo`, `order ID ..` with
-/// one step at least, `deps ID`, `causes ID`, `break I` and `clear I` with a line, `show G`, `chan C`, `text G`,
-/// `console`, `log` and `quit`. Numbers are decimal and have no leading zero. A line with no word is blank; every other
-/// line, and one of more than 1,048,576 bytes, is rejected.
+/// one step at least, `deps ID`, `causes ID`, `break I` and `clear I` with a line, `free N` with N from 0 to 1,000,000,
+/// `show G`, `chan C`, `text G`, `console`, `log` and `quit`. Numbers are decimal and have no leading zero. A line with
+/// no word is blank; every other line, and one of more than 1,048,576 bytes, is rejected.
 ///
 /// The one error is want of memory for a name, where the first word is one of the eight that are followed by one.
 pub fn read_command(alloc: Global, line: &[u8]) -> Result<Line, NoMemory>

@@ -91,5 +91,7 @@ pub enum Reply {
     BreaksDependence { earlier: StepId, later: StepId },
     /// It was done, and there is nothing to tell.
     Acknowledged,
+    /// The workers may now take this many steps.
+    Granted(u32),
     Refused(Refusal),
 }

@@ -50,7 +50,7 @@ fn copied(alloc: Global, ids: &[StepId]) -> Result<Vec<StepId>, NoMemory>
 {
     let mut copies = Vec::with_capacity(alloc, ids.len())?;
     for id in ids {
-        copies.push(id.copy(alloc)?)?;
+        copies.push_reserved(id.copy(alloc)?);
     }
     Ok(copies)
 }

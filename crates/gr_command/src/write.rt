@@ -232,6 +232,17 @@ fn put_pair(text: &mut Vec<u8>, first: &StepId, second: &StepId) -> Result<(), N
     second.put_into(text)
 }
 
+#[tactic(auto, using(crate::proofs::Growing::grows_then))]
+fn put_granted(text: &mut Vec<u8>, steps: u32) -> Result<(), NoMemory>
+    ensures ok { OnOk result (text.new.items ≡ text.old.items ++ said_text (said.Granted steps)) }
+    ensures full { OnErr result (IsFull text.old (said_text (said.Granted steps))) }
+    ensures grows { Grows text.old text.new }
+{
+    put(text, b"ok grant ")?;
+    put_number(text, u64::from(steps))?;
+    put(text, b"\n")
+}
+
 fn put_reply(text: &mut Vec<u8>, reply: &Reply) -> Result<(), NoMemory>
     ensures ok { OnOk result (text.new.items ≡ text.old.items ++ reply_text reply.now) }
     ensures full { OnErr result (IsFull text.old (reply_text reply.now)) }
@@ -249,6 +260,7 @@ fn put_reply(text: &mut Vec<u8>, reply: &Reply) -> Result<(), NoMemory>
         Reply::PartlyDone(ids) => put_partly_done(text, ids.as_slice()),
         Reply::BreaksDependence { earlier, later } => put_breaks(text, earlier, later),
         Reply::Acknowledged => put(text, b"ok\n"),
+        Reply::Granted(steps) => put_granted(text, *steps),
         Reply::Refused(why) => put(text, refused(*why)),
     }
 }

@@ -44,13 +44,13 @@ order_answer (Err why) = refusal_said why
 abbrev pub LeadsBy : (p : Program) → World p → Command → Memory × Said → Debuggee → Type 0
 LeadsBy p w command answer d = LeadsTo p w command answer.0 answer.1 d
 
-module _ (p : Program) (w : World p) (d : Debuggee) (lines : HasLines w.lines d.lines) where
-  -- where the machine stands, with the lines as they were
+module _ (p : Program) (w : World p) (d : Debuggee) (lines : HasLines w.lines d.lines) (grant : d.grant ≡ w.grant) where
+  -- where the machine stands, with the lines and the grant as they were
   at_machine : (u : Past p) (again : List Event) → machines.Stands p (record { past = u; again = again }) d.machine → Stands p (moved p w u again) d
-  at_machine u again s = record { machine = s; lines = lines }
+  at_machine u again s = record { machine = s; lines = lines; grant = grant }
 
   stays : machines.Stands p (course_of p w) d.machine → Stands p w d
-  stays s = record { machine = s; lines = lines }
+  stays s = record { machine = s; lines = lines; grant = grant }
 
   partly : (command : Command) (world : World p) (ids some : List StepId) → ids ≡ some → Leads p w command (EnoughFor (length some)) world (said.PartlyDone some)
       → Stands p world d → LeadsTo p w command (EnoughFor (length ids)) (said.PartlyDone ids) d

@@ -19,3 +19,4 @@ mod OneMeaningOrders
 mod OneMeaningNext
 mod ReachedWorlds
 mod OneMeaningJournals
+mod GrantLemmas

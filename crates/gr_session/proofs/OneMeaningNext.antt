@@ -1,5 +1,5 @@
 -- What an entry of a journal keeps fixes the next world and the reply.
-use Rattle.std.proofs.Common.{◌≡◌, ℕ, [], ◌∷◌, Some, refl, sym, ◌∙◌, ap, ap₂, arith}
+use Rattle.std.proofs.Common.{◌≡◌, ℕ, ◌-◌, min, [], ◌∷◌, Some, refl, sym, ◌∙◌, ap, ap₂, arith}
 use Rattle.gr_causal.specs.Dependence.{dependents, causes}
 use Rattle.gr_causal.proofs.ListLemmas.{some_is, none_not}
 use Rattle.gr_causal.proofs.OrderByNamesLemmas.{accepted_is, broken_is}
@@ -13,10 +13,10 @@ use Rattle.gr_command.specs.declared.reply.RunEnd.TheVariants as ends
 use Rattle.gr_command.specs.Replies.{Said, Stepped, Ran, Undone, Steps, PartlyDone, BreaksDependence, No, end_in, refusal_told}
 use Rattle.gr_show.specs.Said.{step_kind}
 use Rattle.gr_rollback.specs.Backs.{again_after}
-use Rattle.gr_rollback.specs.Pasts.{id_of, ids_of, events_in}
+use Rattle.gr_rollback.specs.Pasts.{Past, id_of, ids_of, events_in}
 use Rattle.gr_rollback.specs.Steps.{with_step}
 use Rattle.gr_session.specs.declared.journal.Memory.{Memory}
-use Rattle.gr_session.specs.Journal.{World, past_of, course_of, moved, again_past, event_asked, Leads}
+use Rattle.gr_session.specs.Journal.{World, past_of, course_of, moved, event_asked, ByTurns, until_end, until_want, turned, Leads}
 use Rattle.gr_session.specs.Journal as leads
 use Rattle.gr_session.proofs.OneMeaningSteps.{one_step, step_is_not_refused}
 use Rattle.gr_session.proofs.OneMeaningTurns.{one_end_of_run}
@@ -54,6 +54,16 @@ module _ (p : Program) where
   consequences : (w : World p) (i j : ℕ) → i ≡ j → ids_of p (dependents (clash p) w.log i) ≡ ids_of p (dependents (clash p) w.log j)
   consequences w i j same = ap (λ i. ids_of p (dependents (clash p) w.log i)) same
 
+  -- as far as memory allowed, steps by turns come to one end
+  one_end : (w : World p) (wanted : ℕ) (memory : Memory) (x y : Past p) (m n : ℕ) (why because : RunEnd)
+      → ByTurns p w wanted memory x m why → ByTurns p w wanted memory y n because → (x ≡ y) × (m ≡ n) × (why ≡ because)
+  one_end w wanted memory x y m n why because (until_end reason all told) (until_end cause every said) =
+      let one = one_end_of_run p w.lines wanted 0 w.state x.state y.state w.log x.log y.log m n reason cause all every in
+      (same_past p x y one.log one.state, one.taken, told_by why reason told ∙ ap reply_end one.reason ∙ sym (told_by because cause said))
+  one_end w wanted memory x y m n why because (until_want g all turn on) (until_want h every next more) =
+      let one = one_end_of_run p w.lines m 0 w.state x.state y.state w.log x.log y.log m m turns.all_taken turns.all_taken all every in
+      (same_past p x y one.log one.state, refl, refl)
+
   -- what the entry keeps fixes the next world and the reply
   pub one_next : (w u v : World p) (command : Command) (memory : Memory) (a b : Said) → IsRun p w.log w.state
       → Leads p w command memory u a → Leads p w command memory v b → Same u v a b
@@ -75,13 +85,13 @@ module _ (p : Program) where
   one_next w u v command memory a b run (leads.has_no_room allowed full) (leads.has_no_room also more) = (refl, refl)
   one_next w u v command memory a b run (leads.has_no_memory allowed room) (leads.has_no_memory also space) = (refl, refl)
   -- steps by turns
-  one_next w u v command memory a b run (leads.runs {wanted = wanted} {taken = m} {after = x} {why = why} reason all told) (leads.runs {taken = n} {after = y} {why = because} cause every said) =
-      let one = one_end_of_run p w.lines wanted 0 w.state x.state y.state w.log x.log y.log m n reason cause all every in
-      let reply = told_by why reason told ∙ ap reply_end one.reason ∙ sym (told_by because cause said) in
-      (ap₂ (λ x n. moved p w x (again_past n w.again)) (same_past p x y one.log one.state) one.taken, ap₂ Ran one.taken reply)
-  one_next w u v command memory a b run (leads.runs_so_far {taken = m} {after = x} g all turn on) (leads.runs_so_far {after = y} h every next more) =
-      let one = one_end_of_run p w.lines m 0 w.state x.state y.state w.log x.log y.log m m turns.all_taken turns.all_taken all every in
-      (ap (λ x. moved p w x (again_past m w.again)) (same_past p x y one.log one.state), refl)
+  one_next w u v command memory a b run (leads.runs {wanted = wanted} {taken = m} {after = x} {why = why} first) (leads.runs {taken = n} {after = y} {why = because} second) =
+      let one = one_end w wanted memory x y m n why because first second in
+      (ap₂ (λ x n. turned p w x n) one.0 one.1, ap₂ Ran one.1 one.2)
+  one_next w u v command memory a b run (leads.takes_turn {taken = m} {after = x} {why = why} first) (leads.takes_turn {taken = n} {after = y} {why = because} second) =
+      let one = one_end w (min w.grant 1) memory x y m n why because first second in
+      (ap₂ (λ x n. record (turned p w x n) { grant = w.grant - n }) one.0 one.1, ap₂ Ran one.1 one.2)
+  one_next w u v command memory a b run leads.frees leads.frees = (refl, refl)
   -- the last step taken back
   one_next w u v command memory a b run (leads.undoes {u = x} r first) (leads.undoes {u = y} q second) =
       let one = one_before p (past_of p w) x y r q first second in

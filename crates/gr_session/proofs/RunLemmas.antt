@@ -8,10 +8,9 @@ use Rattle.gr_rules.specs.Limits.{most_steps}
 use Rattle.gr_rules.specs.States.{Run, live, ended, faulted, State}
 use Rattle.gr_rules.specs.Turns as turns
 use Rattle.gr_rules.specs.Turns.{IsTurn, last_owner, break_at, line_of, at_break, ends_at_turn, ends_live, ends_by, why_end, Runs, stops, goes}
-use Rattle.gr_command.specs.declared.command.Command.TheVariants as commands
 use Rattle.gr_command.specs.declared.reply.RunEnd.{RunEnd}
 use Rattle.gr_command.specs.declared.reply.RunEnd.TheVariants as ends
-use Rattle.gr_command.specs.Replies.{Ran, end_in}
+use Rattle.gr_command.specs.Replies.{end_in}
 use Rattle.gr_step.specs.Stores.{contents_at}
 use Rattle.gr_depend.specs.Logs.{records_of}
 use Rattle.gr_rollback.specs.declared.TheConstants.{LOG_LIMIT}
@@ -19,10 +18,9 @@ use Rattle.gr_rollback.specs.Pasts.{Past}
 use Rattle.gr_rollback.specs.Steps.{with_step}
 use Rattle.gr_session.specs.declared.debuggee.Debuggee.{Debuggee}
 use Rattle.gr_session.specs.declared.journal.Memory.TheVariants.{Enough}
-use Rattle.gr_session.specs.Journal.{World, past_of, moved, again_past, runs, runs_so_far}
+use Rattle.gr_session.specs.Journal.{World, past_of, moved, again_past, ByTurns, until_end, until_want}
 use Rattle.gr_session.specs.Debuggees.{store_in, log_in, Stands}
-use Rattle.gr_session.specs.Turning.{HasTurn, TakesTurn, EndsBy, Ends, memory_at}
-use Rattle.gr_session.specs.Carried.{LeadsTo}
+use Rattle.gr_session.specs.Turning.{HasTurn, TakesTurn, EndsBy, Ends, GoesByTurns, memory_at}
 use Rattle.gr_session.proofs.DebuggeeLemmas.{log_length}
 
 same_is : (n m : ℕ) → n ≡ m → nat_eq n m ≡ true
@@ -164,27 +162,21 @@ module _ (p : Program) (w : World p) (wanted taken : ℕ) (old new : Debuggee) (
   abbrev here : World p
   here = world_gone p w taken old was
 
-  by_rules : (why : RunEnd) → Stands p here new → (reason : turns.RunEnd) → EndsBy p here wanted taken reason → end_in why ≡ Some reason
-      → LeadsTo p w (commands.Run wanted) Enough (Ran taken why) new
-  by_rules why s reason by told = record {
-    world = here;
-    leads = runs reason (was.leads wanted few was.past taken reason (stops by.owner by.turn by.why)) told;
-    stands = s;
-  }
+  by_rules : (why : RunEnd) (reason : turns.RunEnd) → EndsBy p here wanted taken reason → end_in why ≡ Some reason
+      → ByTurns p w wanted Enough was.past taken why
+  by_rules why reason by told = until_end reason (was.leads wanted few was.past taken reason (stops by.owner by.turn by.why)) told
+
+  by_end : (why : RunEnd) → Ends p here wanted taken why → ByTurns p w wanted (memory_at taken why) was.past taken why
+  by_end ends.Memory (g, has) = until_want g
+      (was.leads taken (omega arith) was.past taken turns.all_taken (stops (Some g) has.turn (all_however p here wanted taken g has.goes)))
+      has.turn has.goes
+  by_end ends.Ended (reason, by, told) = by_rules ends.Ended reason by told
+  by_end (ends.Fault fault) (reason, by, told) = by_rules (ends.Fault fault) reason by told
+  by_end ends.Count (reason, by, told) = by_rules ends.Count reason by told
+  by_end ends.Stuck (reason, by, told) = by_rules ends.Stuck reason by told
+  by_end ends.Full (reason, by, told) = by_rules ends.Full reason by told
+  by_end (ends.Break line) (reason, by, told) = by_rules (ends.Break line) reason by told
 
   -- the steps end
-  pub gone_to_end : (why : RunEnd) → Ends p here wanted taken why → Stands p here new
-      → LeadsTo p w (commands.Run wanted) (memory_at taken why) (Ran taken why) new
-  gone_to_end ends.Memory (g, has) s = record {
-    world = here;
-    leads = runs_so_far g
-        (was.leads taken (omega arith) was.past taken turns.all_taken (stops (Some g) has.turn (all_however p here wanted taken g has.goes)))
-        has.turn has.goes;
-    stands = s;
-  }
-  gone_to_end ends.Ended (reason, by, told) s = by_rules ends.Ended s reason by told
-  gone_to_end (ends.Fault fault) (reason, by, told) s = by_rules (ends.Fault fault) s reason by told
-  gone_to_end ends.Count (reason, by, told) s = by_rules ends.Count s reason by told
-  gone_to_end ends.Stuck (reason, by, told) s = by_rules ends.Stuck s reason by told
-  gone_to_end ends.Full (reason, by, told) s = by_rules ends.Full s reason by told
-  gone_to_end (ends.Break line) (reason, by, told) s = by_rules (ends.Break line) s reason by told
+  pub gone_to_end : (why : RunEnd) → Ends p here wanted taken why → Stands p here new → GoesByTurns p w wanted taken why new
+  gone_to_end why reason s = record { after = was.past; by_turns = by_end why reason; stands = s }

@@ -25,6 +25,7 @@ HasLines lines table = (n : ℕ) → get nat_eq table n ≡ (if list_any (nat_eq
 pub record Stands (p : Program) (w : World p) (d : Debuggee) : Type 0 where
   pub machine : rollback.Stands p (course_of p w) d.machine
   pub lines : HasLines w.lines d.lines
+  pub grant : d.grant ≡ w.grant
 
 -- .. as in some world
 pub record IsDebuggee (d : Debuggee) : Type 0 where

@@ -1,7 +1,7 @@
 -- What the entries of a journal mean: what each makes of the steps that are kept, and its reply.
 -- Lanese, Nishida, Palacios and Vidal, A theory of reversibility for Erlang (2018): forward and backward steps of a system with
 -- its history, and rollback of an action with its consequences.
-use Rattle.std.specs.Prelude.{◌≡◌, ℕ, zero, suc, ◌≤◌, ◌<◌, not, nat_eq, List, [], ◌∷◌, ◌++◌, length, filter, All, Option, Some, None}
+use Rattle.std.specs.Prelude.{◌≡◌, ℕ, zero, suc, ◌-◌, ◌≤◌, ◌<◌, min, not, nat_eq, List, [], ◌∷◌, ◌++◌, length, filter, All, Option, Some, None}
 use Rattle.gr_base.specs.declared.events.Event.{Event}
 use Rattle.gr_base.specs.declared.events.Choice.TheVariants.{Pick}
 use Rattle.gr_base.specs.declared.names.ChName.{ChName}
@@ -38,16 +38,17 @@ use Rattle.gr_session.specs.declared.journal.Entry.{Entry}
 use Rattle.gr_session.specs.Targets.{step_asked}
 
 -- a world: the steps that are kept, the oldest first, and the state to which they lead; the events that `redo` takes, the first
--- of them first; and the lines with a breakpoint
+-- of them first; the lines with a breakpoint; and the grant: how many steps workers may still take by turns
 pub record World (p : Program) : Type 0 where
   pub log : List (Logged p)
   pub state : State
   pub again : List Event
   pub lines : List ℕ
+  pub grant : ℕ
 
--- no step, the state in which the program starts, nothing to take again, and no breakpoint
+-- no step, the state in which the program starts, nothing to take again, no breakpoint, and a grant of 0
 abbrev pub first_world : (p : Program) → World p
-first_world p = record { log = []; state = start p; again = []; lines = [] }
+first_world p = record { log = []; state = start p; again = []; lines = []; grant = 0 }
 
 -- the steps and the state alone, and with what may be taken again
 abbrev pub past_of : (p : Program) → World p → Past p
@@ -58,7 +59,7 @@ course_of p w = record { past = past_of p w; again = w.again }
 
 -- the world with other steps, and with these events to take again
 abbrev pub moved : (p : Program) → World p → Past p → List Event → World p
-moved p w u again = record { log = u.log; state = u.state; again = again; lines = w.lines }
+moved p w u again = record { log = u.log; state = u.state; again = again; lines = w.lines; grant = w.grant }
 
 -- what may be taken again after so many steps
 abbrev pub again_past : ℕ → List Event → List Event
@@ -80,6 +81,23 @@ pub record IsAsked (p : Program) (log : List (Logged p)) (target : Target) (plac
   pub asked : step_asked p log target ≡ Some id
   pub named : IsNamed p log id place
 
+-- At most so many steps by turns, as far as memory allowed: to which past they lead, how many were taken, and why they ended.
+pub data ByTurns (p : Program) (w : World p) (wanted : ℕ) : Memory → Past p → ℕ → RunEnd → Type 0 where
+  -- a reason ended them
+  until_end : {taken : ℕ} {after : Past p} {why : RunEnd} (reason : turns.RunEnd)
+      → Runs p w.lines wanted 0 w.state w.log after.state after.log taken reason → end_in why ≡ Some reason
+      → ByTurns p w wanted Enough after taken why
+  -- .. or a growth for the next one was refused
+  until_want : {taken : ℕ} {after : Past p} (g : List ℕ)
+      → Runs p w.lines taken 0 w.state w.log after.state after.log taken turns.all_taken
+      → IsTurn after.state (last_owner p after.log) (Some g)
+      → why_end after.state w.lines wanted taken (length after.log) (Some g) ≡ None
+      → ByTurns p w wanted (EnoughFor taken) after taken ends.Memory
+
+-- the world after so many steps by turns
+abbrev pub turned : (p : Program) → World p → Past p → ℕ → World p
+turned p w after taken = moved p w after (again_past taken w.again)
+
 -- What comes of a command in a world, as far as memory allowed: the next world and the reply.
 pub data Leads (p : Program) (w : World p) : Command → Memory → World p → Said → Type 0 where
   -- a step that the rules allow joins the log, and nothing may be taken again
@@ -98,16 +116,16 @@ pub data Leads (p : Program) (w : World p) : Command → Memory → World p → 
   has_no_memory : {go : List ℕ} {clause : Option ℕ}
       → refusal p w.state (event_asked p w.state go clause) ≡ None → length w.log < most_steps
       → Leads p w (commands.Step go clause) (EnoughFor 0) w (replies.No refusals.NoMemory)
-  -- steps by turns, until a reason ends them
-  runs : {wanted taken : ℕ} {after : Past p} {why : RunEnd} (reason : turns.RunEnd)
-      → Runs p w.lines wanted 0 w.state w.log after.state after.log taken reason → end_in why ≡ Some reason
-      → Leads p w (commands.Run wanted) Enough (moved p w after (again_past taken w.again)) (replies.Ran taken why)
-  -- .. or until a growth for the next one was refused
-  runs_so_far : {wanted taken : ℕ} {after : Past p} (g : List ℕ)
-      → Runs p w.lines taken 0 w.state w.log after.state after.log taken turns.all_taken
-      → IsTurn after.state (last_owner p after.log) (Some g)
-      → why_end after.state w.lines wanted taken (length after.log) (Some g) ≡ None
-      → Leads p w (commands.Run wanted) (EnoughFor taken) (moved p w after (again_past taken w.again)) (replies.Ran taken ends.Memory)
+  -- steps by turns
+  runs : {wanted taken : ℕ} {memory : Memory} {after : Past p} {why : RunEnd}
+      → ByTurns p w wanted memory after taken why
+      → Leads p w (commands.Run wanted) memory (turned p w after taken) (replies.Ran taken why)
+  -- one of them at most, out of the grant
+  takes_turn : {taken : ℕ} {memory : Memory} {after : Past p} {why : RunEnd}
+      → ByTurns p w (min w.grant 1) memory after taken why
+      → Leads p w commands.Turn memory (record (turned p w after taken) { grant = w.grant - taken }) (replies.Ran taken why)
+  -- a new grant
+  frees : {steps : ℕ} → Leads p w (commands.Free steps) Enough (record w { grant = steps }) (replies.Granted steps)
   -- the last step is taken back, and may be taken again
   undoes : {u : Past p} (r : Logged p) → LosesLast p (past_of p w) r u
       → Leads p w commands.Undo Enough (moved p w u (r.event ∷ [])) (replies.Undone (id_of p r))
@@ -168,6 +186,12 @@ pub data Lead (p : Program) : World p → List Entry → World p → Type 0 wher
 -- the entry is of an asker from 1 to askers
 abbrev pub IsAskedBy : ℕ → Entry → Type 0
 IsAskedBy askers e = (1 ≤ e.asker) × (e.asker ≤ askers)
+
+-- in the world to which a journal leads, this holds
+pub record InItsWorld (p : Program) (journal : List Entry) (Holds : World p → Type 0) : Type 0 where
+  pub world : World p
+  pub means : Lead p (first_world p) journal world
+  pub holds : Holds world
 
 -- a legal journal: each entry has a meaning where it stands
 pub record IsLegal (p : Program) (askers : ℕ) (journal : List Entry) : Type 0 where

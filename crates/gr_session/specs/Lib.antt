@@ -3,6 +3,7 @@ pub mod Journal
 pub mod Debuggees
 pub mod Refusing
 pub mod Turning
+pub mod Granting
 pub mod Carried
 pub mod Keeps
 pub mod Source

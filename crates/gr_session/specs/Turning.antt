@@ -9,11 +9,12 @@ use Rattle.gr_laws.specs.Reached.{Logged}
 use Rattle.gr_command.specs.declared.reply.RunEnd.{RunEnd}
 use Rattle.gr_command.specs.declared.reply.RunEnd.TheVariants as ends
 use Rattle.gr_command.specs.Replies.{end_in}
+use Rattle.gr_rollback.specs.Pasts.{Past}
 use Rattle.gr_rollback.specs.Steps.{Joins, with_step}
 use Rattle.gr_session.specs.declared.debuggee.Debuggee.{Debuggee}
 use Rattle.gr_session.specs.declared.journal.Memory.{Memory}
 use Rattle.gr_session.specs.declared.journal.Memory.TheVariants.{Enough, EnoughFor}
-use Rattle.gr_session.specs.Journal.{World, past_of, moved}
+use Rattle.gr_session.specs.Journal.{World, past_of, moved, ByTurns, turned}
 use Rattle.gr_session.specs.Debuggees.{Stands}
 
 -- for how many steps by turns memory was enough
@@ -50,3 +51,9 @@ Ends p w wanted taken why = (reason : turns.RunEnd) × EndsBy p w wanted taken r
 abbrev pub Turns : (p : Program) → World p → ℕ → ℕ → Result (Unit {0}) RunEnd → Debuggee → Type 0
 Turns p w wanted taken (Ok done) d = TakesTurn p w wanted taken d
 Turns p w wanted taken (Err why) d = Ends p w wanted taken why × Stands p w d
+
+-- at most so many steps by turns were taken, and the program stands where they lead
+pub record GoesByTurns (p : Program) (w : World p) (wanted taken : ℕ) (why : RunEnd) (d : Debuggee) : Type 0 where
+  pub after : Past p
+  pub by_turns : ByTurns p w wanted (memory_at taken why) after taken why
+  pub stands : Stands p (turned p w after taken) d

@@ -9,6 +9,7 @@ ghost use Rattle.gr_session.specs.Carried.{Carries};
 use crate::breakpoints;
 use crate::debuggee::Debuggee;
 use crate::dependence::{causes, dependents};
+use crate::granting::{free, turn};
 use crate::journal::Memory;
 use crate::rollback::{back, order, redo, undo};
 use crate::running::run;
@@ -40,6 +41,8 @@ pub(crate) fn carry_out(
         Command::Causes(id) => causes(alloc, debuggee, id),
         Command::Break(line) => breakpoints::set(debuggee, *line),
         Command::Clear(line) => Ok(breakpoints::clear(debuggee, *line)),
+        Command::Free(steps) => Ok(free(debuggee, *steps)),
+        Command::Turn => Ok(turn(alloc, debuggee)),
         Command::Show(go) => Ok((Memory::Enough, show(alloc, debuggee.machine.store(), go)?)),
         Command::Chan(channel) => {
             Ok((

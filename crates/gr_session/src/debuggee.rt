@@ -12,16 +12,18 @@ use gr_rollback::Machine;
 use indexmap::IndexMap;
 use std::alloc::Global;
 
-/// A program under the debugger: its machine, and the lines with a breakpoint.
+/// A program under the debugger: its machine, the lines with a breakpoint, and the grant of the workers.
 #[derive(Drop)]
 pub struct Debuggee {
     pub(crate) machine: Machine,
     /// The lines with a breakpoint, each with its number as replies tell it.
     pub(crate) lines: IndexMap<usize, u32>,
+    /// How many steps workers may still take by turns.
+    pub(crate) grant: u32,
 }
 
 impl Debuggee {
-    /// A checked program before its first step, with no breakpoint.
+    /// A checked program before its first step, with no breakpoint and a grant of 0.
     pub(crate) fn start(alloc: Global, program: Program) -> Result<Debuggee, NoMemory>
         requires { IsChecked (program_of program) }
         ensures { IfOk result (Stands (program_of program) (first_world (program_of program))) }
@@ -30,6 +32,7 @@ impl Debuggee {
         Ok(Debuggee {
             machine,
             lines: IndexMap::new(alloc),
+            grant: 0,
         })
     }
 }

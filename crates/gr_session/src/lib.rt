@@ -5,6 +5,7 @@ mod breakpoints;
 mod carry;
 mod debuggee;
 mod dependence;
+mod granting;
 pub mod journal;
 pub mod laws;
 pub mod open;

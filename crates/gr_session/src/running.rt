@@ -1,6 +1,6 @@
 //! Steps by turns.
 
-ghost use Rattle.std.specs.Prelude.{◌≡◌, IfOk, IfErr, OnOk};
+ghost use Rattle.std.specs.Prelude.{◌≡◌, ◌≤◌, IfOk, IfErr, OnOk};
 ghost use Rattle.gr_program.specs.Programs.{Program};
 ghost use Rattle.gr_rules.specs.Tells.{usual_choice};
 ghost use Rattle.gr_command.specs.Replies.{said_of};
@@ -8,7 +8,7 @@ ghost use Rattle.gr_command.specs.declared.command.Command.TheVariants as comman
 ghost use Rattle.gr_step.specs.Stores.{program_at, state_at, IsRun, SameListing};
 ghost use Rattle.gr_session.specs.Journal.{World};
 ghost use Rattle.gr_session.specs.Debuggees.{Stands, IsDebuggee, store_in};
-ghost use Rattle.gr_session.specs.Turning.{HasTurn, Ends, Turns, memory_at};
+ghost use Rattle.gr_session.specs.Turning.{HasTurn, Ends, Turns, GoesByTurns, memory_at};
 ghost use Rattle.gr_session.specs.Carried.{LeadsTo};
 
 use crate::breakpoints::breakpoint_at;
@@ -78,8 +78,8 @@ fn take_turn(alloc: Global, debuggee: &mut Debuggee, wanted: u64, taken: u64) ->
     }
 }
 
-// That so many steps were taken, and why no more.
-fn ran(steps: u64, end: RunEnd) -> (Memory, Reply)
+/// That so many steps were taken, and why no more.
+pub(crate) fn ran(steps: u64, end: RunEnd) -> (Memory, Reply)
     ensures { result ≡ (memory_at steps end, Reply.Ran steps end) }
 {
     let memory = match end {
@@ -89,11 +89,11 @@ fn ran(steps: u64, end: RunEnd) -> (Memory, Reply)
     (memory, Reply::Ran { steps, end })
 }
 
-/// Takes up to so many steps by turns.
-pub(crate) fn run(alloc: Global, debuggee: &mut Debuggee, count: u32) -> (Memory, Reply)
+/// Takes up to so many steps by turns, and tells how many and why no more.
+pub(crate) fn take_turns(alloc: Global, debuggee: &mut Debuggee, count: u32) -> (u64, RunEnd)
     requires { IsDebuggee debuggee.old }
-    ensures leads { (p : Program) → (w : World p) → Stands p w debuggee.old
-        → LeadsTo p w (commands.Run count) result.0 (said_of result.1) debuggee.new }
+    ensures few { result.0 ≤ count }
+    ensures goes { (p : Program) → (w : World p) → Stands p w debuggee.old → GoesByTurns p w count result.0 result.1 debuggee.new }
     ensures listing { SameListing (store_in debuggee.old) (store_in debuggee.new) }
 {
     let wanted = u64::from(count);
@@ -101,7 +101,18 @@ pub(crate) fn run(alloc: Global, debuggee: &mut Debuggee, count: u32) -> (Memory
     loop {
         match take_turn(alloc, debuggee, wanted, taken) {
             Ok(()) => taken += 1,
-            Err(end) => return ran(taken, end),
+            Err(end) => return (taken, end),
         }
     }
+}
+
+/// Takes up to so many steps by turns.
+pub(crate) fn run(alloc: Global, debuggee: &mut Debuggee, count: u32) -> (Memory, Reply)
+    requires { IsDebuggee debuggee.old }
+    ensures leads { (p : Program) → (w : World p) → Stands p w debuggee.old
+        → LeadsTo p w (commands.Run count) result.0 (said_of result.1) debuggee.new }
+    ensures listing { SameListing (store_in debuggee.old) (store_in debuggee.new) }
+{
+    let (steps, end) = take_turns(alloc, debuggee, count);
+    ran(steps, end)
 }

@@ -1,13 +1,16 @@
 //! Sessions: a program under the debugger, asked of under one journal.
 
-ghost use Rattle.std.specs.Prelude.{◌≡◌, ◌↔◌, ◌+◌, ◌≤◌, [], length, IfOk, OnOk, OnErr, IsErrOf};
+ghost use Rattle.std.specs.Prelude.{◌≡◌, ◌↔◌, ◌+◌, ◌≤◌, [], length, IfOk, OnOk, OnErr, IsErrOf, IsTrue};
 ghost use Rattle.gr_program.specs.Views.{program_of};
+ghost use Rattle.gr_rules.specs.Limits.{most_steps};
 ghost use Rattle.gr_command.specs.Replies.{said_of};
-ghost use Rattle.gr_session.specs.Journal.{Enters, IsLegal};
+ghost use Rattle.gr_session.specs.Journal.{Enters, IsLegal, InItsWorld};
+ghost use Rattle.gr_session.specs.Granting.{IsTurnDue};
 ghost use Rattle.gr_step.specs.Premises.{IsChecked};
 
 use crate::carry::carry_out;
 use crate::debuggee::Debuggee;
+use crate::granting::{room, turn_due};
 use crate::journal::{AskRefused, DeskId, EnrolRefused, Entry, Receipt};
 use crate::{ASKER_LIMIT, JOURNAL_LIMIT};
 use gr_base::NoMemory;
@@ -127,5 +130,27 @@ impl Session {
         ensures legal { IsLegal (program_of self.now.program) self.now.askers self.now.journal }
     {
         self.journal.as_slice()
+    }
+
+    /// The grant: how many steps workers may still take by turns, from 0 to what `free` granted last.
+    pub fn grant(&self) -> u32
+        ensures { InItsWorld (program_of self.now.program) self.now.journal (λ w. result ≡ w.grant) }
+    {
+        self.debuggee.grant
+    }
+
+    /// How many steps the log still takes: 1,000,000 less those that are kept.
+    pub fn room(&self) -> usize
+        ensures { InItsWorld (program_of self.now.program) self.now.journal (λ w. result + length w.log ≡ most_steps) }
+    {
+        room(&self.debuggee)
+    }
+
+    /// Whether a worker is to ask for a turn: the program runs, the grant is above 0, the log has room, and some goroutine is
+    /// ready.
+    pub fn turn_due(&self) -> bool
+        ensures { InItsWorld (program_of self.now.program) self.now.journal (λ w. IsTrue result ↔ IsTurnDue (program_of self.now.program) w) }
+    {
+        turn_due(&self.debuggee)
     }
 }

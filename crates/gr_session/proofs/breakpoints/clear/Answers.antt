@@ -9,5 +9,6 @@ returns-clause-leads c = λ p w s. record {
   stands = record {
     machine = s.machine;
     lines = lines_cleared w.lines c.args.debuggee.now.lines c.swap_remove.new.self s.lines c.args.line c.swap_remove.ensures.updates.0;
+    grant = s.grant;
   };
 }

@@ -10,5 +10,6 @@ returns-in-Ok-clause-leads c = λ p w s. record {
   stands = record {
     machine = s.machine;
     lines = lines_set w.lines c.args.debuggee.now.lines c.insert.new.self s.lines c.args.line c.in-Ok.ensures.updates.0;
+    grant = s.grant;
   };
 }

@@ -5,8 +5,8 @@ use Rattle.gr_session.proofs.BackLemmas.{redo_leads, by_answer}
 use Rattle.gr_session.proofs.rollback.redo.Goals as goal
 
 pub returns-in-Ok-clause-leads : goal.returns-in-Ok-clause-leads
-returns-in-Ok-clause-leads c = λ p w s. redo_leads p w _ s.lines (Ok c.in-Ok.ids) (c.in-Ok.ensures.again p (course_of p w) s.machine)
+returns-in-Ok-clause-leads c = λ p w s. redo_leads p w _ s.lines s.grant (Ok c.in-Ok.ids) (c.in-Ok.ensures.again p (course_of p w) s.machine)
 
 pub returns-in-Err-clause-leads : goal.returns-in-Err-clause-leads
 returns-in-Err-clause-leads c = λ p w s.
-    by_answer p w _ commands.Redo _ _ c.refusal_told.ensures (redo_leads p w _ s.lines (Err c.in-Err.why) (c.in-Err.ensures.again p (course_of p w) s.machine))
+    by_answer p w _ commands.Redo _ _ c.refusal_told.ensures (redo_leads p w _ s.lines s.grant (Err c.in-Err.why) (c.in-Err.ensures.again p (course_of p w) s.machine))

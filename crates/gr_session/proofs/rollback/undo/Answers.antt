@@ -5,8 +5,8 @@ use Rattle.gr_session.proofs.BackLemmas.{undo_leads, by_answer}
 use Rattle.gr_session.proofs.rollback.undo.Goals as goal
 
 pub returns-in-Ok-clause-leads : goal.returns-in-Ok-clause-leads
-returns-in-Ok-clause-leads c = λ p w s. undo_leads p w _ s.lines (Ok c.in-Ok.id) (c.in-Ok.ensures.undone p (course_of p w) s.machine)
+returns-in-Ok-clause-leads c = λ p w s. undo_leads p w _ s.lines s.grant (Ok c.in-Ok.id) (c.in-Ok.ensures.undone p (course_of p w) s.machine)
 
 pub returns-in-Err-clause-leads : goal.returns-in-Err-clause-leads
 returns-in-Err-clause-leads c = λ p w s.
-    by_answer p w _ commands.Undo _ _ c.refusal_told.ensures (undo_leads p w _ s.lines (Err c.in-Err.why) (c.in-Err.ensures.undone p (course_of p w) s.machine))
+    by_answer p w _ commands.Undo _ _ c.refusal_told.ensures (undo_leads p w _ s.lines s.grant (Err c.in-Err.why) (c.in-Err.ensures.undone p (course_of p w) s.machine))

@@ -27,9 +27,9 @@ returns-in-Ok-step-clause-turns c = λ p w s.
       step = takes.step;
       state = takes.state;
       joins = subst (λ e. Joins p (past_of p w) e takes.step takes.state) asked takes.joins;
-      stands = record { machine = takes.stands; lines = s.lines };
+      stands = record { machine = takes.stands; lines = s.lines; grant = s.grant };
     }
 
 pub returns-in-Err-clause-turns : goal.returns-in-Err-clause-turns
 returns-in-Err-clause-turns c = λ p w s.
-    ((_, c.in_ok-go.ensures.turn p w s), record { machine = (c.in-Err.ensures.taken p (course_of p w) s.machine).1; lines = s.lines })
+    ((_, c.in_ok-go.ensures.turn p w s), record { machine = (c.in-Err.ensures.taken p (course_of p w) s.machine).1; lines = s.lines; grant = s.grant })

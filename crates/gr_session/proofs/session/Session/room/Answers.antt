@@ -1,0 +1,4 @@
+use Rattle.gr_session.proofs.session.Session.room.Goals as goal
+
+pub returns : goal.returns
+returns c = rw (← c.self.view_is) (record { world = c.self.invariant.world; means = c.self.invariant.means; holds = c.room.ensures _ c.self.invariant.world c.self.invariant.stands })
