@@ -1,30 +1,20 @@
 //! Runs the example sessions of the folder that it is run in: of each NAME.go the commands NAME.script, none where there is
-//! no such file, and the output NAME.expect, which ends in the line of the fault where there is one. It prints `NAME: differs`
-//! for each that is not as expected, and at the end how many are.
+//! no such file, and the output NAME.expect, which ends in the line of the fault where there is one. Where there is a file
+//! NAME.queries, the steps that the session keeps are also taken once more in fresh sessions: by NAME.again in the order of
+//! the log, by NAME.other and NAME.another in orders that respect dependence. The queries have to be answered alike. It prints
+//! `NAME: differs` for each that is not as expected, and at the end how many are.
 //!
 //! Exit status: 0 where all are as expected, else 1.
 #![tactic(auto)]
 
+mod replay;
+mod session;
+
 use gr_base::NoMemory;
-use rewind::counted::Counted;
-use rewind::debug::debug;
-use rewind::report::report;
-use std::alloc::Global;
+use replay::is_replayed;
+use session::output;
 use std::process::ExitCode;
 use std::{fs, io};
-
-// What the debugger writes for these commands on this source, and after it the line of the fault, if there is one.
-fn output(alloc: Global, file: &str, source: &[u8], script: &[u8]) -> Result<Vec<u8>, NoMemory> {
-    let mut source = Counted::new(source);
-    let mut reader = Counted::new(script);
-    let mut writer = Counted::new(Vec::new(alloc));
-    let ended = debug(alloc, &mut source, &mut reader, &mut writer);
-    let mut text = writer.into_inner();
-    if let Err(fault) = ended {
-        let _status = report(&fault, file, &mut text)?;
-    }
-    Ok(text)
-}
 
 // Whether the session of this name is as expected.
 fn is_expected(rt: &HostRuntime, name: &str) -> io::Result<bool> {
@@ -41,8 +31,10 @@ fn is_expected(rt: &HostRuntime, name: &str) -> io::Result<bool> {
         source.as_slice(),
         script.as_slice(),
     ) {
-        Ok(text) => Ok(text.as_slice() == expected.as_slice()),
-        Err(NoMemory) => Ok(false),
+        Ok(text) if text.as_slice() == expected.as_slice() => {
+            is_replayed(rt, name, source.as_slice(), script.as_slice())
+        }
+        Ok(_) | Err(NoMemory) => Ok(false),
     }
 }
 
