@@ -1,0 +1,5 @@
+pub mod Lines
+pub mod Moves
+pub mod Telling
+pub mod Calling
+pub mod Seats

@@ -1,0 +1,144 @@
+-- The rule that ties the calls of each asker to the lines of the journal, by one word.
+use Rattle.std.specs.Prelude.{◌≡◌, ◌≢◌, ℕ, zero, suc, ◌+◌, ◌<◌, ◌≤◌, ◌==◌, true, false, if◌then◌else◌, List, [], ◌∷◌, ◌++◌, map, length, slice_index, Some, None}
+use mathlib.Core.Option.{Option, none, some}
+use mathlib.Core.List.{IsPrefix}
+use lib.ListN.{get_elem?}
+use Rattle.atomic_table.specs.Seated.{TableId}
+use Rattle.atomic_table.specs.Table.{State}
+use Rattle.gr_program.specs.Programs.{Program}
+use Rattle.gr_session.specs.declared.journal.Entry.{Entry}
+use Rattle.gr_share.specs.declared.views.View.{View}
+use Rattle.gr_share.specs.declared.desk.Call.{Call}
+use Rattle.gr_share.specs.Calls.{IsEntry, places}
+use Rattle.gr_share.specs.Lines.{Line}
+
+-- the name of no table
+abbrev pub no_table : TableId
+no_table = record { words = 0; slots = 0; views_name = 0; atom = 0; block = 0; offset = 0; slot_names = [] }
+
+-- entries that are older than the sharing, where the first has this number
+abbrev pub older_lines : ℕ → List Entry → List Line
+older_lines first [] = []
+older_lines first (e ∷ es) = record { asker = e.asker; number = first; call = None } ∷ older_lines (suc first) es
+
+-- the lines of one asker
+abbrev pub asked : ℕ → List Line → List Line
+asked asker [] = []
+asked asker (x ∷ xs) = if x.asker == asker then x ∷ asked asker xs else asked asker xs
+
+-- all but the last
+abbrev pub front : List Line → List Line
+front [] = []
+front (x ∷ []) = []
+front (x ∷ y ∷ ys) = x ∷ front (y ∷ ys)
+
+-- the lines whose askers have them among their calls: all, but for the last while the word names its asker
+abbrev pub settled : ℕ → List Line → List Line
+settled zero log = log
+settled (suc word) log = front log
+
+-- no line is of a later asker
+abbrev pub AskedUpTo : ℕ → List Line → Type 0
+AskedUpTo askers [] = Unit {0}
+AskedUpTo askers (x ∷ xs) = (x.asker ≤ askers) × AskedUpTo askers xs
+
+-- the session's seat
+abbrev pub keeping : List Line → ℕ → View
+keeping log askers = record { keeps = true; log = log; askers = askers; asker = 0; calls = []; noted = 0; claims = []; seen = [] }
+
+-- an asker's seat
+abbrev pub asking : ℕ → List Line → View
+asking asker calls = record { keeps = false; log = []; askers = 0; asker = asker; calls = calls; noted = 0; claims = []; seen = [] }
+
+abbrev pub nobody : View
+nobody = asking 0 []
+
+abbrev pub claim : ℕ → List Line → View
+claim asker calls = record nobody { noted = asker; claims = calls }
+
+abbrev pub sight : List Line → View
+sight log = record nobody { seen = log }
+
+-- a seat that took in a note
+abbrev pub hearing : View → View → View
+hearing v w = record v { noted = w.noted; claims = w.claims; seen = w.seen }
+
+-- the session's seat after a further asker
+abbrev pub with_asker : View → View
+with_asker v = keeping v.log (v.askers + 1)
+
+abbrev pub newest : View → View
+newest v = asking (v.askers + 1) []
+
+-- what holds of one view: there is one seat of the session, and one of each asker; notes are beginnings of what they tell
+pub record Fits (word seat : ℕ) (home : ℕ → ℕ) (log : List Line) (askers by : ℕ) (v : View) : Type 0 where
+  pub keeper : v.keeps ≡ true → (by ≡ seat) × (v.log ≡ log) × (v.askers ≡ askers)
+  pub asker : 0 < v.asker → (by ≡ home v.asker) × (v.asker ≤ askers) × (v.calls ≡ asked v.asker (settled word log))
+  pub noted : v.noted ≤ askers
+  pub claims : IsPrefix v.claims (asked v.noted log)
+  pub seen : IsPrefix v.seen log
+
+-- the rule
+pub record Kept (s : State Call View) : Type 0 where
+  pub wide : length s.words ≡ 1
+  pub seat : ℕ
+  pub home : ℕ → ℕ
+  pub log : List Line
+  pub askers : ℕ
+  pub known : AskedUpTo askers log
+  pub fits : (by : ℕ) (v : View) → get_elem? s.views by ≡ some v → Fits (slice_index s.words 0) seat home log askers by v
+
+-- a note of an asker's calls is of one of the askers, and its calls are lines of the journal
+pub record Compared (v w : View) : Type 0 where
+  pub after : w ≡ keeping v.log v.askers
+  pub known : v.noted ≤ v.askers
+  pub begins : IsPrefix v.claims (asked v.noted v.log)
+
+-- a call as a line
+abbrev pub told : ℕ → Call → Line
+told asker call = record { asker = asker; number = call.receipt.number; call = Some call }
+
+abbrev pub longer : View → ℕ → Option Call → View
+longer v asker none = v
+longer v asker (some call) = keeping (v.log ++ told asker call ∷ []) v.askers
+
+abbrev pub called : View → ℕ → Option Call → View
+called v asker none = v
+called v asker (some call) = asking v.asker (v.calls ++ told asker call ∷ [])
+
+-- the journal has one line more, of the asker that the word now names, if the word was as expected; else nothing changed
+abbrev pub Entered : ℕ → ℕ → Option Call → View → ℕ → View → Type 0
+Entered expected asker said v found w = (found ≡ expected → w ≡ longer v asker said) × (found ≢ expected → w ≡ v)
+
+-- the asker has one call more, if the word named it; else nothing changed
+abbrev pub Taken : ℕ → Option Call → View → ℕ → View → Type 0
+Taken asker said v found w = (found ≡ asker → w ≡ called v asker said) × (found ≢ asker → w ≡ v)
+
+-- where the word is 0, the asker's lines of a journal that was shown are a beginning of its calls
+abbrev pub Settled : View → ℕ → View → Type 0
+Settled v found w = (w ≡ asking v.asker v.calls) × (found ≡ 0 → IsPrefix (asked v.asker v.seen) v.calls)
+
+abbrev pub calls_of : ℕ → List Call → List Line
+calls_of asker calls = map (told asker) calls
+
+-- each number is smaller
+abbrev pub AllBelow : ℕ → List ℕ → Type 0
+AllBelow number [] = Unit {0}
+AllBelow number (n ∷ ns) = (n < number) × AllBelow number ns
+
+-- the numbers of lines
+abbrev pub numbers_of : List Line → List ℕ
+numbers_of log = map (λ x. x.number) log
+
+-- the call of which the line came, if it came of one, is an entry of the journal
+abbrev pub IsTold : Program → List Entry → Line → Type 0
+IsTold p journal x = (c : Call) → x.call ≡ Some c → IsEntry p journal x.asker c
+
+abbrev pub AllTold : Program → List Entry → List Line → Type 0
+AllTold p journal [] = Unit {0}
+AllTold p journal (x ∷ xs) = IsTold p journal x × AllTold p journal xs
+
+-- the lines are those of the journal
+pub record Tells (p : Program) (journal : List Entry) (log : List Line) : Type 0 where
+  pub numbers : (asker : ℕ) → numbers_of (asked asker log) ≡ places asker 1 journal
+  pub entries : AllTold p journal log

@@ -1,0 +1,166 @@
+//! The end of a shared session.
+ghost use Rattle.std.specs.Prelude.{◌≡◌, ℕ, ◌<◌, ◌≤◌, ◌⊎◌, All, IfOk, IfErr, IsTrue, length};
+ghost use Rattle.gr_share.specs.Calls.{IsTied};
+ghost use Rattle.gr_share.specs.Seats.{IsDesk, IsWorker, AreAll};
+
+use crate::desk::{Desk, Worker};
+use crate::locked::Locked;
+use crate::shared::Shared;
+use crate::tie::Tie;
+use crate::views::Room;
+use gr_session::Session;
+use std::sync::Mutex;
+
+/// A session that is shared no more, with its seats.
+#[derive(Drop)]
+pub struct Finished<B: Room> {
+    pub session: Session,
+    pub desks: Vec<Desk<B>>,
+    pub workers: Vec<Worker<B>>,
+}
+
+/// F1: a seat is missing. All comes back.
+#[derive(Drop)]
+pub struct Unfinished<B: Room> {
+    pub shared: Shared<B>,
+    pub desks: Vec<Desk<B>>,
+    pub workers: Vec<Worker<B>>,
+}
+
+// Whether the word is 0 for each desk: then the entries of each are its calls.
+fn settle_desks<B: Room>(locked: &mut Locked<B>, tie: &Tie, desks: &mut [Desk<B>]) -> bool
+    requires { tie.now.table.shared.table_id ≡ B.table }
+    ensures same { (locked.new ≡ locked.old) × (desks.new ≡ desks.old) }
+    ensures tied { IsTrue result → All (λ d. IsTied locked.old.session d) desks.old }
+{
+    for desk in desks.iter_mut() {
+        if !locked.settle(tie, desk) {
+            return false;
+        }
+    }
+    true
+}
+
+fn settle_workers<B: Room>(locked: &mut Locked<B>, tie: &Tie, workers: &mut [Worker<B>]) -> bool
+    requires { tie.now.table.shared.table_id ≡ B.table }
+    ensures same { (locked.new ≡ locked.old) × (workers.new ≡ workers.old) }
+    ensures tied { IsTrue result → All (λ w. IsTied locked.old.session w.seat) workers.old }
+{
+    for worker in workers.iter_mut() {
+        if !locked.settle(tie, &mut worker.seat) {
+            return false;
+        }
+    }
+    true
+}
+
+fn is_desk<B: Room>(number: u32, desks: &[Desk<B>]) -> bool
+    ensures { IsTrue result → IsDesk number desks.now }
+{
+    for desk in desks {
+        if desk.number == number {
+            return true;
+        }
+    }
+    false
+}
+
+fn is_worker<B: Room>(number: u32, workers: &[Worker<B>]) -> bool
+    ensures { IsTrue result → IsWorker number workers.now }
+{
+    for worker in workers {
+        if worker.seat.number() == number {
+            return true;
+        }
+    }
+    false
+}
+
+fn is_seat<B: Room>(number: u32, desks: &[Desk<B>], workers: &[Worker<B>]) -> bool
+    ensures { IsTrue result → IsDesk number desks.now ⊎ IsWorker number workers.now }
+{
+    if is_desk(number, desks) {
+        return true;
+    }
+    is_worker(number, workers)
+}
+
+// Whether the seats of all numbers after the first and up to the last are there.
+fn are_all<B: Room>(first: u32, last: u32, desks: &[Desk<B>], workers: &[Worker<B>]) -> bool
+    ensures { IsTrue result → AreAll first last desks.now workers.now }
+{
+    let mut number = first;
+    while number < last {
+        number += 1;
+        if !is_seat(number, desks, workers) {
+            return false;
+        }
+    }
+    true
+}
+
+fn settle<B: Room>(
+    locked: &mut Locked<B>,
+    tie: &Tie,
+    first: u32,
+    desks: &mut [Desk<B>],
+    workers: &mut [Worker<B>],
+) -> bool
+    requires { tie.now.table.shared.table_id ≡ B.table }
+    ensures same { (locked.new ≡ locked.old) × (desks.new ≡ desks.old) × (workers.new ≡ workers.old) }
+    ensures all { IsTrue result → AreAll first locked.old.session.askers desks.old workers.old }
+    ensures desks { IsTrue result → All (λ d. IsTied locked.old.session d) desks.old }
+    ensures workers { IsTrue result → All (λ w. IsTied locked.old.session w.seat) workers.old }
+{
+    if !are_all(first, locked.askers(), desks, workers) {
+        return false;
+    }
+    if !settle_desks(locked, tie, desks) {
+        return false;
+    }
+    settle_workers(locked, tie, workers)
+}
+
+/// Ends the sharing. Where no seat is missing, each asker's entries in the journal are its calls.
+pub fn finish<B: Room>(
+    shared: Shared<B>,
+    mut desks: Vec<Desk<B>>,
+    mut workers: Vec<Worker<B>>,
+) -> Result<Finished<B>, Unfinished<B>>
+    ensures desks { IfOk result (λ f. (f.desks.items ≡ desks.items) × All (λ d. IsTied f.session d) f.desks.items) }
+    ensures workers { IfOk result (λ f. (f.workers.items ≡ workers.items) × All (λ w. IsTied f.session w.seat) f.workers.items) }
+    ensures all { IfOk result (λ f. AreAll shared.first f.session.askers desks.items workers.items) }
+    ensures back { IfErr result (λ u. (u.desks.items ≡ desks.items) × (u.workers.items ≡ workers.items) × (u.shared.first ≡ shared.first)) }
+{
+    let Shared {
+        tie,
+        lock,
+        changed,
+        first,
+    } = shared;
+    let mut locked = lock.into_inner();
+    if settle(
+        &mut locked,
+        &tie,
+        first,
+        desks.as_mut_slice(),
+        workers.as_mut_slice(),
+    ) {
+        Ok(Finished {
+            session: locked.into_session(),
+            desks,
+            workers,
+        })
+    } else {
+        Err(Unfinished {
+            shared: Shared {
+                tie,
+                lock: Mutex::new(locked),
+                changed,
+                first,
+            },
+            desks,
+            workers,
+        })
+    }
+}

@@ -1,0 +1,16 @@
+//! One session, shared by desks and workers on threads.
+#![tactic(auto)]
+
+mod desk;
+mod finishing;
+mod locked;
+mod shared;
+mod tie;
+mod views;
+mod work;
+
+pub use desk::{Call, Desk, Worker};
+pub use finishing::{Finished, Unfinished, finish};
+pub use shared::{Opened, Shared};
+pub use views::Room;
+pub use work::worker;

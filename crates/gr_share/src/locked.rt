@@ -1,0 +1,154 @@
+//! What lies under the lock.
+ghost use Rattle.std.specs.Prelude.{◌≡◌, ◌+◌, ◌≤◌, ◌++◌, ◌∷◌, [], length, IfOk, OnErr, IsTrue};
+ghost use Rattle.gr_program.specs.Views.{program_of};
+ghost use Rattle.gr_command.specs.Replies.{said_of};
+ghost use Rattle.gr_session.specs.Journal.{Enters};
+ghost use Rattle.gr_share.specs.Calls.{IsTied};
+ghost use Rattle.gr_share.specs.Ties.{asking, told, numbers_of, AllBelow};
+
+use crate::desk::{Call, Desk};
+use crate::tie::Tie;
+use crate::views::{Pass, Room};
+use gr_session::{AskRefused, Command, DeskId, EnrolRefused, Session};
+use std::alloc::Global;
+use std::marker::{Model, PhantomData};
+use std::sync::Wait;
+
+// The session, and its seat, which knows the lines of the journal and the number of askers.
+#[derive(Drop)]
+pub(crate) struct Locked<B: Room> {
+    pub(crate) session: Session,
+    pub(crate) keeper: Pass,
+    // How many workers there are.
+    pub(crate) workers: u32,
+    // Whether they shall end.
+    pub(crate) closed: bool,
+    pub(crate) room: PhantomData<B>,
+}
+
+impl<B: Room> Model for Locked<B> {
+    ghost use Rattle.std.specs.Prelude.{◌≡◌, ◌≤◌};
+    ghost use Rattle.gr_program.specs.contracts.program.Expr as expr;
+    ghost use Rattle.gr_program.specs.contracts.program.Stmt as stmt;
+    ghost use Rattle.gr_program.specs.contracts.types.Type as types;
+    ghost use Rattle.std.specs.Coded.{codes};
+    ghost use Rattle.gr_program.specs.Views.{program_of};
+    ghost use Rattle.gr_share.specs.Seats.{Held};
+    ghost use Rattle.gr_share.specs.Ties.{keeping, Tells};
+
+    ghost Value = { Held };
+
+    ghost coded = { Prim.hlevel (codes, expr.the_row.coded, stmt.the_row.coded, types.the_row.coded) };
+
+    ghost view = { λ s. record { session = s.session; workers = s.workers; closed = s.closed } };
+
+    ghost invariant = { λ s. (s.keeper.table_id ≡ B.table) × (s.keeper.me.0 ≡ keeping s.keeper.me.0.log s.session.askers)
+        × Tells (program_of s.session.program) s.session.journal s.keeper.me.0.log };
+}
+
+impl<B: Room> Locked<B> {
+    // A further asker, with its seat.
+    pub(crate) fn enrol(&mut self, tie: &Tie) -> Result<(DeskId, Pass), EnrolRefused>
+        requires { tie.now.table.shared.table_id ≡ B.table }
+        ensures desk { IfOk result (λ d. (1 ≤ d.0.number) × (d.1.table_id ≡ B.table) × (d.1.me.0 ≡ asking d.0.number [])) }
+        ensures number { IfOk result (λ d. (d.0.number ≡ self.old.session.askers + 1) × (self.new.session.askers ≡ d.0.number)) }
+        ensures others { (self.new.session.journal ≡ self.old.session.journal) × (self.new.session.program ≡ self.old.session.program)
+            × (self.new.workers ≡ self.old.workers) }
+        ensures err { OnErr result (self.new ≡ self.old) }
+    {
+        match self.session.enrol() {
+            Err(why) => Err(why),
+            Ok(desk) => {
+                let seat = tie.open(&mut self.keeper);
+                Ok((desk, seat))
+            }
+        }
+    }
+
+    // A further asker for a worker, with its seat and its place among the workers, from 1.
+    pub(crate) fn enrol_worker(&mut self, tie: &Tie) -> Result<(DeskId, Pass, u32), EnrolRefused>
+        requires { tie.now.table.shared.table_id ≡ B.table }
+        ensures desk { IfOk result (λ d. (1 ≤ d.0.number) × (d.1.table_id ≡ B.table) × (d.1.me.0 ≡ asking d.0.number [])) }
+        ensures others { (self.new.session.journal ≡ self.old.session.journal) × (self.new.session.program ≡ self.old.session.program) }
+        ensures err { OnErr result (self.new ≡ self.old) }
+    {
+        match self.enrol(tie) {
+            Err(why) => Err(why),
+            Ok((desk, seat)) => {
+                self.workers = self.workers.saturating_add(1);
+                Ok((desk, seat, self.workers))
+            }
+        }
+    }
+
+    // Asks a command for an asker, whose seat takes the call. The call keeps a copy of the command.
+    pub(crate) fn ask<R: Wait>(
+        &mut self,
+        rt: &R,
+        alloc: Global,
+        tie: &Tie,
+        seat: &mut Pass,
+        number: u32,
+        command: Command,
+        kept: Command,
+    ) -> Result<Call, AskRefused>
+        requires kept { kept ≡ command }
+        requires tie { tie.now.table.shared.table_id ≡ B.table }
+        requires seat { (seat.old.table_id ≡ B.table) × (1 ≤ number) × (seat.old.me.0 ≡ asking number seat.old.me.0.calls) }
+        ensures table { seat.new.table_id ≡ B.table }
+        ensures call { IfOk result (λ c. (c.asked ≡ command) × (seat.new.me.0 ≡ asking number (seat.old.me.0.calls ++ told number c ∷ []))) }
+        ensures rises { IfOk result (λ c. AllBelow c.receipt.number (numbers_of seat.old.me.0.calls)) }
+        ensures entry { IfOk result (λ c. Enters (program_of self.old.session.program) number command
+            self.old.session.journal self.new.session.journal c.receipt.number (said_of c.receipt.reply)) }
+        ensures err { OnErr result ((seat.new.me.0 ≡ seat.old.me.0) × (self.new ≡ self.old)) }
+    {
+        tie.compare(&mut self.keeper, seat);
+        match self.session.ask(alloc, DeskId { number }, command) {
+            Err(why) => Err(why),
+            Ok(receipt) => {
+                let call = Call {
+                    asked: kept,
+                    receipt,
+                };
+                tie.give(rt, &mut self.keeper, seat, number, &call);
+                Ok(call)
+            }
+        }
+    }
+
+    // Whether the word is 0: then the desk's entries are its calls.
+    pub(crate) fn settle(&mut self, tie: &Tie, desk: &mut Desk<B>) -> bool
+        requires { tie.now.table.shared.table_id ≡ B.table }
+        ensures same { (self.new ≡ self.old) × (desk.new ≡ desk.old) }
+        ensures tied { IsTrue result → IsTied self.old.session desk.old }
+    {
+        tie.compare(&mut self.keeper, &mut desk.seat);
+        tie.show(&mut self.keeper, &mut desk.seat);
+        tie.settle(&mut desk.seat)
+    }
+
+    // How many askers there are.
+    pub(crate) fn askers(&self) -> u32
+        ensures { result ≡ self.now.session.askers }
+    {
+        self.session.askers()
+    }
+
+    pub(crate) fn into_session(self) -> Session
+        ensures { result ≡ self.session }
+    {
+        let Locked {
+            session,
+            keeper: _,
+            workers: _,
+            closed: _,
+            room: _,
+        } = self;
+        session
+    }
+
+    // Whether a worker has to wait: the workers are not to end, and no turn is due.
+    pub(crate) fn is_idle(&self) -> bool {
+        !self.closed && !self.session.turn_due()
+    }
+}

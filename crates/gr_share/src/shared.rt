@@ -1,0 +1,132 @@
+//! A session that desks and workers share.
+ghost use Rattle.std.specs.Prelude.{◌≡◌, ◌≤◌, [], IfOk};
+
+use crate::desk::{Desk, Worker};
+use crate::locked::Locked;
+use crate::tie::Tie;
+use crate::views::{Pass, Room};
+use gr_base::NoMemory;
+use gr_session::{EnrolRefused, Session};
+use std::alloc::Global;
+use std::marker::{Model, PhantomData};
+use std::sync::{Condvar, Mutex, Wait};
+
+/// A session with the table that is to tie its askers' calls to its journal. The table has no name yet.
+#[derive(Drop)]
+pub struct Opened {
+    tie: Tie,
+    keeper: Pass,
+    session: Session,
+}
+
+impl Model for Opened {
+    ghost use Rattle.std.specs.Prelude.{◌≡◌};
+    ghost use Rattle.gr_program.specs.contracts.program.Expr as expr;
+    ghost use Rattle.gr_program.specs.contracts.program.Stmt as stmt;
+    ghost use Rattle.gr_program.specs.contracts.types.Type as types;
+    ghost use Rattle.std.specs.Coded.{codes};
+    ghost use Rattle.gr_share.specs.Seats.{Named};
+    ghost use Rattle.gr_share.specs.Ties.{keeping, older_lines};
+
+    ghost Value = { Named };
+
+    ghost coded = { Prim.hlevel (codes, expr.the_row.coded, stmt.the_row.coded, types.the_row.coded) };
+
+    ghost view = { λ o. record { table = o.tie.table.shared.table_id; session = o.session } };
+
+    ghost invariant = { λ o. (o.keeper.table_id ≡ o.tie.table.shared.table_id) × (o.keeper.me.0 ≡ keeping (older_lines 1 o.session.journal) o.session.askers) };
+}
+
+impl Opened {
+    /// Makes the table. The one error is want of memory.
+    pub fn new(alloc: Global, session: Session) -> Result<Opened, NoMemory>
+        ensures { IfOk result (λ o. o.session ≡ session) }
+    {
+        let (tie, keeper) = Tie::new(alloc, &session)?;
+        Ok(Opened {
+            tie,
+            keeper,
+            session,
+        })
+    }
+}
+
+/// One session under one lock.
+#[derive(Drop)]
+pub struct Shared<B: Room> {
+    pub(crate) tie: Tie,
+    pub(crate) lock: Mutex<Locked<B>>,
+    pub(crate) changed: Condvar,
+    pub(crate) first: u32,
+}
+
+impl<B: Room> Model for Shared<B> {
+    ghost use Rattle.std.specs.Prelude.{◌≡◌};
+    ghost use Rattle.gr_share.specs.Seats.{Sharing};
+
+    ghost Value = { Sharing };
+
+    ghost view = { λ s. record { first = s.first } };
+
+    ghost invariant = { λ s. s.tie.table.shared.table_id ≡ B.table };
+}
+
+impl<B: Room> Shared<B> {
+    /// Shares the session under the name of its table, which the caller's `B` gives.
+    pub fn new(opened: Opened) -> Shared<B>
+        requires { opened.table ≡ B.table }
+        ensures { result.first ≡ opened.session.askers }
+    {
+        let Opened {
+            tie,
+            keeper,
+            session,
+        } = opened;
+        let first = session.askers();
+        Shared {
+            tie,
+            lock: Mutex::new(Locked {
+                session,
+                keeper,
+                workers: 0,
+                closed: false,
+                room: PhantomData,
+            }),
+            changed: Condvar::new(),
+            first,
+        }
+    }
+
+    /// A further desk. It waits for the lock.
+    pub fn desk<R: Wait>(&self, rt: &R, alloc: Global) -> Result<Desk<B>, EnrolRefused>
+        ensures { IfOk result (λ d. d.calls ≡ []) }
+    {
+        let (desk, seat) = self.lock.lock(rt).enrol(&self.tie)?;
+        Ok(Desk {
+            number: desk.number,
+            calls: Vec::new(alloc),
+            seat,
+            room: PhantomData,
+        })
+    }
+
+    /// A further worker's seat. Their places are numbered from 1, in the order in which they are given. It waits for the lock.
+    pub fn worker_seat<R: Wait>(&self, rt: &R, alloc: Global) -> Result<Worker<B>, EnrolRefused>
+        ensures { IfOk result (λ w. w.seat.calls ≡ []) }
+    {
+        let (desk, seat, place) = self.lock.lock(rt).enrol_worker(&self.tie)?;
+        let seat = Desk {
+            number: desk.number,
+            calls: Vec::new(alloc),
+            seat,
+            room: PhantomData,
+        };
+        Ok(Worker { seat, place })
+    }
+
+    /// Tells the workers to end. It waits for the lock.
+    pub fn close<R: Wait>(&self, rt: &R) {
+        self.lock.lock(rt).closed = true;
+        self.changed.notify_all();
+    }
+}

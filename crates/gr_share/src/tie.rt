@@ -1,0 +1,139 @@
+//! The one table, and the moves on it.
+ghost use Rattle.std.specs.Prelude.{◌≡◌, ℕ, ◌+◌, ◌<◌, ◌≤◌, true, [], ◌∷◌, ◌++◌, length, IsTrue, IfOk};
+ghost use mathlib.Core.List.{IsPrefix};
+ghost use Rattle.gr_share.specs.Ties.{asked, front, keeping, asking, older_lines, sight, hearing, told, with_asker, newest};
+
+use crate::desk::Call;
+use crate::views::{
+    Claims, Compares, Enters, Hears, Law, Opens, Pass, Settles, Shows, Takes, View,
+};
+use atomic_table::Table;
+use gr_session::Session;
+use std::alloc::{AllocError, Global};
+use std::sync::Wait;
+
+/// One word, by which the session's seat and those of its askers stay together.
+#[derive(Drop)]
+pub(crate) struct Tie {
+    table: Table<Call, View, Session, Law, Global>,
+    pub ghost one_word: { table.shared.table_id.words ≡ 1 },
+}
+
+impl Tie {
+    // A table for a session, with the session's seat.
+    pub(crate) fn new(alloc: Global, session: &Session) -> Result<(Tie, Pass), AllocError>
+        ensures table { IfOk result (λ t. t.1.table_id ≡ t.0.table.shared.table_id) }
+        ensures keeper { IfOk result (λ t. t.1.me.0 ≡ keeping (older_lines 1 session.now.journal) session.now.askers) }
+    {
+        let _ = session.journal();
+        let (table, keeper) = Table::of_words(alloc, &[0], session)?;
+        Ok((Tie { table }, keeper))
+    }
+
+    // A seat for the next asker.
+    pub(crate) fn open(&self, keeper: &mut Pass) -> Pass
+        requires table { keeper.old.table_id ≡ self.now.table.shared.table_id }
+        requires keeper { keeper.old.me.0.keeps ≡ true }
+        ensures keeper { (keeper.new.table_id ≡ keeper.old.table_id) × (keeper.new.me.0 ≡ with_asker keeper.old.me.0) }
+        ensures desk { (result.table_id ≡ keeper.old.table_id) × (result.me.0 ≡ newest keeper.old.me.0) }
+    {
+        self.table.shared.split_seat::<Opens>(keeper)
+    }
+
+    // The asker is one of the session's, and its calls are entries.
+    pub(crate) fn compare(&self, keeper: &mut Pass, desk: &mut Pass)
+        requires tables { (keeper.old.table_id ≡ self.now.table.shared.table_id) × (desk.old.table_id ≡ self.now.table.shared.table_id) }
+        requires keeper { keeper.old.me.0 ≡ keeping keeper.old.me.0.log keeper.old.me.0.askers }
+        requires desk { 0 < desk.old.me.0.asker }
+        ensures keeper { (keeper.new.table_id ≡ keeper.old.table_id) × (keeper.new.me.0 ≡ keeper.old.me.0) }
+        ensures desk { (desk.new.table_id ≡ desk.old.table_id) × (desk.new.me.0 ≡ desk.old.me.0) }
+        ensures known { desk.old.me.0.asker ≤ keeper.old.me.0.askers }
+        ensures begins { IsPrefix desk.old.me.0.calls (asked desk.old.me.0.asker keeper.old.me.0.log) }
+    {
+        let note = self.table.shared.split_seat::<Claims>(desk);
+        self.table.shared.join_seat::<Hears>(keeper, note);
+        self.table.shared.load::<Compares>(keeper, 0);
+    }
+
+    // The session's seat takes an entry.
+    pub(crate) fn enter<R: Wait>(&self, rt: &R, keeper: &mut Pass, asker: u32, call: &Call)
+        requires table { keeper.old.table_id ≡ self.now.table.shared.table_id }
+        requires keeper { keeper.old.me.0.keeps ≡ true }
+        requires line { (0 < asker) × (asker ≤ keeper.old.me.0.askers) }
+        ensures { (keeper.new.table_id ≡ keeper.old.table_id) × (keeper.new.me.0 ≡ keeping (keeper.old.me.0.log ++ told asker call.now ∷ []) keeper.old.me.0.askers) }
+    {
+        let word = u64::from(asker);
+        for _ in rt.forever() {
+            let found = self
+                .table
+                .shared
+                .compare_exchange_with::<Enters>(keeper, 0, 0, word, call);
+            if found == 0 {
+                break;
+            }
+        }
+    }
+
+    // An asker is shown the journal.
+    pub(crate) fn show(&self, keeper: &mut Pass, desk: &mut Pass)
+        requires tables { (keeper.old.table_id ≡ self.now.table.shared.table_id) × (desk.old.table_id ≡ self.now.table.shared.table_id) }
+        requires keeper { keeper.old.me.0.keeps ≡ true }
+        ensures keeper { (keeper.new.table_id ≡ keeper.old.table_id) × (keeper.new.me.0 ≡ keeper.old.me.0) }
+        ensures desk { (desk.new.table_id ≡ desk.old.table_id) × (desk.new.me.0 ≡ hearing desk.old.me.0 (sight keeper.old.me.0.log)) }
+    {
+        let note = self.table.shared.split_seat::<Shows>(keeper);
+        self.table.shared.join_seat::<Hears>(desk, note);
+    }
+
+    // An asker's seat takes its call.
+    pub(crate) fn take<R: Wait>(&self, rt: &R, desk: &mut Pass, asker: u32, call: &Call)
+        requires table { desk.old.table_id ≡ self.now.table.shared.table_id }
+        requires desk { (0 < asker) × (desk.old.me.0.asker ≡ asker) }
+        requires shown { desk.old.me.0.seen ≡ front desk.old.me.0.seen ++ told asker call.now ∷ [] }
+        requires begins { length desk.old.me.0.calls ≤ length (asked asker (front desk.old.me.0.seen)) }
+        ensures { (desk.new.table_id ≡ desk.old.table_id) × (desk.new.me.0 ≡ asking desk.old.me.0.asker (desk.old.me.0.calls ++ told asker call.now ∷ [])) }
+    {
+        let word = u64::from(asker);
+        for _ in rt.forever() {
+            let found = self
+                .table
+                .shared
+                .compare_exchange_with::<Takes>(desk, 0, word, 0, call);
+            if found == word {
+                break;
+            }
+        }
+    }
+
+    // Whether the word is 0: then the asker's lines of the journal that it was shown are calls of it.
+    pub(crate) fn settle(&self, desk: &mut Pass) -> bool
+        requires table { desk.old.table_id ≡ self.now.table.shared.table_id }
+        requires desk { 0 < desk.old.me.0.asker }
+        ensures desk { (desk.new.table_id ≡ desk.old.table_id) × (desk.new.me.0 ≡ asking desk.old.me.0.asker desk.old.me.0.calls) }
+        ensures settled { IsTrue result → IsPrefix (asked desk.old.me.0.asker desk.old.me.0.seen) desk.old.me.0.calls }
+    {
+        self.table.shared.load::<Settles>(desk, 0) == 0
+    }
+
+    // Both seats take a line: the session's as an entry, the asker's as a call.
+    pub(crate) fn give<R: Wait>(
+        &self,
+        rt: &R,
+        keeper: &mut Pass,
+        desk: &mut Pass,
+        asker: u32,
+        call: &Call,
+    )
+        requires tables { (keeper.old.table_id ≡ self.now.table.shared.table_id) × (desk.old.table_id ≡ self.now.table.shared.table_id) }
+        requires keeper { keeper.old.me.0.keeps ≡ true }
+        requires desk { desk.old.me.0.asker ≡ asker }
+        requires line { (0 < asker) × (asker ≤ keeper.old.me.0.askers) }
+        requires begins { IsPrefix desk.old.me.0.calls (asked asker keeper.old.me.0.log) }
+        ensures keeper { (keeper.new.table_id ≡ keeper.old.table_id) × (keeper.new.me.0 ≡ keeping (keeper.old.me.0.log ++ told asker call.now ∷ []) keeper.old.me.0.askers) }
+        ensures desk { (desk.new.table_id ≡ desk.old.table_id) × (desk.new.me.0 ≡ asking desk.old.me.0.asker (desk.old.me.0.calls ++ told asker call.now ∷ [])) }
+    {
+        self.enter(rt, keeper, asker, call);
+        self.show(keeper, desk);
+        self.take(rt, desk, asker, call);
+    }
+}
