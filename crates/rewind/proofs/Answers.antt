@@ -1,21 +1,19 @@
 -- Answers to lines, one after another.
-use Rattle.std.proofs.Common.{◌≡◌, ◌≢◌, ℕ, suc, codes, true, false, List, [], ◌∷◌, ◌++◌, length, refl, sym, ap, subst, ◌∙◌, append-nil, append_assoc, arith, Ok, Err, IfOk, OnErr}
+use Rattle.std.proofs.Common.{◌≡◌, ℕ, suc, codes, true, false, List, [], ◌∷◌, ◌++◌, length, refl, sym, ap, subst, ◌∙◌, append-nil, append_assoc, arith, Ok, Err, IfOk, OnErr}
 use Rattle.std.specs.declared.option.Option.{Option}
 use Rattle.std.specs.declared.result.Result.{Result}
 use Rattle.gr_program.specs.Programs.{Program}
 use Rattle.gr_command.specs.declared.command.Command.{Command}
 use Rattle.gr_session.specs.declared.journal.Entry.{Entry}
-use Rattle.gr_session.specs.declared.TheConstants.{JOURNAL_LIMIT}
 use Rattle.gr_session.specs.Journal.{Enters}
 use Rattle.std.specs.Io.KnownBytes.{Keeps}
 use Rattle.gr_command.specs.declared.command.Line.{Line}
 use Rattle.gr_command.specs.declared.command.Line.TheVariants as says
 use Rattle.gr_command.specs.Commands.{meaning}
 use Rattle.rewind.specs.Lines.{is_quit}
-use Rattle.rewind.specs.Replies.{Answer, Replied, JournalFull, NoMemory, answer_text}
+use Rattle.rewind.specs.Replies.{Answer, Replied, answer_text}
 use Rattle.gr_command.specs.Replies.{Said}
-use Rattle.gr_command.specs.Texts.{said_text}
-use Rattle.rewind.specs.Stream.{output_at, output, commands_at, commands, Answered, Answers, AnsweredLine, NoQuit, QuitLast}
+use Rattle.rewind.specs.Stream.{output_at, output, commands_at, commands, Gets, of_session, Answered, Answers, AnsweredLine, NoQuit, QuitLast}
 use Rattle.rewind.specs.Served.{Served, Begun}
 use Rattle.rewind.proofs.Known.{Keeps-refl, Appends-nil, Appends-then, Appends-kept}
 
@@ -58,39 +56,35 @@ output-append [] ms (x ∷ xs) ys n e = absurd (omega (arith, e))
 output-append (l ∷ ls) ms xs ys n e =
     output_at-append (meaning l) (output (ls ++ ms)) (output ls) (commands ls) ys (output ms ys) n.0 (λ zs h. output-append ls ms zs ys n.1 h) xs e
 
-pub Answered-length : (program : Program) (asker : ℕ) (old : List Entry) (cs : List Command) (xs : List Answer) (new : List Entry) → Answered program asker old cs xs new → length xs ≡ length cs
-Answered-length program asker old [] [] new h = refl
-Answered-length program asker old [] (x ∷ xs) new h = absurd h
-Answered-length program asker old (c ∷ cs) [] new h = absurd h
-Answered-length program asker old (c ∷ cs) (Replied s ∷ xs) new h = ap suc (Answered-length program asker h.0 cs xs new h.2)
-Answered-length program asker old (c ∷ cs) (JournalFull ∷ xs) new h = ap suc (Answered-length program asker old cs xs new h.1)
-Answered-length program asker old (c ∷ cs) (NoMemory ∷ xs) new h = ap suc (Answered-length program asker old cs xs new h.1)
+pub Answered-length : {S : Type 0} (gets : Gets S) (old : S) (cs : List Command) (xs : List Answer) (new : S) → Answered gets old cs xs new → length xs ≡ length cs
+Answered-length gets old [] [] new h = refl
+Answered-length gets old [] (x ∷ xs) new h = absurd h
+Answered-length gets old (c ∷ cs) [] new h = absurd h
+Answered-length gets old (c ∷ cs) (x ∷ xs) new h = ap suc (Answered-length gets h.0 cs xs new h.2)
 
-pub Answered-append : (program : Program) (asker : ℕ) (old : List Entry) (cs : List Command) (xs : List Answer) (mid : List Entry) (ds : List Command) (ys : List Answer) (new : List Entry)
-    → Answered program asker old cs xs mid → Answered program asker mid ds ys new → Answered program asker old (cs ++ ds) (xs ++ ys) new
-Answered-append program asker old [] [] mid ds ys new h k = subst (λ (j : List Entry). Answered program asker j ds ys new) h k
-Answered-append program asker old [] (x ∷ xs) mid ds ys new h k = absurd h
-Answered-append program asker old (c ∷ cs) [] mid ds ys new h k = absurd h
-Answered-append program asker old (c ∷ cs) (Replied s ∷ xs) mid ds ys new h k = (h.0, h.1, Answered-append program asker h.0 cs xs mid ds ys new h.2 k)
-Answered-append program asker old (c ∷ cs) (JournalFull ∷ xs) mid ds ys new h k = (h.0, Answered-append program asker old cs xs mid ds ys new h.1 k)
-Answered-append program asker old (c ∷ cs) (NoMemory ∷ xs) mid ds ys new h k = (h.0, Answered-append program asker old cs xs mid ds ys new h.1 k)
+pub Answered-append : {S : Type 0} (gets : Gets S) (old : S) (cs : List Command) (xs : List Answer) (mid : S) (ds : List Command) (ys : List Answer) (new : S)
+    → Answered gets old cs xs mid → Answered gets mid ds ys new → Answered gets old (cs ++ ds) (xs ++ ys) new
+Answered-append {S = S} gets old [] [] mid ds ys new h k = subst (λ (j : S). Answered gets j ds ys new) h k
+Answered-append gets old [] (x ∷ xs) mid ds ys new h k = absurd h
+Answered-append gets old (c ∷ cs) [] mid ds ys new h k = absurd h
+Answered-append gets old (c ∷ cs) (x ∷ xs) mid ds ys new h k = (h.0, h.1, Answered-append gets h.0 cs xs mid ds ys new h.2 k)
 
-pub Served-none : (program : Program) (asker : ℕ) (old : List Entry) (held : Option (List ℕ)) → Served program asker [] old old held held
-Served-none program asker old held = record { answers = []; answered = refl; written = Appends-nil held held (Keeps-refl held) }
+pub Served-none : {S : Type 0} (gets : Gets S) (old : S) (held : Option (List ℕ)) → Served gets [] old old held held
+Served-none gets old held = record { answers = []; answered = refl; written = Appends-nil held held (Keeps-refl held) }
 
-pub Served-append : {program : Program} {asker : ℕ} {ls ms : List (List ℕ)} {old mid new : List Entry} {a b c : Option (List ℕ)}
-    → NoQuit ls → Served program asker ls old mid a b → Served program asker ms mid new b c → Served program asker (ls ++ ms) old new a c
-Served-append {program = program} {asker = asker} {ls = ls} {ms = ms} {old = old} {mid = mid} {new = new} {a = a} {b = b} {c = c} n s t = record {
+pub Served-append : {S : Type 0} {gets : Gets S} {ls ms : List (List ℕ)} {old mid new : S} {a b c : Option (List ℕ)}
+    → NoQuit ls → Served gets ls old mid a b → Served gets ms mid new b c → Served gets (ls ++ ms) old new a c
+Served-append {gets = gets} {ls = ls} {ms = ms} {old = old} {mid = mid} {new = new} {a = a} {b = b} {c = c} n s t = record {
   answers = s.answers ++ t.answers;
-  answered = rw (commands-append ls ms n) (Answered-append program asker old (commands ls) s.answers mid (commands ms) t.answers new s.answered t.answered);
-  written = rw (output-append ls ms s.answers t.answers n (Answered-length program asker old (commands ls) s.answers mid s.answered))
+  answered = rw (commands-append ls ms n) (Answered-append gets old (commands ls) s.answers mid (commands ms) t.answers new s.answered t.answered);
+  written = rw (output-append ls ms s.answers t.answers n (Answered-length gets old (commands ls) s.answers mid s.answered))
       (Appends-then a b c (output ls s.answers) (output ms t.answers) s.written t.written);
 }
 
 -- what stays as it was is served as before
-pub Served-kept : {program : Program} {asker : ℕ} {ls : List (List ℕ)} {old mid new : List Entry} {a b c : Option (List ℕ)}
-    → Served program asker ls old mid a b → new ≡ mid → Keeps b c → Served program asker ls old new a c
-Served-kept {program = program} {asker = asker} {ls = ls} {old = old} {a = a} {b = b} {c = c} s same kept = record {
+pub Served-kept : {S : Type 0} {gets : Gets S} {ls : List (List ℕ)} {old mid new : S} {a b c : Option (List ℕ)}
+    → Served gets ls old mid a b → new ≡ mid → Keeps b c → Served gets ls old new a c
+Served-kept {gets = gets} {ls = ls} {old = old} {a = a} {b = b} {c = c} s same kept = record {
   answers = s.answers;
   answered = rw same s.answered;
   written = Appends-kept a b c (output ls s.answers) s.written kept;
@@ -103,8 +97,8 @@ quit_is says.Quit h = refl
 quit_is (says.Command c) h = cc
 
 -- after `quit` nothing is read
-pub Served-quit : {program : Program} {asker : ℕ} {q : List ℕ} {old new : List Entry} {a b : Option (List ℕ)} (more : List (List ℕ))
-    → is_quit (meaning q) ≡ true → Served program asker (q ∷ []) old new a b → Served program asker (q ∷ more) old new a b
+pub Served-quit : {S : Type 0} {gets : Gets S} {q : List ℕ} {old new : S} {a b : Option (List ℕ)} (more : List (List ℕ))
+    → is_quit (meaning q) ≡ true → Served gets (q ∷ []) old new a b → Served gets (q ∷ more) old new a b
 Served-quit {q = q} more h s = let e : meaning q ≡ says.Quit = quit_is (meaning q) h in record {
   answers = s.answers;
   answered = rw e (rw e at s.answered);
@@ -112,48 +106,32 @@ Served-quit {q = q} more h s = let e : meaning q ≡ says.Quit = quit_is (meanin
 }
 
 -- lines with one meaning are served alike
-pub Served-same : {program : Program} {asker : ℕ} {k l : List ℕ} {old new : List Entry} {a b : Option (List ℕ)}
-    → meaning k ≡ meaning l → Served program asker (k ∷ []) old new a b → Served program asker (l ∷ []) old new a b
+pub Served-same : {S : Type 0} {gets : Gets S} {k l : List ℕ} {old new : S} {a b : Option (List ℕ)}
+    → meaning k ≡ meaning l → Served gets (k ∷ []) old new a b → Served gets (l ∷ []) old new a b
 Served-same e s = record { answers = s.answers; answered = rw (← e) s.answered; written = rw (← e) s.written }
 
-pub Begun-same : {program : Program} {asker : ℕ} {k l : List ℕ} {old new : List Entry} {a b : Option (List ℕ)}
-    → meaning k ≡ meaning l → Begun program asker k old new a b → Begun program asker l old new a b
+pub Begun-same : {S : Type 0} {gets : Gets S} {k l : List ℕ} {old new : S} {a b : Option (List ℕ)}
+    → meaning k ≡ meaning l → Begun gets k old new a b → Begun gets l old new a b
 Begun-same e s = record { answers = s.answers; answered = rw (← e) s.answered; count = s.count; written = rw (← e) s.written }
 
 -- what came of one command
-pub Answers-replied : {program : Program} {asker : ℕ} {command : Command} {old new : List Entry} {number : ℕ} {said : Said} {text : List ℕ}
-    → Enters program asker command old new number said → text ≡ said_text said → Answers program asker (says.Command command) old new text
-Answers-replied {new = new} {said = said} h e = record {
-  answers = Replied said ∷ [];
-  answered = (new, record { memory = h.memory; entered = h.entered; number_is = refl; before = h.before; stood = h.stood; after = h.after; meant = h.meant }, refl);
-  text_is = e ∙ sym (append-nil (said_text said));
-}
+pub Answers-one : {S : Type 0} {gets : Gets S} {command : Command} {old new : S} {text : List ℕ} (a : Answer)
+    → gets old command a new → text ≡ answer_text a → Answers gets (says.Command command) old new text
+Answers-one {new = new} a h e = record { answers = a ∷ []; answered = (new, h, refl); text_is = e ∙ sym (append-nil (answer_text a)) }
 
-pub Answered-replied : {program : Program} {asker : ℕ} {command : Command} {old new : List Entry} {number : ℕ} {said : Said}
-    → Enters program asker command old new number said → AnsweredLine program asker (says.Command command) old new
-Answered-replied {new = new} {said = said} h = record {
-  answers = Replied said ∷ [];
-  answered = (new, record { memory = h.memory; entered = h.entered; number_is = refl; before = h.before; stood = h.stood; after = h.after; meant = h.meant }, refl);
-}
+pub Answered-one : {S : Type 0} {gets : Gets S} {command : Command} {old new : S} (a : Answer) → gets old command a new → AnsweredLine gets (says.Command command) old new
+Answered-one {new = new} a h = record { answers = a ∷ []; answered = (new, h, refl) }
 
-pub Answers-full : {program : Program} {asker : ℕ} {command : Command} {old new : List Entry} {text : List ℕ}
-    → length old ≡ JOURNAL_LIMIT → new ≡ old → text ≡ codes "no Q1\n" → Answers program asker (says.Command command) old new text
-Answers-full f u e = record { answers = JournalFull ∷ []; answered = (f, u); text_is = e }
-
-pub Answered-full : {program : Program} {asker : ℕ} {command : Command} {old new : List Entry} → length old ≡ JOURNAL_LIMIT → new ≡ old → AnsweredLine program asker (says.Command command) old new
-Answered-full f u = record { answers = JournalFull ∷ []; answered = (f, u) }
-
-pub Answers-no_memory : {program : Program} {asker : ℕ} {command : Command} {old new : List Entry} {text : List ℕ}
-    → length old ≢ JOURNAL_LIMIT → new ≡ old → text ≡ codes "no Q2\n" → Answers program asker (says.Command command) old new text
-Answers-no_memory n u e = record { answers = NoMemory ∷ []; answered = (n, u); text_is = e }
-
-pub Answered-no_memory : {program : Program} {asker : ℕ} {command : Command} {old new : List Entry} → length old ≢ JOURNAL_LIMIT → new ≡ old → AnsweredLine program asker (says.Command command) old new
-Answered-no_memory n u = record { answers = NoMemory ∷ []; answered = (n, u) }
+-- an entry of a session is numbered by its place
+pub entered : (program : Program) (asker : ℕ) (command : Command) (old new : List Entry) (number : ℕ) (said : Said)
+    → Enters program asker command old new number said → of_session program asker old command (Replied said) new
+entered program asker command old new number said h =
+    record { memory = h.memory; entered = h.entered; number_is = refl; before = h.before; stood = h.stood; after = h.after; meant = h.meant }
 
 -- of the answer to a line nothing is written yet
-pub begun_none : (program : Program) (asker : ℕ) (line : List ℕ) (old new : List Entry) (held : Option (List ℕ))
-    → AnsweredLine program asker (meaning line) old new → Begun program asker line old new held held
-begun_none program asker line old new held h = record {
+pub begun_none : {S : Type 0} (gets : Gets S) (line : List ℕ) (old new : S) (held : Option (List ℕ))
+    → AnsweredLine gets (meaning line) old new → Begun gets line old new held held
+begun_none gets line old new held h = record {
   answers = h.answers;
   answered = h.answered;
   count = 0;

@@ -17,6 +17,7 @@ use Rattle.rewind.specs.declared.debug.DebugFault.{DebugFault}
 use Rattle.rewind.specs.declared.debug.DebugFault.TheVariants.{Source, Open, Serve}
 use Rattle.rewind.specs.Devices.{Device, Change, Fails}
 use Rattle.rewind.specs.Fault.{Left}
+use Rattle.rewind.specs.Stream.{of_session}
 use Rattle.rewind.specs.Served.{Served, ServedPart}
 use Rattle.rewind.specs.Debug.{SourceRead, Opened, Unopened, Stopped, SourceLeft, DebugLeft, BlamesSource, BlamesDevice}
 use Rattle.rewind.proofs.Known.{Keeps-refl}
@@ -91,14 +92,14 @@ source_blamed (Serve Write) source reader writer h b = absurd h
 source_blamed (Serve Memory) source reader writer h b = (b, (refl, refl))
 
 -- the journal after lines is legal
-pub legal_served : {program : Program} {lines : List (List ℕ)} {journal : List Entry} {held holds : Option (List ℕ)} → Served program 1 lines [] journal held holds → IsLegal program 1 journal
+pub legal_served : {program : Program} {lines : List (List ℕ)} {journal : List Entry} {held holds : Option (List ℕ)} → Served (of_session program 1) lines [] journal held holds → IsLegal program 1 journal
 legal_served {program = program} {journal = journal} s = legal_answered program 1 1 [] _ s.answers journal (omega arith) (omega arith) (legal_empty program 1) s.answered
 
-legal_part : {program : Program} {had has : Option (List ℕ)} {journal : List Entry} {held holds : Option (List ℕ)} → ServedPart program 1 had has [] journal held holds → IsLegal program 1 journal
+legal_part : {program : Program} {had has : Option (List ℕ)} {journal : List Entry} {held holds : Option (List ℕ)} → ServedPart (of_session program 1) had has [] journal held holds → IsLegal program 1 journal
 legal_part {program = program} {journal = journal} s = legal_answered program 1 1 s.mid _ s.begun.answers journal (omega arith) (omega arith) (legal_served s.served) s.begun.answered
 
 pub legal_left : (fault : ServeFault) (program : Program) (had has : Option (List ℕ)) (journal : List Entry) (held holds : Option (List ℕ)) (reader_failed writer_failed : Type 0)
-    → Left fault program 1 had has [] journal held holds reader_failed writer_failed → IsLegal program 1 journal
+    → Left fault (of_session program 1) had has [] journal held holds reader_failed writer_failed → IsLegal program 1 journal
 legal_left Read program had has journal held holds reader_failed writer_failed h = legal_served h.0.served
 legal_left Write program had has journal held holds reader_failed writer_failed h = legal_part h.0
 legal_left Memory program had has journal held holds reader_failed writer_failed (inl h) = legal_served h.served
@@ -113,7 +114,7 @@ stopped_left Memory source reader writer s = inr s
 -- the stream's fault is the session's
 pub stopped : (fault : ServeFault) (source reader writer : Change) (program : Program) (journal : List Entry)
     → Opened source.old.bytes source.new.bytes program
-    → Left fault program 1 reader.old.bytes reader.new.bytes [] journal writer.old.bytes writer.new.bytes (Fails reader) (Fails writer)
+    → Left fault (of_session program 1) reader.old.bytes reader.new.bytes [] journal writer.old.bytes writer.new.bytes (Fails reader) (Fails writer)
     → DebugLeft (Serve fault) source reader writer
 stopped fault source reader writer program journal o l =
     let legal = legal_left fault program reader.old.bytes reader.new.bytes journal writer.old.bytes writer.new.bytes (Fails reader) (Fails writer) l in

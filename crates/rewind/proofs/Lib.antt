@@ -5,4 +5,5 @@ pub mod Answers
 pub mod SoFar
 pub mod Debugging
 pub mod Legal
+pub mod Asking
 pub mod Growing

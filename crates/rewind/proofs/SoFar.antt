@@ -4,8 +4,6 @@ use Rattle.std.proofs.lemmas.List.{take_all, length-take}
 use Rattle.std.proofs.lemmas.Bool.{ltb-true, lt-ltb, ltb-false}
 use Rattle.std.specs.declared.option.Option.{Option}
 use Rattle.std.specs.Io.KnownBytes.{Consumes, IsAtEnd}
-use Rattle.gr_program.specs.Programs.{Program}
-use Rattle.gr_session.specs.declared.journal.Entry.{Entry}
 use Rattle.gr_command.specs.declared.read.TheConstants.{LINE_LIMIT}
 use Rattle.gr_command.specs.declared.command.Line.TheVariants.{Rejected}
 use Rattle.rewind.specs.declared.counted.LineEnd.TheVariants.{Newline, End}
@@ -13,7 +11,7 @@ use Rattle.gr_command.specs.Commands.{meaning}
 use Rattle.rewind.specs.Lines.{is_quit, lines_of}
 use Rattle.rewind.specs.Bytes.{Plain, Taken, LineRead}
 use Rattle.rewind.specs.Devices.{HasFailed, one_more, Device, Change, NeverFails}
-use Rattle.rewind.specs.Stream.{NoQuit, QuitLast}
+use Rattle.rewind.specs.Stream.{Gets, NoQuit, QuitLast}
 use Rattle.rewind.specs.Served.{Served, Begun, ServedAll, ServedWhole, ServedBefore, ServedPart}
 use Rattle.rewind.specs.Fault.{Untouched, LineLeft, Left, Blames, BlamesWriter}
 use Rattle.rewind.specs.declared.stream.ServeFault.{ServeFault}
@@ -23,20 +21,20 @@ use Rattle.rewind.proofs.Cuts.{text_of, AllPlain, AllPlain-append, text_of-snoc,
 use Rattle.rewind.proofs.Answers.{QuitLast-none, QuitLast-one, NoQuit-append, Served-none, Served-kept, Served-append, Served-quit, Served-same, Begun-same}
 
 -- whole lines were read and served, none of them `quit`
-pub record SoFar (program : Program) (asker : ℕ) (had has : Option (List ℕ)) (old new : List Entry) (held holds : Option (List ℕ)) : Type 0 where
+pub record SoFar {S : Type 0} (gets : Gets S) (had has : Option (List ℕ)) (old new : S) (held holds : Option (List ℕ)) : Type 0 where
   pub done : List (List ℕ)
   pub plain : AllPlain done
   pub going : NoQuit done
   pub taken : Consumes had has (text_of done)
-  pub served : Served program asker done old new held holds
+  pub served : Served gets done old new held holds
 
-pub SoFar-none : (program : Program) (asker : ℕ) (had : Option (List ℕ)) (old : List Entry) (held : Option (List ℕ)) → SoFar program asker had had old old held held
-SoFar-none program asker had old held = record {
+pub SoFar-none : {S : Type 0} (gets : Gets S) (had : Option (List ℕ)) (old : S) (held : Option (List ℕ)) → SoFar gets had had old old held held
+SoFar-none gets had old held = record {
   done = [];
   plain = tt;
   going = tt;
   taken = Consumes-nil had had (Keeps-refl had);
-  served = Served-none program asker old held;
+  served = Served-none gets old held;
 }
 
 true_or_false : (b : Bool) → (b ≡ true) ⊎ (b ≡ false)
@@ -67,10 +65,10 @@ something_kept : (n : ℕ) (text kept : List ℕ) → kept ≡ take (n + 1) text
 something_kept n text kept e z = omega (arith, length-take (n + 1) text, ap length e)
 
 -- a line with its newline was read and served, and was no `quit`
-pub SoFar-line : {program : Program} {asker : ℕ} {had has rest : Option (List ℕ)} {old mid new : List Entry} {a b c : Option (List ℕ)} {kept : List ℕ}
-    → SoFar program asker had has old mid a b → LineRead has rest kept Newline → Served program asker (kept ∷ []) mid new b c → is_quit (meaning kept) ≡ false
-    → SoFar program asker had rest old new a c
-SoFar-line {program = program} {asker = asker} {had = had} {has = has} {rest = rest} {kept = kept} s r t n =
+pub SoFar-line : {S : Type 0} {gets : Gets S} {had has rest : Option (List ℕ)} {old mid new : S} {a b c : Option (List ℕ)} {kept : List ℕ}
+    → SoFar gets had has old mid a b → LineRead has rest kept Newline → Served gets (kept ∷ []) mid new b c → is_quit (meaning kept) ≡ false
+    → SoFar gets had rest old new a c
+SoFar-line {gets = gets} {had = had} {has = has} {rest = rest} {kept = kept} s r t n =
     let p = r.1 in
     let same : meaning kept ≡ meaning p.text = meaning-kept p.text kept p.kept_is in
     record {
@@ -83,9 +81,9 @@ SoFar-line {program = program} {asker = asker} {had = had} {has = has} {rest = r
     }
 
 -- the reader fails, or memory, within a line
-pub SoFar-broken : {program : Program} {asker : ℕ} {had has rest : Option (List ℕ)} {old new : List Entry} {a b : Option (List ℕ)}
-    → SoFar program asker had has old new a b → Taken has rest → ServedWhole program asker had rest old new a b
-SoFar-broken {program = program} {asker = asker} {had = had} {has = has} {rest = rest} {old = old} {new = new} {a = a} {b = b} s p = record {
+pub SoFar-broken : {S : Type 0} {gets : Gets S} {had has rest : Option (List ℕ)} {old new : S} {a b : Option (List ℕ)}
+    → SoFar gets had has old new a b → Taken has rest → ServedWhole gets had rest old new a b
+SoFar-broken {gets = gets} {had = had} {has = has} {rest = rest} {old = old} {new = new} {a = a} {b = b} s p = record {
   bytes = text_of s.done ++ p.text;
   taken = Consumes-then had has rest (text_of s.done) p.text s.taken p.taken;
   going = rw (whole-text s.done p.text s.plain, whole-last p.text p.plain, append-nil s.done) s.going;
@@ -108,29 +106,29 @@ had_more None has bytes P h p = tt
 had_more (Some xs) None bytes P h p = absurd h
 had_more (Some xs) (Some ys) bytes P h p = subst P (sym h) (p ys)
 
-ends : {program : Program} {asker : ℕ} {had has : Option (List ℕ)} {old new : List Entry} {a b : Option (List ℕ)} (bytes : List ℕ)
-    → Consumes had has bytes → IsAtEnd has → QuitLast (lines_of bytes) → Served program asker (lines_of bytes) old new a b → ServedAll program asker had has old new a b
-ends {program = program} {asker = asker} {had = had} {has = has} {old = old} {new = new} {a = a} {b = b} bytes t e l s = record {
+ends : {S : Type 0} {gets : Gets S} {had has : Option (List ℕ)} {old new : S} {a b : Option (List ℕ)} (bytes : List ℕ)
+    → Consumes had has bytes → IsAtEnd has → QuitLast (lines_of bytes) → Served gets (lines_of bytes) old new a b → ServedAll gets had has old new a b
+ends {gets = gets} {had = had} {has = has} {old = old} {new = new} {a = a} {b = b} bytes t e l s = record {
   bytes = bytes;
   taken = t;
   last = l;
   served = s;
-  whole = if_all had bytes (λ input. Served program asker (lines_of input) old new a b) (all_read had has bytes t e) s;
+  whole = if_all had bytes (λ input. Served gets (lines_of input) old new a b) (all_read had has bytes t e) s;
 }
 
 -- the bytes end after a newline
-pub SoFar-end : {program : Program} {asker : ℕ} {had has rest : Option (List ℕ)} {old new : List Entry} {a b : Option (List ℕ)} {kept : List ℕ}
-    → SoFar program asker had has old new a b → LineRead has rest kept End → length kept ≡ 0 → ServedAll program asker had rest old new a b
-SoFar-end {program = program} {asker = asker} {had = had} {has = has} {rest = rest} {old = old} {new = new} {a = a} {b = b} {kept = kept} s r z =
+pub SoFar-end : {S : Type 0} {gets : Gets S} {had has rest : Option (List ℕ)} {old new : S} {a b : Option (List ℕ)} {kept : List ℕ}
+    → SoFar gets had has old new a b → LineRead has rest kept End → length kept ≡ 0 → ServedAll gets had rest old new a b
+SoFar-end {gets = gets} {had = had} {has = has} {rest = rest} {old = old} {new = new} {a = a} {b = b} {kept = kept} s r z =
     let p = r.0 in
     let none : p.text ≡ [] = nothing_kept LINE_LIMIT p.text kept p.kept_is z in
     let lines : lines_of (text_of s.done ++ []) ≡ s.done = lines-text s.done [] s.plain ∙ append-nil s.done in
     ends (text_of s.done ++ []) (Consumes-then had has rest (text_of s.done) [] s.taken (rw none at p.taken)) r.1 (rw lines (QuitLast-none s.done s.going)) (rw lines s.served)
 
 -- the bytes end in a line with no newline
-pub SoFar-last : {program : Program} {asker : ℕ} {had has rest : Option (List ℕ)} {old mid new : List Entry} {a b c : Option (List ℕ)} {kept : List ℕ}
-    → SoFar program asker had has old mid a b → LineRead has rest kept End → 0 < length kept → Served program asker (kept ∷ []) mid new b c → ServedAll program asker had rest old new a c
-SoFar-last {program = program} {asker = asker} {had = had} {has = has} {rest = rest} {kept = kept} s r z t =
+pub SoFar-last : {S : Type 0} {gets : Gets S} {had has rest : Option (List ℕ)} {old mid new : S} {a b c : Option (List ℕ)} {kept : List ℕ}
+    → SoFar gets had has old mid a b → LineRead has rest kept End → 0 < length kept → Served gets (kept ∷ []) mid new b c → ServedAll gets had rest old new a c
+SoFar-last {gets = gets} {had = had} {has = has} {rest = rest} {kept = kept} s r z t =
     let p = r.0 in
     let lines : lines_of (text_of s.done ++ p.text) ≡ s.done ++ p.text ∷ [] =
     lines-text s.done p.text s.plain ∙ ap (λ ls. s.done ++ ls) (lines-last p.text p.plain (something_kept LINE_LIMIT p.text kept p.kept_is z)) in
@@ -138,22 +136,22 @@ SoFar-last {program = program} {asker = asker} {had = had} {has = has} {rest = r
     (rw lines (Served-append s.going s.served (Served-same (meaning-kept p.text kept p.kept_is) t)))
 
 -- a line was `quit`
-quits : {program : Program} {asker : ℕ} {had has : Option (List ℕ)} {old new : List Entry} {a b : Option (List ℕ)} (done : List (List ℕ)) (line : List ℕ)
+quits : {S : Type 0} {gets : Gets S} {had has : Option (List ℕ)} {old new : S} {a b : Option (List ℕ)} (done : List (List ℕ)) (line : List ℕ)
     → AllPlain done → Plain line → NoQuit done
-    → Consumes had has (text_of done ++ (line ++ 10 ∷ [])) → ((more : List (List ℕ)) → Served program asker (done ++ line ∷ more) old new a b) → ServedAll program asker had has old new a b
-quits {program = program} {asker = asker} {had = had} {has = has} {old = old} {new = new} {a = a} {b = b} done line q p n t s = record {
+    → Consumes had has (text_of done ++ (line ++ 10 ∷ [])) → ((more : List (List ℕ)) → Served gets (done ++ line ∷ more) old new a b) → ServedAll gets had has old new a b
+quits {gets = gets} {had = had} {has = has} {old = old} {new = new} {a = a} {b = b} done line q p n t s = record {
   bytes = text_of done ++ (line ++ 10 ∷ []);
   taken = t;
   last = rw (lines-text done (line ++ 10 ∷ []) q, lines-line line [] p) (QuitLast-one done line n);
   served = rw (lines-text done (line ++ 10 ∷ []) q, lines-line line [] p) (s []);
-  whole = had_more had has (text_of done ++ (line ++ 10 ∷ [])) (λ input. Served program asker (lines_of input) old new a b) t
+  whole = had_more had has (text_of done ++ (line ++ 10 ∷ [])) (λ input. Served gets (lines_of input) old new a b) t
       (λ rest. rw (append_assoc (text_of done) (line ++ 10 ∷ []) rest, append_assoc line (10 ∷ []) rest, lines-text done (line ++ 10 ∷ rest) q, lines-line line rest p) (s (lines_of rest)));
 }
 
-pub SoFar-quit : {program : Program} {asker : ℕ} {had has rest : Option (List ℕ)} {old mid new : List Entry} {a b c : Option (List ℕ)} {kept : List ℕ}
-    → SoFar program asker had has old mid a b → LineRead has rest kept Newline → Served program asker (kept ∷ []) mid new b c → is_quit (meaning kept) ≡ true
-    → ServedAll program asker had rest old new a c
-SoFar-quit {program = program} {asker = asker} {had = had} {has = has} {rest = rest} {kept = kept} s r t n =
+pub SoFar-quit : {S : Type 0} {gets : Gets S} {had has rest : Option (List ℕ)} {old mid new : S} {a b c : Option (List ℕ)} {kept : List ℕ}
+    → SoFar gets had has old mid a b → LineRead has rest kept Newline → Served gets (kept ∷ []) mid new b c → is_quit (meaning kept) ≡ true
+    → ServedAll gets had rest old new a c
+SoFar-quit {gets = gets} {had = had} {has = has} {rest = rest} {kept = kept} s r t n =
     let p = r.1 in
     let same : meaning kept ≡ meaning p.text = meaning-kept p.text kept p.kept_is in
     quits s.done p.text s.plain p.plain s.going
@@ -161,9 +159,9 @@ SoFar-quit {program = program} {asker = asker} {had = had} {has = has} {rest = r
     (λ more. Served-append s.going s.served (Served-quit more (rw (← same) n) (Served-same same t)))
 
 -- the answer to a line was begun
-pub SoFar-begun : {program : Program} {asker : ℕ} {had has rest : Option (List ℕ)} {old mid new : List Entry} {a b c : Option (List ℕ)} {kept : List ℕ}
-    → SoFar program asker had has old mid a b → LineRead has rest kept Newline → Begun program asker kept mid new b c → ServedPart program asker had rest old new a c
-SoFar-begun {program = program} {asker = asker} {had = had} {has = has} {rest = rest} {old = old} {mid = mid} {new = new} {a = a} {b = b} {c = c} {kept = kept} s r t =
+pub SoFar-begun : {S : Type 0} {gets : Gets S} {had has rest : Option (List ℕ)} {old mid new : S} {a b c : Option (List ℕ)} {kept : List ℕ}
+    → SoFar gets had has old mid a b → LineRead has rest kept Newline → Begun gets kept mid new b c → ServedPart gets had rest old new a c
+SoFar-begun {gets = gets} {had = had} {has = has} {rest = rest} {old = old} {mid = mid} {new = new} {a = a} {b = b} {c = c} {kept = kept} s r t =
     let p = r.1 in
     record {
       bytes = text_of s.done ++ (p.text ++ 10 ∷ []);
@@ -178,9 +176,9 @@ SoFar-begun {program = program} {asker = asker} {had = had} {has = has} {rest = 
       begun = Begun-same (meaning-kept p.text kept p.kept_is) t;
     }
 
-pub SoFar-begun_last : {program : Program} {asker : ℕ} {had has rest : Option (List ℕ)} {old mid new : List Entry} {a b c : Option (List ℕ)} {kept : List ℕ}
-    → SoFar program asker had has old mid a b → LineRead has rest kept End → 0 < length kept → Begun program asker kept mid new b c → ServedPart program asker had rest old new a c
-SoFar-begun_last {program = program} {asker = asker} {had = had} {has = has} {rest = rest} {old = old} {mid = mid} {new = new} {a = a} {b = b} {c = c} {kept = kept} s r z t =
+pub SoFar-begun_last : {S : Type 0} {gets : Gets S} {had has rest : Option (List ℕ)} {old mid new : S} {a b c : Option (List ℕ)} {kept : List ℕ}
+    → SoFar gets had has old mid a b → LineRead has rest kept End → 0 < length kept → Begun gets kept mid new b c → ServedPart gets had rest old new a c
+SoFar-begun_last {gets = gets} {had = had} {has = has} {rest = rest} {old = old} {mid = mid} {new = new} {a = a} {b = b} {c = c} {kept = kept} s r z t =
     let p = r.0 in
     record {
       bytes = text_of s.done ++ p.text;
@@ -196,9 +194,9 @@ SoFar-begun_last {program = program} {asker = asker} {had = had} {has = has} {re
     }
 
 -- a line was read and not asked
-pub SoFar-before : {program : Program} {asker : ℕ} {had has rest : Option (List ℕ)} {old mid new : List Entry} {a b c : Option (List ℕ)} {kept : List ℕ}
-    → SoFar program asker had has old mid a b → LineRead has rest kept Newline → Untouched mid new b c → ServedBefore program asker had rest old new a c
-SoFar-before {program = program} {asker = asker} {had = had} {has = has} {rest = rest} {old = old} {mid = mid} {new = new} {a = a} {b = b} {c = c} s r u =
+pub SoFar-before : {S : Type 0} {gets : Gets S} {had has rest : Option (List ℕ)} {old mid new : S} {a b c : Option (List ℕ)} {kept : List ℕ}
+    → SoFar gets had has old mid a b → LineRead has rest kept Newline → Untouched mid new b c → ServedBefore gets had rest old new a c
+SoFar-before {gets = gets} {had = had} {has = has} {rest = rest} {old = old} {mid = mid} {new = new} {a = a} {b = b} {c = c} s r u =
     let p = r.1 in
     record {
       bytes = text_of s.done ++ (p.text ++ 10 ∷ []);
@@ -210,9 +208,9 @@ SoFar-before {program = program} {asker = asker} {had = had} {has = has} {rest =
       served = Served-kept s.served u.0 u.1;
     }
 
-pub SoFar-before_last : {program : Program} {asker : ℕ} {had has rest : Option (List ℕ)} {old mid new : List Entry} {a b c : Option (List ℕ)} {kept : List ℕ}
-    → SoFar program asker had has old mid a b → LineRead has rest kept End → 0 < length kept → Untouched mid new b c → ServedBefore program asker had rest old new a c
-SoFar-before_last {program = program} {asker = asker} {had = had} {has = has} {rest = rest} {old = old} {mid = mid} {new = new} {a = a} {b = b} {c = c} {kept = kept} s r z u =
+pub SoFar-before_last : {S : Type 0} {gets : Gets S} {had has rest : Option (List ℕ)} {old mid new : S} {a b c : Option (List ℕ)} {kept : List ℕ}
+    → SoFar gets had has old mid a b → LineRead has rest kept End → 0 < length kept → Untouched mid new b c → ServedBefore gets had rest old new a c
+SoFar-before_last {gets = gets} {had = had} {has = has} {rest = rest} {old = old} {mid = mid} {new = new} {a = a} {b = b} {c = c} {kept = kept} s r z u =
     let p = r.0 in
     record {
       bytes = text_of s.done ++ p.text;
@@ -238,17 +236,17 @@ line_blames Write reader before mid after r w h = (r, failed_later before.failur
 line_blames Memory reader before mid after r w h = (r, h ∙ w)
 
 -- a line's fault is the stream's
-pub line_left : (fault : ServeFault) {program : Program} {asker : ℕ} {had has rest : Option (List ℕ)} {old mid : List Entry} {a b : Option (List ℕ)} {kept : List ℕ} (new : List Entry) (c : Option (List ℕ)) (reader_failed : Type 0) (early late last : ℕ)
-    → SoFar program asker had has old mid a b → LineRead has rest kept Newline → early ≤ late → LineLeft fault program asker kept mid new b c (HasFailed late last)
-    → Left fault program asker had rest old new a c reader_failed (HasFailed early last)
+pub line_left : (fault : ServeFault) {S : Type 0} {gets : Gets S} {had has rest : Option (List ℕ)} {old mid : S} {a b : Option (List ℕ)} {kept : List ℕ} (new : S) (c : Option (List ℕ)) (reader_failed : Type 0) (early late last : ℕ)
+    → SoFar gets had has old mid a b → LineRead has rest kept Newline → early ≤ late → LineLeft fault gets kept mid new b c (HasFailed late last)
+    → Left fault gets had rest old new a c reader_failed (HasFailed early last)
 line_left Read new c reader_failed early late last s r l h = absurd h
 line_left Write new c reader_failed early late last s r l h = (SoFar-begun s r h.0, failed_later early late last l h.1)
 line_left Memory new c reader_failed early late last s r l (inl u) = inr (inl (SoFar-before s r u))
 line_left Memory new c reader_failed early late last s r l (inr t) = inr (inr (SoFar-begun s r t))
 
-pub last_left : (fault : ServeFault) {program : Program} {asker : ℕ} {had has rest : Option (List ℕ)} {old mid : List Entry} {a b : Option (List ℕ)} {kept : List ℕ} (new : List Entry) (c : Option (List ℕ)) (reader_failed : Type 0) (early late last : ℕ)
-    → SoFar program asker had has old mid a b → LineRead has rest kept End → 0 < length kept → early ≤ late → LineLeft fault program asker kept mid new b c (HasFailed late last)
-    → Left fault program asker had rest old new a c reader_failed (HasFailed early last)
+pub last_left : (fault : ServeFault) {S : Type 0} {gets : Gets S} {had has rest : Option (List ℕ)} {old mid : S} {a b : Option (List ℕ)} {kept : List ℕ} (new : S) (c : Option (List ℕ)) (reader_failed : Type 0) (early late last : ℕ)
+    → SoFar gets had has old mid a b → LineRead has rest kept End → 0 < length kept → early ≤ late → LineLeft fault gets kept mid new b c (HasFailed late last)
+    → Left fault gets had rest old new a c reader_failed (HasFailed early last)
 last_left Read new c reader_failed early late last s r z l h = absurd h
 last_left Write new c reader_failed early late last s r z l h = (SoFar-begun_last s r z h.0, failed_later early late last l h.1)
 last_left Memory new c reader_failed early late last s r z l (inl u) = inr (inl (SoFar-before_last s r z u))

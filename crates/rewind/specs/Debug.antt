@@ -12,6 +12,7 @@ use Rattle.rewind.specs.declared.stream.ServeFault.{ServeFault}
 use Rattle.rewind.specs.declared.stream.ServeFault.TheVariants.{Read, Write, Memory}
 use Rattle.rewind.specs.declared.debug.DebugFault.{DebugFault}
 use Rattle.rewind.specs.declared.debug.DebugFault.TheVariants.{Source, Open, Serve}
+use Rattle.rewind.specs.Stream.{of_session}
 use Rattle.rewind.specs.Served.{ServedAll}
 use Rattle.rewind.specs.Devices.{Change, Fails, NeverFails}
 use Rattle.rewind.specs.Fault.{Left, Blames}
@@ -39,7 +40,7 @@ pub record Debugged (source reader writer : Change) : Type 0 where
   pub program : Program
   pub opened : Opened source.old.bytes source.new.bytes program
   pub journal : List Entry
-  pub served : ServedAll program 1 reader.old.bytes reader.new.bytes [] journal writer.old.bytes writer.new.bytes
+  pub served : ServedAll (of_session program 1) reader.old.bytes reader.new.bytes [] journal writer.old.bytes writer.new.bytes
   pub legal : IsLegal program 1 journal
 
 -- such a stream was left
@@ -47,7 +48,7 @@ pub record Stopped (fault : ServeFault) (source reader writer : Change) : Type 0
   pub program : Program
   pub opened : Opened source.old.bytes source.new.bytes program
   pub journal : List Entry
-  pub left : Left fault program 1 reader.old.bytes reader.new.bytes [] journal writer.old.bytes writer.new.bytes (Fails reader) (Fails writer)
+  pub left : Left fault (of_session program 1) reader.old.bytes reader.new.bytes [] journal writer.old.bytes writer.new.bytes (Fails reader) (Fails writer)
   pub legal : IsLegal program 1 journal
 
 -- no command was read, and nothing was written

@@ -5,6 +5,7 @@ pub mod Replies
 pub mod Served
 pub mod Stream
 pub mod Streams
+pub mod DeskStreams
 pub mod Debug
 pub mod Devices
 pub mod Report

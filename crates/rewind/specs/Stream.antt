@@ -3,11 +3,14 @@ use Rattle.std.specs.Prelude.{◌≡◌, ℕ, ◌≢◌, false, List, [], ◌∷
 use Rattle.gr_program.specs.Programs.{Program}
 use Rattle.gr_command.specs.declared.command.Command.{Command}
 use Rattle.gr_session.specs.declared.journal.Entry.{Entry}
+use Rattle.gr_session.specs.declared.journal.Receipt.{Receipt}
 use Rattle.gr_session.specs.declared.TheConstants.{JOURNAL_LIMIT}
 use Rattle.gr_session.specs.Journal.{Enters}
 use Rattle.gr_command.specs.declared.command.Line.{Line}
 use Rattle.gr_command.specs.declared.command.Line.TheVariants as says
 use Rattle.gr_command.specs.Commands.{meaning}
+use Rattle.gr_command.specs.Replies.{said_of}
+use Rattle.gr_share.specs.Calls.{Asker, GainsBy}
 use Rattle.rewind.specs.Lines.{is_quit}
 use Rattle.rewind.specs.Replies.{Answer, Replied, JournalFull, NoMemory, answer_text}
 
@@ -36,15 +39,28 @@ abbrev pub commands : List (List ℕ) → List Command
 commands [] = []
 commands (l ∷ ls) = commands_at (meaning l) (commands ls)
 
--- From the journal old, the asker's commands may get these answers, and the journal is then new.
-abbrev pub Answered : Program → ℕ → List Entry → List Command → List Answer → List Entry → Type 0
-Answered program asker old [] [] new = new ≡ old
-Answered program asker old (c ∷ cs) (Replied said ∷ more) new =
-    (mid : List Entry) × (Enters program asker c old mid (length mid) said) × Answered program asker mid cs more new
-Answered program asker old (c ∷ cs) (JournalFull ∷ more) new = (length old ≡ JOURNAL_LIMIT) × Answered program asker old cs more new
-Answered program asker old (c ∷ cs) (NoMemory ∷ more) new = (length old ≢ JOURNAL_LIMIT) × Answered program asker old cs more new
-Answered program asker old [] (a ∷ more) new = ⊥
-Answered program asker old (c ∷ cs) [] new = ⊥
+-- what may come of one command: from one state of what is asked to the next
+abbrev pub Gets : Type 0 → Type 1
+Gets S = S → Command → Answer → S → Type 0
+
+-- of a session that is asked for one of its askers, by its journal: it has an entry more, with this reply, or is as before
+abbrev pub of_session : Program → ℕ → List Entry → Command → Answer → List Entry → Type 0
+of_session program asker old c (Replied said) new = Enters program asker c old new (length new) said
+of_session program asker old c JournalFull new = (length old ≡ JOURNAL_LIMIT) × (new ≡ old)
+of_session program asker old c NoMemory new = (length old ≢ JOURNAL_LIMIT) × (new ≡ old)
+
+-- of a desk of a shared session: it has a call more, with this reply on its receipt, or is as before
+abbrev pub of_desk : Asker → Command → Answer → Asker → Type 0
+of_desk old c (Replied said) new = (r : Receipt) × GainsBy old c r new × (said ≡ said_of r.reply)
+of_desk old c JournalFull new = new ≡ old
+of_desk old c NoMemory new = new ≡ old
+
+-- from the state old, commands may get these answers in their order, and the state is then new
+abbrev pub Answered : {S : Type 0} → Gets S → S → List Command → List Answer → S → Type 0
+Answered gets old [] [] new = new ≡ old
+Answered {S = S} gets old (c ∷ cs) (a ∷ more) new = (mid : S) × gets old c a mid × Answered gets mid cs more new
+Answered gets old [] (a ∷ more) new = ⊥
+Answered gets old (c ∷ cs) [] new = ⊥
 
 -- no line is `quit`
 abbrev pub NoQuit : List (List ℕ) → Type 0
@@ -57,13 +73,13 @@ QuitLast [] = Unit {0}
 QuitLast (l ∷ []) = Unit {0}
 QuitLast (l ∷ m ∷ ls) = (is_quit (meaning l) ≡ false) × QuitLast (m ∷ ls)
 
--- the session answered a line, with this text
-pub record Answers (program : Program) (asker : ℕ) (line : Line) (old new : List Entry) (text : List ℕ) : Type 0 where
+-- a line was answered, with this text
+pub record Answers {S : Type 0} (gets : Gets S) (line : Line) (old new : S) (text : List ℕ) : Type 0 where
   pub answers : List Answer
-  pub answered : Answered program asker old (commands_at line []) answers new
+  pub answered : Answered gets old (commands_at line []) answers new
   pub text_is : text ≡ output_at line (λ more. []) answers
 
--- the session answered a line
-pub record AnsweredLine (program : Program) (asker : ℕ) (line : Line) (old new : List Entry) : Type 0 where
+-- a line was answered
+pub record AnsweredLine {S : Type 0} (gets : Gets S) (line : Line) (old new : S) : Type 0 where
   pub answers : List Answer
-  pub answered : Answered program asker old (commands_at line []) answers new
+  pub answered : Answered gets old (commands_at line []) answers new

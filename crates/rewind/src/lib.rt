@@ -4,6 +4,7 @@
 pub mod command_line;
 pub mod counted;
 pub mod debug;
+pub mod desk;
 pub mod report;
 pub mod settings;
 pub mod stream;

@@ -30,14 +30,14 @@ pub enum ServeFault {
     Memory,
 }
 
-fn copied(alloc: Global, text: &[u8]) -> Result<Vec<u8>, NoMemory>
+pub(crate) fn copied(alloc: Global, text: &[u8]) -> Result<Vec<u8>, NoMemory>
     ensures { IfOk result (λ copy. copy.items ≡ text.now) }
 {
     Ok(Vec::from_slice(alloc, text)?)
 }
 
 // The text of a reply.
-fn text_of(alloc: Global, reply: &Reply) -> Result<Vec<u8>, NoMemory>
+pub(crate) fn text_of(alloc: Global, reply: &Reply) -> Result<Vec<u8>, NoMemory>
     ensures { IfOk result (λ text. text.items ≡ said_text (said_of reply.now)) }
 {
     let mut text = Vec::new(alloc);

@@ -1,6 +1,7 @@
 use Rattle.std.proofs.Common.{rules, ◌≡◌, []}
 use Rattle.gr_program.specs.Views.{program_of}
 use Rattle.rewind.specs.Devices.{change, known}
+use Rattle.rewind.specs.Stream.{of_session}
 use Rattle.rewind.specs.Served.{ServedAll}
 use Rattle.rewind.proofs.Debugging.{stopped, unserved, source_blamed, legal_served}
 use Rattle.rewind.proofs.debug.debug.Goals as goal
@@ -20,7 +21,7 @@ returns-in-Ok-served-clause-ok g c =
     let number : c.in-Ok-enrol.desk.number ≡ 1 = search rules in
     let empty : c.enrol.new.self.journal ≡ [] = search rules in
     let same : c.enrol.new.self.program ≡ c.in-Ok.session.program = search rules in
-    let served : ServedAll (program_of c.in-Ok.session.program) 1 (g.R.Read.remaining c.args.reader.now.inner) (g.R.Read.remaining c.serve-served.new.reader.inner)
+    let served : ServedAll (of_session (program_of c.in-Ok.session.program) 1) (g.R.Read.remaining c.args.reader.now.inner) (g.R.Read.remaining c.serve-served.new.reader.inner)
     [] c.serve-served.new.session.journal (g.W.Write.contents c.args.writer.now.inner) (g.W.Write.contents c.serve-served.new.writer.inner) =
     rw (number, empty, same) at c.in-Ok-served.ensures.ok in
     record {
