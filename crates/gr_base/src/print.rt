@@ -1,7 +1,8 @@
 //! Printers: each appends the one text of what it is given, or nothing. They fail only where the text has no room for
 //! what they append and its growth was refused.
 
-ghost use Rattle.std.specs.Prelude.{◌≡◌, ◌++◌, ◌+◌, ◌<◌, ◌≤◌, length, codes, decimal, vec_capacity, OnOk, OnErr};
+ghost use Rattle.std.specs.Prelude.{◌≡◌, ◌∷◌, ◌++◌, ◌+◌, ◌*◌, ◌<◌, ◌≤◌, length, drop, codes, decimal, vec_capacity, OnOk, OnErr};
+ghost use Rattle.std.specs.List.{flat_map};
 ghost use Rattle.gr_base.specs.Names.{go_text, ch_text, step_text};
 ghost use Rattle.gr_base.specs.Values.{value_text};
 ghost use Rattle.gr_base.specs.Kinds.{fault_text, kind_text};
@@ -10,7 +11,13 @@ use crate::kinds::{Fault, Kind};
 use crate::memory::NoMemory;
 use crate::names::{ChName, GoName, StepId};
 use crate::values::Value;
-use itoa::Buffer;
+use itoa::{Buffer, write_digits};
+
+/// How many counts a short name of a goroutine has at most.
+const SHORT_DEPTH: usize = 4;
+
+/// Room for the text of a step of a goroutine with a short name.
+const SHORT_SIZE: usize = 128;
 
 /// Appends the goroutine's name, as `g0.2.1`.
 pub fn print_go(text: &mut Vec<u8>, name: &GoName) -> Result<(), NoMemory>
@@ -53,6 +60,33 @@ pub fn print_step(text: &mut Vec<u8>, step: &StepId) -> Result<(), NoMemory>
     ensures full { OnErr result (vec_capacity text.old < length text.old.items + length (step_text step.now)) }
     ensures capacity { vec_capacity text.old ≤ vec_capacity text.new }
 {
+    if step.go.counts().len() <= SHORT_DEPTH {
+        return print_short_step(text, step);
+    }
+    print_long_step(text, step)
+}
+
+/// The same of a goroutine with a short name: the text is put together before it is appended.
+fn print_short_step(text: &mut Vec<u8>, step: &StepId) -> Result<(), NoMemory>
+    requires { length step.now.go ≤ SHORT_DEPTH }
+    ensures ok { OnOk result (text.new.items ≡ text.old.items ++ step_text step.now) }
+    ensures err { OnErr result (text.new.items ≡ text.old.items) }
+    ensures full { OnErr result (vec_capacity text.old < length text.old.items + length (step_text step.now)) }
+    ensures capacity { vec_capacity text.old ≤ vec_capacity text.new }
+{
+    let mut bytes = [0; SHORT_SIZE];
+    let number = write_count(b'#', step.n, &mut bytes, SHORT_SIZE);
+    let start = write_go(step.go.counts(), &mut bytes, number);
+    append(text, &bytes[start..])
+}
+
+/// The same of any goroutine.
+fn print_long_step(text: &mut Vec<u8>, step: &StepId) -> Result<(), NoMemory>
+    ensures ok { OnOk result (text.new.items ≡ text.old.items ++ step_text step.now) }
+    ensures err { OnErr result (text.new.items ≡ text.old.items) }
+    ensures full { OnErr result (vec_capacity text.old < length text.old.items + length (step_text step.now)) }
+    ensures capacity { vec_capacity text.old ≤ vec_capacity text.new }
+{
     let before = text.len();
     print_go(text, &step.go)?;
     if append_count(text, b"#", step.n).is_err() {
@@ -60,6 +94,52 @@ pub fn print_step(text: &mut Vec<u8>, step: &StepId) -> Result<(), NoMemory>
         return Err(NoMemory);
     }
     Ok(())
+}
+
+/// Writes the mark and the number in decimal, which take at most 21 bytes, so that they end at a place. It answers where they start.
+#[inline]
+fn write_count(mark: u8, n: u64, bytes: &mut [u8], end: usize) -> usize
+    requires room { 21 ≤ end }
+    requires within { end ≤ length bytes.old }
+    ensures written { drop result bytes.new ≡ mark ∷ decimal n ++ drop end bytes.old }
+    ensures start { end ≤ result + 21 }
+    ensures within { result ≤ end }
+{
+    let start = write_digits(n, bytes, end) - 1;
+    bytes[start] = mark;
+    start
+}
+
+/// Writes counts so that they end at a place, each after a dot, and answers where they start.
+#[inline]
+fn write_counts(counts: &[u32], bytes: &mut [u8], end: usize) -> usize
+    requires room { length counts.now * 21 ≤ end }
+    requires within { end ≤ length bytes.old }
+    ensures written { drop result bytes.new ≡ flat_map (λ count. codes "." ++ decimal count) counts.now ++ drop end bytes.old }
+    ensures start { end ≤ result + length counts.now * 21 }
+    ensures within { result ≤ end }
+{
+    let mut start = end;
+    let mut left = counts.len();
+    while left > 0 {
+        left -= 1;
+        start = write_count(b'.', u64::from(counts[left]), bytes, start);
+    }
+    start
+}
+
+/// Writes the name of the goroutine with these counts so that it ends at a place, and answers where it starts.
+#[inline]
+fn write_go(counts: &[u32], bytes: &mut [u8], end: usize) -> usize
+    requires room { length counts.now * 21 + 2 ≤ end }
+    requires within { end ≤ length bytes.old }
+    ensures written { drop result bytes.new ≡ go_text counts.now ++ drop end bytes.old }
+    ensures within { result ≤ end }
+{
+    let start = write_counts(counts, bytes, end) - 2;
+    bytes[start] = b'g';
+    bytes[start + 1] = b'0';
+    start
 }
 
 /// Appends the value: a number in decimal, `true` or `false`, `{}`, `nil`, or a channel's name.

@@ -1,8 +1,9 @@
 -- Room is kept by what changes the lists, and it is there for what was said to fit.
-use Rattle.std.proofs.Common.{◌≡◌, ◌<◌, ◌≤◌, ◌+◌, ◌-◌, ℕ, suc, Bool, true, false, if◌then◌else◌, List, [], ◌∷◌, ◌++◌, length, filter, slice_get, Some, get_or, take, drop, vec_capacity, refl, sym, ap, subst, ◌∙◌, append_assoc, arith, inl, inr}
+use Rattle.std.proofs.Common.{◌≡◌, ◌<◌, ◌≤◌, ◌+◌, ◌-◌, ℕ, suc, Bool, true, false, if◌then◌else◌, List, [], ◌∷◌, ◌++◌, length, filter, slice_get, Some, None, get_or, take, drop, vec_capacity, refl, sym, ap, subst, ◌∙◌, append_assoc, arith, inl, inr}
 use Rattle.std.proofs.lemmas.Bool.{cases_Bool}
 use Rattle.std.proofs.lemmas.List.{take_more, length-append, take-append-drop}
-use Rattle.indexmap.specs.IndexMap.{keys, values, with_value_at, IsUnique}
+use Rattle.std.specs.Option.{unwrap_or}
+use Rattle.indexmap.specs.IndexMap.{get, keys, values, with_value_at, IsUnique}
 use Rattle.gr_base.specs.declared.objects.Object.{Object}
 use Rattle.gr_base.specs.declared.objects.Object.TheVariants as objects
 use Rattle.gr_rules.specs.States.{same}
@@ -14,7 +15,7 @@ use Rattle.gr_depend.specs.declared.lanes.Lanes.{Lanes}
 use Rattle.gr_depend.specs.declared.log.Log.{Log}
 use Rattle.gr_depend.specs.Keys.{key_of, same_key}
 use Rattle.gr_depend.specs.Touches.{touch_at, touches_in, none_twice, touches_for, kept_for}
-use Rattle.gr_depend.specs.Lists.{LaneSeen, list_of, Adds, AddsFor}
+use Rattle.gr_depend.specs.Lists.{LaneSeen, nothing, list_of, Adds, AddsFor}
 use Rattle.gr_depend.specs.Room.{size_of, capacity_of, Fits, FitsFor, KeepsRoom, CanTake}
 use Rattle.gr_depend.proofs.LaneLemmas.{Table, parts, had, wrote}
 use Rattle.gr_depend.proofs.NoteLemmas.{one_for, first_more, one_added}
@@ -51,6 +52,16 @@ has_room l o other i at v value t fits =
     let all : length (v.0 ++ t ∷ []) ≤ size_of v =
     subst (λ n. length (v.0 ++ t ∷ []) ≤ n) size (subst (λ (ts : List Touch). length ts ≤ capacity_of l o) (λ j. list j ++ one j) (fits.each o)) in
     omega (arith, all, length-append v.0 (t ∷ []))
+
+-- an object without a lane has no room
+pub no_room : (l : Lanes) (o : Object) → same objects.Run o ≡ false → get same_key l.map (key_of o) ≡ None → (t : Touch) → FitsFor (o ∷ []) t l → ⊥
+no_room l o other absent t fits =
+    let list : list_of l o ≡ [] = rw other (ap (λ x. (unwrap_or x nothing).0) absent) in
+    let size : capacity_of l o ≡ 0 = rw other (ap (λ x. size_of (unwrap_or x nothing)) absent) in
+    let one : touches_for o t (o ∷ []) ≡ t ∷ [] = rw (same_self o) refl in
+    let all : length (t ∷ []) ≤ 0 =
+    subst (λ n. length (t ∷ []) ≤ n) size (subst (λ (ts : List Touch). length ts ≤ capacity_of l o) (λ j. list j ++ one j) (fits.each o)) in
+    omega (arith, all)
 
 pub run_has_room : (l : Lanes) (t : Touch) → FitsFor (objects.Run ∷ []) t l → length l.run.items + 1 ≤ vec_capacity l.run
 run_has_room l t fits =

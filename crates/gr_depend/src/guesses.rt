@@ -3,11 +3,15 @@
 ghost use Rattle.std.specs.Prelude.{◌<◌};
 
 use crate::key::ObjectRef;
+use gr_base::GoName;
 use std::array;
 use std::cell::Cell;
 
 /// How many guesses are kept.
 const GUESSES: usize = 256;
+
+/// How many classes there are for each count, more than there are kinds of objects.
+const KINDS: u32 = 8;
 
 /// For each class of objects the number of the lane of the one that was found last.
 #[derive(Drop)]
@@ -20,7 +24,18 @@ pub(crate) struct Guesses {
 fn class(kind: u32, count: u32) -> usize
     ensures { result < 256 }
 {
-    count.wrapping_mul(8).wrapping_add(kind) as usize % GUESSES
+    count.wrapping_mul(KINDS).wrapping_add(kind) as usize % GUESSES
+}
+
+/// The class of a goroutine.
+#[inline]
+fn class_of_go(go: &GoName) -> usize
+    ensures { result < 256 }
+{
+    match go.counts().last() {
+        Some(count) => class(1, *count),
+        None => 1,
+    }
 }
 
 /// The class of an object.
@@ -30,14 +45,14 @@ fn class_of(object: &ObjectRef<'_>) -> usize
 {
     match object {
         ObjectRef::Run => 0,
-        ObjectRef::Go(go) => match go.counts().last() {
-            Some(count) => class(1, *count),
-            None => 1,
-        },
+        ObjectRef::Go(go) => class_of_go(go),
         ObjectRef::Gate(channel) => class(2, channel.n),
         ObjectRef::Tail(channel) => class(3, channel.n),
         ObjectRef::Head(channel) => class(4, channel.n),
-        ObjectRef::Slot(channel, place) => class(5, channel.n.wrapping_mul(8).wrapping_add(*place)),
+        ObjectRef::Slot(channel, place) => class(
+            5,
+            channel.n.wrapping_mul(KINDS).wrapping_add(*place),
+        ),
     }
 }
 
@@ -53,6 +68,12 @@ impl Guesses {
     #[inline]
     pub(crate) fn of(&self, object: &ObjectRef<'_>) -> usize {
         self.numbers[class_of(object)].get()
+    }
+
+    /// A guess of the number of the lane of a goroutine.
+    #[inline]
+    pub(crate) fn of_go(&self, go: &GoName) -> usize {
+        self.numbers[class_of_go(go)].get()
     }
 
     /// Keeps the number of the lane of an object.

@@ -3,6 +3,7 @@
 ghost use Rattle.std.specs.Prelude.{◌≡◌, IfOk};
 ghost use Rattle.gr_rules.specs.States.{same};
 ghost use Rattle.gr_depend.specs.Keys.{key_of, object_of, seen};
+ghost use Rattle.gr_base.specs.declared.objects.Object.TheVariants.{Go};
 
 use gr_base::{ChName, GoName, NoMemory, Object};
 use std::alloc::Global;
@@ -77,6 +78,17 @@ impl Key {
             ObjectRef::Tail(channel) => Ok(Key::Tail(channel.copy(alloc)?)),
             ObjectRef::Head(channel) => Ok(Key::Head(channel.copy(alloc)?)),
             ObjectRef::Slot(channel, place) => Ok(Key::Slot(channel.copy(alloc)?, *place)),
+        }
+    }
+
+    /// Whether this is the key of the goroutine.
+    #[inline]
+    pub(crate) fn is_of_go(&self, go: &GoName) -> bool
+        ensures { result ≡ same (object_of self.now) (Go go.now) }
+    {
+        match self {
+            Key::Go(own) => own == go,
+            _ => false,
         }
     }
 

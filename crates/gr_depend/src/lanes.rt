@@ -10,7 +10,7 @@ use crate::guesses::Guesses;
 use crate::key::{Key, ObjectRef};
 use crate::lane::Lane;
 use crate::touch::Touch;
-use gr_base::NoMemory;
+use gr_base::{GoName, NoMemory};
 use indexmap::IndexMap;
 use std::alloc::Global;
 use std::cell::Cell;
@@ -58,6 +58,41 @@ impl Lanes {
         ensures named { IfSome result (λ i. slice_get (keys self.now.map) i ≡ Some (key_of (seen object.now))) }
         ensures absent { IfNone result (get same_key self.now.map (key_of (seen object.now)) ≡ None) }
     {
+        match object {
+            ObjectRef::Go(go) => self.number_of_go(go),
+            _ => self.guessed(object),
+        }
+    }
+
+    /// The number of the lane of a goroutine, if it has one.
+    fn number_of_go(&self, go: &GoName) -> Option<usize>
+        ensures named { IfSome result (λ i. slice_get (keys self.now.map) i ≡ Some (key_of (objects.Go go.now))) }
+        ensures absent { IfNone result (get same_key self.now.map (key_of (objects.Go go.now)) ≡ None) }
+    {
+        let guess = self.guesses.of_go(go);
+        if self.is_go_at(go, guess) {
+            self.last.set(guess);
+            return Some(guess);
+        }
+        self.look_further(&ObjectRef::Go(go))
+    }
+
+    /// Whether the lane with a number is that of a goroutine.
+    #[inline]
+    fn is_go_at(&self, go: &GoName, number: usize) -> bool
+        ensures { IsTrue result ↔ (slice_get (keys self.now.map) number ≡ Some (key_of (objects.Go go.now))) }
+    {
+        match self.map.get_index(number) {
+            Some((key, _)) => key.is_of_go(go),
+            None => false,
+        }
+    }
+
+    /// The number of the lane of an object, if it has one, by the guess for objects like this.
+    fn guessed(&self, object: &ObjectRef<'_>) -> Option<usize>
+        ensures named { IfSome result (λ i. slice_get (keys self.now.map) i ≡ Some (key_of (seen object.now))) }
+        ensures absent { IfNone result (get same_key self.now.map (key_of (seen object.now)) ≡ None) }
+    {
         let guess = self.guesses.of(object);
         if self.is_at(object, guess) {
             self.last.set(guess);
@@ -66,7 +101,7 @@ impl Lanes {
         self.look_further(object)
     }
 
-    /// The same, by a second guess: the lane that came last after the one that was asked for before.
+    /// The number of the lane of an object, by a second guess: the lane that came last after the one that was asked for before.
     #[inline(never)]
     fn look_further(&self, object: &ObjectRef<'_>) -> Option<usize>
         ensures named { IfSome result (λ i. slice_get (keys self.now.map) i ≡ Some (key_of (seen object.now))) }
@@ -201,6 +236,19 @@ impl Lanes {
         Some((number + 1, touches))
     }
 
+    /// The same of a goroutine, of whose touches all are wanted.
+    #[inline]
+    pub(crate) fn numbered_go(&self, go: &GoName) -> Option<(usize, &[Touch])>
+        ensures some { IfSome result (λ list. IsNumbered self.now (objects.Go go.now) true list.0 list.1.now) }
+        ensures none { IfNone result (list_of self.now (objects.Go go.now) ≡ []) }
+    {
+        let number = self.number_of_go(go)?;
+        // This bounds the number of lanes, so that one can be added to a number below it.
+        let _count = self.map.len();
+        let touches = self.lane(number);
+        Some((number + 1, touches))
+    }
+
     /// The touches in the lane with a number.
     fn lane(&self, number: usize) -> &[Touch]
         requires { number < length (keys self.now.map) }
@@ -208,6 +256,14 @@ impl Lanes {
     {
         let (_, lane) = self.map.get_index(number).unwrap();
         lane.as_slice()
+    }
+
+    /// The touches of `Run` that wrote it: those of its list that are wanted where writes are.
+    #[inline]
+    pub(crate) fn stops(&self) -> &[Touch]
+        ensures { IsNumbered self.now objects.Run false 0 result.now }
+    {
+        self.stops.as_slice()
     }
 
     /// Adds a touch to the list of an object. Refused, all lists are as before.
@@ -241,11 +297,7 @@ impl Lanes {
 
     /// Adds a touch to the list of an object that is not `Run`.
     #[inline]
-    pub(crate) fn add_to_other(
-        &mut self,
-        object: &ObjectRef<'_>,
-        touch: Touch,
-    ) -> Result<(), NoMemory>
+    fn add_to_other(&mut self, object: &ObjectRef<'_>, touch: Touch) -> Result<(), NoMemory>
         requires { same objects.Run (seen object.now) ≡ false }
         ensures ok { OnOk result (Adds (seen object.now) touch self.old self.new) }
         ensures err { OnErr result (KeepsLists self.old self.new) }
@@ -255,6 +307,20 @@ impl Lanes {
         match self.number(object) {
             Some(number) => self.map.get_index_mut(number).unwrap().push(touch),
             None => self.add_lane(object, touch),
+        }
+    }
+
+    /// Adds a touch to the list of a goroutine.
+    #[inline]
+    pub(crate) fn add_to_go(&mut self, go: &GoName, touch: Touch) -> Result<(), NoMemory>
+        ensures ok { OnOk result (Adds (objects.Go go.now) touch self.old self.new) }
+        ensures err { OnErr result (KeepsLists self.old self.new) }
+        ensures succeeds { FitsFor (objects.Go go.now ∷ []) touch self.old → IsOk result }
+        ensures room { KeepsRoom self.old self.new }
+    {
+        match self.number_of_go(go) {
+            Some(number) => self.map.get_index_mut(number).unwrap().push(touch),
+            None => self.add_lane(&ObjectRef::Go(go), touch),
         }
     }
 
@@ -310,12 +376,23 @@ impl Lanes {
 
     /// The same of an object that is not `Run`.
     #[inline]
-    pub(crate) fn take_from_other(&mut self, object: &ObjectRef<'_>)
+    fn take_from_other(&mut self, object: &ObjectRef<'_>)
         requires { same objects.Run (seen object.now) ≡ false }
         ensures lists { TakesBack (seen object.now) self.old self.new }
         ensures room { KeepsRoom self.old self.new }
     {
         if let Some(number) = self.number(object) {
+            self.map.get_index_mut(number).unwrap().pop();
+        }
+    }
+
+    /// The same of a goroutine.
+    #[inline]
+    pub(crate) fn take_from_go(&mut self, go: &GoName)
+        ensures lists { TakesBack (objects.Go go.now) self.old self.new }
+        ensures room { KeepsRoom self.old self.new }
+    {
+        if let Some(number) = self.number_of_go(go) {
             self.map.get_index_mut(number).unwrap().pop();
         }
     }

@@ -2,6 +2,7 @@
 
 ghost use Rattle.std.specs.Prelude.{◌≡◌, ◌+◌, length, true, false, None};
 ghost use Rattle.indexmap.specs.IndexMap.{keys};
+ghost use Rattle.gr_base.specs.declared.objects.Object.TheVariants.{Run, Go};
 ghost use Rattle.gr_depend.specs.Keys.{seen};
 ghost use Rattle.gr_depend.specs.Marks.{hits, Marks};
 ghost use Rattle.gr_depend.specs.Told.{seen_in};
@@ -10,7 +11,7 @@ use crate::key::ObjectRef;
 use crate::lanes::Lanes;
 use crate::marks::{Origin, mark_list};
 use crate::objects::{Objects, reads, writes};
-use gr_base::Object;
+use gr_base::{GoName, Object};
 use gr_step::Record;
 
 impl Lanes {
@@ -60,8 +61,44 @@ impl Lanes {
         ensures read_walked { AreWalked self.now origin false read.new marks.new }
         ensures written_walked { AreWalked self.now origin true written.new marks.new }
     {
-        self.mark_object(origin, &ObjectRef::Run, false, read, marks);
-        self.mark_object(origin, &ObjectRef::Go(&step.id.go), true, written, marks);
+        self.mark_run(origin, read, marks);
+        self.mark_go(origin, &step.id.go, written, marks);
+    }
+
+    /// Sets the marks of the touches of `Run` that wrote it.
+    #[inline]
+    fn mark_run(&self, origin: Origin, walked: &mut [bool], marks: &mut [bool])
+        requires reach { AreInReach self.now origin (length marks.old) }
+        requires count { length walked.old ≡ length (keys self.now.map) + 1 }
+        requires walked { AreWalked self.now origin false walked.old marks.old }
+        ensures marks { Marks origin (hits false (list_of self.now Run)) marks.old marks.new }
+        ensures walked { AreWalked self.now origin false walked.new marks.new }
+    {
+        let touches = self.stops();
+        if walked[0] {
+            return;
+        }
+        walked[0] = true;
+        mark_list(marks, origin, touches, false);
+    }
+
+    /// Sets the marks of the touches of a goroutine.
+    #[inline]
+    fn mark_go(&self, origin: Origin, go: &GoName, walked: &mut [bool], marks: &mut [bool])
+        requires reach { AreInReach self.now origin (length marks.old) }
+        requires count { length walked.old ≡ length (keys self.now.map) + 1 }
+        requires walked { AreWalked self.now origin true walked.old marks.old }
+        ensures marks { Marks origin (hits true (list_of self.now (Go go.now))) marks.old marks.new }
+        ensures walked { AreWalked self.now origin true walked.new marks.new }
+    {
+        let Some((number, touches)) = self.numbered_go(go) else {
+            return;
+        };
+        if walked[number] {
+            return;
+        }
+        walked[number] = true;
+        mark_list(marks, origin, touches, true);
     }
 
     /// The same of a step that reached further.

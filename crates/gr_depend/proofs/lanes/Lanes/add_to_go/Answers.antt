@@ -1,0 +1,39 @@
+use Rattle.std.proofs.Common.{vec_capacity, arith, [], ◌∷◌, ◌++◌, sym, ap, ◌∙◌, refl}
+use Rattle.std.specs.Option.{option_copied_mut}
+use Rattle.gr_depend.proofs.LaneLemmas.{written_unique, wrote, wrote_nothing, on_ok, on_err}
+use Rattle.gr_base.specs.declared.objects.Object.TheVariants.{Go}
+use Rattle.gr_depend.proofs.RoomLemmas.{keeps_room, grown, has_room, no_room}
+use Rattle.gr_depend.proofs.lanes.Lanes.add_to_go.Goals as goal
+
+pub invariant_of-self : goal.invariant_of-self
+invariant_of-self c = record { unique = written_unique c.args.self.now.map _ _ c.args.self.now.unique; writers = c.args.self.now.writers }
+
+pub returns-in-Some-clause-ok : goal.returns-in-Some-clause-ok
+returns-in-Some-clause-ok c =
+    on_ok c.push.result _ _
+    (λ e. wrote (λ k. k.0) c.args.self.now.run.items c.args.self.now.map c.args.self.now.unique (Go c.args.go.now) refl c.in-Some.number c.in-Some.ensures.named
+    c.unwrap.result.now c.push.new.self (sym (ap option_copied_mut c.unwrap.ensures) ∙ c.get_index_mut.ensures.value) (λ ts. ts ++ c.args.touch ∷ []) e)
+    c.push.ensures.ok
+
+pub returns-in-Some-clause-err : goal.returns-in-Some-clause-err
+returns-in-Some-clause-err c =
+    on_err c.push.result _ _
+    (λ e. wrote_nothing (λ k. k.0) c.args.self.now.run.items c.args.self.now.map c.args.self.now.unique (Go c.args.go.now) refl c.in-Some.number c.in-Some.ensures.named
+    c.unwrap.result.now c.push.new.self (sym (ap option_copied_mut c.unwrap.ensures) ∙ c.get_index_mut.ensures.value) e)
+    c.push.ensures.err
+
+pub returns-in-Some-clause-room : goal.returns-in-Some-clause-room
+returns-in-Some-clause-room c =
+    keeps_room c.args.self.now _
+    (grown (vec_capacity c.args.self.now.run) c.args.self.now.map c.args.self.now.unique (Go c.args.go.now) refl c.in-Some.number c.in-Some.ensures.named
+    c.unwrap.result.now c.push.new.self (sym (ap option_copied_mut c.unwrap.ensures) ∙ c.get_index_mut.ensures.value) c.push.ensures.room)
+    (omega arith)
+
+pub returns-in-Some-clause-succeeds : goal.returns-in-Some-clause-succeeds
+returns-in-Some-clause-succeeds c fits =
+    c.push.ensures.succeeds
+    (has_room c.args.self.now (Go c.args.go.now) refl c.in-Some.number c.in-Some.ensures.named c.unwrap.result.now
+    (sym (ap option_copied_mut c.unwrap.ensures) ∙ c.get_index_mut.ensures.value) c.args.touch fits)
+
+pub returns-in-None-clause-succeeds : goal.returns-in-None-clause-succeeds
+returns-in-None-clause-succeeds c fits = absurd (no_room c.args.self.now (Go c.args.go.now) refl c.in-None.ensures.absent c.args.touch fits)

@@ -1,0 +1,7 @@
+use Rattle.std.proofs.Common.{refl}
+use Rattle.gr_base.specs.declared.objects.Object.TheVariants.{Run}
+use Rattle.gr_depend.proofs.LaneLemmas.{run_numbered}
+use Rattle.gr_depend.proofs.lanes.Lanes.stops.Goals as goal
+
+pub returns : goal.returns
+returns c = run_numbered c.args.self.now Run c.as_slice.result.now refl c.as_slice.ensures.value
