@@ -61,16 +61,24 @@ fn of_leaves<'a>(cells: &'a [Option<Value>], operand: &Operand) -> Option<Result
     }
 }
 
+/// The number in a cell that has one.
+#[inline]
+pub fn number_in(cells: &[Option<Value>], cell: usize) -> Option<i64>
+    ensures { IfSome result (λ n. rules.held (slice_get cells.now cell) ≡ gives (values.Int n)) }
+{
+    match cells.get(cell) {
+        Some(Some(Value::Int(n))) => Some(*n),
+        _ => None,
+    }
+}
+
 /// The number that the operand is, where that stands in a cell or in the code.
 #[inline]
-fn number_of(cells: &[Option<Value>], operand: &Operand) -> Option<i64>
+pub fn number_of(cells: &[Option<Value>], operand: &Operand) -> Option<i64>
     ensures { IfSome result (λ n. rules.evaluate cells.now (operand_of operand.now) ≡ gives (values.Int n)) }
 {
     match operand {
-        Operand::Variable(cell) => match cells.get(*cell) {
-            Some(Some(Value::Int(n))) => Some(*n),
-            _ => None,
-        },
+        Operand::Variable(cell) => number_in(cells, *cell),
         Operand::Literal(Literal::Number(n)) => Some(*n),
         _ => None,
     }
@@ -78,7 +86,7 @@ fn number_of(cells: &[Option<Value>], operand: &Operand) -> Option<i64>
 
 /// What the operand gives, where it is a number, or an operator on two numbers, that stand in cells or in the code.
 #[inline]
-fn of_numbers(cells: &[Option<Value>], operand: &Operand) -> Option<Result<Scalar, Fault>>
+pub fn of_numbers(cells: &[Option<Value>], operand: &Operand) -> Option<Result<Scalar, Fault>>
     requires { rules.evaluate cells.now (operand_of operand.now) ≢ wrong }
     ensures { IfSome result (λ r. rules.evaluate cells.now (operand_of operand.now) ≡ scalar_outcome r) }
 {

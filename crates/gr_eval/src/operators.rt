@@ -66,7 +66,7 @@ pub(crate) fn apply_seen(op: UnaryOp, value: Seen) -> Scalar
 
 /// The operator on two numbers.
 #[inline]
-pub(crate) fn on_ints(op: BinaryOp, x: i64, y: i64) -> Result<Scalar, Fault>
+pub fn on_ints(op: BinaryOp, x: i64, y: i64) -> Result<Scalar, Fault>
     requires { rules.on_ints op x y ≢ wrong }
     ensures { rules.on_ints op x y ≡ scalar_outcome result }
 {

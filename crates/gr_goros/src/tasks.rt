@@ -4,9 +4,10 @@ ghost use Rattle.std.specs.Prelude.{◌≡◌, true, IfOk, IfErr, slice_get};
 ghost use Rattle.gr_rules.specs.Outcomes.{gives, wrong};
 ghost use Rattle.gr_rules.specs.Evaluation as rules;
 ghost use Rattle.gr_rules.specs.Deeds as deeds;
-ghost use Rattle.gr_code.specs.Instructions.{Assigns, GoesOn, Returns};
+ghost use Rattle.gr_rules.specs.Parts.{Calls};
+ghost use Rattle.gr_code.specs.Instructions.{Assigns, Decide, GoesOn, Returns};
 ghost use Rattle.gr_code.specs.CodeFrames as frames;
-ghost use Rattle.gr_code.specs.CodeViews.{action_of, instruction_of, operands_of, pieces_of};
+ghost use Rattle.gr_code.specs.CodeViews.{action_of, instruction_of, operand_of, operands_of, pieces_of};
 ghost use Rattle.gr_eval.specs.Stops.{Stops};
 ghost use Rattle.gr_code.specs.Goroutines.{is_local_action, is_local_instruction};
 ghost use Rattle.gr_goros.specs.Tasks.{Does, only_of, performed, printed, ranged, stored, tested, updated};
@@ -16,7 +17,10 @@ use crate::frame::Frame;
 use crate::undo::FrameUndo;
 use gr_base::{NoMemory, Value};
 use gr_code::code::{Action, Ask, Instruction, Operand, Piece};
-use gr_eval::{Stop, as_truth, evaluate, evaluate_all, operate, printed_line, settles};
+use gr_eval::{
+    Scalar, Stop, as_truth, evaluate, evaluate_all, number_in, number_of, of_numbers, on_ints,
+    operate, printed_line, settles,
+};
 use gr_tree::BinaryOp;
 use std::alloc::Global;
 
@@ -83,27 +87,45 @@ impl Frame {
                     arguments,
                 },
                 ..
-            } => Ok(Task::Enters(*function, evaluate_all(alloc, self.cells(), arguments)?)),
+            } => self.call(alloc, *function, arguments),
             Instruction::Decide {
                 op,
                 left,
                 slot,
                 settled,
                 right,
-            } => {
-                let value = evaluate(alloc, self.cells(), left)?;
-                let on = if settles(*op, &value) {
-                    *settled
-                } else {
-                    *right
-                };
-                Ok(Task::Steps(self.keep(*slot, value, on)))
-            }
+            } => self.decide(alloc, *op, left, *slot, *settled, *right),
             Instruction::Perform { action, operands } => {
                 self.perform(alloc, action, operands, has_caller)
             }
             _ => unreachable!(),
         }
+    }
+
+    /// .. of a call.
+    fn call(&self, alloc: Global, function: usize, arguments: &[Operand]) -> Result<Task, Stop>
+        requires { ¬ (frames.asked_in self.now.cells (Calls function (operands_of arguments.now)) ≡ wrong) }
+        ensures { Does result (frames.asked_in self.now.cells (Calls function (operands_of arguments.now))) self.now self.now }
+    {
+        Ok(Task::Enters(function, evaluate_all(alloc, self.cells(), arguments)?))
+    }
+
+    /// .. of the left operand of `&&` or `||`.
+    fn decide(
+        &mut self,
+        alloc: Global,
+        op: BinaryOp,
+        left: &Operand,
+        slot: usize,
+        settled: usize,
+        right: usize,
+    ) -> Result<Task, Stop>
+        requires { ¬ (frames.task self.old (Decide op (operand_of left.now) slot settled right) ≡ wrong) }
+        ensures { Does result (frames.task self.old (Decide op (operand_of left.now) slot settled right)) self.old self.new }
+    {
+        let value = evaluate(alloc, self.cells(), left)?;
+        let on = if settles(op, &value) { settled } else { right };
+        Ok(Task::Steps(self.keep(slot, value, on)))
     }
 
     /// .. of a statement.
@@ -165,6 +187,12 @@ impl Frame {
         requires { ¬ (tested self.old holds fails (operands_of operands.now) ≡ wrong) }
         ensures { Does result (tested self.old holds fails (operands_of operands.now)) self.old self.new }
     {
+        if let [operand] = operands {
+            if let Some(Ok(Scalar::Bool(truth))) = of_numbers(self.cells(), operand) {
+                let on = if truth { holds } else { fails };
+                return Ok(Task::Steps(self.go_on(on)));
+            }
+        }
         let value = only(alloc, self.cells(), operands)?;
         let on = if as_truth(value) { holds } else { fails };
         Ok(Task::Steps(self.go_on(on)))
@@ -208,6 +236,14 @@ impl Frame {
         requires { ¬ (updated self.old variable op on (operands_of operands.now) ≡ wrong) }
         ensures { Does result (updated self.old variable op on (operands_of operands.now)) self.old self.new }
     {
+        if let [operand] = operands {
+            if let Some(y) = number_of(self.cells(), operand) {
+                if let Some(x) = number_in(self.cells(), variable) {
+                    let value = on_ints(op, x, y)?.to_value();
+                    return Ok(Task::Steps(self.store(variable, value, on)));
+                }
+            }
+        }
         let right = only(alloc, self.cells(), operands)?;
         let left = self.held(alloc, variable)?;
         let value = operate(op, left, right)?;

@@ -347,3 +347,13 @@ name_there known (j ∷ js) (suc p) d within w = name_there known js p d (all_re
 
 pub none_there : (known : List (List ℕ)) (is : List ℕ) (p : ℕ) → length is ≤ p → slice_get (names_at known is) p ≡ None
 none_there known is p w = slice_get_past (names_at known is) p (omega (arith, length_names known is))
+
+-- the only name is next after any other, and after itself
+pub next_of_one : (n : List ℕ) (known : List (List ℕ)) (is : List ℕ) (d : ℕ) → All (λ j. j < length known) is → 1 ≤ length is → length is < 2
+    → slice_get known (slice_index_or is 0 d) ≡ next_name n (names_at known is)
+next_of_one n known [] d within some one = absurd (omega arith)
+next_of_one n known (j ∷ k ∷ js) d within some one = absurd (omega arith)
+next_of_one n known (j ∷ []) d within some one = sym (name_there known (j ∷ []) 0 d within (omega arith)) ∙ alone (slice_index_or known j [])
+  where
+    alone : (x : List ℕ) → Some x ≡ next_name n (x ∷ [])
+    alone x = elim (cases_Bool (is_gt (go_cmp x n))) [ inl e ↦ rw e refl | inr e ↦ rw e refl ]

@@ -121,12 +121,16 @@ impl Pool {
         let _ = self.ready.remove(place);
     }
 
-    /// The first ready goroutine after this one in name order, else the first of all. The time is constant where this one
-    /// was the last answer and the ready ones are the same since, and else logarithmic.
+    /// The first ready goroutine after this one in name order, else the first of all. The time is constant where one alone
+    /// is ready, and where this one was the last answer and the ready ones are the same since; else it is logarithmic.
     pub fn next_after(&self, name: &GoName) -> Option<&GoName>
         ensures next { option_copied result ≡ next_name name.now self.now.ready }
         ensures ordered { IsInOrder self.now.ready }
     {
+        if let [place] = self.ready.as_slice() {
+            self.last.set(0);
+            return self.known.get_index(*place);
+        }
         let guess = self.last.get();
         let place = next_place(self.known.as_slice(), self.ready.as_slice(), name, guess);
         if place < self.ready.len() {

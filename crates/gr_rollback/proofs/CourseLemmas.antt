@@ -35,13 +35,13 @@ use Rattle.gr_rollback.specs.declared.TheConstants.{LOG_LIMIT}
 use Rattle.gr_rollback.specs.declared.course.Course.{Course}
 use Rattle.gr_rollback.specs.Pasts.{Past}
 use Rattle.gr_rollback.specs.Courses.{Holds, IsCourse}
-use Rattle.gr_rollback.specs.Readiness.{IsReadyIn, IsAsIn, HasReady, Settles, Follows, KnowsMore, AllKnown, met_by, others_of}
+use Rattle.gr_rollback.specs.Readiness.{IsReadyIn, IsAsIn, HasReady, Settles, Follows, KnowsMore, AllKnown, met_by, others_of, keeps_status}
 use Rattle.gr_rollback.specs.Retracting.{SameCourse}
 use Rattle.gr_rollback.specs.Steps.{Keeps}
 use Rattle.gr_kept.proofs.KeptLemmas.{kept_is_run}
 use Rattle.gr_rollback.proofs.Basics.{or_left, neither}
 use Rattle.gr_rollback.proofs.KeptLemmas.{kept_length}
-use Rattle.gr_rollback.proofs.OwnLemmas.{own_is_ready, others_stay, met_was_there}
+use Rattle.gr_rollback.proofs.OwnLemmas.{own_is_ready, others_stay, met_was_there, stays_ready}
 
 -- a course of a world is one
 pub is_course : (p : Program) (w : Past p) (c : Course) → Holds p w c → IsCourse c
@@ -155,6 +155,10 @@ only_these_back r t = record { stay = λ q e m. others_stay r.id.go r.change t q
 module _ (p : Program) (s t : Contents) (r : Record) (is : IsRecord p s r t) where
   pub own_was_ready : IsReadyIn s r.id.go
   own_was_ready = own_is_ready (frame_in p) p (event_of r) s t is.takes.report is.takes.steps
+
+  -- .. and is so after it, where the step reached no further and left its status as it was
+  pub own_stays_ready : r.change.beyond ≡ None → keeps_status r.change.own ≡ true → IsReadyIn t r.id.go
+  own_stays_ready = stays_ready r.id.go r.change s t own_was_ready is.takes.back is.takes.fits
 
   pub only_these : OnlyThese r s t
   only_these = record { stay = λ q e m. sym (ap (λ x. x.goroutines q) (sym is.takes.back) ∙ others_stay r.id.go r.change t q e m) }

@@ -5,6 +5,7 @@ use Rattle.std.proofs.lemmas.Bool.{cases_Bool}
 use Rattle.std.proofs.lemmas.List.Folds.{list_any-append}
 use Rattle.gr_base.specs.declared.events.Event.{Event}
 use Rattle.gr_goros.specs.declared.undo.GoUndo.{GoUndo}
+use Rattle.gr_goros.specs.declared.undo.GoUndo.TheVariants as undos
 use Rattle.gr_goros.specs.Undoing.{Fits, undone}
 use Rattle.gr_pool.specs.Goroutines.{is_among}
 use Rattle.gr_program.specs.Programs.{Program}
@@ -21,12 +22,12 @@ use Rattle.gr_contents.specs.Performing.{StepsTo}
 use Rattle.gr_contents.proofs.MachineLemmas.{refusal_is_leaf}
 use Rattle.gr_contents.proofs.LookLemmas.{over_is_refused, unknown_is_refused, done_is_refused, waiting_is_refused}
 use Rattle.gr_step.specs.declared.record.Change.{Change}
-use Rattle.gr_laws.proofs.CellLemmas.{go_is}
+use Rattle.gr_laws.proofs.CellLemmas.{go_is, go_self}
 use Rattle.gr_step.specs.Fews.{members}
 use Rattle.gr_step.specs.Records.{beyond, begun_by, go_back, go_undone, is_go, taken_back, goroutines_changed, GoesFit, CanGoBack}
 use Rattle.gr_tables.specs.NamedGoroutines.{At}
-use Rattle.gr_rollback.specs.Readiness.{IsReadyIn, names_met, others_of}
-use Rattle.gr_rollback.proofs.Basics.{or_right, true_not_false, neither}
+use Rattle.gr_rollback.specs.Readiness.{IsReadyIn, keeps_status, names_met, others_of}
+use Rattle.gr_rollback.proofs.Basics.{some_inj, or_right, true_not_false, neither}
 
 module _ (frame : CodeFrame → Frame) (p : Program) (e : Event) (s t : Contents) (report : Report) (steps : StepsTo frame (attempt p e) s t report) where
   not_refused : (r : Refusal) → Refuses (attempt p e) (state_of frame s) r → ⊥
@@ -122,3 +123,32 @@ met_was_there n c t q can among other =
     let there = met_is_there ((n, c.own) ∷ beyond [] (λ b. members b.met) c) t.goroutines q can.goroutines
     (or_right (same_go q n) (is_among q (names_met (beyond [] (λ b. members b.met) c))) among) in
     (there.0, ap (λ b. if b then None else go_back (goroutines_changed n c) q (t.goroutines q)) other ∙ there.1)
+
+-- a goroutine that was ready is so after a step that reached no further and left its status as it was
+status_stays : (u : GoUndo) (g : CodeGoroutine) → keeps_status u ≡ true → (undone u g).status ≡ g.status
+status_stays (undos.Went u) g keeps = refl
+status_stays (undos.Printed s) g keeps = refl
+status_stays (undos.Entered s) g keeps = refl
+status_stays (undos.Left l) g keeps = refl
+status_stays (undos.Made u) g keeps = refl
+status_stays (undos.Began s) g keeps = refl
+status_stays (undos.Met m) g keeps = absurd (true_not_false keeps refl)
+status_stays (undos.Parked s) g keeps = absurd (true_not_false keeps refl)
+status_stays (undos.Finished f) g keeps = absurd (true_not_false keeps refl)
+status_stays (undos.Faulted s) g keeps = absurd (true_not_false keeps refl)
+status_stays (undos.Retried s) g keeps = absurd (true_not_false keeps refl)
+
+pub stays_ready : (n : List ℕ) (c : Change) (s t : Contents) → IsReadyIn s n → taken_back n c t ≡ s → CanGoBack n c t → c.beyond ≡ None
+    → keeps_status c.own ≡ true → IsReadyIn t n
+stays_ready n c s t was back can alone keeps =
+    let there = own_is_there n c t can in
+    let undone_is : Some (undone c.own there.0) ≡ Some was.goroutine =
+    sym (ap (go_undone c.own) there.1) ∙ sym (own_alone (t.goroutines n)) ∙ ap (λ (x : Contents). x.goroutines n) back ∙ was.there in
+    record {
+      goroutine = there.0;
+      there = there.1;
+      is_ready = sym (status_stays c.own there.0 keeps) ∙ ap (λ (g : CodeGoroutine). g.status) (some_inj undone_is) ∙ was.is_ready;
+    }
+  where
+    own_alone : (x : Option CodeGoroutine) → (if is_go n (begun_by c) then None else go_back (goroutines_changed n c) n x) ≡ go_undone c.own x
+    own_alone x = rw (alone, go_self n) refl

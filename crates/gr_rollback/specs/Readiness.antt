@@ -1,5 +1,5 @@
 -- Which goroutines are ready, as a pool of names has it.
-use Rattle.std.specs.Prelude.{◌≡◌, ℕ, true, false, List, [], ◌∷◌, ◌++◌, map, Some}
+use Rattle.std.specs.Prelude.{◌≡◌, ℕ, Bool, true, false, List, [], ◌∷◌, ◌++◌, map, Some}
 use Rattle.std.specs.Option.{option_to_list}
 use Rattle.gr_pool.specs.Goroutines as pools
 use Rattle.gr_pool.specs.Goroutines.{is_among}
@@ -7,6 +7,7 @@ use Rattle.gr_rules.specs.Goroutines.{ready}
 use Rattle.gr_code.specs.Goroutines.{CodeGoroutine}
 use Rattle.gr_contents.specs.Contents.{Contents}
 use Rattle.gr_goros.specs.declared.undo.GoUndo.{GoUndo}
+use Rattle.gr_goros.specs.declared.undo.GoUndo.TheVariants as undos
 use Rattle.gr_step.specs.declared.record.Change.{Change}
 use Rattle.gr_step.specs.declared.record.Record.{Record}
 use Rattle.gr_step.specs.Fews.{members}
@@ -41,6 +42,20 @@ KnowsMore old new = (n : List ℕ) → is_among n old.known ≡ true → is_amon
 -- each of these names is known
 abbrev pub AllKnown : List (List ℕ) → pools.Goroutines → Type 0
 AllKnown names pool = (n : List ℕ) → is_among n names ≡ true → is_among n pool.known ≡ true
+
+-- whether a change by a step of the goroutine's own, which replaced this, leaves its status as it was
+abbrev pub keeps_status : GoUndo → Bool
+keeps_status (undos.Went u) = true
+keeps_status (undos.Printed s) = true
+keeps_status (undos.Entered s) = true
+keeps_status (undos.Left l) = true
+keeps_status (undos.Made u) = true
+keeps_status (undos.Began s) = true
+keeps_status (undos.Met m) = false
+keeps_status (undos.Parked s) = false
+keeps_status (undos.Finished f) = false
+keeps_status (undos.Faulted s) = false
+keeps_status (undos.Retried s) = false
 
 -- the names of goroutines with their changes
 abbrev pub names_met : List (List ℕ × GoUndo) → List (List ℕ)

@@ -1,11 +1,11 @@
 //! Which goroutines are ready, kept in a pool beside the store.
 
-ghost use Rattle.std.specs.Prelude.{◌≡◌, ◌∷◌, ◌++◌, [], true, ◌↔◌, IsTrue, IfOk, OnOk, option_copied};
+ghost use Rattle.std.specs.Prelude.{◌≡◌, ◌∷◌, ◌++◌, [], None, true, ◌↔◌, IsTrue, IfOk, OnOk, option_copied};
 ghost use Rattle.std.specs.Option.{option_to_list};
 ghost use Rattle.gr_pool.specs.Goroutines.{is_among};
 ghost use Rattle.gr_step.specs.Records.{begun_by};
 ghost use Rattle.gr_step.specs.Stores.{contents_at};
-ghost use Rattle.gr_rollback.specs.Readiness.{IsReadyIn, Settles, KnowsMore, AllKnown, names_met, others_of, met_by};
+ghost use Rattle.gr_rollback.specs.Readiness.{IsReadyIn, Settles, KnowsMore, AllKnown, keeps_status, names_met, others_of, met_by};
 
 use gr_base::{GoName, NoMemory};
 use gr_goros::{GoUndo, Status};
@@ -117,6 +117,36 @@ fn settle_own(pool: &mut Pool, store: &Store, go: &GoName)
     pool.remove(go);
 }
 
+/// Whether the goroutine is ready after a change as it was before, by what the change replaced.
+#[inline]
+fn leaves_status(undo: &GoUndo) -> bool
+    ensures { result ≡ keeps_status undo.now }
+{
+    match undo {
+        GoUndo::Went(_)
+        | GoUndo::Printed(_)
+        | GoUndo::Entered(_)
+        | GoUndo::Left(_)
+        | GoUndo::Made(_)
+        | GoUndo::Began(_) => true,
+        _ => false,
+    }
+}
+
+/// Makes the goroutine of a step unready where it is so in the store. The step reached no further than the goroutine, which was
+/// ready; what the step replaced tells of most that it is ready still.
+#[inline]
+fn settle_alone(pool: &mut Pool, store: &Store, step: &Record)
+    requires own { is_among step.now.id.go pool.old.ready ≡ true }
+    requires ready { keeps_status step.now.change.own ≡ true → IsReadyIn (contents_at store.now) step.now.id.go }
+    ensures { Settles (step.now.id.go ∷ []) (contents_at store.now) pool.old pool.new }
+{
+    if leaves_status(&step.change.own) {
+        return;
+    }
+    settle_own(pool, store, &step.id.go);
+}
+
 /// Settles each of the goroutines that a step met.
 fn settle_met(pool: &mut Pool, store: &Store, met: &[(GoName, GoUndo)])
     requires { AllKnown (names_met met.now) pool.old }
@@ -152,9 +182,8 @@ pub(crate) fn know_child(pool: &mut Pool, change: &Change) -> Result<(), NoMemor
     pool.know(go)
 }
 
-/// Brings the pool to what is ready after a step, whose goroutine was ready; those that it met and started are known. Where the
-/// step reached no further than its goroutine, and that is ready still, the pool stays. It takes no memory.
-pub(crate) fn settle_taken(pool: &mut Pool, store: &Store, step: &Record)
+/// Brings the pool to what is ready after a step, whose goroutine was ready, of that and of those that the step met and started.
+fn settle_further(pool: &mut Pool, store: &Store, step: &Record)
     requires own { is_among step.now.id.go pool.old.ready ≡ true }
     requires met { AllKnown (met_by step.now.change) pool.old }
     requires child { AllKnown (option_to_list (begun_by step.now.change)) pool.old }
@@ -166,4 +195,19 @@ pub(crate) fn settle_taken(pool: &mut Pool, store: &Store, step: &Record)
     };
     settle_met(pool, store, beyond.met.as_slice());
     settle_child(pool, store, beyond.begins());
+}
+
+/// Brings the pool to what is ready after a step, whose goroutine was ready; those that it met and started are known. Where the
+/// step reached no further than its goroutine, and that is ready still, the pool stays. It takes no memory.
+pub(crate) fn settle_taken(pool: &mut Pool, store: &Store, step: &Record)
+    requires own { is_among step.now.id.go pool.old.ready ≡ true }
+    requires ready { step.now.change.beyond ≡ None → keeps_status step.now.change.own ≡ true → IsReadyIn (contents_at store.now) step.now.id.go }
+    requires met { AllKnown (met_by step.now.change) pool.old }
+    requires child { AllKnown (option_to_list (begun_by step.now.change)) pool.old }
+    ensures { Settles (step.now.id.go ∷ others_of step.now.change) (contents_at store.now) pool.old pool.new }
+{
+    match &step.change.beyond {
+        None => settle_alone(pool, store, step),
+        Some(_) => settle_further(pool, store, step),
+    }
 }

@@ -20,3 +20,4 @@ mod OneMeaningNext
 mod ReachedWorlds
 mod OneMeaningJournals
 mod GrantLemmas
+mod PlainLemmas

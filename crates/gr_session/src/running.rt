@@ -2,6 +2,7 @@
 
 ghost use Rattle.std.specs.Prelude.{◌≡◌, ◌≤◌, IfOk, IfErr, OnOk};
 ghost use Rattle.gr_program.specs.Programs.{Program};
+ghost use Rattle.gr_base.specs.declared.events.Choice.TheVariants as choices;
 ghost use Rattle.gr_rules.specs.Tells.{usual_choice};
 ghost use Rattle.gr_command.specs.Replies.{said_of};
 ghost use Rattle.gr_command.specs.declared.command.Command.TheVariants as commands;
@@ -14,10 +15,10 @@ ghost use Rattle.gr_session.specs.Carried.{LeadsTo};
 use crate::breakpoints::breakpoint_at;
 use crate::debuggee::Debuggee;
 use crate::journal::Memory;
-use gr_base::{Event, GoName, NoMemory};
+use gr_base::{Choice, Event, GoName, NoMemory};
 use gr_command::{Reply, RunEnd};
 use gr_rollback::LOG_LIMIT;
-use gr_step::{Run, Store};
+use gr_step::{Run, StepRefused, Store};
 use std::alloc::Global;
 
 // The goroutine whose turn it is, or else why no more steps are taken: the first reason that holds, in the order of `RunEnd`.
@@ -61,8 +62,14 @@ fn usual_event(alloc: Global, store: &Store, go: &GoName) -> Result<Event, NoMem
     Ok(Event { go, choice })
 }
 
-// Takes the next step by turns, where so many are wanted and so many were taken. Refused, nothing has changed.
-fn take_turn(alloc: Global, debuggee: &mut Debuggee, wanted: u64, taken: u64) -> Result<(), RunEnd>
+// Takes the next step by turns with its usual choice, where so many are wanted and so many were taken. Refused, nothing has
+// changed.
+fn take_choice(
+    alloc: Global,
+    debuggee: &mut Debuggee,
+    wanted: u64,
+    taken: u64,
+) -> Result<(), RunEnd>
     requires { IsDebuggee debuggee.old }
     ensures more { OnOk result (¬ (taken ≡ wanted)) }
     ensures turns { (p : Program) → (w : World p) → Stands p w debuggee.old → Turns p w wanted taken result debuggee.new }
@@ -76,6 +83,38 @@ fn take_turn(alloc: Global, debuggee: &mut Debuggee, wanted: u64, taken: u64) ->
         Ok(()) => Ok(()),
         Err(_) => Err(RunEnd::Memory),
     }
+}
+
+// The step of a goroutine that has no choice.
+fn plain_event(alloc: Global, go: &GoName) -> Result<Event, NoMemory>
+    ensures { IfOk result (λ event. event ≡ record { go = go.now; choice = choices.Plain }) }
+{
+    let go = go.copy(alloc)?;
+    Ok(Event {
+        go,
+        choice: Choice::Plain,
+    })
+}
+
+// Takes the next step by turns, where so many are wanted and so many were taken. Refused, nothing has changed. Most steps leave
+// no choice, so the usual one is found only where a plain step is refused for it.
+fn take_turn(alloc: Global, debuggee: &mut Debuggee, wanted: u64, taken: u64) -> Result<(), RunEnd>
+    requires { IsDebuggee debuggee.old }
+    ensures more { OnOk result (¬ (taken ≡ wanted)) }
+    ensures turns { (p : Program) → (w : World p) → Stands p w debuggee.old → Turns p w wanted taken result debuggee.new }
+    ensures listing { SameListing (store_in debuggee.old) (store_in debuggee.new) }
+{
+    let go = next_turn(debuggee, wanted, taken)?;
+    let Ok(event) = plain_event(alloc, go) else {
+        return Err(RunEnd::Memory);
+    };
+    let Err(why) = debuggee.machine.step(event) else {
+        return Ok(());
+    };
+    if let StepRefused::NoChoice = why {
+        return take_choice(alloc, debuggee, wanted, taken);
+    }
+    Err(RunEnd::Memory)
 }
 
 /// That so many steps were taken, and why no more.

@@ -8,10 +8,10 @@ use Rattle.gr_step.specs.Stores.{program_at, contents_at}
 use Rattle.gr_kept.proofs.RecordLemmas.{no_object_twice}
 use Rattle.gr_depend.specs.Logs.{records_of}
 use Rattle.gr_rollback.specs.declared.course.Course.{Course}
-use Rattle.gr_rollback.specs.Readiness.{AllKnown, Settles, met_by, others_of}
+use Rattle.gr_rollback.specs.Readiness.{AllKnown, IsReadyIn, Settles, keeps_status, met_by, others_of}
 use Rattle.gr_rollback.specs.Steps.{Keeps}
 use Rattle.gr_rollback.proofs.Basics.{last_same, no_item, not_nothing}
-use Rattle.gr_rollback.proofs.CourseLemmas.{can_count, stays, keeps, own_in_pool, met_in_pool, follows, logged, tells}
+use Rattle.gr_rollback.proofs.CourseLemmas.{can_count, stays, keeps, own_stays_ready, own_in_pool, met_in_pool, follows, logged, tells}
 use Rattle.gr_rollback.proofs.StepLemmas.{is_no_step, record_is_allowed}
 use Rattle.gr_rollback.proofs.course.Course.keep.Goals as goal
 
@@ -61,6 +61,15 @@ settle_taken-requires-clause-own c =
     let last = last_same (records_of c.enter-entered.new.log) (records_of c.args.self.now.log) r c.in-Some.last.now c.in_default.ensures.ok c.in-Some.ensures in
     let own = (own_in_pool _ c.requires.past c.args.self.now c.requires.holds r (contents_at c.step.new.self) c.in_ok-step.ensures.step).1 in
     subst (λ (q : Record). is_among q.id.go c.enter-entered.new.pool.ready ≡ true) (sym last) (ap (is_among r.id.go) c.in_default.ensures.ready ∙ own)
+
+pub settle_taken-requires-clause-ready : goal.settle_taken-requires-clause-ready
+settle_taken-requires-clause-ready c =
+    let p = program_at c.args.self.now.store in
+    let r = c.in_ok-step.step in
+    let after = contents_at c.step.new.self in
+    let last = last_same (records_of c.enter-entered.new.log) (records_of c.args.self.now.log) r c.in-Some.last.now c.in_default.ensures.ok c.in-Some.ensures in
+    subst (λ (q : Record). q.change.beyond ≡ None → keeps_status q.change.own ≡ true → IsReadyIn after q.id.go) (sym last)
+    (own_stays_ready p (contents_at c.args.self.now.store) after r c.in_ok-step.ensures.step)
 
 pub settle_taken-requires-clause-met : goal.settle_taken-requires-clause-met
 settle_taken-requires-clause-met c =
