@@ -1,7 +1,7 @@
 //! From a text to its tokens.
 ghost use Rattle.std.specs.Prelude.{◌≡◌, ◌+◌, ◌-◌, ◌<◌, ◌≤◌, ◌^◌, ◌↔◌, ℕ, List, [], ◌∷◌, ◌++◌, length, OnOk, IfOk, IfErr};
 ghost use Rattle.gr_scan.specs.Marks.{keywords, mark_in};
-ghost use Rattle.gr_scan.specs.Tokens.{Tok, At, token_of, tokens_of};
+ghost use Rattle.gr_scan.specs.Tokens.{Tok, At, place_of_span, token_of, tokens_of};
 ghost use Rattle.gr_scan.specs.Scan.{IsScan, HasNoTokens, items_of, keyword_or_name, line_after, mark_size, semicolon, word_ends};
 ghost use Rattle.gr_scan.specs.Scan as spec;
 ghost use Rattle.gr_scan.specs.Pieces.{Spells};
@@ -12,7 +12,7 @@ ghost use Rattle.gr_scan.specs.declared.scan.ScanError.TheVariants.{Memory, TooL
 use crate::marks::keyword;
 use crate::piece::{Piece, longest_piece};
 use crate::position::newlines;
-use crate::token::{Kind, Mark, Place, Token};
+use crate::token::{Kind, Mark, Span, Token};
 use crate::{number, quoted};
 use std::alloc::{AllocError, Global};
 
@@ -83,24 +83,24 @@ fn ends_line(mark: Mark) -> bool
 }
 
 #[tactic(auto, using(crate::proofs::Goes::tokens_of_push))]
-fn push(tokens: &mut Vec<Token>, kind: Kind, place: Place) -> Result<(), AllocError>
-    ensures { OnOk result (tokens_of tokens.new.items ≡ tokens_of tokens.old.items ++ (token_of (record { kind = kind; place = place }) ∷ [])) }
+fn push(tokens: &mut Vec<Token>, kind: Kind, span: Span) -> Result<(), AllocError>
+    ensures { OnOk result (tokens_of tokens.new.items ≡ tokens_of tokens.old.items ++ (token_of (record { kind = kind; span = span }) ∷ [])) }
 {
-    tokens.push(Token { kind, place })?;
+    tokens.push(Token { kind, span })?;
     Ok(())
 }
 
 // Puts the semicolon at the end of a line that wants one.
-fn end_line(tokens: &mut Vec<Token>, wanted: bool, at: usize, line: usize) -> Result<(), AllocError>
+fn end_line(tokens: &mut Vec<Token>, wanted: bool, at: u32, line: u32) -> Result<(), AllocError>
     ensures { OnOk result (tokens_of tokens.new.items ≡ tokens_of tokens.old.items ++ semicolon wanted at line) }
 {
     if wanted {
-        let place = Place {
+        let span = Span {
             start: at,
             end: at,
             line,
         };
-        push(tokens, Kind::Mark(Mark::Semicolon), place)?;
+        push(tokens, Kind::Mark(Mark::Semicolon), span)?;
     }
     Ok(())
 }
@@ -111,16 +111,16 @@ fn put_word(
     alloc: Global,
     tokens: &mut Vec<Token>,
     bytes: &[u8],
-    place: Place,
+    span: Span,
 ) -> Result<bool, AllocError>
-    ensures added { OnOk result (tokens_of tokens.new.items ≡ tokens_of tokens.old.items ++ (At place (keyword_or_name (mark_in keywords bytes.now) bytes.now) ∷ [])) }
+    ensures added { OnOk result (tokens_of tokens.new.items ≡ tokens_of tokens.old.items ++ (At (place_of_span span) (keyword_or_name (mark_in keywords bytes.now) bytes.now) ∷ [])) }
     ensures ends { IfOk result (λ wanted. wanted ≡ word_ends (keyword_or_name (mark_in keywords bytes.now) bytes.now)) }
 {
     if let Some(mark) = keyword(bytes) {
-        push(tokens, Kind::Mark(mark), place)?;
+        push(tokens, Kind::Mark(mark), span)?;
         return Ok(ends_line(mark));
     }
-    push(tokens, Kind::Name(bytes.to_vec(alloc)?), place)?;
+    push(tokens, Kind::Name(bytes.to_vec(alloc)?), span)?;
     Ok(true)
 }
 
@@ -131,37 +131,37 @@ fn put(
     wanted: bool,
     piece: Piece,
     bytes: &[u8],
-    place: Place,
+    span: Span,
 ) -> Result<bool, ScanError>
     requires spelled { Spells piece bytes.now }
-    requires place { place.end ≡ place.start + length bytes.now }
-    ensures added { Puts result wanted (items_of piece bytes.now place.start place.line) (tokens_of tokens.old.items) (tokens_of tokens.new.items) }
-    ensures fault { IfErr result (λ e. Finds e (piece_fault place.start piece bytes.now)) }
+    requires place { span.end ≡ span.start + length bytes.now }
+    ensures added { Puts result wanted (items_of piece bytes.now span.start span.line) (tokens_of tokens.old.items) (tokens_of tokens.new.items) }
+    ensures fault { IfErr result (λ e. Finds e (piece_fault span.start piece bytes.now)) }
 {
     match piece {
         Piece::Space | Piece::Comment => Ok(wanted),
         Piece::GeneralComment if newlines(bytes) == 0 => Ok(wanted),
         Piece::GeneralComment | Piece::Newline => {
-            end_line(tokens, wanted, place.start, place.line)?;
+            end_line(tokens, wanted, span.start, span.line)?;
             Ok(false)
         }
-        Piece::OpenComment => Err(ScanError::Unclosed(place.start)),
-        Piece::Word => Ok(put_word(alloc, tokens, bytes, place)?),
+        Piece::OpenComment => Err(ScanError::Unclosed(span.start as usize)),
+        Piece::Word => Ok(put_word(alloc, tokens, bytes, span)?),
         Piece::Number => {
             push(
                 tokens,
-                Kind::Number(number::read(bytes, place.start)?),
-                place,
+                Kind::Number(number::read(bytes, span.start as usize)?),
+                span,
             )?;
             Ok(true)
         }
         Piece::Operator(mark) => {
-            push(tokens, Kind::Mark(mark), place)?;
+            push(tokens, Kind::Mark(mark), span)?;
             Ok(ends_line(mark))
         }
-        Piece::Fraction => Err(ScanError::LeftOut(place.start)),
+        Piece::Fraction => Err(ScanError::LeftOut(span.start as usize)),
         Piece::Text => {
-            push(tokens, Kind::Text(quoted::value(alloc, bytes)?), place)?;
+            push(tokens, Kind::Text(quoted::value(alloc, bytes)?), span)?;
             Ok(true)
         }
     }
@@ -213,13 +213,17 @@ pub fn scan(alloc: Global, text: &[u8]) -> Result<Vec<Token>, ScanError>
         let (piece, size) = longest_piece(rest, start)?;
         let (bytes, after) = rest.split_at(size);
         let end = start + size;
-        let place = Place { start, end, line };
-        wanted = put(alloc, &mut tokens, wanted, piece, bytes, place)?;
+        let span = Span {
+            start: start as u32,
+            end: end as u32,
+            line: line as u32,
+        };
+        wanted = put(alloc, &mut tokens, wanted, piece, bytes, span)?;
         line = next_line(piece, bytes, line);
         start = end;
         rest = after;
     }
-    end_line(&mut tokens, wanted, start, line)?;
+    end_line(&mut tokens, wanted, start as u32, line as u32)?;
     Ok(tokens)
 }
 

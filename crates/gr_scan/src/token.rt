@@ -1,4 +1,6 @@
 //! Tokens: names, numbers, strings, keywords, operators and punctuation.
+ghost use Rattle.std.specs.Prelude.{◌≡◌};
+ghost use Rattle.gr_scan.specs.Tokens.{place_of_span};
 
 /// A keyword, an operator or a punctuation mark (Go: Keywords, Operators and punctuation).
 #[derive(Clone, Copy, Debug, PartialEq, Eq)]
@@ -100,9 +102,33 @@ pub struct Place {
     pub line: usize,
 }
 
+/// The place of a token in small numbers, as the token keeps it: no text is too long for them, and there are many tokens.
+#[derive(Clone, Copy, Debug, PartialEq, Eq)]
+pub struct Span {
+    /// The number of bytes before the token.
+    pub start: u32,
+    /// The number of bytes up to its end; an inserted semicolon ends where it starts.
+    pub end: u32,
+    /// The line on which it starts; the first is 1.
+    pub line: u32,
+}
+
 /// A token of a text.
 #[derive(Debug, Drop)]
 pub struct Token {
     pub kind: Kind,
-    pub place: Place,
+    pub span: Span,
+}
+
+impl Token {
+    /// Where it stands.
+    pub fn place(&self) -> Place
+        ensures { result ≡ place_of_span self.now.span }
+    {
+        Place {
+            start: self.span.start as usize,
+            end: self.span.end as usize,
+            line: self.span.line as usize,
+        }
+    }
 }

@@ -37,7 +37,7 @@ fn token_position(text: &[u8], tokens: &[Token], index: usize) -> Position
     ensures { result ≡ spec.token_position text.now (tokens_of tokens.now) index }
 {
     match tokens.get(index) {
-        Some(token) => Position::of(text, token.place.start),
+        Some(token) => Position::of(text, token.place().start),
         None => Position::of(text, text.len()),
     }
 }

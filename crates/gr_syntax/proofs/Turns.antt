@@ -1,6 +1,6 @@
 -- What the turns of the loops give, and what the code needs of the functions on lists.
 use Rattle.std.proofs.Common.{◌≡◌, ℕ, suc, ◌+◌, ◌<◌, ◌≤◌, max, Bool, true, false, List, [], ◌∷◌, ◌++◌, length, refl, ap, ◌∙◌, arith, lt-ltb, le-ltb, Global}
-use Rattle.std.specs.Prelude.{Option, Some, None, Result, Ok, Err, Vec, not}
+use Rattle.std.specs.Prelude.{Option, Some, None, Result, Ok, Err, Vec, Box, not}
 use Rattle.std.specs.Option.{is_some}
 use Rattle.std.specs.Borrow.{Bor}
 use Rattle.gr_scan.specs.declared.token.Token.{Token}
@@ -96,8 +96,8 @@ row_list : {n : _} (k : Row_of-Expr n) → row_trees k ≡ trees_of (items-the_r
 row_list end_of-Expr = refl
 row_list (more_of-Expr e k) = ap (more (tree_of e)) (row_list k)
 
-pub call_is : (x : Vec ℕ Global) (v : Vec Expr Global) → tree_of (exprs.Call x v) ≡ Call x.items (trees_of v.items)
-call_is x v = ap (Call x.items) (row_list (hidden-the_row-Expr-0 v) ∙ ap trees_of (items_hidden-the_row-Expr-0 v))
+pub call_is : (x : Box (Vec ℕ Global) Global) (v : Vec Expr Global) → tree_of (exprs.Call x v) ≡ Call x.value.items (trees_of v.items)
+call_is x v = ap (Call x.value.items) (row_list (hidden-the_row-Expr-0 v) ∙ ap trees_of (items_hidden-the_row-Expr-0 v))
 
 pub named_call : (types : List Tok → Reads WrittenType) (rec : ℕ → List Tok → Reads Tree) (x : List ℕ) (ts rest : List Tok) (es : Found Trees) → after_mark marks.LeftParen ts ≡ Some rest → is_make x ≡ false → arguments_at rec rest ≡ Ok es → named_at types rec x ts ≡ Ok (Call x es.0, es.1 + 1, es.2)
 unfolding named_at call_at

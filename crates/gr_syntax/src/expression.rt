@@ -8,7 +8,8 @@ ghost use Rattle.gr_syntax.specs.Reading.{joined, size_at, ends_at, exprs_at, ar
 ghost use Rattle.gr_syntax.specs.Views.{Gives, Finds, found_of, AtMost, Shorter, NoLonger};
 
 use crate::look::{
-    Fault, Found, abandon, after, binary, boxed, copy, is_the_make, needed, next, unary,
+    Fault, Found, abandon, after, binary, boxed, boxed_copy, copy, fitted, is_the_make, needed,
+    next, unary,
 };
 use crate::types::type_tree;
 use gr_scan::token::{Kind, Mark, Token};
@@ -99,11 +100,14 @@ fn sized<'a>(
         Err(fault) => return abandon((made, size), fault),
     };
     let height = made.height.max(size.height) + 1;
+    let Ok(type_tree) = boxed(alloc, made.value) else {
+        return abandon(size, Fault::Memory);
+    };
     let Ok(size) = boxed(alloc, size.value) else {
-        return abandon(made, Fault::Memory);
+        return abandon(type_tree, Fault::Memory);
     };
     Ok(Found {
-        value: Expr::MakeSized(made.value, size),
+        value: Expr::MakeSized(type_tree, size),
         height,
         rest,
     })
@@ -166,7 +170,7 @@ fn named<'a>(
     }
     let passed = arguments(alloc, below, rest)?;
     Ok(Found {
-        value: Expr::Call(copy(name)?, passed.value),
+        value: Expr::Call(boxed_copy(alloc, name)?, passed.value),
         height: passed.height + 1,
         rest: passed.rest,
     })
@@ -339,7 +343,7 @@ pub(crate) fn exprs(
         rest = next.rest;
         let Some(more) = after(Mark::Comma, rest) else {
             return Ok(Found {
-                value,
+                value: fitted(value),
                 height,
                 rest,
             });
@@ -347,7 +351,7 @@ pub(crate) fn exprs(
         rest = more;
         if ends(trailing, rest) {
             return Ok(Found {
-                value,
+                value: fitted(value),
                 height,
                 rest,
             });

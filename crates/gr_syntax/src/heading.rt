@@ -10,7 +10,7 @@ ghost use Rattle.gr_syntax.specs.Views.{Gives, Finds, Continues, AtMost};
 ghost use Rattle.gr_syntax.specs.StatementViews.{SeesRange};
 
 use crate::expression::expr;
-use crate::look::{Fault, Found, abandon, after, needed, next};
+use crate::look::{Fault, Found, abandon, after, boxed, needed, next};
 use crate::simple::simple;
 use gr_scan::token::{Mark, Place, Token};
 use gr_tree::{Expr, ForHead, Header, IfHead, RangeTarget};
@@ -24,7 +24,7 @@ pub(crate) fn place(tokens: &[Token]) -> Result<Place, Fault>
     let Some((token, _)) = next(tokens) else {
         return Err(Fault::Wrong { left: 0 });
     };
-    Ok(token.place)
+    Ok(token.place())
 }
 
 /// A simple statement in a heading, which begins with this expression at this place.
@@ -35,18 +35,19 @@ fn heading<'a>(
     may_define: bool,
     place: Place,
     first: Found<'a, Expr>,
-) -> Result<Found<'a, Header>, Fault>
+) -> Result<Found<'a, Box<Header>>, Fault>
     requires limit { limit < 2 ^ 30 }
     requires fits { first.height ≤ limit }
     ensures gives { Continues heading_of first.entry result (heading_after limit may_define place) }
     ensures fits { AtMost limit result }
 {
     let found = simple(alloc, limit, may_define, first)?;
+    let header = Header {
+        place,
+        simple: found.value,
+    };
     Ok(Found {
-        value: Header {
-            place,
-            simple: found.value,
-        },
+        value: boxed(alloc, header)?,
         height: found.height,
         rest: found.rest,
     })
@@ -57,7 +58,7 @@ fn heading<'a>(
 fn condition_of_if<'a>(
     alloc: Global,
     limit: u32,
-    init: Option<Header>,
+    init: Option<Box<Header>>,
     height: u32,
     tokens: &'a [Token],
 ) -> Result<Found<'a, IfHead>, Fault>
@@ -178,7 +179,11 @@ fn condition_of_for(
 
 /// The third part of a for, if it has one.
 #[tactic(auto, unfolding(crate::specs::StatementReading::post_at))]
-fn post(alloc: Global, limit: u32, tokens: &[Token]) -> Result<Found<'_, Option<Header>>, Fault>
+fn post(
+    alloc: Global,
+    limit: u32,
+    tokens: &[Token],
+) -> Result<Found<'_, Option<Box<Header>>>, Fault>
     requires { limit < 2 ^ 30 }
     ensures gives { Finds (optional heading_of) tokens.now result (post_at limit) }
     ensures fits { AtMost limit result }
@@ -205,7 +210,7 @@ fn post(alloc: Global, limit: u32, tokens: &[Token]) -> Result<Found<'_, Option<
 fn parts<'a>(
     alloc: Global,
     limit: u32,
-    init: Option<Header>,
+    init: Option<Box<Header>>,
     height: u32,
     tokens: &'a [Token],
 ) -> Result<Found<'a, ForHead>, Fault>

@@ -70,6 +70,14 @@ pub(crate) fn push<T: Drop>(values: &mut Vec<T>, value: T) -> Result<(), AllocEr
     Ok(())
 }
 
+/// These values, without spare room after them.
+pub(crate) fn fitted<T: Drop>(mut values: Vec<T>) -> Vec<T>
+    ensures { result.items ≡ values.items }
+{
+    values.shrink_to_fit();
+    values
+}
+
 /// The first token, and the others.
 pub(crate) fn next(tokens: &[Token]) -> Option<(&Token, &[Token])>
     ensures value { Splits result (tokens_of tokens.now) }
@@ -181,7 +189,7 @@ pub(crate) fn needed(mark: Mark, tokens: &[Token]) -> Result<(Place, &[Token]), 
     let Some(rest) = after(mark, tokens) else {
         return Err(Fault::Wrong { left: tokens.len() });
     };
-    Ok((token.place, rest))
+    Ok((token.place(), rest))
 }
 
 /// The name that comes first, and the tokens after it.
@@ -207,6 +215,13 @@ pub(crate) fn copy(bytes: &Vec<u8>) -> Result<Vec<u8>, AllocError>
     ensures { IfOk result (λ v. v.items ≡ bytes.now.items) }
 {
     bytes.clone()
+}
+
+/// A list of its own with these bytes, on the heap.
+pub(crate) fn boxed_copy(alloc: Global, bytes: &Vec<u8>) -> Result<Box<Vec<u8>>, AllocError>
+    ensures { IfOk result (λ b. b.value.items ≡ bytes.now.items) }
+{
+    boxed(alloc, copy(bytes)?)
 }
 
 /// Whether this is the name `make`, which takes a type.

@@ -8,7 +8,7 @@ ghost use Rattle.gr_syntax.specs.SimpleReading.{up_to, define_at, values_at, nam
 ghost use Rattle.gr_syntax.specs.Views.{Finds, Continues, AtMost, Shorter, NoLonger, Sees};
 
 use crate::expression::{expr, exprs};
-use crate::look::{Fault, Found, abandon, after, names, needed};
+use crate::look::{Fault, Found, abandon, after, fitted, names, needed};
 use crate::opening::{Joint, first_joint};
 use gr_scan::token::{Mark, Token};
 use gr_tree::{BinaryOp, Expr, Simple};
@@ -47,7 +47,7 @@ fn values<'a>(
             return Err(Fault::TooHigh { left: rest.len() });
         }
         return Ok(Found {
-            value: Simple::Define(names, values.value),
+            value: Simple::Define(fitted(names), values.value),
             height: values.height + 1,
             rest: values.rest,
         });
@@ -58,7 +58,7 @@ fn values<'a>(
         return Err(Fault::TooHigh { left: rest.len() });
     }
     Ok(Found {
-        value: Simple::Assign(names, values.value),
+        value: Simple::Assign(fitted(names), values.value),
         height: values.height + 1,
         rest: values.rest,
     })

@@ -16,7 +16,7 @@ use crate::assembly::{
 use crate::communication::communication;
 use crate::expression::expr;
 use crate::heading::{for_head, if_head, place};
-use crate::look::{Fault, Found, abandon, after, boxed, needed, push};
+use crate::look::{Fault, Found, abandon, after, boxed, fitted, needed, push};
 use crate::opening::{Keyword, ends, first_keyword, past_semicolon, stops};
 use gr_scan::token::{Mark, Place, Token};
 use gr_tree::{Clause, Expr, IfHead, Stmt};
@@ -137,7 +137,7 @@ fn list(alloc: Global, limit: u32, tokens: &[Token]) -> Result<Found<'_, Vec<Stm
         rest = past_semicolon(next.rest)?;
     }
     Ok(Found {
-        value,
+        value: fitted(value),
         height,
         rest,
     })

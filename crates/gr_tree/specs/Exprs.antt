@@ -73,9 +73,9 @@ abbrev mutual
   tree_of (exprs.Name name) = Name name.items
   tree_of exprs.Unit = UnitValue
   tree_of (exprs.Paren' p inner) = Paren (tree_of inner)
-  tree_of (exprs.Call' function shape all) = Call function.items (row_trees all)
+  tree_of (exprs.Call' function shape all) = Call function.value.items (row_trees all)
   tree_of (exprs.Make type) = Make (type_of type)
-  tree_of (exprs.MakeSized' type p size) = MakeSized (type_of type) (tree_of size)
+  tree_of (exprs.MakeSized' type p size) = MakeSized (type_of type.value) (tree_of size)
   tree_of (exprs.Unary' op p operand) = Unary op (tree_of operand)
   tree_of (exprs.Binary' op p left q right) = Binary op (tree_of left) (tree_of right)
 

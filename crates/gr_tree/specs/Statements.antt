@@ -1,5 +1,5 @@
 -- Statements, without where they lie in memory.
-use Rattle.std.specs.Prelude.{ℕ, ◌+◌, max, List, [], ◌∷◌, Vec, Option, Some, None}
+use Rattle.std.specs.Prelude.{ℕ, ◌+◌, max, List, [], ◌∷◌, Vec, Box, Option, Some, None}
 use Rattle.std.proofs.Common.{Global}
 use Rattle.gr_scan.specs.declared.token.Place.{Place}
 use Rattle.gr_tree.specs.declared.expr.BinaryOp.{BinaryOp}
@@ -177,8 +177,8 @@ act_of (actions.Return value) = Return (optional tree_of value)
 act_of (actions.Break label) = Break (optional name_of label)
 act_of (actions.Continue label) = Continue (optional name_of label)
 
-abbrev pub heading_of : Header → Heading
-heading_of h = Heads h.place (simple_of h.simple)
+abbrev pub heading_of : Box Header Global → Heading
+heading_of h = Heads h.value.place (simple_of h.value.simple)
 
 abbrev pub if_of : code_if.IfHead → IfHead
 if_of head = Test (optional heading_of head.init) (tree_of head.condition)

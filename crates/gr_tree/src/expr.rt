@@ -61,7 +61,8 @@ pub enum TypeTree {
     Paren(Box<TypeTree>),
 }
 
-/// An expression. Parentheses stay in the tree, since they count for its height.
+/// An expression. Parentheses stay in the tree, since they count for its height. What a call names, and the type of a make with a
+/// size, lie on the heap, so that other expressions take no room for them.
 #[derive(Debug, Drop)]
 pub enum Expr {
     /// A whole number, at most 2^63.
@@ -73,11 +74,11 @@ pub enum Expr {
     Unit,
     Paren(Box<Expr>),
     /// `f(x, y)`
-    Call(Vec<u8>, Vec<Expr>),
+    Call(Box<Vec<u8>>, Vec<Expr>),
     /// `make(T)`
     Make(TypeTree),
     /// `make(T, n)`
-    MakeSized(TypeTree, Box<Expr>),
+    MakeSized(Box<TypeTree>, Box<Expr>),
     Unary(UnaryOp, Box<Expr>),
     Binary(BinaryOp, Box<Expr>, Box<Expr>),
 }

@@ -39,7 +39,8 @@ pub enum Action {
     Continue(Option<Vec<u8>>),
 }
 
-/// A simple statement in the heading of an if or a for, and where its first token stands.
+/// A simple statement in the heading of an if or a for, and where its first token stands. It lies on the heap, so that other
+/// statements take no room for it.
 #[derive(Debug, Drop)]
 pub struct Header {
     pub place: Place,
@@ -49,7 +50,7 @@ pub struct Header {
 /// What stands between `if` and its block.
 #[derive(Debug, Drop)]
 pub struct IfHead {
-    pub init: Option<Header>,
+    pub init: Option<Box<Header>>,
     pub condition: Expr,
 }
 
@@ -67,7 +68,7 @@ pub enum RangeTarget {
 #[derive(Debug, Drop)]
 pub enum ForHead {
     /// The statement before the loop, the condition, and the statement after each turn.
-    Loop(Option<Header>, Option<Expr>, Option<Header>),
+    Loop(Option<Box<Header>>, Option<Expr>, Option<Box<Header>>),
     /// A loop over the values that a channel gives.
     Range(RangeTarget, Expr),
 }

@@ -1,7 +1,7 @@
 -- The arguments of calls.
 use Rattle.std.proofs.lemmas.Bool.{cases_Bool}
 use Rattle.std.proofs.Common.{◌≡◌, ℕ, ◌+◌, List, [], ◌∷◌, ◌++◌, length, get_or, drop, ◌<◌, ◌≤◌, refl, ap, sym, ◌∙◌, subst, arith, add-one, drop-cons, append-nil, inl, inr, Global}
-use Rattle.std.specs.Prelude.{Option, Some, None, Result, Vec, codes}
+use Rattle.std.specs.Prelude.{Option, Some, None, Result, Vec, Box, codes}
 use Rattle.std.proofs.lemmas.List.{drop_all}
 use Rattle.std.proofs.Math.Path.{fun_ext}
 use Rattle.gr_tree.specs.Exprs as tree
@@ -118,8 +118,8 @@ unfolding value_in
 call_is fs s x es =
     ap (λ a. called fs s x a (only_in fs s es)) (fun_ext (arguments_is fs s es)) ∙ ap (called fs s x (λ ts. values_in fs s es >>= λ vs. given_all vs ts)) (only_is fs s es) ∙ called_is fs s x (values_in fs s es) (variable_named s x) (function_in fs x) refl refl
 
-pub call_view : (fs : List Signature) (s : Scope) (x : Vec ℕ Global) (es : Vec code_expr.Expr Global) → value_in fs s (tree_of (exprs.Call x es)) ≡ (callee_in fs s x.items >>= λ c. values_in fs s (trees_of es.items) >>= called_as fs c)
-call_view fs s x es = ap (value_in fs s) (tree_call x es) ∙ call_is fs s x.items (trees_of es.items)
+pub call_view : (fs : List Signature) (s : Scope) (x : Box (Vec ℕ Global) Global) (es : Vec code_expr.Expr Global) → value_in fs s (tree_of (exprs.Call x es)) ≡ (callee_in fs s x.value.items >>= λ c. values_in fs s (trees_of es.items) >>= called_as fs c)
+call_view fs s x es = ap (value_in fs s) (tree_call x es) ∙ call_is fs s x.value.items (trees_of es.items)
 
 -- arguments of another number than the parameters
 given_other : (vs : List code_operand.Operand) (ps : List code_type.Type) → (length vs ≡ length ps → ⊥) → given_all (meanings_of vs) (types_of ps) ≡ None
@@ -189,15 +189,15 @@ call_named_is fs s x es =
     sym (ap (call_in fs s x) (fun_ext (arguments_is fs s es)) ∙ named_all fs s x es (variable_named s x) (function_in fs x) refl refl)
 
 -- a call in an expression
-call_values : (fs : List Signature) (s : Scope) (e : code_expr.Expr) (x : Vec ℕ Global) (all : Vec code_expr.Expr Global) (y : List ℕ) (c : Callee) (es : List code_expr.Expr) → e ≡ exprs.Call x all → y ≡ x.items → es ≡ all.items → callee_in fs s y ≡ Some c → value_in fs s (tree_of e) ≡ (values_in fs s (trees_of es) >>= called_as fs c)
+call_values : (fs : List Signature) (s : Scope) (e : code_expr.Expr) (x : Box (Vec ℕ Global) Global) (all : Vec code_expr.Expr Global) (y : List ℕ) (c : Callee) (es : List code_expr.Expr) → e ≡ exprs.Call x all → y ≡ x.value.items → es ≡ all.items → callee_in fs s y ≡ Some c → value_in fs s (tree_of e) ≡ (values_in fs s (trees_of es) >>= called_as fs c)
 call_values fs s e x all y c es is same listed found =
     ap (λ e. value_in fs s (tree_of e)) is ∙ call_view fs s x all ∙ ap (λ o. o >>= λ c. values_in fs s (trees_of all.items) >>= called_as fs c) (ap (callee_in fs s) (sym same) ∙ found) ∙ ap (λ l. values_in fs s (trees_of l) >>= called_as fs c) (sym listed)
 
-pub call_rejected : (fs : List Signature) (s : Scope) (e : code_expr.Expr) (x : Vec ℕ Global) (all : Vec code_expr.Expr Global) (y : List ℕ) (c : Callee) (es : List code_expr.Expr) (f : Fault) → e ≡ exprs.Call x all → y ≡ x.items → es ≡ all.items → callee_in fs s y ≡ Some c → Rejects f (values_in fs s (trees_of es)) → Rejects f (value_in fs s (tree_of e))
+pub call_rejected : (fs : List Signature) (s : Scope) (e : code_expr.Expr) (x : Box (Vec ℕ Global) Global) (all : Vec code_expr.Expr Global) (y : List ℕ) (c : Callee) (es : List code_expr.Expr) (f : Fault) → e ≡ exprs.Call x all → y ≡ x.value.items → es ≡ all.items → callee_in fs s y ≡ Some c → Rejects f (values_in fs s (trees_of es)) → Rejects f (value_in fs s (tree_of e))
 call_rejected fs s e x all y c es (faults.Broken code) is same listed found a = call_values fs s e x all y c es is same listed found ∙ ap (λ o. o >>= called_as fs c) a
 call_rejected fs s e x all y c es faults.Memory is same listed found a = tt
 
-pub call_agrees : (fs : List Signature) (s : Scope) (e : code_expr.Expr) (x : Vec ℕ Global) (all : Vec code_expr.Expr Global) (y : List ℕ) (c : Callee) (es : List code_expr.Expr) (vs : List code_operand.Operand) (r : Result code_operand.Operand Fault) → e ≡ exprs.Call x all → y ≡ x.items → es ≡ all.items → callee_in fs s y ≡ Some c → values_in fs s (trees_of es) ≡ Some (meanings_of vs) → Agrees meaning_of r (called_as fs c (meanings_of vs)) → Agrees meaning_of r (value_in fs s (tree_of e))
+pub call_agrees : (fs : List Signature) (s : Scope) (e : code_expr.Expr) (x : Box (Vec ℕ Global) Global) (all : Vec code_expr.Expr Global) (y : List ℕ) (c : Callee) (es : List code_expr.Expr) (vs : List code_operand.Operand) (r : Result code_operand.Operand Fault) → e ≡ exprs.Call x all → y ≡ x.value.items → es ≡ all.items → callee_in fs s y ≡ Some c → values_in fs s (trees_of es) ≡ Some (meanings_of vs) → Agrees meaning_of r (called_as fs c (meanings_of vs)) → Agrees meaning_of r (value_in fs s (tree_of e))
 call_agrees fs s e x all y c es vs r is same listed found a h =
     subst (λ o. Agrees meaning_of r o) (sym (call_values fs s e x all y c es is same listed found ∙ ap (λ o. o >>= called_as fs c) a)) h
 

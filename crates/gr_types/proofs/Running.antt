@@ -1,6 +1,6 @@
 -- Expressions as statements.
 use Rattle.std.proofs.Common.{◌≡◌, ℕ, ◌+◌, List, [], ◌∷◌, ◌++◌, length, get_or, drop, ◌<◌, ◌≤◌, refl, ap, sym, ◌∙◌, append-nil, Global}
-use Rattle.std.specs.Prelude.{Option, Some, None, Vec}
+use Rattle.std.specs.Prelude.{Option, Some, None, Vec, Box}
 use Rattle.std.proofs.lemmas.List.{drop_all}
 use Rattle.gr_tree.specs.Exprs.{tree_of, trees_of}
 use Rattle.gr_tree.specs.declared.expr.Expr as code_expr
@@ -24,7 +24,7 @@ not_only fs s [] other = refl
 not_only fs s (e ∷ []) other = absurd (other refl)
 not_only fs s (e ∷ (f ∷ es)) other = refl
 
-pub runs_call : (fs : List Signature) (s : Scope) (x : Vec ℕ Global) (es : Vec code_expr.Expr Global) → runs_in fs s (tree_of (exprs.Call x es)) ≡ run_call fs s x.items (trees_of es.items)
+pub runs_call : (fs : List Signature) (s : Scope) (x : Box (Vec ℕ Global) Global) (es : Vec code_expr.Expr Global) → runs_in fs s (tree_of (exprs.Call x es)) ≡ run_call fs s x.value.items (trees_of es.items)
 unfolding runs_in
 runs_call fs s x es = ap (runs_in fs s) (tree_call x es)
 

@@ -48,7 +48,7 @@ pub fn all_targets(
 ) -> Result<Vec<Option<usize>>, Fault>
     ensures { Agrees (λ ks. ks.items) result (pure.targets (scope_of scope.now) (names_of names.now)) }
 {
-    let mut targets = Vec::new(alloc);
+    let mut targets = Vec::with_capacity(alloc, names.len())?;
     for name in names {
         let target = target(functions, scope, name)?;
         targets.push(target)?;
@@ -142,7 +142,7 @@ fn fits(
 ) -> Result<Vec<checked::Expr>, Fault>
     ensures { Agrees (λ v. exprs_of v.items) result (pure.fits (scope_of scope.now) targets.now (meanings_of values.items)) }
 {
-    let mut terms = Vec::new(alloc);
+    let mut terms = Vec::with_capacity(alloc, targets.len())?;
     for target in targets {
         let Some(value) = values.pop_front() else {
             return Err(Fault::Broken(Code::WrongCount));

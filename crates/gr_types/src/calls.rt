@@ -115,7 +115,7 @@ fn given_all(
 ) -> Result<Vec<checked::Expr>, Fault>
     ensures { Agrees (λ v. exprs_of v.items) result (calling.given_all (meanings_of values.items) (types_of parameters.now)) }
 {
-    let mut terms = Vec::new(alloc);
+    let mut terms = Vec::with_capacity(alloc, parameters.len())?;
     for parameter in parameters {
         let Some(value) = values.pop_front() else {
             return Err(Fault::Broken(Code::WrongCount));

@@ -65,7 +65,7 @@ pub fn settle_all(
     requires { pure.may_settle_all (names_of names.now) (takers_of takers.items) (scope_of scope.old) ≡ true }
     ensures { IfOk result (λ ks. (ks.items, scope_of scope.new) ≡ pure.all_settled (names_of names.now) (takers_of takers.items) (scope_of scope.old)) }
 {
-    let mut targets = Vec::new(alloc);
+    let mut targets = Vec::with_capacity(alloc, names.len())?;
     for name in names {
         let Some(taker) = takers.pop_front() else {
             return Ok(targets);
@@ -217,7 +217,7 @@ fn shares(
     ensures { Agrees shares_of result (pure.shares (scope_of scope.now) (names_of names.now) (meanings_of values.items)) }
 {
     let mut takers = VecDeque::new(alloc);
-    let mut terms = Vec::new(alloc);
+    let mut terms = Vec::with_capacity(alloc, names.len())?;
     for name in names {
         let Some(value) = values.pop_front() else {
             return Err(Fault::Broken(Code::WrongCount));

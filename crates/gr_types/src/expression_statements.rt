@@ -89,7 +89,7 @@ fn print_all(
 ) -> Result<Vec<Printed>, Fault>
     ensures { Agrees (λ v. prints_of v.items) result (spec.printed_in (functions_of functions.now) (scope_of scope.now) (trees_of arguments.now)) }
 {
-    let mut printed = Vec::new(alloc);
+    let mut printed = Vec::with_capacity(alloc, arguments.len())?;
     for argument in arguments {
         let one = print_one(alloc, functions, scope, argument)?;
         printed.push(one)?;

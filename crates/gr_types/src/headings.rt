@@ -68,7 +68,7 @@ fn opening(
     alloc: Global,
     functions: &Functions,
     scope: &mut Scope,
-    header: &Option<Header>,
+    header: &Option<Box<Header>>,
 ) -> Result<Option<Opening>, CheckError>
     ensures { Settles (λ o. (optional opening_of o, scope_of scope.new)) result (spec.opening_in (functions_of functions.now) (scope_of scope.old) (optional heading_of header.now)) }
 {
@@ -86,7 +86,7 @@ fn post_statement(
     alloc: Global,
     functions: &Functions,
     scope: &mut Scope,
-    header: &Option<Header>,
+    header: &Option<Box<Header>>,
 ) -> Result<Option<Opening>, CheckError>
     ensures { Settles (λ o. (optional opening_of o, scope_of scope.new)) result (spec.post_in (functions_of functions.now) (scope_of scope.old) (optional heading_of header.now)) }
 {
@@ -167,9 +167,9 @@ pub fn loop_parts(
     functions: &Functions,
     scope: &mut Scope,
     place: Place,
-    init: &Option<Header>,
+    init: &Option<Box<Header>>,
     condition: &Option<Expr>,
-    post: &Option<Header>,
+    post: &Option<Box<Header>>,
 ) -> Result<LoopParts, CheckError>
     ensures { Settles (λ p. (loop_parts_of p, scope_of scope.new)) result (spec.for_parts (functions_of functions.now) (scope_of scope.old) (optional heading_of init.now) (optional tree_of condition.now) (optional heading_of post.now)) }
 {

@@ -60,7 +60,7 @@ pub fn body(
 ) -> Result<Vec<checked::Stmt>, CheckError>
     ensures { Settles (λ v. (stmts_of v.items, scope_of scope.new)) result (spec.body_in (context_of context.now) (scope_of scope.old) (statements_of stmts.now)) }
 {
-    let mut steps = Vec::new(alloc);
+    let mut steps = Vec::with_capacity(alloc, stmts.len())?;
     for stmt in stmts {
         let Some(step) = statement(alloc, context, scope, None, stmt)? else {
             continue;
@@ -300,7 +300,7 @@ fn cases(
 ) -> Result<Vec<Case>, CheckError>
     ensures { Settles (λ v. (cases_of v.items, scope_of scope.new)) result (spec.clauses_in (context_of context.now) (scope_of scope.old) (clauses_of clauses.now)) }
 {
-    let mut cases = Vec::new(alloc);
+    let mut cases = Vec::with_capacity(alloc, clauses.len())?;
     for clause in clauses {
         let case = case(alloc, context, scope, place, clause)?;
         cases.push(case)?;

@@ -20,7 +20,7 @@ fn cuts_a_text(rt: HostRuntime) -> Result<(), Fail> {
     assert_eq!(rt; tokens.len(), places.len());
     for (token, (start, end, line)) in tokens.iter().zip(places) {
         assert_eq!(rt;
-            (token.place.start, token.place.end, token.place.line),
+            (token.place().start, token.place().end, token.place().line),
             (start, end, line)
         );
     }
@@ -42,8 +42,8 @@ fn reads_literals(rt: HostRuntime) -> Result<(), Fail> {
         assert!(rt; matches!(token.kind, Kind::Number(n) if n == number));
     }
     assert!(rt; matches!(tokens[5].kind, Kind::Mark(Mark::Semicolon)));
-    assert_eq!(rt; (tokens[5].place.start, tokens[5].place.line), (26, 1));
-    assert_eq!(rt; tokens[6].place.line, 3);
+    assert_eq!(rt; (tokens[5].place().start, tokens[5].place().line), (26, 1));
+    assert_eq!(rt; tokens[6].place().line, 3);
     assert!(rt;
         matches!(&tokens[6].kind, Kind::Text(bytes) if bytes.as_slice() == b"a\t\"\\\xff".as_slice())
     );

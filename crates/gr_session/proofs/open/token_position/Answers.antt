@@ -1,7 +1,9 @@
 use Rattle.std.proofs.Common.{◌≡◌, ◌∙◌, ◌≤◌, ℕ, List, true, Some, None, length, ltb, get_or, refl, ap, sym, arith, ltb-true, ltb-false}
 use Rattle.std.specs.Prelude.{slice_get, option_map}
 use Rattle.std.proofs.lemmas.Option.{slice_get_read, slice_get_past}
+use Rattle.gr_scan.specs.declared.token.Place.{Place}
 use Rattle.gr_scan.specs.declared.token.Token.{Token}
+use Rattle.gr_scan.specs.Positions.{position_of}
 use Rattle.gr_scan.specs.Tokens.{token_of, tokens_of}
 use Rattle.gr_session.proofs.Sources.{token_there}
 use Rattle.gr_session.proofs.open.token_position.Goals as goal
@@ -14,7 +16,8 @@ past ts n h = token_there ts n ∙ ap (option_map token_of) (slice_get_past ts n
 
 pub returns-in-Some : goal.returns-in-Some
 returns-in-Some c =
-    rw (here c.args.tokens.now c.args.index c.in-Some.token.now c.in-Some.ensures.lookup.0 c.in-Some.ensures.lookup.1) c.of.ensures
+    rw (here c.args.tokens.now c.args.index c.in-Some.token.now c.in-Some.ensures.lookup.0 c.in-Some.ensures.lookup.1)
+    (c.of.ensures ∙ ap (λ (at : Place). position_of c.args.text.now at.start) c.place.ensures)
 
 pub returns-in-None : goal.returns-in-None
 returns-in-None c =

@@ -73,6 +73,6 @@ pub named-returns-clause-gives : goal.named-returns-clause-gives
 named-returns-clause-gives t c =
     let es : Found Trees = (trees_of c.in_ok-passed.passed.value.items, c.in_ok-passed.passed.height, tokens_of c.in_ok-passed.passed.rest.now) in
     let e = named_call (type_at c.args.below) (expr_at c.args.below) c.args.name.now.items (tokens_of c.args.tokens.now) (tokens_of c.in-Some.rest.now) es c.in-Some.ensures.value (sym c.is_the_make.ensures ∙ c.if-is_the_make.false) c.in_ok-passed.ensures.gives in
-    let k = call_is c.in_ok-copy-2.field-0 c.in_ok-passed.passed.value in
-    let n = c.in_ok-copy-2.ensures in
+    let k = call_is c.in_ok-boxed_copy.field-0 c.in_ok-passed.passed.value in
+    let n = c.in_ok-boxed_copy.ensures in
     cc

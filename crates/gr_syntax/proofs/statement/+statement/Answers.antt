@@ -44,7 +44,7 @@ pub list-returns-clause-gives : goal.list-returns-clause-gives
 list-returns-clause-gives t c =
     let ss : Found Statements = (statements_of c.loop-alloc.value.items, c.loop-alloc.height, tokens_of c.loop-alloc.rest.now) in
     let m : stops_at (tokens_of c.loop-alloc.rest.now) ≡ true = cc (c.stops.ensures, c.loop-alloc-test.false) in
-    sym c.loop-alloc.invariant.gives ∙ turn_close c.args.limit ss m
+    rw c.fitted.ensures (sym c.loop-alloc.invariant.gives ∙ turn_close c.args.limit ss m)
 
 pub list-loop-alloc-smaller : goal.list-loop-alloc-smaller
 list-loop-alloc-smaller t c = omega (arith, statement_shorter c.args.limit c.loop-alloc.rest.now c.in_ok-next.next.rest.now (statement_of c.in_ok-next.next.value) c.in_ok-next.next.height c.in_ok-next.ensures.gives, c.in_ok-rest.ensures.rest)

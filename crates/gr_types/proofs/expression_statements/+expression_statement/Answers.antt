@@ -13,5 +13,6 @@ returns-in-Call t c =
     let fs = functions_of c.args.functions.now in
     let s = scope_of c.args.scope.now in
     let e = ap (λ x. runs_in fs s (tree_of x)) c.in-Call.is ∙ runs_call fs s c.in-Call.name c.in-Call.arguments in
-    let f = ap (λ x. run_call fs s x (trees_of c.deref-in-Call-2.result.now)) c.deref-in-Call.ensures.value ∙ ap (λ l. run_call fs s c.in-Call.name.items (trees_of l)) c.deref-in-Call-2.ensures.value in
+    let n = c.deref-in-Call-2.ensures.value ∙ ap (λ v. v.items) c.deref-in-Call.ensures in
+    let f = ap (λ x. run_call fs s x (trees_of c.deref-in-Call-3.result.now)) n ∙ ap (λ l. run_call fs s c.in-Call.name.value.items (trees_of l)) c.deref-in-Call-3.ensures.value in
     subst (λ o. Agrees act_of c.run_call.result o) (f ∙ sym e) c.run_call.ensures

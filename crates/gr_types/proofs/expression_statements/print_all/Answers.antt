@@ -10,7 +10,7 @@ pub returns-in_err-one : goal.returns-in_err-one
 returns-in_err-one c =
     let fs = functions_of c.args.functions.now in
     let s = scope_of c.args.scope.now in
-    let p = err_from_is_err_and c.from_residual.result c.from_residual.ensures.1 in
+    let p = err_from_is_err_and c.from_residual-in_err-one.result c.from_residual-in_err-one.ensures.1 in
     rw (p.1, p.2) (print_refused fs s c.args.arguments.now c.loop-argument.argument-index c.loop-argument.printed.items (printed_in fs s (trees_of c.args.arguments.now)) c.loop-argument.invariant c.argument-item.result c.in_err-one.field-0.0 c.loop-argument-test.true c.argument-item.is c.in_err-one.ensures)
 
 pub loop-argument-preserved : goal.loop-argument-preserved

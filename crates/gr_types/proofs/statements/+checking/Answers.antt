@@ -14,11 +14,11 @@ use Rattle.gr_types.proofs.statements.+checking.Goals as goal
 
 pub body-loop-stmt-init : goal.body-loop-stmt-init
 body-loop-stmt-init t c =
-    no_steps c.new-steps.result.items (body_in (context_of c.args.context.now) (scope_of c.args.scope.now) (statements_of c.args.stmts.now)) c.new-steps.ensures.items
+    no_steps c.in_ok-steps.steps.items (body_in (context_of c.args.context.now) (scope_of c.args.scope.now) (statements_of c.args.stmts.now)) c.in_ok-steps.ensures.items
 
 pub body-returns-in_err-step : goal.body-returns-in_err-step
 body-returns-in_err-step t c =
-    let p = err_from_is_err_and c.from_residual.result c.from_residual.ensures.1 in
+    let p = err_from_is_err_and c.from_residual-in_err-step.result c.from_residual-in_err-step.ensures.1 in
     let whole = body_in (context_of c.args.context.now) (scope_of c.args.scope.now) (statements_of c.args.stmts.now) in
     rw (p.1, p.2) (stopped (context_of c.args.context.now) c.args.stmts.now c.loop-stmt.stmt-index c.stmt-item.result c.loop-stmt.steps.items (scope_of c.loop-stmt.scope) whole c.loop-stmt-test.true c.stmt-item.is c.loop-stmt.invariant c.in_err-step.field-0.0 c.in_err-step.ensures)
 
@@ -41,11 +41,11 @@ body-returns t c =
 
 pub cases-loop-clause-init : goal.cases-loop-clause-init
 cases-loop-clause-init t c =
-    no_cases c.new-cases.result.items (clauses_in (context_of c.args.context.now) (scope_of c.args.scope.now) (clauses_of c.args.clauses.now)) c.new-cases.ensures.items
+    no_cases c.in_ok-cases.cases.items (clauses_in (context_of c.args.context.now) (scope_of c.args.scope.now) (clauses_of c.args.clauses.now)) c.in_ok-cases.ensures.items
 
 pub cases-returns-in_err-case : goal.cases-returns-in_err-case
 cases-returns-in_err-case t c =
-    let p = err_from_is_err_and c.from_residual.result c.from_residual.ensures.1 in
+    let p = err_from_is_err_and c.from_residual-in_err-case.result c.from_residual-in_err-case.ensures.1 in
     let whole = clauses_in (context_of c.args.context.now) (scope_of c.args.scope.now) (clauses_of c.args.clauses.now) in
     rw (p.1, p.2) (case_stopped (context_of c.args.context.now) c.args.clauses.now c.loop-clause.clause-index c.clause-item.result c.loop-clause.cases.items (scope_of c.loop-clause.scope) whole c.loop-clause-test.true c.clause-item.is c.loop-clause.invariant c.in_err-case.field-0.0 c.in_err-case.ensures)
 
