@@ -5,7 +5,7 @@ use mathlib.Core.List.{IsPrefix}
 use lib.ListN.{get_elem?}
 use Rattle.atomic_table.specs.Seated.{TableId}
 use Rattle.atomic_table.specs.Table.{State}
-use Rattle.gr_program.specs.Programs.{Program}
+use Rattle.gr_program.specs.Programs.{Program, ProgramIs}
 use Rattle.gr_session.specs.declared.journal.Entry.{Entry}
 use Rattle.gr_share.specs.declared.views.View.{View}
 use Rattle.gr_share.specs.declared.desk.Call.{Call}
@@ -15,6 +15,10 @@ use Rattle.gr_share.specs.Lines.{Line}
 -- the name of no table
 abbrev pub no_table : TableId
 no_table = record { words = 0; slots = 0; views_name = 0; atom = 0; block = 0; offset = 0; slot_names = [] }
+
+-- a program without functions
+abbrev pub no_program : Program
+no_program = ProgramIs [] 0
 
 -- entries that are older than the sharing, where the first has this number
 abbrev pub older_lines : ℕ → List Entry → List Line

@@ -1,5 +1,5 @@
 //! What lies under the lock.
-ghost use Rattle.std.specs.Prelude.{◌≡◌, ◌+◌, ◌≤◌, ◌++◌, ◌∷◌, [], length, IfOk, OnErr, IsTrue};
+ghost use Rattle.std.specs.Prelude.{◌≡◌, ◌+◌, ◌<◌, ◌≤◌, ◌++◌, ◌∷◌, [], length, IfOk, OnErr, IsTrue};
 ghost use Rattle.gr_program.specs.Views.{program_of};
 ghost use Rattle.gr_command.specs.Replies.{said_of};
 ghost use Rattle.gr_session.specs.Journal.{Enters};
@@ -43,7 +43,8 @@ impl<B: Room> Model for Locked<B> {
     ghost view = { λ s. record { session = s.session; workers = s.workers; closed = s.closed } };
 
     ghost invariant = { λ s. (s.keeper.table_id ≡ B.table) × (s.keeper.me.0 ≡ keeping s.keeper.me.0.log s.session.askers)
-        × Tells (program_of s.session.program) s.session.journal s.keeper.me.0.log };
+        × Tells (program_of s.session.program) s.session.journal s.keeper.me.0.log
+        × (program_of s.session.program ≡ B.program) × (B.first ≤ s.session.askers) };
 }
 
 impl<B: Room> Locked<B> {
@@ -51,6 +52,7 @@ impl<B: Room> Locked<B> {
     pub(crate) fn enrol(&mut self, tie: &Tie) -> Result<(DeskId, Pass), EnrolRefused>
         requires { tie.now.table.shared.table_id ≡ B.table }
         ensures desk { IfOk result (λ d. (1 ≤ d.0.number) × (d.1.table_id ≡ B.table) × (d.1.me.0 ≡ asking d.0.number [])) }
+        ensures after { IfOk result (λ d. B.first < d.0.number) }
         ensures number { IfOk result (λ d. (d.0.number ≡ self.old.session.askers + 1) × (self.new.session.askers ≡ d.0.number)) }
         ensures others { (self.new.session.journal ≡ self.old.session.journal) × (self.new.session.program ≡ self.old.session.program)
             × (self.new.workers ≡ self.old.workers) }
@@ -69,6 +71,8 @@ impl<B: Room> Locked<B> {
     pub(crate) fn enrol_worker(&mut self, tie: &Tie) -> Result<(DeskId, Pass, u32), EnrolRefused>
         requires { tie.now.table.shared.table_id ≡ B.table }
         ensures desk { IfOk result (λ d. (1 ≤ d.0.number) × (d.1.table_id ≡ B.table) × (d.1.me.0 ≡ asking d.0.number [])) }
+        ensures after { IfOk result (λ d. B.first < d.0.number) }
+        ensures place { IfOk result (λ d. 1 ≤ d.2) }
         ensures others { (self.new.session.journal ≡ self.old.session.journal) × (self.new.session.program ≡ self.old.session.program) }
         ensures err { OnErr result (self.new ≡ self.old) }
     {
@@ -135,7 +139,8 @@ impl<B: Room> Locked<B> {
     }
 
     pub(crate) fn into_session(self) -> Session
-        ensures { result ≡ self.session }
+        ensures session { result ≡ self.session }
+        ensures program { program_of result.program ≡ B.program }
     {
         let Locked {
             session,

@@ -1,5 +1,6 @@
 //! A session that desks and workers share.
-ghost use Rattle.std.specs.Prelude.{◌≡◌, ◌≤◌, [], IfOk};
+ghost use Rattle.std.specs.Prelude.{◌≡◌, ◌<◌, ◌≤◌, [], IfOk};
+ghost use Rattle.gr_program.specs.Views.{program_of};
 
 use crate::desk::{Desk, Worker};
 use crate::locked::Locked;
@@ -68,13 +69,14 @@ impl<B: Room> Model for Shared<B> {
 
     ghost view = { λ s. record { first = s.first } };
 
-    ghost invariant = { λ s. s.tie.table.shared.table_id ≡ B.table };
+    ghost invariant = { λ s. (s.tie.table.shared.table_id ≡ B.table) × (s.first ≡ B.first) };
 }
 
 impl<B: Room> Shared<B> {
-    /// Shares the session under the name of its table, which the caller's `B` gives.
+    /// Shares the session, which the caller's `B` names.
     pub fn new(opened: Opened) -> Shared<B>
-        requires { opened.table ≡ B.table }
+        requires table { opened.table ≡ B.table }
+        requires session { (program_of opened.session.program ≡ B.program) × (opened.session.askers ≡ B.first) }
         ensures { result.first ≡ opened.session.askers }
     {
         let Opened {
@@ -99,7 +101,7 @@ impl<B: Room> Shared<B> {
 
     /// A further desk. It waits for the lock.
     pub fn desk<R: Wait>(&self, rt: &R, alloc: Global) -> Result<Desk<B>, EnrolRefused>
-        ensures { IfOk result (λ d. d.calls ≡ []) }
+        ensures { IfOk result (λ d. (d.calls ≡ []) × (self.now.first < d.number)) }
     {
         let (desk, seat) = self.lock.lock(rt).enrol(&self.tie)?;
         Ok(Desk {
@@ -112,7 +114,7 @@ impl<B: Room> Shared<B> {
 
     /// A further worker's seat. Their places are numbered from 1, in the order in which they are given. It waits for the lock.
     pub fn worker_seat<R: Wait>(&self, rt: &R, alloc: Global) -> Result<Worker<B>, EnrolRefused>
-        ensures { IfOk result (λ w. w.seat.calls ≡ []) }
+        ensures { IfOk result (λ w. (w.seat.calls ≡ []) × (self.now.first < w.seat.number) × (1 ≤ w.place)) }
     {
         let (desk, seat, place) = self.lock.lock(rt).enrol_worker(&self.tie)?;
         let seat = Desk {

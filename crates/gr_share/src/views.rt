@@ -35,17 +35,27 @@ pub struct View {
     pub seen: LinkedList<Line>,
 }
 
-/// Names the one table of a `Shared`.
+/// Names what a `Shared` was made of: its one table, and its session's program and number of askers.
 pub trait Room {
+    ghost use Rattle.std.specs.Prelude.{ℕ};
     ghost use Rattle.atomic_table.specs.Seated.{TableId};
+    ghost use Rattle.gr_program.specs.Programs.{Program};
 
     ghost table: { TableId };
+
+    ghost program: { Program };
+
+    ghost first: { ℕ };
 }
 
 impl Room for Brand {
-    ghost use Rattle.gr_share.specs.Ties.{no_table};
+    ghost use Rattle.gr_share.specs.Ties.{no_table, no_program};
 
     ghost table = { no_table };
+
+    ghost program = { no_program };
+
+    ghost first = { 0 };
 }
 
 // The word names the asker whose last entry is not yet among its calls, or is 0.

@@ -7,7 +7,7 @@ use Rattle.gr_share.proofs.finishing.finish.Goals as goal
 
 pub returns-then-settle-clause-desks : goal.returns-then-settle-clause-desks
 returns-then-settle-clause-desks g c =
-    let session = sym (c.into_session.ensures ∙ ap (λ h. h.session) c.if-settle.ensures.same.0) in
+    let session = sym (c.into_session.ensures.session ∙ ap (λ h. h.session) c.if-settle.ensures.same.0) in
     let count : c.args.desks.len ≡ length c.args.desks.items = search rules in
     handed_back (λ d. IsTied c.into_session.result d) c.args.desks.len c.args.desks.items c.as_mut_slice.result.now c.settle.new.desks
     c.if-settle.ensures.same.1 c.as_mut_slice.ensures.value count
@@ -15,7 +15,7 @@ returns-then-settle-clause-desks g c =
 
 pub returns-then-settle-clause-workers : goal.returns-then-settle-clause-workers
 returns-then-settle-clause-workers g c =
-    let session = sym (c.into_session.ensures ∙ ap (λ h. h.session) c.if-settle.ensures.same.0) in
+    let session = sym (c.into_session.ensures.session ∙ ap (λ h. h.session) c.if-settle.ensures.same.0) in
     let count : c.args.workers.len ≡ length c.args.workers.items = search rules in
     handed_back (λ w. IsTied c.into_session.result w.seat) c.args.workers.len c.args.workers.items c.as_mut_slice-2.result.now c.settle.new.workers
     c.if-settle.ensures.same.2 c.as_mut_slice-2.ensures.value count
@@ -23,6 +23,6 @@ returns-then-settle-clause-workers g c =
 
 pub returns-then-settle-clause-all : goal.returns-then-settle-clause-all
 returns-then-settle-clause-all g c =
-    let askers = ap (λ s. s.askers) c.into_session.ensures ∙ ap (λ h. h.session.askers) c.if-settle.ensures.same.0 in
+    let askers = ap (λ s. s.askers) c.into_session.ensures.session ∙ ap (λ h. h.session.askers) c.if-settle.ensures.same.0 in
     subst (λ (z : ℕ × ℕ × List Asker × List Staff). AreAll z.0 z.1 z.2 z.3)
     (λ k. (ap (λ s. s.first) c.shared.view_is k, sym askers k, c.as_mut_slice.ensures.value k, c.as_mut_slice-2.ensures.value k)) (c.if-settle.ensures.all refl)

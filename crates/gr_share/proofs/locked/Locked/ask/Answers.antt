@@ -33,6 +33,8 @@ invariant_of-self-in-Ok g c =
       c.give.ensures.keeper.0 ∙ (c.compare.ensures.keeper.0 ∙ i.0),
       now ∙ (λ k. keeping (sym lines k) (askers k)),
       subst (λ (z : Program × List Line). Tells (program_of z.0) t.journal z.1) (λ k. (sym c.in-Ok.ensures.others.0 k, sym lines k)) tells,
+      ap (λ (p : Program). program_of p) c.in-Ok.ensures.others.0 ∙ i.3,
+      omega (arith, i.4, c.in-Ok.ensures.others.1),
     )
 
 pub returns-in-Ok-clause-rises : goal.returns-in-Ok-clause-rises
