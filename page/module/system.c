@@ -44,6 +44,12 @@ int close(int descriptor) { return 0; }
 count read(int descriptor, void *to, size most) { return answered(host_read(descriptor, to, most)); }
 count write(int descriptor, const void *from, size most) { return answered(host_write(descriptor, from, most)); }
 count __write(int descriptor, const void *from, size most) { return write(descriptor, from, most); }
+/* No stream is a terminal, and nothing is known of the file but its bytes. */
+int isatty(int descriptor) { return 0; }
+int statx(int folder, const char *path, int flags, unsigned mask, void *to) {
+  last_error = NO_SUCH_FILE;
+  return -1;
+}
 long __sysv_signal(int signal, long handler) { return 0; }
 int __xpg_strerror_r(int error, unsigned char *to, size room) {
   count length = copy_text("input or output failed", to, room ? room - 1 : 0);

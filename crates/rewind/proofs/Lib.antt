@@ -7,3 +7,5 @@ pub mod Debugging
 pub mod Legal
 pub mod Asking
 pub mod Growing
+pub mod CommandLines
+pub mod Pages

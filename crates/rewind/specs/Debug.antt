@@ -28,6 +28,10 @@ pub record Opened (had has : Option (List ℕ)) (program : Program) : Type 0 whe
   pub whole : IfSome had (λ all. all ≡ text)
   pub is_program : IsProgramOf text program
 
+-- the source gave a text that has a program
+abbrev pub Accepted : Change → Type 0
+Accepted source = (program : Program) × Opened source.old.bytes source.new.bytes program
+
 -- the source was not opened, and the error says why
 pub record Unopened (error : OpenError) (had has : Option (List ℕ)) : Type 0 where
   pub text : List ℕ

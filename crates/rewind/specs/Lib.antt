@@ -10,3 +10,5 @@ pub mod Debug
 pub mod Devices
 pub mod Report
 pub mod CommandLine
+pub mod Terminal
+pub mod Explanations

@@ -73,6 +73,18 @@ fault_text file Source = codes "cannot read " ++ file
 fault_text file (Open error) = open_text error
 fault_text file (Serve fault) = serve_text fault
 
+-- the code of a source that is refused
+abbrev pub code_of_open : OpenError → Option (List ℕ)
+code_of_open (opening.Scan error at) = Some (scan_code error)
+code_of_open (opening.Parse error at) = Some (parse_code error)
+code_of_open (opening.Check error at) = Some (check_code error)
+code_of_open opening.Memory = None
+
+abbrev pub code_of : DebugFault → Option (List ℕ)
+code_of Source = None
+code_of (Open error) = code_of_open error
+code_of (Serve fault) = None
+
 -- the line for a fault of a session on this file
 abbrev pub fault_line : List ℕ → DebugFault → List ℕ
 fault_line file fault = codes "rewind: " ++ (fault_text file fault ++ codes "\n")

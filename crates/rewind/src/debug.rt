@@ -2,7 +2,7 @@
 ghost use Rattle.std.specs.Prelude.{◌≡◌, [], length, IfOk, OnOk, IfErr, IsErrOf};
 ghost use Rattle.gr_program.specs.Views.{program_of};
 ghost use Rattle.rewind.specs.Devices.{change, device_of, Fails, NeverFails};
-ghost use Rattle.rewind.specs.Debug.{SourceRead, Opened, SourceLeft, Debugged, DebugLeft, BlamesSource, BlamesDevice};
+ghost use Rattle.rewind.specs.Debug.{SourceRead, Opened, Accepted, SourceLeft, Debugged, DebugLeft, BlamesSource, BlamesDevice};
 
 use crate::counted::{Counted, LineFault};
 use crate::stream::{ServeFault, serve};
@@ -68,6 +68,22 @@ fn open_source<S: Read>(alloc: Global, source: &mut Counted<S>) -> Result<Sessio
     match Session::open(alloc, text.as_slice()) {
         Ok(session) => Ok(session),
         Err(error) => Err(DebugFault::Open(error)),
+    }
+}
+
+/// Reads the source, and tells whether it is accepted: whether it has a program. A refusal is the one that `debug` tells.
+pub fn check<S: Read>(alloc: Global, source: &mut Counted<S>) -> Result<(), DebugFault>
+    ensures ok { OnOk result (Accepted (change S.remaining source.old source.new)) }
+    ensures err { IfErr result (λ fault. SourceLeft fault (change S.remaining source.old source.new)) }
+    ensures same { OnOk result (NeverFails (change S.remaining source.old source.new)) }
+    ensures blames { IfErr result (λ fault. BlamesSource fault (change S.remaining source.old source.new)) }
+{
+    match open_source(alloc, source) {
+        Ok(session) => {
+            mem::forget(session);
+            Ok(())
+        }
+        Err(fault) => Err(fault),
     }
 }
 

@@ -1,6 +1,6 @@
 //! Faults as a user reads them.
-ghost use Rattle.std.specs.Prelude.{◌≡◌, ◌++◌, codes, decimal, OnOk, OnErr, IfOk};
-ghost use Rattle.rewind.specs.Report.{scan_code as code_of_scan, parse_code as code_of_parse, rule_code as code_of_rule, check_code as code_of_check, place_text, open_text, serve_text, fault_text, fault_line, status_of, Grows};
+ghost use Rattle.std.specs.Prelude.{◌≡◌, ◌++◌, codes, decimal, option_map, OnOk, OnErr, IfOk};
+ghost use Rattle.rewind.specs.Report.{scan_code as code_of_scan, parse_code as code_of_parse, rule_code as code_of_rule, check_code as code_of_check, place_text, open_text, serve_text, fault_text, fault_line, code_of, code_of_open, status_of, Grows};
 
 use crate::debug::DebugFault;
 use crate::stream::ServeFault;
@@ -141,6 +141,27 @@ fn put_line(text: &mut Vec<u8>, fault: &DebugFault, file: &[u8]) -> Result<(), N
     put(text, b"rewind: ")?;
     put_fault(text, fault, file)?;
     put(text, b"\n")
+}
+
+fn open_code(error: OpenError) -> Option<&'static [u8]>
+    ensures { option_map (λ code. code.now) result ≡ code_of_open error }
+{
+    match error {
+        OpenError::Scan(error, _) => Some(scan_code(error)),
+        OpenError::Parse(error, _) => Some(parse_code(error)),
+        OpenError::Check(error, _) => Some(check_code(error)),
+        OpenError::Memory => None,
+    }
+}
+
+/// The code of a source that is refused; `None` for other faults.
+pub fn refusal_code(fault: &DebugFault) -> Option<&'static [u8]>
+    ensures { option_map (λ code. code.now) result ≡ code_of fault.now }
+{
+    match fault {
+        DebugFault::Open(error) => open_code(*error),
+        DebugFault::Source | DebugFault::Serve(_) => None,
+    }
 }
 
 /// The exit status of a session that a fault ended: 1 where the source cannot be read or is refused, 3 where reading

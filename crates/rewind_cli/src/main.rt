@@ -1,35 +1,49 @@
-//! The program `rewind FILE`: debugs the Go program in FILE by the commands of standard input.
+//! The program `rewind`. `rewind FILE` debugs the Go program in FILE by the commands of standard input, `rewind --check FILE`
+//! only tells whether it is accepted, and `rewind --explain CODE` tells what a code means.
 //!
 //! Exit status: 0 at `quit` or at the end of the commands; 1 where FILE cannot be read or is no program, with one line on
 //! standard error; 2 where the command line is refused; 3 where reading or writing failed, or memory was wanted.
 #![tactic(auto)]
 
+mod files;
+
 use clap::error::{Error, ErrorKind};
+use files::tell_of;
 use rewind::command_line::settings;
 use rewind::counted::Counted;
-use rewind::debug::{DebugFault, debug};
+use rewind::debug::{DebugFault, check, debug};
+use rewind::explanations::explain;
 use rewind::report::{exit_status, report};
+use rewind::settings::Settings;
 use rewind::stream::ServeFault;
+use rewind::terminal::{Explained, Prompted};
+use rewind::words::{NOT_TEXT, STRANGE_CODE};
 use std::fs::File;
-use std::io::{BufReader, ErrorKind as IoErrorKind, Write};
+use std::io::{BufReader, ErrorKind as IoErrorKind, IsTerminal, Write};
 use std::process::ExitCode;
 use std::{env, io};
 
 const MEMORY: DebugFault = DebugFault::Serve(ServeFault::Memory);
 
-// The words of Rust's `clap` for an argument that is not UTF-8: the kit's is given texts alone.
-const NOT_UTF_8: &str = "error: invalid UTF-8 was detected in one or more arguments
-
-Usage: rewind <FILE>
+// Sessions beside workers are not served yet.
+const NO_WORKERS: &str = "error: no workers can be started yet: leave '--workers' out
 
 For more information, try '--help'.
 ";
 
-// Tells a fault on standard error.
+// Whether a person reads what is told.
+fn is_at_terminal(rt: &HostRuntime) -> bool {
+    rt.stdin().is_terminal() && rt.stderr().is_terminal()
+}
+
+// Tells a fault on standard error: its line, and plain words at a terminal.
 fn fail(rt: &HostRuntime, fault: &DebugFault, file: &str) -> ExitCode {
     let mut line = Vec::new(rt.alloc());
     if report(fault, file, &mut line).is_ok() {
         let _ = rt.stderr().write_all(line.as_slice());
+    }
+    if is_at_terminal(rt) {
+        tell_of(rt, fault, file);
     }
     ExitCode::from(exit_status(fault))
 }
@@ -43,30 +57,63 @@ fn refuse(rt: &HostRuntime, error: &Error) -> ExitCode {
     ExitCode::from(if error.use_stderr() { 2 } else { 0 })
 }
 
-// Debugs the program in a file.
+// Refuses a command line, in these words.
+fn refuse_with(rt: &HostRuntime, words: &str) -> ExitCode {
+    let _ = rt.stderr().write_all(words.as_bytes());
+    ExitCode::from(2)
+}
+
+// Debugs the program in a file, with a prompt and plain words at a terminal.
 fn debug_file(rt: &HostRuntime, file: &str) -> io::Result<ExitCode> {
     let Ok(opened) = File::open(rt, file) else {
         return Ok(fail(rt, &DebugFault::Source, file));
     };
     let mut source = Counted::new(BufReader::new(rt.alloc(), opened)?);
-    let mut reader = Counted::new(BufReader::new(rt.alloc(), rt.stdin())?);
-    let mut writer = Counted::new(rt.stdout());
-    match debug(rt.alloc(), &mut source, &mut reader, &mut writer) {
+    let reader = BufReader::new(rt.alloc(), rt.stdin())?;
+    let debugged = if is_at_terminal(rt) {
+        let mut reader = Counted::new(Prompted::new(reader, rt.stderr()));
+        let mut writer = Counted::new(Explained::new(rt.stdout(), rt.stderr()));
+        debug(rt.alloc(), &mut source, &mut reader, &mut writer)
+    } else {
+        let mut reader = Counted::new(reader);
+        let mut writer = Counted::new(rt.stdout());
+        debug(rt.alloc(), &mut source, &mut reader, &mut writer)
+    };
+    match debugged {
         Ok(()) => Ok(ExitCode::from(0)),
         Err(fault) => Ok(fail(rt, &fault, file)),
     }
 }
 
-// Refuses a command line that is no text.
-fn refuse_bytes(rt: &HostRuntime) -> ExitCode {
-    let _ = rt.stderr().write_all(NOT_UTF_8.as_bytes());
-    ExitCode::from(2)
+// Tells whether the program in a file is accepted.
+fn check_file(rt: &HostRuntime, file: &str) -> io::Result<ExitCode> {
+    let Ok(opened) = File::open(rt, file) else {
+        return Ok(fail(rt, &DebugFault::Source, file));
+    };
+    let mut source = Counted::new(BufReader::new(rt.alloc(), opened)?);
+    match check(rt.alloc(), &mut source) {
+        Ok(()) => Ok(ExitCode::from(0)),
+        Err(fault) => Ok(fail(rt, &fault, file)),
+    }
+}
+
+// Tells what a code means.
+fn explain_code(rt: &HostRuntime, code: &str) -> ExitCode {
+    let Some(page) = explain(code.as_bytes()) else {
+        return refuse_with(rt, STRANGE_CODE);
+    };
+    match rt.stdout().write_all(page.as_bytes()) {
+        Ok(()) => ExitCode::from(0),
+        Err(_) => fail(rt, &DebugFault::Serve(ServeFault::Write), ""),
+    }
 }
 
 fn run(rt: &HostRuntime) -> io::Result<ExitCode> {
     let words: Vec<String> = match env::args(rt) {
         Ok(words) => words.collect(rt.alloc())?,
-        Err(error) if error.kind() == IoErrorKind::InvalidData => return Ok(refuse_bytes(rt)),
+        Err(error) if error.kind() == IoErrorKind::InvalidData => {
+            return Ok(refuse_with(rt, NOT_TEXT));
+        }
         Err(error) => return Err(error),
     };
     let mut texts = Vec::new(rt.alloc());
@@ -74,7 +121,10 @@ fn run(rt: &HostRuntime) -> io::Result<ExitCode> {
         texts.push(word.as_str())?;
     }
     match settings(rt.alloc(), texts.as_slice()) {
-        Ok(given) => debug_file(rt, given.file),
+        Ok(Settings::Debug { file, workers: 0 }) => debug_file(rt, file),
+        Ok(Settings::Debug { .. }) => Ok(refuse_with(rt, NO_WORKERS)),
+        Ok(Settings::Check { file }) => check_file(rt, file),
+        Ok(Settings::Explain { code }) => Ok(explain_code(rt, code)),
         Err(error) => Ok(refuse(rt, &error)),
     }
 }

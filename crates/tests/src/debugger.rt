@@ -6,9 +6,12 @@ use gr_syntax::parse::ParseError;
 use gr_types::fault::{CheckError, Code};
 use rewind::command_line::settings;
 use rewind::counted::Counted;
-use rewind::debug::{DebugFault, debug};
-use rewind::report::report;
+use rewind::debug::{DebugFault, check, debug};
+use rewind::explanations::explain;
+use rewind::report::{refusal_code, report};
+use rewind::settings::Settings;
 use rewind::stream::{ServeFault, serve};
+use std::alloc::Global;
 use std::io;
 use std::io::{ErrorKind, Read, Write};
 use std::test::Fail;
@@ -337,11 +340,45 @@ fn reports_faults(rt: HostRuntime) -> Result<(), Fail> {
     Ok(())
 }
 
+// The file and the number of workers, where the words ask for a session.
+fn session_in<'a>(alloc: Global, words: &'a [&'a str]) -> Option<(&'a str, u32)> {
+    match settings(alloc, words) {
+        Ok(Settings::Debug { file, workers }) => Some((file, workers)),
+        _ => None,
+    }
+}
+
 #[test]
-fn takes_one_file(rt: HostRuntime) -> Result<(), Fail> {
-    let given = settings(rt.alloc(), ["rewind", "main.go"].as_slice());
-    assert_eq!(rt; given.ok().ok_or("refused")?.file, "main.go");
-    assert!(rt; settings(rt.alloc(), ["rewind"].as_slice()).is_err());
-    assert!(rt; settings(rt.alloc(), ["rewind", "a.go", "b.go"].as_slice()).is_err());
+fn takes_what_is_asked(rt: HostRuntime) -> Result<(), Fail> {
+    let alloc = rt.alloc();
+    let alone = ["rewind", "main.go"];
+    assert_eq!(rt; session_in(alloc, alone.as_slice()), Some(("main.go", 0)));
+    let beside = ["rewind", "--workers", "64", "main.go"];
+    assert_eq!(rt; session_in(alloc, beside.as_slice()), Some(("main.go", 64)));
+    let check = settings(alloc, ["rewind", "--check", "main.go"].as_slice());
+    assert!(rt; matches!(check, Ok(Settings::Check { file: _ })));
+    let explain = settings(alloc, ["rewind", "--explain", "N3"].as_slice());
+    assert!(rt; matches!(explain, Ok(Settings::Explain { code: _ })));
+    Ok(())
+}
+
+#[test]
+fn refuses_what_is_not_one_thing(rt: HostRuntime) -> Result<(), Fail> {
+    let alloc = rt.alloc();
+    assert!(rt; settings(alloc, ["rewind"].as_slice()).is_err());
+    assert!(rt; settings(alloc, ["rewind", "a.go", "b.go"].as_slice()).is_err());
+    assert!(rt; settings(alloc, ["rewind", "a.go", "--check", "b.go"].as_slice()).is_err());
+    assert!(rt; settings(alloc, ["rewind", "a.go", "--workers", "65"].as_slice()).is_err());
+    Ok(())
+}
+
+#[test]
+fn checks_a_source(rt: HostRuntime) -> Result<(), Fail> {
+    let mut source = Counted::new(b"package main; func main() {}".as_slice());
+    assert!(rt; check(rt.alloc(), &mut source).is_ok());
+    let mut refused = Counted::new(b"package main; func main() { x() }".as_slice());
+    let fault = check(rt.alloc(), &mut refused).err().ok_or("accepted")?;
+    assert_eq!(rt; refusal_code(&fault), Some(b"C1".as_slice()));
+    assert!(rt; explain(b"C1").is_some());
     Ok(())
 }

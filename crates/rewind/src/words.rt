@@ -1,0 +1,153 @@
+//! What the program says in plain words. Made by docs/words/make.py from the texts beside it: change those.
+
+pub(crate) const VERSION: &str = "1.0.0";
+
+pub(crate) const ABOUT: &str = "\
+Debugs a Go program with goroutines and channels, one small step at a time,
+forward and back: a step goes back with all that depends on it, and with
+nothing else.";
+
+pub(crate) const USAGE: &str = "\
+rewind [--workers <N>] <FILE>
+       rewind --check <FILE>
+       rewind --explain <CODE>";
+
+pub(crate) const HELP: &str = "\
+Commands, one a line on standard input:
+  step G                        take one step of a goroutine
+  step G CASE                   .. of the clause CASE of a select
+  run N                         take up to N steps, of the goroutines by turns
+  undo                          take the last step back
+  back G#N                      take a step back with all that depends on it
+  back go G                     .. the step that started a goroutine
+  back send C K, back recv C K  .. the K-th send to a channel, or receive
+  back var G X                  .. the step that gave a variable its value
+  redo                          take the steps again that went back last
+  order ID ..                   put the kept steps into another order
+  deps ID, causes ID            show what depends on a step, or what it
+                                depends on
+  break LINE, clear LINE        set or remove a breakpoint for run
+  free N                        grant the workers N steps
+  show G                        show a goroutine: its state, line and
+                                variables
+  chan C                        show a channel: its items and who waits
+  text G                        show what a goroutine printed
+  console                       show all that was printed
+  log                           show the kept steps
+  quit                          end the session
+
+'g0' is the goroutine of 'main', 'g0.2' the second that it started, 'g0/c1'
+the first channel that it made, 'g0#4' its fourth step. G is a goroutine, C a
+channel, ID or G#N a step, N and K numbers, X a variable.
+
+Exit status:
+  0  'quit', or the end of the commands; a source that '--check' accepts;
+     '--explain', '--help', '--version'
+  1  FILE cannot be read, or is refused
+  2  the command line is refused: not just one of FILE, '--check' and
+     '--explain', workers that are not 0 to 64 or without FILE, a CODE that is
+     none, an unknown option, an argument that is not UTF-8
+  3  reading or writing failed, or there is no memory (before the end of the
+     check that is S8, P4 or C11, with status 1)
+
+Example:
+  $ printf 'step g0\\nstep g0\\nlog\\nundo\\nquit\\n' | rewind first.go
+  ok g0#1 pure
+  ok g0#2 pure
+  | g0#1 pure
+  | g0#2 pure
+  ok 2
+  ok g0#2
+  ok
+
+'rewind --explain CODE' tells of each code, and docs/COMMANDS.md of each
+command and reply.";
+
+pub(crate) const NOTHING_ASKED: &str = "\
+one of FILE, '--check <FILE>' and '--explain <CODE>' is required";
+
+pub(crate) const TOO_MUCH_ASKED: &str = "\
+FILE, '--check <FILE>' and '--explain <CODE>' exclude each other, and '--workers <N>' goes with FILE alone";
+
+pub(crate) const FILE_HELP: &str = "The source: debugs it by the commands of standard input";
+
+pub(crate) const WORKERS_HELP: &str = "\
+The number of workers that take steps on their own (0 to 64); more than 0 is refused for now, since none can be started yet";
+
+pub(crate) const CHECK_HELP: &str = "\
+Only tells whether the source is accepted: nothing where it is, else the line of its refusal";
+
+pub(crate) const EXPLAIN_HELP: &str = "\
+Tells of a code, a fault, a kind of step or an end of a run what it means and what to do";
+
+pub(crate) const PROMPT: &str = "(rewind) ";
+
+pub(crate) const NO_COMMAND: &str = "\
+this line is no command (rewind --help lists the commands)
+";
+
+pub(crate) const BANNER: &str = "\
+Rewind 1.0.0: a command a line, as 'run 100', 'show g0', 'undo'; 'quit' ends the session, 'rewind --help' lists them all.
+(rewind) ";
+
+/// What is said of arguments that are not UTF-8.
+pub const NOT_TEXT: &str = "\
+error: invalid UTF-8 was detected in one or more arguments
+
+Usage: rewind [--workers <N>] <FILE>
+       rewind --check <FILE>
+       rewind --explain <CODE>
+
+For more information, try '--help'.
+";
+
+/// What is said of a code that is none.
+pub const STRANGE_CODE: &str = "\
+error: '--explain' knows no such code
+
+It knows these:
+  Codes of refused sources: S1, S2, S3, S4, S5, S6, S7, S8, P1, P2, P3, P4,
+    C1, C2, C3, C4, C5, C6, C7, C8, C9, C10, C11
+  Codes of refused commands: N1, N2, N3, N4, N5, N6, B1, B2, B3, B4, B5, B6,
+    Q1, Q2
+  Codes that only callers of the library get: E1, E2
+  Kinds of steps: pure, call, return, exit, go, make, length, hand, meet,
+    buffer, take, closed, send-wait, recv-wait, pick, default, select-wait,
+    close, fault
+  Ends of a run: ended, count, stuck, full, break
+  Faults of a program: DivideByZero, NegativeShift, SendOnClosed,
+    CloseOfClosed, CloseOfNil, BadSize, CallDepth, NameDepth, NameCount
+  Failures of the program itself: read, write, memory
+
+For more information, try '--help'.
+";
+
+/// What is said of a file that is not there.
+pub const MISSING: &str = "\
+there is no such file
+";
+
+/// What is said of a file that is a folder.
+pub const FOLDER: &str = "\
+it is a folder; FILE is the source of a program, as 'main.go'
+";
+
+/// What is said of a file that the user may not read.
+pub const FORBIDDEN: &str = "\
+its permissions do not let you read it
+";
+
+/// What is said of a file that cannot be read for another reason.
+pub const UNREAD: &str = "\
+reading it failed
+";
+
+/// What is said of a file that is empty.
+pub const EMPTY: &str = "\
+the file is empty; a program begins with 'package main'
+";
+
+/// What is said of a file that is not UTF-8.
+pub const NOT_UTF_8: &str = "\
+the file is not UTF-8 text; look whether it is a Go source
+";

@@ -1,0 +1,345 @@
+#!/usr/bin/env python3
+"""Writes what is said of commands, codes and exit statuses from the texts beside this file: the program's constants
+(crates/rewind/src/words.rt, meanings.rt), the manual page (docs/rewind.1), and the marked tables of docs/COMMANDS.md and docs/LANGUAGE.md.
+
+    docs/words/make.py           writes them
+    docs/words/make.py --check   fails where one does not stand as made, or where a code of the definitions has no text
+"""
+
+import os
+import re
+import sys
+import textwrap
+
+HERE = os.path.dirname(os.path.abspath(__file__))
+ROOT = os.path.dirname(os.path.dirname(HERE))
+WORDS = "crates/rewind/src/words.rt"
+MEANINGS = "crates/rewind/src/meanings.rt"
+MANUAL = "docs/rewind.1"
+WIDTH = 78
+
+
+def read(path):
+    with open(os.path.join(ROOT, path), encoding="utf-8") as file:
+        return file.read()
+
+
+class Entry:
+    """A name, as a code or a command, with its texts."""
+
+    def __init__(self, name):
+        self.name = name
+        self.texts = {}
+
+    def __getattr__(self, key):
+        return self.texts.get(key, "")
+
+
+def sections(name):
+    """The entries of a file of texts, by section; what comes before the first section stands under ''."""
+    found, titles = {"": []}, {}
+    section, key = "", None
+    with open(os.path.join(HERE, name), encoding="utf-8") as file:
+        lines = file.read().splitlines()
+    for line in lines:
+        text = line.strip()
+        field = re.match(r"    (\w+): ?(.*)$", line)
+        if not text or line.startswith("#"):
+            continue
+        if line.startswith("== "):
+            section, _, title = line[3:].partition(": ")
+            found[section], titles[section] = [], title
+        elif not line.startswith(" "):
+            found[section].append(Entry(text))
+        elif field:
+            key = field[1]
+            found[section][-1].texts[key] = field[2]
+        else:
+            joint = "\n" if section == "example" else " "
+            found[section][-1].texts[key] += joint + text
+    return found, titles
+
+
+PROGRAM, _ = sections("program.txt")
+CODES, TITLES = sections("codes.txt")
+COMMANDS = sections("commands.txt")[0][""]
+TEXTS = {entry.name: entry.text for entry in PROGRAM["texts"]}
+EXAMPLE = {entry.name: entry.text for entry in PROGRAM["example"]}
+FAULTS = [entry.name for entry in CODES["faults"]]
+
+
+def listed(names, last):
+    """Names between backquotes, with a word before the last."""
+    quoted = [f"`{name}`" for name in names]
+    return ", ".join(quoted[:-1]) + f" {last} {quoted[-1]}"
+
+
+def filled(text):
+    return text.replace("{faults}", listed(FAULTS, "or")).replace("{version}", TEXTS["version"])
+
+
+def plain(text):
+    """A text without marks: code stands between single quotes."""
+    return re.sub(r"`([^`]*)`", r"'\1'", filled(text))
+
+
+def bare(text):
+    """A text without marks or quotes."""
+    return filled(text).replace("`", "")
+
+
+def wrapped(text, first="", rest=""):
+    return textwrap.fill(
+        text, WIDTH, initial_indent=first, subsequent_indent=rest, break_long_words=False, break_on_hyphens=False
+    )
+
+
+def columns(rows, indent="  "):
+    """Rows of two cells, the second wrapped beside the first."""
+    width = max(len(left) for left, _ in rows) + 2
+    lines = []
+    for left, right in rows:
+        lines.append(wrapped(right, indent + left.ljust(width), indent + " " * width))
+    return "\n".join(lines)
+
+
+# What the program says.
+
+
+def meaning_line(entry):
+    """What a terminal shows of a code."""
+    return f"{entry.name}: {plain(entry.means)} (more: rewind --explain {entry.name})\n"
+
+
+def page(section, entry):
+    """What `--explain` says; its first line is what a terminal shows."""
+    parts = [f"{entry.name}: {plain(entry.means)}"]
+    if entry.example:
+        example = plain(entry.example)
+        if entry.at:
+            place = "at " if entry.at[0].isdigit() else ""
+            example += f" is refused {place}{plain(entry.at)}"
+        if entry.at.startswith("3:"):
+            example += " (on line 3 of a file, in the body of 'main', after a tab)"
+        parts.append(wrapped(f"Example: {example}."))
+    lead = "" if section == "kinds" else "What to do: "
+    parts.append(wrapped(lead + plain(entry.do)))
+    return "\n\n".join(parts) + "\n"
+
+
+def help_text():
+    commands = columns([(bare(entry.name), bare(entry.short)) for entry in COMMANDS])
+    statuses = columns([(entry.name, plain(entry.when)) for entry in PROGRAM["statuses"]])
+    replies = textwrap.indent(EXAMPLE["replies"], "  ")
+    return "\n\n".join([
+        "Commands, one a line on standard input:\n" + commands,
+        wrapped(plain(TEXTS["names"])),
+        "Exit status:\n" + statuses,
+        f"Example:\n  $ {EXAMPLE['commands']}\n{replies}",
+        wrapped("'rewind --explain CODE' tells of each code, and docs/COMMANDS.md of each command and reply."),
+    ])
+
+
+def literal(text):
+    """A text as a literal of the program, its lines below each other."""
+    escaped = text.replace("\\", "\\\\").replace('"', '\\"')
+    fits = len(text) < 56 and "\n" not in text
+    return f'"{escaped}"' if fits else f'"\\\n{escaped}"'
+
+
+def constant(name, text, public=False):
+    reach = "pub" if public else "pub(crate)"
+    return f"{reach} const {name}: &str = {literal(text)};\n"
+
+
+def explanations():
+    return [(section, entry) for section in CODES if section for entry in CODES[section]]
+
+
+def strange_code():
+    rows = [(TITLES[section], ", ".join(entry.name for entry in CODES[section])) for section in CODES if section]
+    known = "\n".join(wrapped(f"{title}: {names}", "  ", "    ") for title, names in rows)
+    return f"error: {plain(TEXTS['strange'])}\n\nIt knows these:\n{known}\n\nFor more information, try '--help'.\n"
+
+
+def not_text():
+    """What is told of arguments that `clap` is not given, in its form."""
+    told = "error: invalid UTF-8 was detected in one or more arguments"
+    return f"{told}\n\nUsage: {USAGE}\n\nFor more information, try '--help'.\n"
+
+
+ABOUT = wrapped(plain(TEXTS["about"]))
+USAGE = "\n       ".join(entry.plain for entry in PROGRAM["usage"])
+HELP = help_text()
+PROMPT = "(rewind) "
+BANNER = plain(TEXTS["banner"]) + "\n" + PROMPT
+NO_COMMAND = plain(TEXTS["no command"]) + "\n"
+FILES = {entry.name: plain(entry.text) + "\n" for entry in PROGRAM["files"]}
+
+
+def words():
+    parts = [
+        "//! What the program says in plain words. Made by docs/words/make.py from the texts beside it: change those.\n",
+        constant("VERSION", TEXTS["version"]),
+        constant("ABOUT", ABOUT),
+        constant("USAGE", USAGE),
+        constant("HELP", HELP),
+        constant("NOTHING_ASKED", plain(TEXTS["nothing"])),
+        constant("TOO_MUCH_ASKED", plain(TEXTS["conflict"])),
+    ]
+    parts += [constant(entry.constant, plain(entry.does)) for entry in PROGRAM["options"] if entry.constant]
+    parts += [
+        constant("PROMPT", PROMPT),
+        constant("NO_COMMAND", NO_COMMAND),
+        constant("BANNER", BANNER),
+        "/// What is said of arguments that are not UTF-8.\n" + constant("NOT_TEXT", not_text(), True),
+        "/// What is said of a code that is none.\n" + constant("STRANGE_CODE", strange_code(), True),
+    ]
+    for entry in PROGRAM["files"]:
+        parts.append(f"/// What is said of a file that {entry.of}.\n" + constant(entry.constant, FILES[entry.name], True))
+    return "\n".join(parts)
+
+
+def meanings():
+    parts = [
+        "//! What the codes mean: pages that begin with their code, with a form feed between two. Made by docs/words/make.py from the\n"
+        "//! texts beside it: change those.\n"
+    ]
+    for section in CODES:
+        if section:
+            pages = "\f".join(page(section, entry) for entry in CODES[section])
+            text = literal(pages).replace("\f", "\\u{c}\\\n")
+            parts.append(f"pub(crate) fn {section}() -> &'static str {{\n    {text}\n}}\n")
+    return "\n".join(parts)
+
+
+# The manual page.
+
+
+def roff(text):
+    text = filled(text).replace("\\", "\\e").replace("-", "\\-")
+    text = re.sub(r"`([^`]*)`", r"\\fB\1\\fR", text)
+    return re.sub(r"^([.'])", r"\\&\1", text)
+
+
+def tagged(rows):
+    return "".join(f".TP\n{tag}\n{text}\n" for tag, text in rows)
+
+
+def manual():
+    forms = [entry.form for entry in PROGRAM["usage"]]
+    synopsis = "\n.br\n".join(f".B rewind\n{roff(form)}" for form in forms)
+    options = [(f"\\fB{roff(entry.name)}\\fR", roff(entry.does) + ".") for entry in PROGRAM["options"]]
+    commands = [(roff(entry.name), f"{roff(entry.does)}. Reply: {roff(entry.reply)}.") for entry in COMMANDS]
+    statuses = [(entry.name, f"{roff(entry.when)}. On standard error: {roff(entry.tells)}.") for entry in PROGRAM["statuses"]]
+    example = "\n".join(roff(line) for line in [f"$ {EXAMPLE['commands']}"] + EXAMPLE["replies"].splitlines())
+    parts = [
+        '.\\" Made by docs/words/make.py from the texts beside it: change those.\n',
+        f'.TH REWIND 1 "" "Rewind {TEXTS["version"]}" "User Commands"\n',
+        f".SH NAME\nrewind \\- {roff(TEXTS['name'])}\n",
+        f".SH SYNOPSIS\n{synopsis}\n",
+        f".SH DESCRIPTION\n{roff(TEXTS['about'])}\n.PP\n{roff(TEXTS['commands'])}\n.PP\n{roff(TEXTS['terminal'])}\n",
+        f".SH OPTIONS\n{tagged(options)}",
+        f".SH COMMANDS\n{roff(TEXTS['names'])}\n{tagged(commands)}",
+    ]
+    for section in CODES:
+        if section:
+            rows = [(f"\\fB{roff(entry.row.strip('`') or entry.name)}\\fR", roff(entry.means)) for entry in CODES[section]]
+            parts.append(f".SH {roff(TITLES[section].upper())}\n{tagged(rows)}")
+    parts += [
+        f".SH EXIT STATUS\n{tagged(statuses)}",
+        f".SH EXAMPLE\n.nf\n{example}\n.fi\n",
+        ".SH SEE ALSO\ndocs/COMMANDS.md, docs/LANGUAGE.md and docs/SESSIONS.md of the repository\n",
+    ]
+    return "".join(parts)
+
+
+# The tables of the documents.
+
+
+def row(cells):
+    return "|" + "".join(f" {filled(cell)} |" if cell else " |" for cell in cells) + "\n"
+
+
+def table(head, rows):
+    return row(head) + "|" + "---|" * len(head) + "\n" + "".join(row(cells) for cells in rows)
+
+
+def tables():
+    sources = [(it.name, it.means, it.example, it.at) for it in CODES["sources"]]
+    replies = [(it.name, it.means, it.example) for it in CODES["replies"]]
+    return {
+        "docs/LANGUAGE.md": {"sources": table(["Code", "Meaning", "Example", "Refused at"], sources)},
+        "docs/COMMANDS.md": {
+            "commands": table(
+                ["Command", "What it does", "Reply"], [(it.name, it.does, it.reply) for it in COMMANDS]
+            ),
+            "kinds": table(["Kind", "What the step did"], [(it.row or f"`{it.name}`", it.means) for it in CODES["kinds"]]),
+            "faults": table(["Fault", "Meaning", "Example"], [(f"`{it.name}`", it.means, it.example) for it in CODES["faults"]]),
+            "replies": table(["Code", "Meaning", "Example"], replies),
+            "statuses": table(
+                ["Status", "When", "On standard error"], [(it.name, it.when, it.tells) for it in PROGRAM["statuses"]]
+            ),
+        },
+    }
+
+
+def with_tables(page_name, made):
+    text = read(page_name)
+    for name, content in made.items():
+        mark, end = f"<!-- docs/words: {name} -->\n", f"<!-- end of {name} -->\n"
+        if text.count(mark) != 1 or text.count(end) != 1:
+            sys.exit(f"{page_name}: no place for the table '{name}'")
+        before, rest = text.split(mark)
+        text = before + mark + content + end + rest.split(end)[1]
+    return text
+
+
+# That each code has its text.
+
+
+def defined():
+    """The codes that the definitions name, by section."""
+    report = read("crates/rewind/specs/Report.antt")
+    texts = read("crates/gr_command/specs/Texts.antt")
+    kinds = read("crates/gr_base/specs/Kinds.antt")
+    lines = read("crates/rewind/specs/Replies.antt")
+    refusals = re.findall(r'codes "no ([A-Z]\d)', texts + lines)
+    return {
+        "sources": re.findall(r'codes "([SPC]\d+)"', report),
+        "replies": sorted(set(refusals)),
+        "kinds": [re.match(r"[\w-]+", it)[0] for it in re.findall(r'^kind_text .* = codes "([^"]*)', kinds, re.M)],
+        "faults": re.findall(r'^fault_text .* = codes "([^"]*)"', kinds, re.M),
+        "ends": [it.strip() for it in re.findall(r'^end_text .* = codes "([^"]*)', texts, re.M)],
+    }
+
+
+def without_text():
+    """What the definitions name and no text tells, and the other way round."""
+    wrong = []
+    for section, codes in defined().items():
+        told = {entry.name for entry in CODES[section]}
+        known = told | ({"fault", "memory"} if section == "ends" else set())
+        wrong += [f"{section}: {code} has no text" for code in set(codes) - known]
+        wrong += [f"{section}: {code} is not told by the program" for code in told - set(codes)]
+    return wrong
+
+
+def main():
+    made = {WORDS: words(), MEANINGS: meanings(), MANUAL: manual()}
+    made.update((name, with_tables(name, content)) for name, content in tables().items())
+    wrong = without_text()
+    for path, text in made.items():
+        whole = os.path.join(ROOT, path)
+        stands = os.path.exists(whole) and read(path) == text
+        if "--check" in sys.argv[1:]:
+            wrong += [] if stands else [f"{path}: not as docs/words/make.py makes it (make words)"]
+        elif not stands:
+            with open(whole, "w", encoding="utf-8") as file:
+                file.write(text)
+    print("\n".join(wrong) or "all words stand as made")
+    sys.exit(1 if wrong else 0)
+
+
+if __name__ == "__main__":
+    main()
