@@ -1,6 +1,7 @@
-# Rewind. `rt` is the command of the Rattle kit; `make bench`, `make gate-times` and `make dap-test` need python3 too.
+# Rewind. `rt` is the command of the Rattle kit; `make words`, `make command-line-test`, `make bench`, `make gate-times` and
+# `make dap-test` need python3 too.
 
-.PHONY: all demo test edits bench replay refused gate-times dap-test page page-test page-pictures clean
+.PHONY: all demo test edits words command-line-test bench replay hostile gate-times dap-test page page-test page-pictures clean
 
 # Proves the program and what it stands on, and installs it as bin/rewind.
 all: bin/rewind
@@ -22,6 +23,16 @@ test:
 # As committed, in a fresh clone.
 edits:
 	bench/edits.sh $(CRATE)
+
+# What is said of commands, codes and exit statuses, from the texts in docs/words: the program's constants, the manual page, and the
+# tables of the documents.
+words:
+	docs/words/make.py
+
+# Whether all words stand as made; and what the program writes by its command line, with pipes and at a pseudo-terminal.
+command-line-test: bin/rewind
+	docs/words/make.py --check
+	bench/command_line.py bin/rewind
 
 bin/channel_bench: FORCE
 	cd crates/channel_bench && rt run >/dev/null
@@ -47,9 +58,10 @@ bench: bin/rewind bin/channel_bench bin/front_bench
 replay: bin/rewind
 	bench/replay.py bin/rewind
 
-# Each growth of whole sessions refused in turn: nothing else may come of it. Needs a C compiler, `cc`.
-refused: bin/rewind
-	bench/refused.py bin/rewind
+# Hostile use: broken and huge sources, hostile commands, devices that fail, each growth refused in turn, and the limits. Needs a C
+# compiler, `cc`.
+hostile: bin/rewind
+	hostile/all.sh bin/rewind
 
 # The gate in a fresh clone of what is committed, with the processor minutes of each crate (bin/gate.md, bin/gate.log).
 gate-times:

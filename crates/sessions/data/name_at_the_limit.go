@@ -1,0 +1,10 @@
+package main
+
+func child() {
+	go child()
+}
+
+func main() {
+	go child()
+	select {}
+}

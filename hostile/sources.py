@@ -1,0 +1,334 @@
+"""Random sources: programs that are well-typed, files of the grammar, token lists, and programs broken in one place."""
+import re
+
+KEYWORDS = ("break case chan const continue default defer else fallthrough for func go goto if import interface map package range "
+            "return select struct switch type var").split()
+OPERATORS = ("+ - * / % & | ^ << >> &^ += -= *= /= %= &= |= ^= <<= >>= &^= && || <- ++ -- == < > = ! != <= >= := ... "
+             "( [ { , . ) ] } ; :").split()
+NAMES = "a b c main f x y int bool true false nil len cap make close println string init _".split()
+NUMBERS = "0 1 7 017 0x_F 0b1 1_0 9223372036854775808 9223372036854775807".split()
+LITERALS = NUMBERS + ['"s"', '""', '"\\t\\\\"']
+MALFORMED = ["08", "1__0", "0b2", "0xg", "1.5", "1e3", "2i", "0x1p2", "9223372036854775809", "'a'", "`raw`", '"\\n"', '"\\q"', '"open',
+             "#", "$", "@", "\\", "?", "~", "/*", "/* c */", "// c\n", "\x00", "\x7f", "\xe9", "\xff"]
+TOKENS = KEYWORDS + OPERATORS + NAMES + LITERALS
+PIECE = re.compile(rb'"[^"\n]*"|[A-Za-z_0-9]+|<<=|>>=|&\^=|\.\.\.|<-|:=|\+\+|--|[-+*/%&|^=!<>]=|<<|>>|&\^|&&|\|\||\S')
+
+
+def token_list(chance):
+    """Random tokens, half of the times in the body of a function."""
+    pool = TOKENS if chance.random() < 0.7 else TOKENS + MALFORMED
+    text = " ".join(chance.choice(pool) + ("\n" if chance.random() < 0.1 else "") for _ in range(chance.randint(1, 60)))
+    whole = text if chance.random() < 0.5 else "package main\nfunc main() {\n%s\n}\n" % text
+    return whole.encode("latin-1")
+
+
+def random_bytes(chance):
+    """Random bytes, or random bytes of the language, in the body of a function or not."""
+    size = int(2 ** chance.uniform(0, 12))
+    if chance.random() < 0.5:
+        text = bytes(chance.getrandbits(8) for _ in range(size))
+    else:
+        text = bytes(chance.choice(b" \t\n\r(){}[]<>-+*/%&|^=!:;,.\"'`_019axfz\x00\x80\xff") for _ in range(size))
+    return text if chance.random() < 0.5 else b"package main\nfunc main() {\n" + text + b"\n}\n"
+
+
+def broken(chance, text):
+    """A text with one piece left out, put in or in place of another, a name in place of a name, or one byte changed."""
+    pieces = [piece.span() for piece in PIECE.finditer(text)]
+    at, end = chance.choice(pieces)
+    other = chance.choice(pieces)
+    names = [piece.span() for piece in re.finditer(rb"[A-Za-z_]\w*", text)]
+    way = chance.randrange(9)
+    if way > 5:
+        (at, end), other = chance.choice(names), chance.choice(names)
+        return text[:at] + text[slice(*other)] + text[end:]
+    if way == 0:
+        return text[:at] + text[end:]
+    if way == 1:
+        return text[:end] + b" " + text[at:]
+    if way == 2:
+        return text[:at] + chance.choice(TOKENS + MALFORMED).encode("latin-1") + text[end:]
+    if way == 3:
+        return text[:at] + text[slice(*other)] + text[end:]
+    if way == 4:
+        return text[:at] + b" " + chance.choice(TOKENS).encode() + b" " + text[at:]
+    place = chance.randrange(len(text))
+    return text[:place] + bytes([chance.getrandbits(8)]) + text[place + 1:]
+
+
+class Grammar:
+    """Files that the grammar spells, without regard to what names and types mean."""
+
+    def __init__(self, chance, levels=5):
+        self.chance, self.levels = chance, levels
+
+    def one_of(self, *ways):
+        return self.chance.choice(ways)()
+
+    def name(self):
+        return self.chance.choice(("a", "b", "c", "f", "g", "int", "bool", "true", "nil", "len", "close", "println", "_"))
+
+    def maybe(self, part, odds=0.5):
+        return part() if self.chance.random() < odds else ""
+
+    def listed(self, part, most=3, joint=" , "):
+        return joint.join(part() for _ in range(self.chance.randint(1, most)))
+
+    def type(self, level):
+        if level <= 0 or self.chance.random() < 0.4:
+            return self.chance.choice(("int", "bool", "struct { }"))
+        inner = self.type(level - 1)
+        return self.chance.choice(("chan " + inner, "chan <- " + inner, "<- chan " + inner, "( " + inner + " )"))
+
+    def expressions(self, level):
+        return self.listed(lambda: self.expression(level))
+
+    def call(self, level):
+        return self.name() + " ( " + self.maybe(lambda: self.expressions(level - 1) + self.maybe(lambda: " ,", 0.2), 0.8) + " )"
+
+    def operand(self, level):
+        if level <= 0:
+            return self.chance.choice(("0", "1", "a", "b", "c", "true", '"s"', "nil"))
+        return self.one_of(
+            lambda: self.operand(0), lambda: self.operand(0), lambda: self.call(level), lambda: "struct { } { }",
+            lambda: "( " + self.expression(level - 1) + " )",
+            lambda: "make ( " + self.type(2) + self.maybe(lambda: " , " + self.expression(level - 1)) + " )")
+
+    def unary(self, level):
+        return self.maybe(lambda: self.chance.choice(("+ ", "- ", "! ", "^ ", "<- ")), 0.3) + self.operand(level)
+
+    def expression(self, level):
+        operators = "* / % << >> & &^ + - | ^ == != < <= > >= && ||".split()
+        parts = [self.unary(level)]
+        while self.chance.random() < 0.3 and len(parts) < 6:
+            parts += [self.chance.choice(operators), self.unary(level - 1)]
+        return " ".join(parts)
+
+    def simple(self, level, defines=True):
+        names = self.listed(self.name)
+        ways = [lambda: self.expression(level), lambda: self.expression(level) + " <- " + self.expression(level),
+                lambda: names + " = " + self.expressions(level), lambda: self.name() + self.chance.choice((" ++", " --")),
+                lambda: self.name() + " " + self.chance.choice(("+=", "-=", "*=", "&^=", "<<=")) + " " + self.expression(level)]
+        return self.one_of(*ways + [lambda: names + " := " + self.expressions(level)] * (3 if defines else 0))
+
+    def block(self, level):
+        return "{\n" + self.statements(level) + "}"
+
+    def statements(self, level):
+        return "".join(self.maybe(lambda: self.statement(level), 0.95) + ";\n" for _ in range(self.chance.randint(0, 3)))
+
+    def condition(self, level):
+        return self.maybe(lambda: self.maybe(lambda: self.simple(1)) + " ; ", 0.3) + self.expression(1) + " "
+
+    def if_statement(self, level):
+        otherwise = lambda: " else " + self.one_of(lambda: self.if_statement(level - 1), lambda: self.block(level - 1))
+        return "if " + self.condition(level) + self.block(level - 1) + (self.maybe(otherwise) if level > 0 else "")
+
+    def for_statement(self, level):
+        heading = self.one_of(
+            lambda: self.maybe(lambda: self.expression(1)),
+            lambda: self.maybe(lambda: self.simple(1)) + " ; " + self.maybe(lambda: self.expression(1)) + " ; "
+            + self.maybe(lambda: self.simple(1, defines=False)),
+            lambda: self.maybe(lambda: self.name() + self.chance.choice((" = ", " := "))) + "range " + self.expression(1))
+        return "for " + heading + " " + self.block(level - 1)
+
+    def receive(self):
+        return self.one_of(lambda: "<- " + self.unary(1), lambda: "( <- " + self.unary(1) + " )")
+
+    def communication(self):
+        return self.one_of(lambda: self.expression(1) + " <- " + self.expression(1), self.receive,
+                           lambda: self.listed(self.name, 2) + self.chance.choice((" = ", " := ")) + self.receive())
+
+    def select(self, level):
+        clauses = [self.chance.choice(("default", "case " + self.communication(), "case " + self.communication())) + " :\n"
+                   + self.statements(level - 1) for _ in range(self.chance.randint(0, 3))]
+        return "select {\n" + "".join(clauses) + "}"
+
+    def statement(self, level):
+        flat = [lambda: self.simple(2), lambda: self.simple(2), lambda: "go " + self.call(1),
+                lambda: "var " + self.listed(self.name) + " " + self.type(2) + self.maybe(lambda: " = " + self.expressions(1)),
+                lambda: "var " + self.listed(self.name) + " = " + self.expressions(1),
+                lambda: "return " + self.maybe(lambda: self.expression(2)),
+                lambda: self.chance.choice(("break ", "continue ")) + self.maybe(self.name, 0.3)]
+        nested = [lambda: self.block(level - 1), lambda: self.if_statement(level), lambda: self.for_statement(level),
+                  lambda: self.select(level), lambda: self.name() + " : " + self.maybe(lambda: self.statement(level - 1), 0.8)]
+        return self.one_of(*flat + (nested if level > 0 else []))
+
+    def function(self, name):
+        parameters = self.chance.sample(("a", "b", "c", "x", "_"), self.chance.randint(0, 4))
+        groups = " , ".join(name + " " + self.type(2) for name in parameters) + self.maybe(lambda: " ,", 0.2) * bool(parameters)
+        return "func " + name + " ( " + groups + " ) " + self.maybe(lambda: self.type(1) + " ", 0.3) + self.block(self.levels)
+
+    def file(self):
+        functions = [self.function(name) for name in self.chance.sample("fgh", self.chance.randint(0, 2))]
+        functions.append("func main ( ) " + self.block(self.levels))
+        return ("package main;\n" + "".join(text + ";\n" for text in functions)).encode()
+
+
+class Typed:
+    """Programs that are well-typed, of all forms of the language."""
+
+    TYPES = ("int", "int", "int", "bool", "chan int", "chan int", "chan bool", "<-chan int", "chan<- int", "struct{}")
+
+    def __init__(self, chance):
+        self.chance, self.count, self.labels = chance, 0, []
+
+    def fresh(self):
+        self.count += 1
+        return "v%d" % self.count
+
+    def held(self, scope, *types):
+        """The variables of these types."""
+        return [name for name, type in scope.items() if type in types]
+
+    def sends(self, scope):
+        return self.held(scope, "chan int", "chan<- int")
+
+    def receives(self, scope):
+        return self.held(scope, "chan int", "<-chan int")
+
+    def number(self, scope, level):
+        pick, held = self.chance.random(), self.held(scope, "int")
+        if level <= 0 or pick < 0.35:
+            return self.chance.choice(held if held and pick < 0.25 else ("0", "1", "2", "7", "100", "0x1F", "0b101", "017"))
+        part = lambda: self.number(scope, level - 1)
+        if pick < 0.65:
+            return "%s %s %s" % (part(), self.chance.choice(("+", "-", "*", "&", "|", "^", "&^")), part())
+        if pick < 0.72:
+            return "(%s)" % part()
+        if pick < 0.8:
+            return self.chance.choice("-^+") + "(%s)" % part()
+        if pick < 0.86 and self.receives(scope):
+            return "<-" + self.chance.choice(self.receives(scope))
+        channels = [name for name, type in scope.items() if "chan" in type]
+        if pick < 0.93 and channels:
+            return self.chance.choice(("len", "cap")) + "(%s)" % self.chance.choice(channels)
+        return "twice(%s)" % part()
+
+    def truth(self, scope, level):
+        pick, held = self.chance.random(), self.held(scope, "bool")
+        if level <= 0 or pick < 0.2:
+            return self.chance.choice(held + ["true", "false"])
+        if pick < 0.6:
+            comparison = self.chance.choice(("==", "!=", "<", "<=", ">", ">="))
+            return "%s %s %s" % (self.number(scope, level - 1), comparison, self.number(scope, level - 1))
+        if pick < 0.8:
+            return "(%s %s %s)" % (self.truth(scope, level - 1), self.chance.choice(("&&", "||")), self.truth(scope, level - 1))
+        channels = self.held(scope, "chan int")
+        if pick < 0.9 or not channels:
+            return "!" + self.chance.choice(held + ["true"])
+        return "%s == nil" % self.chance.choice(channels)
+
+    def value(self, scope, type):
+        if type == "int":
+            return self.number(scope, 3)
+        if type == "bool":
+            return self.truth(scope, 3)
+        if type == "struct{}":
+            return "struct{}{}"
+        held = self.held(scope, type) + (self.held(scope, "chan int") if type in ("<-chan int", "chan<- int") else [])
+        if held and self.chance.random() < 0.5:
+            return self.chance.choice(held)
+        size = self.chance.choice(("", "", ", 2", ", %d" % self.chance.randint(0, 9)))
+        return "make(%s%s)" % (type if type.startswith("chan ") else "chan int", size)
+
+    def define(self, scope):
+        type = self.chance.choice(self.TYPES)
+        name, value = self.fresh(), self.value(scope, type)
+        plain = type not in ("<-chan int", "chan<- int")
+        scope[name] = type
+        ways = ["var %s %s = %s" % (name, type, value), "var %s %s" % (name, type)]
+        return self.chance.choice(ways + ["%s := %s" % (name, value)] * (2 if plain else 0))
+
+    def assign(self, scope):
+        held = self.held(scope, "int")
+        if not held:
+            return "_ = %s" % self.number(scope, 2)
+        x, y = self.chance.choice(held), self.chance.choice(held)
+        operator = self.chance.choice(("+=", "-=", "*=", "&=", "|=", "^=", "&^="))
+        return self.chance.choice((
+            "%s = %s" % (x, self.number(scope, 3)), "%s, %s = %s, %s" % (x, y, y, x),
+            "%s %s %s" % (x, operator, self.number(scope, 2)),
+            x + self.chance.choice(("++", "--")), "%s, _ = %s, true" % (x, self.number(scope, 1))))
+
+    def speak(self, scope):
+        parts = [self.number(scope, 2), self.truth(scope, 2), '"text"', '"\\t\\"q\\\\"']
+        return "println(%s)" % ", ".join(self.chance.sample(parts, self.chance.randint(0, 3)))
+
+    def flat(self, scope):
+        sends, receives = self.sends(scope), self.receives(scope)
+        ways = [self.define, self.define, self.assign, self.assign, self.speak, lambda s: "twice(%s)" % self.number(s, 1)]
+        ways += [lambda s: "%s <- %s" % (self.chance.choice(sends), self.number(s, 2))] * bool(sends)
+        ways += [lambda s: "<-" + self.chance.choice(receives), self.pair] * bool(receives)
+        ways += [lambda s: "close(%s)" % self.chance.choice(sends)] * (bool(sends) and self.chance.random() < 0.3)
+        ways += [lambda s: "go work(%s, %s)" % (self.value(s, "chan int"), self.number(s, 1)), lambda s: "return"]
+        return self.chance.choice(ways)(scope) if self.chance.random() < 0.97 else ""
+
+    def pair(self, scope):
+        name, open = self.fresh(), self.fresh()
+        text = "%s, %s := <-%s" % (name, open, self.chance.choice(self.receives(scope)))
+        scope[name], scope[open] = "int", "bool"
+        return text
+
+    def indented(self, lines):
+        return ["\t" + line for line in lines]
+
+    def body(self, scope, level):
+        inner = dict(scope)
+        return self.indented([line for _ in range(self.chance.randint(0, 3)) for line in self.statement(inner, level - 1)])
+
+    def branch(self, scope, level):
+        lines = ["if %s {" % self.truth(scope, 2)] + self.body(scope, level)
+        pick = self.chance.random()
+        if pick < 0.2:
+            return lines + ["} else if %s {" % self.truth(scope, 1)] + self.body(scope, level) + ["}"]
+        return lines + (["} else {"] + self.body(scope, level) if pick < 0.6 else []) + ["}"]
+
+    def loop(self, scope, level):
+        i, receives = self.fresh(), self.receives(scope)
+        inner = dict(scope, **{i: "int"})
+        heading = "for %s := 0; %s < %d; %s++ {" % (i, i, self.chance.randint(1, 4), i)
+        if receives and self.chance.random() < 0.4:
+            heading = "for %s := range %s {" % (i, self.chance.choice(receives))
+        jump = self.chance.choice(([], ["\tbreak"], ["\tcontinue"], ["\tif %s {" % self.truth(inner, 1), "\t\tbreak", "\t}"]))
+        if self.chance.random() < 0.2:
+            label = "L" + self.fresh()
+            return [label + ":", heading] + self.body(inner, level) + ["\tcontinue " + label, "}"]
+        return [heading] + self.body(inner, level) + jump + ["}"]
+
+    def choose(self, scope, level):
+        lines = ["select {"]
+        for _ in range(self.chance.randint(0, 3)):
+            sends, receives, inner, name = self.sends(scope), self.receives(scope), dict(scope), self.fresh()
+            heads = ["case %s <- %s:" % (self.chance.choice(sends), self.number(scope, 1))] if sends else []
+            if receives:
+                channel = self.chance.choice(receives)
+                heads += ["case <-%s:" % channel, "case %s := <-%s:" % (name, channel)]
+            if heads:
+                head = self.chance.choice(heads)
+                if ":=" in head:
+                    inner[name] = "int"
+                lines += [head] + self.body(inner, level)
+        return lines + (["default:"] + self.body(scope, level) if self.chance.random() < 0.5 else []) + ["}"]
+
+    def statement(self, scope, level):
+        if level <= 0 or self.chance.random() < 0.6:
+            return [self.flat(scope)]
+        way = self.chance.choice((self.branch, self.loop, self.choose, lambda s, l: ["{"] + self.body(s, l) + ["}"]))
+        return way(scope, level)
+
+    def function(self, heading, scope, ending=(), least=3, most=9):
+        lines = [line for _ in range(self.chance.randint(least, most)) for line in self.statement(scope, 3)]
+        return [heading + " {"] + self.indented(lines + list(ending)) + ["}"]
+
+    def program(self, size=0):
+        """A program of at least this many bytes."""
+        lines = ["package main", "", "func twice(k int) int { return k + k }", ""]
+        lines += self.function("func work(c chan int, n int)", {"c": "chan int", "n": "int"})
+        length = 0
+        while length < size:
+            heading = "func %sf(c chan int, n int, b bool)" % self.fresh()
+            more = self.function(heading, {"c": "chan int", "n": "int", "b": "bool"})
+            length += sum(map(len, more)) + len(more)
+            lines += more
+        return "\n".join(lines + self.function("func main()", {}) + [""]).encode()
