@@ -4,3 +4,4 @@ pub mod Words
 pub mod Shifts
 pub mod Turns
 pub mod Lines
+mod FaultLemmas

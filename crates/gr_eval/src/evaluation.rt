@@ -19,7 +19,7 @@ use std::alloc::Global;
 
 /// The value in a cell that has one.
 #[inline]
-fn held<'a>(cells: &'a [Option<Value>], number: usize) -> Seen<'a>
+pub(crate) fn held<'a>(cells: &'a [Option<Value>], number: usize) -> Seen<'a>
     requires { rules.held (slice_get cells.now number) ≢ wrong }
     ensures { rules.held (slice_get cells.now number) ≡ gives (value_of result) }
 {
@@ -101,7 +101,7 @@ pub fn of_numbers(cells: &[Option<Value>], operand: &Operand) -> Option<Result<S
 }
 
 /// The value of the operand, with its name where that lies. No operator makes a name.
-fn look<'a>(cells: &'a [Option<Value>], operand: &Operand) -> Result<Seen<'a>, Fault>
+pub(crate) fn look<'a>(cells: &'a [Option<Value>], operand: &Operand) -> Result<Seen<'a>, Fault>
     requires { rules.evaluate cells.now (operand_of operand.now) ≢ wrong }
     ensures { rules.evaluate cells.now (operand_of operand.now) ≡ seen_outcome result }
 {

@@ -1,9 +1,10 @@
 -- Cells that are written to and put back.
-use Rattle.std.proofs.Common.{◌≡◌, ℕ, zero, suc, List, [], ◌∷◌, ◌++◌, ◌+◌, ◌<◌, length, drop, Option, Some, None, refl, sym, ap, ◌∙◌, arith, length-drop, get_or}
+use Rattle.std.proofs.Common.{◌≡◌, ℕ, ℤ, zero, suc, List, [], ◌∷◌, ◌++◌, ◌+◌, ◌<◌, length, drop, Option, Some, None, refl, sym, ap, ◌∙◌, arith, length-drop, get_or}
 use Rattle.std.specs.Prelude.{slice_set, slice_get, slice_index_or}
 use Rattle.gr_base.specs.declared.values.Value.{Value}
-use Rattle.gr_rules.specs.Outcomes.{Outcome, wrong, ◌>>=◌}
-use Rattle.gr_rules.specs.Evaluation.{Variables}
+use Rattle.gr_base.specs.declared.values.Value.TheVariants as values
+use Rattle.gr_rules.specs.Outcomes.{Outcome, gives, wrong, ◌>>=◌}
+use Rattle.gr_rules.specs.Evaluation.{Variables, held}
 use Rattle.gr_rules.specs.Frames.{assigned, written}
 use Rattle.gr_goros.specs.Undoing.{each_restored}
 
@@ -19,6 +20,14 @@ pub set_back : (cells : Variables) (k : ℕ) (v w r : Option Value) → w ≡ r 
 set_back [] k v w r e h = refl
 set_back (x ∷ cells) zero v w r e h = ap (λ l. l ∷ cells) (e ∙ h)
 set_back (x ∷ cells) (suc k) v w r e h = ap (λ l. x ∷ l) (set_back cells k v w r e h)
+
+-- .. that held a number
+pub number_back : (cells : Variables) (k : ℕ) (v : Option Value) (n : ℤ) → held (slice_get cells k) ≡ gives (values.Int n)
+    → slice_set (slice_set cells k v) k (Some (values.Int n)) ≡ cells
+number_back [] k v n h = refl
+number_back (Some x ∷ cells) zero v n h = cc
+number_back (None ∷ cells) zero v n h = cc
+number_back (x ∷ cells) (suc k) v n h = ap (λ l. x ∷ l) (number_back cells k v n h)
 
 -- values that can be assigned are there
 none_left : (ts : List (Option ℕ)) (cells : Variables) → 0 < length ts → assigned ts [] cells ≡ wrong

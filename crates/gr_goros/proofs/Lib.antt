@@ -1,3 +1,5 @@
+mod AloneLemmas
+mod AlikeLemmas
 mod CellLemmas
 mod CodeLemmas
 mod NeedLemmas

@@ -29,7 +29,7 @@ lines_take zero ls = refl
 lines_take (suc n) [] = refl
 lines_take (suc n) (l ∷ ls) = ap (λ r. l.items ∷ r) (lines_take n ls)
 
-lines_length : {A : Type 0} → (ls : List (Vec ℕ A)) → length (lines_of ls) ≡ length ls
+pub lines_length : {A : Type 0} → (ls : List (Vec ℕ A)) → length (lines_of ls) ≡ length ls
 lines_length [] = refl
 lines_length (l ∷ ls) = ap suc (lines_length ls)
 
@@ -38,7 +38,7 @@ lines_front n ls new e h =
     let m : n - 1 ≡ length (lines_of ls) - 1 = omega (arith, e, lines_length ls) in
     ap lines_of h ∙ lines_take (n - 1) ls ∙ ap (λ n. take n (lines_of ls)) m
 
-next_line : {A : Type 0} → (ls : List (Vec ℕ A)) (i : ℕ) (l : Vec ℕ A) → i < length ls → l ≡ get_or ls i l
+pub next_line : {A : Type 0} → (ls : List (Vec ℕ A)) (i : ℕ) (l : Vec ℕ A) → i < length ls → l ≡ get_or ls i l
     → lines_of (take (i + 1) ls) ≡ lines_of (take i ls) ++ l.items ∷ []
 next_line [] i l h e = absurd (omega (arith, h))
 next_line (x ∷ ls) zero l h e = ap (λ l. l.items ∷ []) (sym e)

@@ -1,5 +1,5 @@
 -- What the code finds of a step, in its own order of look-ups.
-use Rattle.std.specs.Prelude.{◌≡◌, ℕ, List, slice_get, Option, Result, Ok, Err, if◌then◌else◌}
+use Rattle.std.specs.Prelude.{◌≡◌, ℕ, List, slice_get, Option, Some, None, Result, Ok, Err, if◌then◌else◌}
 use Rattle.gr_tree.specs.declared.expr.BinaryOp.{BinaryOp}
 use Rattle.gr_base.specs.declared.values.Value.{Value}
 use Rattle.gr_base.specs.declared.kinds.Kind.{Kind}
@@ -19,6 +19,7 @@ use Rattle.gr_eval.specs.Stops.{Stops}
 use Rattle.gr_code.specs.Goroutines.{CodeGoroutine}
 use Rattle.gr_goros.specs.Undoing.{Undoes, frame_before}
 use Rattle.gr_goros.specs.Views.{Seen}
+use Rattle.gr_goros.specs.declared.undo.FrameUndo.{FrameUndo}
 use Rattle.gr_goros.specs.declared.undo.GoUndo.{GoUndo}
 use Rattle.gr_goros.specs.declared.tasks.Task.{Task}
 use Rattle.gr_goros.specs.declared.tasks.Task.TheVariants as tasks
@@ -64,6 +65,11 @@ TaskIs (tasks.Leaves v) o old new = (o ≡ gives (Wants (Leaves v))) × (new ≡
 abbrev pub Does : Result Task Stop → Outcome frames.Task → CodeFrame → CodeFrame → Type 0
 Does (Ok t) o old new = TaskIs t o old new
 Does (Err s) o old new = Stops s o × (new ≡ old)
+
+-- the frame went on and can go back, or it is as it was
+abbrev pub Counts : Option FrameUndo → Outcome frames.Task → CodeFrame → CodeFrame → Type 0
+Counts (Some u) o old new = (o ≡ gives (Steps new)) × (frame_before u new ≡ old)
+Counts None o old new = new ≡ old
 
 -- the step of a goroutine is of this kind, and its change is undone
 pub record IsStep (r : Kind × GoUndo) (o : Outcome (Kind × CodeGoroutine)) (old new : Seen) : Type 0 where

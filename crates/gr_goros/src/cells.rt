@@ -1,8 +1,9 @@
 //! The cells of a frame: how they are written to, and put back.
 
-ghost use Rattle.std.specs.Prelude.{◌≡◌, ◌+◌, ◌<◌, ◌≤◌, IfOk, OnErr, replicate, slice_set, vec_len, vec_capacity};
+ghost use Rattle.std.specs.Prelude.{◌≡◌, ◌+◌, ◌<◌, ◌≤◌, IfOk, OnErr, replicate, slice_get, slice_set, vec_len, vec_capacity};
+ghost use Rattle.gr_base.specs.declared.values.Value.TheVariants.{Int};
 ghost use Rattle.gr_rules.specs.Outcomes.{gives, wrong};
-ghost use Rattle.gr_rules.specs.Evaluation.{Variables};
+ghost use Rattle.gr_rules.specs.Evaluation.{Variables, held};
 ghost use Rattle.gr_rules.specs.Frames.{assigned};
 ghost use Rattle.gr_goros.specs.Undoing.{each_restored, restored};
 
@@ -65,6 +66,17 @@ fn put(cells: &mut Vec<Option<Value>>, slot: usize, held: Option<Value>)
     if slot < cells.len() {
         cells[slot] = held;
     }
+}
+
+/// Puts a number into a cell that holds another.
+#[inline]
+#[tactic(auto, using(crate::proofs::CellLemmas::number_back))]
+pub(crate) fn put_number(cells: &mut Vec<Option<Value>>, slot: usize, former: i64, n: i64)
+    requires { held (slice_get cells.old.items slot) ≡ gives (Int former) }
+    ensures after { cells.new.items ≡ slice_set cells.old.items slot (Some (Int n)) }
+    ensures back { slice_set cells.new.items slot (Some (Int former)) ≡ cells.old.items }
+{
+    put(cells, slot, Some(Value::Int(n)));
 }
 
 /// Puts back what each of these cells held, the last first.

@@ -1,7 +1,9 @@
 //! Frames of code, and how they go on.
 
-ghost use Rattle.std.specs.Prelude.{◌≡◌, IfOk, OnErr};
+ghost use Rattle.std.specs.Prelude.{◌≡◌, IfOk, OnErr, slice_get};
+ghost use Rattle.gr_base.specs.declared.values.Value.TheVariants.{Int};
 ghost use Rattle.gr_rules.specs.Outcomes.{gives, wrong};
+ghost use Rattle.gr_rules.specs.Evaluation.{held};
 ghost use Rattle.gr_rules.specs.Frames.{assigned};
 ghost use Rattle.gr_code.specs.CodeFrames.{Steps, acted, at_number, with_cell, with_part, with_received, entered, after_in, resumed_in, past_in, past_part_in, past_action_in, past_arm_in};
 ghost use Rattle.gr_code.specs.Instructions.{Assigns};
@@ -170,6 +172,22 @@ impl Frame {
         self.number = on;
         let cells = cells::write(&mut self.cells, slot, value);
         FrameUndo { spot, cells }
+    }
+
+    /// Goes on with a number in a cell that holds another.
+    #[inline]
+    pub(crate) fn set_number(&mut self, slot: usize, former: i64, n: i64, on: usize) -> FrameUndo
+        requires { held (slice_get self.old.cells slot) ≡ gives (Int former) }
+        ensures after { self.new ≡ with_cell self.old slot (Int n) on }
+        ensures back { frame_before result self.new ≡ self.old }
+    {
+        let spot = self.spot();
+        self.number = on;
+        cells::put_number(&mut self.cells, slot, former, n);
+        FrameUndo {
+            spot,
+            cells: Former::Int(slot, former),
+        }
     }
 
     /// Goes on with the value of its part, which is kept nowhere where the part is the whole statement.

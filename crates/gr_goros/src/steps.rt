@@ -20,7 +20,7 @@ use std::alloc::Global;
 use std::mem;
 
 /// How many frames a goroutine may have.
-const MOST_FRAMES: usize = 1000;
+pub(crate) const MOST_FRAMES: usize = 1000;
 
 impl Goroutine {
     /// Whether the next instruction asks for nothing beyond the goroutine: its step is local, unless it is a call that is too
@@ -43,6 +43,24 @@ impl Goroutine {
         ensures err { OnErr result (self.new.content ≡ self.old.content) }
         ensures err_room { OnErr result (self.old.room ≤ self.new.room) }
     {
+        if let Some(undo) = self.top.count(self.top.instruction(code)) {
+            self.steps += 1;
+            return Ok((Kind::Pure, GoUndo::Went(undo)));
+        }
+        self.take_task(alloc, code)
+    }
+}
+
+impl Goroutine {
+    /// Takes the next step, of whatever kind. Refused, nothing has changed.
+    fn take_task(&mut self, alloc: Global, code: &Code) -> Result<(Kind, GoUndo), NoMemory>
+        requires right { ¬ (local (program_code_of code.now) self.old.content ≡ wrong) }
+        requires here { is_local_now (program_code_of code.now) self.old.content ≡ true }
+        requires counted { self.old.content.steps + 1 < 2 ^ 64 }
+        ensures step { IfOk result (λ r. IsStep r (local (program_code_of code.now) self.old.content) self.old self.new) }
+        ensures err { OnErr result (self.new.content ≡ self.old.content) }
+        ensures err_room { OnErr result (self.old.room ≤ self.new.room) }
+    {
         let instruction = self.top.instruction(code);
         let has_caller = !self.below.is_empty();
         match self.top.task(alloc, instruction, has_caller) {
@@ -57,9 +75,7 @@ impl Goroutine {
             Err(Stop::NoMemory) => Err(NoMemory),
         }
     }
-}
 
-impl Goroutine {
     /// A fault.
     fn stop(&mut self, fault: Fault) -> (Kind, GoUndo)
         requires { self.old.content.steps + 1 < 2 ^ 64 }

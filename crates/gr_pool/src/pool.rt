@@ -1,6 +1,6 @@
 //! The pool of ready goroutines.
 
-ghost use Rattle.std.specs.Prelude.{◌≡◌, ◌∷◌, ◌++◌, [], length, true, option_copied, if◌then◌else◌, ◌↔◌, IsTrue, OnOk, OnErr, IsOk};
+ghost use Rattle.std.specs.Prelude.{◌≡◌, ◌∷◌, ◌++◌, [], length, true, option_copied, slice_get, if◌then◌else◌, ◌↔◌, IsTrue, OnOk, OnErr, IsOk};
 ghost use Rattle.gr_pool.specs.Goroutines.{is_among, IsInOrder, with_name, without_name, next_name};
 
 use crate::places::{known_place, next_place, place_of, stands_at};
@@ -84,6 +84,13 @@ impl Pool {
         ensures ordered { IsInOrder self.now.ready }
     {
         self.ready.len()
+    }
+
+    /// The ready goroutine at a place, in name order.
+    pub fn get(&self, place: usize) -> Option<&GoName>
+        ensures { option_copied result ≡ slice_get self.now.ready place }
+    {
+        self.known.get_index(*self.ready.get(place)?)
     }
 
     /// Whether no goroutine is ready.

@@ -1,0 +1,120 @@
+//! Steps of a frame that read and replace whole numbers alone, as most steps do.
+
+ghost use Rattle.std.specs.Prelude.{◌≡◌, slice_get};
+ghost use Rattle.gr_base.specs.declared.values.Value.TheVariants.{Int};
+ghost use Rattle.gr_rules.specs.Outcomes.{gives, wrong};
+ghost use Rattle.gr_rules.specs.Evaluation as rules;
+ghost use Rattle.gr_rules.specs.Operands.{also, nothing};
+ghost use Rattle.gr_code.specs.Instructions.{Assigns};
+ghost use Rattle.gr_code.specs.CodeFrames as frames;
+ghost use Rattle.gr_code.specs.CodeFrames.{with_cell};
+ghost use Rattle.gr_code.specs.CodeViews.{action_of, instruction_of, operand_of, operands_of};
+ghost use Rattle.gr_goros.specs.Tasks.{Counts, performed, tested, updated};
+ghost use Rattle.gr_goros.specs.Undoing.{frame_before};
+
+use crate::frame::Frame;
+use crate::undo::FrameUndo;
+use gr_code::code::{Action, Instruction, Operand};
+use gr_eval::{Scalar, number_in, number_of, of_numbers, on_ints};
+use gr_tree::BinaryOp;
+
+impl Frame {
+    /// Takes the step of an instruction that reads whole numbers alone, and writes one to a cell that holds one, if any.
+    /// `None` where it is another step; the frame is then as it was.
+    #[inline]
+    pub(crate) fn count(&mut self, instruction: &Instruction) -> Option<FrameUndo>
+        requires { ¬ (frames.task self.old (instruction_of instruction.now) ≡ wrong) }
+        ensures { Counts result (frames.task self.old (instruction_of instruction.now)) self.old self.new }
+    {
+        let Instruction::Perform { action, operands } = instruction else {
+            return None;
+        };
+        match operands.as_slice() {
+            [operand] => self.count_by(action, operand),
+            [] => self.count_on(action),
+            _ => None,
+        }
+    }
+
+    /// .. of a statement without operands.
+    #[inline]
+    fn count_on(&mut self, action: &Action) -> Option<FrameUndo>
+        ensures { Counts result (performed self.old (action_of action.now) nothing) self.old self.new }
+    {
+        match action {
+            Action::GoOn { on } => Some(self.go_on(*on)),
+            _ => None,
+        }
+    }
+
+    /// .. of a statement with one operand.
+    #[inline]
+    #[tactic(auto, using(crate::proofs::TaskLemmas::updated_is))]
+    fn count_by(&mut self, action: &Action, operand: &Operand) -> Option<FrameUndo>
+        requires { ¬ (performed self.old (action_of action.now) (also (operand_of operand.now) nothing) ≡ wrong) }
+        ensures { Counts result (performed self.old (action_of action.now) (also (operand_of operand.now) nothing)) self.old self.new }
+    {
+        match action {
+            Action::Update { variable, op, on } => self.count_up(*variable, *op, operand, *on),
+            Action::Test { holds, fails } => self.compare(operand, *holds, *fails),
+            Action::Assign { targets, on } => self.set_one(targets, operand, *on),
+            _ => None,
+        }
+    }
+
+    /// Goes on where a condition on numbers holds, or where it does not.
+    #[inline]
+    fn compare(&mut self, operand: &Operand, holds: usize, fails: usize) -> Option<FrameUndo>
+        requires { ¬ (tested self.old holds fails (also (operand_of operand.now) nothing) ≡ wrong) }
+        ensures { Counts result (tested self.old holds fails (also (operand_of operand.now) nothing)) self.old self.new }
+    {
+        match of_numbers(self.cells(), operand) {
+            Some(Ok(Scalar::Bool(truth))) => {
+                let on = if truth { holds } else { fails };
+                Some(self.go_on(on))
+            }
+            _ => None,
+        }
+    }
+
+    /// Assigns with an operator on numbers.
+    #[inline]
+    fn count_up(
+        &mut self,
+        variable: usize,
+        op: BinaryOp,
+        operand: &Operand,
+        on: usize,
+    ) -> Option<FrameUndo>
+        requires { ¬ (updated self.old variable op on (also (operand_of operand.now) nothing) ≡ wrong) }
+        ensures { Counts result (updated self.old variable op on (also (operand_of operand.now) nothing)) self.old self.new }
+    {
+        let y = number_of(self.cells(), operand)?;
+        let x = number_in(self.cells(), variable)?;
+        match on_ints(op, x, y) {
+            Ok(Scalar::Int(n)) => Some(self.set_number(variable, x, n, on)),
+            _ => None,
+        }
+    }
+
+    /// Assigns a number to one variable.
+    #[inline]
+    fn set_one(
+        &mut self,
+        targets: &[Option<usize>],
+        operand: &Operand,
+        on: usize,
+    ) -> Option<FrameUndo>
+        requires { ¬ (performed self.old (Assigns targets.now on) (also (operand_of operand.now) nothing) ≡ wrong) }
+        ensures { Counts result (performed self.old (Assigns targets.now on) (also (operand_of operand.now) nothing)) self.old self.new }
+    {
+        let [Some(variable)] = targets else {
+            return None;
+        };
+        let x = number_in(self.cells(), *variable)?;
+        match of_numbers(self.cells(), operand) {
+            Some(Ok(Scalar::Int(n))) => Some(self.set_number(*variable, x, n, on)),
+            _ => None,
+        }
+    }
+}
