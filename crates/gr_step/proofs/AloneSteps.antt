@@ -14,15 +14,12 @@ use Rattle.gr_goros.specs.declared.undo.GoUndo.{GoUndo}
 use Rattle.gr_contents.specs.Contents.{Contents, goroutine_of, with_goroutine}
 use Rattle.gr_contents.specs.Local.{local_report}
 use Rattle.gr_contents.specs.Performing.{StepsTo}
-use Rattle.gr_contents.specs.Standing.{AllStand}
+use Rattle.gr_contents.specs.Partners.{AreChannels}
+use Rattle.gr_contents.specs.Standing.{AllStand, ContentsStand}
 use Rattle.gr_lower.specs.Lowered.{lowered, meaning}
-use Rattle.gr_step.specs.declared.objects.Objects.{Objects}
 use Rattle.gr_step.specs.Listings.{frame_in, state_in}
-use Rattle.gr_step.specs.Objects.{contents_in}
-use Rattle.gr_step.specs.Premises.{Acting}
 use Rattle.gr_step.specs.Records.{is_printed}
 use Rattle.gr_step.specs.Taking.{Takes}
-use Rattle.gr_step.proofs.ChoosingLemmas.{are_channels}
 use Rattle.gr_step.proofs.OwnSteps.{own_takes, count_is}
 use Rattle.gr_step.proofs.Reaching.{alone}
 
@@ -30,27 +27,23 @@ use Rattle.gr_step.proofs.Reaching.{alone}
 abbrev pub NoRow : Program → Event → Contents → CodeGoroutine → Kind → Type 0
 NoRow p e s g kind = without_channel (state_in p s) e (goroutine_of (frame_in p) g) kind ≡ touches [] []
 
-pub alone_takes : (p : Program) (e : Event) (number : ℕ) (o : Objects) (acting : Acting p e number o) (tries : Attempt) (after : CodeGoroutine)
-    (k : Kind)
-    (u : GoUndo) (line : Option (List ℕ)) (t : Contents) → undone u after ≡ acting.goroutine → Fits u after
-    → t ≡ with_goroutine (contents_in o) e.go (Some after) → AllStand (meaning p) (lowered p) after.frames
-    → StepsTo (frame_in p) tries (contents_in o) (with_goroutine (contents_in o) e.go (Some after)) (local_report k acting.goroutine line)
-    → is_printed u ≡ is_some line → NoRow p e (contents_in o) acting.goroutine k
-    → Takes p e tries (contents_in o) (record { kind = k; own = u; beyond = None }) t
-alone_takes p e number o acting tries after k u line t back fits is frames steps printed none =
-    let s = contents_in o in
-    let g = acting.goroutine in
+pub alone_takes : (p : Program) (e : Event) (s : Contents) (g : CodeGoroutine) → s.goroutines e.go ≡ Some g → ContentsStand (meaning p) (lowered p) s
+    → AreChannels s → (tries : Attempt) (after : CodeGoroutine) (k : Kind) (u : GoUndo) (line : Option (List ℕ)) (t : Contents)
+    → undone u after ≡ g → Fits u after → t ≡ with_goroutine s e.go (Some after) → AllStand (meaning p) (lowered p) after.frames
+    → StepsTo (frame_in p) tries s (with_goroutine s e.go (Some after)) (local_report k g line)
+    → is_printed u ≡ is_some line → NoRow p e s g k → Takes p e tries s (record { kind = k; own = u; beyond = None }) t
+alone_takes p e s g there stand valid tries after k u line t back fits is frames steps printed none =
     let rows : row (state_in p s) e (local_report k g line) ((state_in p s).goroutines e.go) None ≡ touches [] [] =
-    ap (λ o. row (state_in p s) e (local_report k g line) (option_map (goroutine_of (frame_in p)) o) None) acting.there ∙ none in
-    own_takes p e tries s t g after (record { kind = k; own = u; beyond = None }) s.run (local_report k g line) acting.there back fits
+    ap (λ o. row (state_in p s) e (local_report k g line) (option_map (goroutine_of (frame_in p)) o) None) there ∙ none in
+    own_takes p e tries s t g after (record { kind = k; own = u; beyond = None }) s.run (local_report k g line) there back fits
     (alone e.go k u) refl
     steps
     (record {
-      ordinal = ap (λ n. n + 1) (sym (count_is p s e.go g acting.there));
+      ordinal = ap (λ n. n + 1) (sym (count_is p s e.go g there));
       kind = refl;
       printed = printed;
       operation = refl;
       writes = ap (λ (r : Touches). objects.Go e.go ∷ r.writes) (sym rows);
       reads = ap (λ (r : Touches). each_once (objects.Go e.go ∷ r.writes) (objects.Run ∷ r.reads)) (sym rows);
     })
-    acting.running.stand (are_channels o) frames is
+    stand valid frames is

@@ -71,7 +71,7 @@ module _ (p : Program) (e : Event) (number : ℕ) (o : Objects) (acting : Acting
         let here = acts_here p e number o acting in
         let g = acting.goroutine in
         let first = has_first e.go other in
-        alone_takes p e number o acting (attempt p e) (finished g) kinds.Return u None (contents_in (record o { goroutines = new })) own.back own.fits
+        alone_takes p e (contents_in o) acting.goroutine acting.there acting.running.stand (are_channels o) (attempt p e) (finished g) kinds.Return u None (contents_in (record o { goroutines = new })) own.back own.fits
         (λ j. record { run = run_of o.run; goroutines = own.is j; channels = contents_of o.channels }) tt
         (finish_of_code (meaning p) p (lowered p) (contents_in o) e g here.f here.below leaves.1 first.0 first.1 here.acts leaves.3 plain
         (is_last here.f here.below here.acts.up.frames) first.2)

@@ -60,3 +60,5 @@ mod StartLemmas
 mod StartSteps
 mod TakingItems
 mod WakingLemmas
+pub mod LeasingLemmas
+mod OwnStepLemmas

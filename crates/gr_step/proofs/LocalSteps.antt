@@ -40,6 +40,7 @@ pub record LocallyIs (g : CodeGoroutine) (o : Outcome Task) (kind : Kind) (after
   pub text : TextIs g after (printed_by o)
   pub kind_is : KindIs g after (printed_by o) kind
   pub no_choice : chooses o ≡ false
+  pub status : after.status ≡ g.status
 
 -- .. where there is such a step
 abbrev IfLocal : CodeGoroutine → Outcome Task → Outcome (Kind × CodeGoroutine) → Type 0
@@ -47,24 +48,24 @@ IfLocal g o r = elim r [ gives k ↦ LocallyIs g o k.0 k.1 | _ ↦ Unit {0} ]
 
 module _ (code : ProgramCode) (g : CodeGoroutine) where
   prints_is : (line : List ℕ) (r : Outcome CodeFrame) (below : List CodeFrame) → IfLocal g (gives (Wants (Prints line))) (prints g line r below)
-  prints_is line (gives on) below = record { text = refl; kind_is = λ s e x. refl; no_choice = refl }
+  prints_is line (gives on) below = record { text = refl; kind_is = λ s e x. refl; no_choice = refl; status = refl }
   prints_is line (faults x) below = tt
   prints_is line wrong below = tt
 
   enters_into : (function : ℕ) (vs : List Value) (fs : List CodeFrame) (r : Outcome CodeFrame)
       → IfLocal g (gives (Wants (Enters function vs))) (r >>= λ f. gives (kinds.Call, with_frames g (f ∷ fs)))
-  enters_into function vs fs (gives first) = record { text = refl; kind_is = λ s e x. refl; no_choice = refl }
+  enters_into function vs fs (gives first) = record { text = refl; kind_is = λ s e x. refl; no_choice = refl; status = refl }
   enters_into function vs fs (faults x) = tt
   enters_into function vs fs wrong = tt
 
   enters_is : (function : ℕ) (vs : List Value) (fs : List CodeFrame) (b : Bool) → IfLocal g (gives (Wants (Enters function vs)))
       (if b then gives (kinds.Fault CallDepth, faulted g) else (entered code function vs >>= λ f. gives (kinds.Call, with_frames g (f ∷ fs))))
-  enters_is function vs fs true = record { text = refl; kind_is = (refl, refl); no_choice = refl }
+  enters_is function vs fs true = record { text = refl; kind_is = (refl, refl); no_choice = refl; status = refl }
   enters_is function vs fs false = enters_into function vs fs (entered code function vs)
 
   returns_is : (v : Value) (fs : List CodeFrame) (r : Outcome CodeFrame)
       → IfLocal g (gives (Wants (Leaves v))) (r >>= λ on. gives (kinds.Return, with_frames g (on ∷ fs)))
-  returns_is v fs (gives on) = record { text = refl; kind_is = λ s e x. refl; no_choice = refl }
+  returns_is v fs (gives on) = record { text = refl; kind_is = λ s e x. refl; no_choice = refl; status = refl }
   returns_is v fs (faults x) = tt
   returns_is v fs wrong = tt
 
@@ -79,7 +80,7 @@ module _ (code : ProgramCode) (g : CodeGoroutine) where
   leaves_is v (f ∷ fs) = leaves_at v f fs (instruction_in code f)
 
   by_task : (f : CodeFrame) (below : List CodeFrame) (i : Instruction) (o : Outcome Task) → IfLocal g o (local_by g (local_task code g f below i) o)
-  by_task f below i (gives (Steps on)) = record { text = refl; kind_is = λ s e x. refl; no_choice = refl }
+  by_task f below i (gives (Steps on)) = record { text = refl; kind_is = λ s e x. refl; no_choice = refl; status = refl }
   by_task f below i (gives (Wants (Moves on))) = tt
   by_task f below i (gives (Wants (Prints line))) = prints_is line (after_in f i) below
   by_task f below i (gives (Wants (Enters function vs))) = enters_is function vs (f ∷ below) (is_deepest (f ∷ below))
@@ -91,7 +92,7 @@ module _ (code : ProgramCode) (g : CodeGoroutine) where
   by_task f below i (gives (Wants (Closes c))) = tt
   by_task f below i (gives (Wants (Communicates c))) = tt
   by_task f below i (gives (Wants (Chooses cs))) = tt
-  by_task f below i (faults x) = record { text = refl; kind_is = (refl, refl); no_choice = refl }
+  by_task f below i (faults x) = record { text = refl; kind_is = (refl, refl); no_choice = refl; status = refl }
   by_task f below i wrong = tt
 
 -- the step of a goroutine that is up

@@ -35,6 +35,7 @@ use Rattle.gr_step.specs.Premises.{Acting}
 use Rattle.gr_step.specs.Records.{is_printed, HasRoom}
 use Rattle.gr_step.specs.Taking.{Takes}
 use Rattle.gr_step.proofs.AloneSteps.{alone_takes}
+use Rattle.gr_step.proofs.ChoosingLemmas.{are_channels}
 use Rattle.gr_step.proofs.FaultSteps.{fault_takes, plain_fault_row}
 use Rattle.gr_step.proofs.FrameNeeds.{need_none}
 use Rattle.gr_step.proofs.LocalSteps.{TextIs, LocallyIs, locally_is, plain_kind}
@@ -51,7 +52,7 @@ pub record Stepped (code : ProgramCode) (n : List ℕ) (g : CodeGoroutine) (kind
   pub own : Placed n g after u old new
 
 -- a line is printed where the text has it
-printed_as : (g after : CodeGoroutine) (u : GoUndo) (line : Option (List ℕ)) → undone u after ≡ g → Fits u after → TextIs g after line
+pub printed_as : (g after : CodeGoroutine) (u : GoUndo) (line : Option (List ℕ)) → undone u after ≡ g → Fits u after → TextIs g after line
     → is_printed u ≡ is_some line
 printed_as g after u None back fits text = not_printed g after u back fits text
 printed_as g after u (Some line) back fits text = printed g after u line back text
@@ -115,7 +116,7 @@ module _ (p : Program) (e : Event) (number : ℕ) (o : Objects) (acting : Acting
           let line = printed_by (task_of (lowered p) g) in
           let what = locally_is (meaning p) p (lowered p) s e g up.f up.below kind stepped.after up.acts stepped.is in
           let kinds_are = plain_kind g stepped.after line kind other what.kind_is in
-          alone_takes p e number o acting (attempt p e) stepped.after kind u line (contents_in (record o { goroutines = new })) stepped.own.back
+          alone_takes p e (contents_in o) acting.goroutine acting.there acting.running.stand (are_channels o) (attempt p e) stepped.after kind u line (contents_in (record o { goroutines = new })) stepped.own.back
           stepped.own.fits
           (λ j. record { run = run_of o.run; goroutines = stepped.own.is j; channels = contents_of o.channels })
           (local_step_keeps_standing (meaning p) (lowered p) p g stepped.after kind (code_fits p s acting.running)

@@ -20,3 +20,4 @@ pub mod Possible
 pub mod Unstepping
 pub mod Kept
 pub mod Conflicts
+pub mod Leasing

@@ -12,6 +12,7 @@ mod communicating;
 mod ending;
 mod faults;
 pub mod few;
+pub mod leasing;
 pub mod listing;
 mod local;
 mod making;
@@ -33,6 +34,7 @@ mod waiting;
 mod waking;
 
 pub use few::Few;
+pub use leasing::{Batch, Lease};
 pub use listing::Listing;
 pub use objects::Run;
 pub use record::{Operation, Record};

@@ -26,9 +26,9 @@ use std::sync::Arc;
 /// The state of a running program, changed in place.
 #[derive(Drop)]
 pub struct Store {
-    listing: Listing,
-    objects: Objects,
-    taken: u64,
+    pub(crate) listing: Listing,
+    pub(crate) objects: Objects,
+    pub(crate) taken: u64,
 }
 
 impl Store {

@@ -1,0 +1,226 @@
+//! Steps that a goroutine takes on a copy of it, away from its store.
+
+ghost use Rattle.std.specs.Prelude.{◌≡◌, ◌↔◌, [], length, Some, IfOk, OnErr, IfSome, IfNone, IsTrue, IsFalse};
+ghost use Rattle.std.specs.Prelude.{ℕ, List};
+ghost use Rattle.gr_program.specs.Programs.{Program};
+ghost use Rattle.gr_rules.specs.Goroutines.{ready};
+ghost use Rattle.gr_rules.specs.States.{live};
+ghost use Rattle.gr_code.specs.Goroutines.{CodeGoroutine};
+ghost use Rattle.gr_contents.specs.Contents.{Contents};
+ghost use Rattle.gr_contents.specs.Partners.{AreChannels};
+ghost use Rattle.gr_lower.specs.Lowered.{lowered};
+ghost use Rattle.gr_step.specs.declared.record.Record.{Record as RecordSeen};
+ghost use Rattle.gr_step.specs.Premises.{Running};
+ghost use Rattle.gr_contents.specs.Contents.{with_goroutine};
+ghost use Rattle.gr_step.specs.Leasing.{IsLease, SameLoan, LeadsOn, Stays, HasOwnStep, CanCountOn, IsLoanOf, IsUp, IsAsLent, Walk, AreRecords, loan_of, loan_kept, name_lent, records_led, program_lent, goroutine_led_to, goes_alone};
+
+use crate::listing::Listing;
+use crate::objects::Run;
+use crate::record::{Change, Record};
+use crate::store::Store;
+use gr_base::{Choice, GoName, Kind, NoMemory, StepId};
+use gr_goros::{Goroutine, Status};
+use std::alloc::Global;
+use std::mem;
+
+/// What is kept of the steps that a goroutine took on a copy of it: the program, its name, the goroutine as it was lent, and how
+/// many they were.
+#[derive(Drop)]
+pub struct Batch {
+    pub(crate) listing: Listing,
+    pub(crate) go: GoName,
+    pub(crate) lent: Goroutine,
+    pub(crate) len: usize,
+}
+
+impl Batch {
+    /// The name of the goroutine.
+    pub fn go(&self) -> &GoName
+        ensures { result.now ≡ (loan_kept self.now).name }
+    {
+        &self.go
+    }
+
+    /// How many steps it took.
+    pub fn len(&self) -> usize
+        ensures { result ≡ (loan_kept self.now).steps }
+    {
+        self.len
+    }
+}
+
+/// A copy of a goroutine, with the steps that it took by itself since it was lent.
+#[derive(Drop)]
+pub struct Lease {
+    pub(crate) batch: Batch,
+    /// The goroutine after its steps.
+    pub(crate) reached: Goroutine,
+    pub(crate) records: Vec<Record>,
+}
+
+impl Lease {
+    /// The name of its goroutine.
+    pub fn go(&self) -> &GoName
+        ensures { result.now ≡ (loan_of self.now).name }
+    {
+        self.batch.go()
+    }
+
+    /// How many steps it took.
+    pub fn len(&self) -> usize
+        ensures { result ≡ (loan_of self.now).steps }
+    {
+        self.batch.len()
+    }
+
+    /// What is kept of it.
+    pub fn into_batch(self) -> Batch
+        ensures { loan_kept result ≡ loan_of self }
+    {
+        self.batch
+    }
+
+    /// Takes the records of its steps out.
+    pub fn take_records(&mut self, alloc: Global) -> Vec<Record>
+        ensures records { result.items ≡ records_led self.old }
+        ensures none { records_led self.new ≡ [] }
+        ensures loan { loan_of self.new ≡ loan_of self.old }
+        ensures reached { goroutine_led_to self.new ≡ goroutine_led_to self.old }
+    {
+        mem::replace(&mut self.records, Vec::new(alloc))
+    }
+
+    /// Takes the next step of the goroutine, if it has one that reaches no further than itself and is no fault, and tells whether
+    /// it has. Refused, or where it has none, nothing has changed.
+    pub fn step(&mut self, alloc: Global) -> Result<bool, NoMemory>
+        requires { IsLease self.old }
+        ensures lease { IsLease self.new }
+        ensures loan { SameLoan self.old self.new }
+        ensures goes { IfOk result (λ goes. IsTrue goes → LeadsOn self.old self.new) }
+        ensures none { IfOk result (λ goes. IsFalse goes → CanCountOn (goroutine_led_to self.old)
+            → ¬ HasOwnStep (lowered (program_lent self.old)) (goroutine_led_to self.old)) }
+        ensures stays { IfOk result (λ goes. IsFalse goes → Stays self.old self.new) }
+        ensures err { OnErr result (Stays self.old self.new) }
+    {
+        if self.reached.steps() == u64::MAX || !self.reached.is_local(&self.batch.listing.code) {
+            return Ok(false);
+        }
+        self.records.reserve(1)?;
+        let id = StepId {
+            go: self.batch.go.copy(alloc)?,
+            n: self.reached.steps() + 1,
+        };
+        let (kind, own) = self.reached.local_step(alloc, &self.batch.listing.code)?;
+        if let Kind::Fault(_) = kind {
+            let _ = self.reached.undo(own);
+            return Ok(false);
+        }
+        let change = Change {
+            kind,
+            own,
+            beyond: None,
+        };
+        self.records.push_reserved(Record {
+            id,
+            choice: Choice::Plain,
+            change,
+        });
+        self.batch.len = self.records.len();
+        Ok(true)
+    }
+}
+
+impl Store {
+    ghost use Rattle.gr_step.specs.Stores.{IsRun, SameListing, contents_at, state_at, taken_at};
+
+    /// Whether the program runs and the next step of a goroutine is local. It takes no memory.
+    pub fn has_own_step(&self, go: &GoName) -> bool
+        requires { IsRun self.now }
+        ensures { result ≡ goes_alone (state_at self.now) go.now }
+    {
+        let Run::Live = self.objects.run else {
+            return false;
+        };
+        let Some(goroutine) = self.goroutine(go) else {
+            return false;
+        };
+        let Status::Ready = goroutine.status() else {
+            return false;
+        };
+        goroutine.goes_alone(&self.listing.code)
+    }
+
+    /// A copy of a goroutine, to take steps of its own; `None` where it is not ready, or the program does not run.
+    pub fn lend(&self, alloc: Global, go: &GoName) -> Result<Option<Lease>, NoMemory>
+        requires { IsRun self.now }
+        ensures lease { IfOk result (λ o. IfSome o (λ l. IsLease l × IsLoanOf self.now go.now l)) }
+        ensures none { IfOk result (λ o. IfNone o (¬ IsUp (contents_at self.now) go.now)) }
+    {
+        let Run::Live = self.objects.run else {
+            return Ok(None);
+        };
+        let Some(goroutine) = self.goroutine(go) else {
+            return Ok(None);
+        };
+        let Status::Ready = goroutine.status() else {
+            return Ok(None);
+        };
+        let listing = Listing {
+            program: self.listing.program.clone()?,
+            code: self.listing.code.clone()?,
+        };
+        let batch = Batch {
+            listing,
+            go: go.copy(alloc)?,
+            lent: goroutine.copy(alloc)?,
+            len: 0,
+        };
+        Ok(Some(Lease {
+            batch,
+            reached: goroutine.copy(alloc)?,
+            records: Vec::new(alloc),
+        }))
+    }
+
+    /// Whether the goroutine of a lease is as it was lent, in a run of the same program that goes on.
+    pub fn has_as_lent(&self, lease: &Lease) -> bool
+        ensures { IsTrue result ↔ IsAsLent lease.now self.now }
+    {
+        let Run::Live = self.objects.run else {
+            return false;
+        };
+        let Some(goroutine) = self.goroutine(&lease.batch.go) else {
+            return false;
+        };
+        goroutine.is_like(&lease.batch.lent)
+            && *self.listing.program == *lease.batch.listing.program
+    }
+
+    /// Gives a goroutine that is as it was lent the content after the steps of its lease, which gets the old one. It takes no memory.
+    pub fn take_over(&mut self, lease: &mut Lease)
+        requires { IsAsLent lease.old self.old }
+        ensures after { contents_at self.new ≡ with_goroutine (contents_at self.old) (name_lent lease.old) (Some (goroutine_led_to lease.old)) }
+        ensures loan { loan_of lease.new ≡ loan_of lease.old }
+        ensures records { records_led lease.new ≡ records_led lease.old }
+        ensures taken { taken_at self.new ≡ taken_at self.old }
+        ensures listing { SameListing self.old self.new }
+    {
+        let Some(number) = self.objects.goroutines.number(&lease.batch.go) else {
+            unreachable!();
+        };
+        let Some(goroutine) = self.objects.goroutines.remove(number) else {
+            unreachable!();
+        };
+        let reached = mem::replace(&mut lease.reached, goroutine);
+        self.objects.goroutines.put(number, reached);
+    }
+}
+
+/// The steps of a lease, taken where its goroutine is as it was lent, are those of the store, with their records, one after the
+/// other; they leave the goroutine as the lease has it, and ready.
+pub fn law_of_leases()
+    ensures { (p : Program) (s : Contents) (n : List ℕ) (from to : CodeGoroutine) (records : List RecordSeen)
+        → Running p s → AreChannels s → s.run ≡ live → s.goroutines n ≡ Some from → from.status ≡ ready
+        → Walk (lowered p) n from records to
+        → AreRecords p s records (with_goroutine s n (Some to)) × Running p (with_goroutine s n (Some to)) × (to.status ≡ ready) }
+{}
