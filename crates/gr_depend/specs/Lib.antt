@@ -5,6 +5,7 @@ pub mod Told
 pub mod Lists
 pub mod Logs
 pub mod Room
+pub mod Aside
 pub mod Marks
 pub mod Walks
 pub mod Marked

@@ -1,6 +1,6 @@
 //! The log of the steps that were taken.
 
-ghost use Rattle.std.specs.Prelude.{◌≡◌, ◌<◌, ◌++◌, ◌∷◌, [], ℕ, List, length, true, slice_index_or, slice_get, option_copied, IfErr, OnOk, OnErr, IfSome, IfNone, IsOk, IsTrue, MatchOption, ◌↔◌, ◌-◌};
+ghost use Rattle.std.specs.Prelude.{◌≡◌, ◌<◌, ◌++◌, vec_len, vec_capacity, ◌∷◌, [], ℕ, List, length, true, slice_index_or, slice_get, option_copied, IfErr, OnOk, OnErr, IfSome, IfNone, IsOk, IsTrue, MatchOption, ◌↔◌, ◌-◌};
 ghost use Rattle.std.specs.List.{list_all};
 ghost use Rattle.std.proofs.Props.{props};
 ghost use Rattle.gr_base.specs.declared.objects.Object.{Object};
@@ -28,6 +28,7 @@ pub struct Log {
 impl Log {
     ghost use Rattle.gr_depend.specs.Logs.{records_of};
     ghost use Rattle.gr_depend.specs.Room.{CanTake};
+    ghost use Rattle.gr_depend.specs.Aside.{IsLaidAside};
     ghost use Rattle.gr_step.specs.declared.record.Record.{Record};
 
     /// A log without steps. It takes no memory.
@@ -107,6 +108,28 @@ impl Log {
         let step = self.records.pop()?;
         self.lanes.forget(&step);
         Some(step)
+    }
+
+    /// Lays the last step behind others that were laid aside. It takes no memory.
+    pub fn lay_aside(&mut self, aside: &mut Vec<Record>)
+        requires some { 0 < length (records_of self.old) }
+        requires room { vec_len aside.old < vec_capacity aside.old }
+        ensures { IsLaidAside self.old aside.old self.new aside.new }
+    {
+        let step = self.records.pop().unwrap();
+        self.lanes.forget(&step);
+        aside.push_reserved(step);
+    }
+
+    /// Adds a step at the end for which there is room. It takes no memory.
+    pub fn push_reserved(&mut self, step: Record)
+        requires once { Distinct (touched_by step) }
+        requires room { (rest : List Record) × CanTake self.old (step ∷ rest) }
+        ensures records { records_of self.new ≡ records_of self.old ++ step ∷ [] }
+        ensures room { (rest : List Record) → CanTake self.old (step ∷ rest) → CanTake self.new rest }
+    {
+        self.lanes.note(self.records.len() as u64, &step).unwrap();
+        self.records.push_reserved(step);
     }
 
     /// Every log can take no steps.

@@ -106,9 +106,7 @@ impl Course {
         if marks[place - at] {
             return self.remove_last(alloc, rollback);
         }
-        if let Some(step) = self.log.pop() {
-            rollback.stay.push_reserved(step);
-        }
+        self.log.lay_aside(&mut rollback.stay);
         Ok(())
     }
 
@@ -144,7 +142,7 @@ impl Course {
     {
         let mut stay = stay;
         while let Some(step) = stay.pop() {
-            self.log.push(step).unwrap();
+            self.log.push_reserved(step);
         }
     }
 }

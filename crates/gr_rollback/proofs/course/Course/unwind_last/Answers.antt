@@ -14,8 +14,9 @@ returns-then-marks-place-clause-way c =
     c.requires.within false (ap (λ n. get_or c.args.marks.now ((n - 1) - c.args.at) false) (sym c.len-place.ensures) ∙ c.if-marks-place.true)
     c.remove_last.ensures.ok c.remove_last.ensures.err c.remove_last.ensures.room c.remove_last.ensures.err_rollback
 
-pub returns-in-Some-clause-way : goal.returns-in-Some-clause-way
-returns-in-Some-clause-way c =
-    aside_goes_on c.args.at c.args.marks.now c.args.self.now c.args.rollback.now _ _ (records_of c.pop.new.self) c.in-Some.step
+pub returns-clause-way : goal.returns-clause-way
+returns-clause-way c =
+    let laid = c.lay_aside.ensures in
+    aside_goes_on c.args.at c.args.marks.now c.args.self.now c.args.rollback.now _ _ (records_of c.lay_aside.new.self) laid.step
     c.requires.within false (ap (λ n. get_or c.args.marks.now ((n - 1) - c.args.at) false) (sym c.len-place.ensures) ∙ c.if-marks-place.false)
-    c.in-Some.ensures.taken refl refl refl refl c.in-Some.ensures.room c.push_reserved.ensures.items c.push_reserved.ensures.len c.push_reserved.ensures.capacity refl refl
+    laid.records refl refl refl refl laid.room laid.items laid.len laid.capacity refl refl
