@@ -62,11 +62,12 @@ export class App {
   refuse(said) {
     const fault = parseFault(said) || { code: "", text: said };
     const message = `${this.transcript.meaning(fault.code) || fault.text} (${fault.text})`;
-    this.editor.refuse(fault, message);
+    const isAtItsLine = this.editor.refuse(fault, message);
     this.transcript.fault(fault.text);
     find("refusal").textContent = fault.line ? `Refused at line ${fault.line}: ${message}` : `Refused: ${message}`;
+    find("refusal").classList.toggle("unseen", isAtItsLine);
     this.showNothing();
-    this.say("The source is refused.", true);
+    this.say(fault.line ? `The source is refused at line ${fault.line}.` : "The source is refused.", true);
   }
 
   showNothing() {

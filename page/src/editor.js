@@ -19,6 +19,7 @@ export class Editor {
       inputStyle: "contenteditable",
       indentWithTabs: true,
       indentUnit: 4,
+      lineWrapping: true,
       screenReaderLabel: "Source text",
       // The tab key leaves the editor, so that nobody is caught in it.
       extraKeys: { Tab: false, "Shift-Tab": false, "Ctrl-Enter": () => on.open(), "Cmd-Enter": () => on.open() },
@@ -26,7 +27,17 @@ export class Editor {
     this.marks = [];
     this.chosen = null;
     this.editor.on("change", () => on.change());
+    this.editor.on("renderLine", (_, line, shown) => this.indentRest(line, shown));
+    this.editor.refresh();
     this.editor.on("gutterClick", (_, line) => on.toggleBreak(line + 1));
+  }
+
+  // Where a line takes several, the others begin a little further in than the first.
+  indentRest(line, shown) {
+    const columns = window.CodeMirror.countColumn(line.text, null, this.editor.getOption("tabSize")) + 2;
+    const inset = columns * this.editor.defaultCharWidth();
+    shown.style.textIndent = `-${inset}px`;
+    shown.style.paddingLeft = `${4 + inset}px`;
   }
 
   get text() {
@@ -73,10 +84,10 @@ export class Editor {
     this.editor.scrollIntoView({ line: line - 1, ch: 0 }, 60);
   }
 
-  // Shows a refusal below its line, and underlines from its column on. Columns count bytes.
+  // Shows a refusal below its line, and underlines from its column on. Columns count bytes. Returns whether there is such a line.
   refuse({ line, column }, message) {
     this.clearRefusal();
-    if (!line || line > this.editor.lineCount()) return;
+    if (!line || line > this.editor.lineCount()) return false;
     const text = this.editor.getLine(line - 1);
     const at = decoder.decode(encoder.encode(text).subarray(0, column - 1)).length;
     const end = at + (/^(\w+|.)?/.exec(text.slice(at))[0].length || 1);
@@ -85,6 +96,7 @@ export class Editor {
     this.refusedLine = this.editor.addLineClass(line - 1, "background", "refused-line");
     this.widget = this.editor.addLineWidget(line - 1, element("div", "refusal-note", message), { noHScroll: true });
     this.reveal(line);
+    return true;
   }
 
   clearRefusal() {

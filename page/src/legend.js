@@ -8,6 +8,7 @@ const MARK_NAMES = [
   ["", '<path class="mark" d="M2 4h12v8h-12z"/>', "closes"],
   ["fault", '<path class="mark" d="M3 3l10 10m0 -10l-10 10"/>', "fault"],
 ];
+const WAITING = '<line class="asleep" x1="8" y1="0" x2="8" y2="16"/>';
 const EDGE_NAMES = [["message", "message"], ["start", "start"], ["close", "close"], ["order", "order of waiting"]];
 const SIDE_NAMES = [["cause", "↑", "cause"], ["consequence", "↓", "consequence"]];
 
@@ -24,5 +25,6 @@ export function legend() {
     return `<span>${drawing(name, shown)}${text}</span>`;
   };
   const numbers = "<span>#5 its number</span><span>:6 its line</span>";
-  return [...marks, ...edges, ...SIDE_NAMES.map(side), numbers].join("");
+  const waiting = `<span>${drawing("", WAITING)}waits</span>`;
+  return [...marks, waiting, ...edges, ...SIDE_NAMES.map(side), numbers].join("");
 }

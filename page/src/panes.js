@@ -37,6 +37,7 @@ export function showGoroutines(host, model, clauses, chosen, on) {
   const focused = host.contains(document.activeElement) ? document.activeElement : null;
   const place = focused && { label: focused.getAttribute("aria-label") || focused.textContent };
   host.replaceChildren(...model.goroutines.map((it) => goroutineCard(it, clauses.get(it.name), it.name === chosen, model.isOver, on)));
+  if (!model.goroutines.length) host.append(make("p", { class: "none" }, "There is no session."));
   if (model.hidden) host.append(make("p", { class: "none" }, `${model.hidden} goroutines and channels more: ask for them by name.`));
   if (!place) return;
   const same = [...host.querySelectorAll("button")].find((it) => (it.getAttribute("aria-label") || it.textContent) === place.label);
@@ -44,13 +45,13 @@ export function showGoroutines(host, model, clauses, chosen, on) {
 }
 
 function listed(title, values) {
-  return [make("dt", {}, title), make("dd", { class: values.length ? "" : "none" }, values.length ? values.join("  ") : "none")];
+  return make("div", {}, make("dt", {}, title), make("dd", { class: values.length ? "" : "none" }, values.length ? values.join("  ") : "none"));
 }
 
 function channelCard(channel) {
   const state = `${channel.isClosed ? "closed" : "open"}, room for ${channel.capacity}`;
   const top = make("div", { class: "top" }, make("strong", {}, channel.name), make("span", { class: "state" }, state));
-  const rows = [...listed("items", channel.items), ...listed("senders", channel.senders), ...listed("receivers", channel.receivers)];
+  const rows = [listed("items", channel.items), listed("senders", channel.senders), listed("receivers", channel.receivers)];
   return make("div", { class: "card", "data-channel": channel.name }, top, make("dl", { class: "queues" }, ...rows));
 }
 

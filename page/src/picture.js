@@ -8,6 +8,7 @@ export const HEAD = 30; // height of the row of names
 const GUTTER = 46; // width of the row numbers
 const LETTER = 7; // width of a letter of a label
 const NAME_LETTER = 7.3; // and of a name
+const LAST_LABEL = 145; // room for a label of the last column
 
 export const PICTURE_RULES = `
 .picture text{font:12px ui-monospace,Menlo,Consolas,monospace;fill:var(--text)}
@@ -49,20 +50,24 @@ function labelParts(step, note) {
   return { number: `#${step.number}`, kind, line: note?.line ? `:${note.line}` : "", printed };
 }
 
-function labelWidth(step, note) {
+export function labelWidth(step, note) {
   const parts = Object.values(labelParts(step, note)).filter((part) => part);
   return LETTER * parts.reduce((sum, part) => sum + part.length + 1, 0);
 }
 
-// The distance of two columns. A label may reach over the columns beside its own, since each row has one step.
-function pitchOf(names) {
-  const longest = Math.max(...names.map((name) => name.length));
-  return Math.max(names.length > 12 ? 60 : names.length > 6 ? 78 : 100, Math.round(longest * NAME_LETTER) + 12);
+// The distance of two columns. A label may reach over the columns beside its own, since each row has one step. Where there is less
+// `room` than the usual distance takes, the columns come closer together, as far as their names allow.
+function pitchOf(names, room) {
+  const least = Math.round(Math.max(...names.map((name) => name.length)) * NAME_LETTER) + 12;
+  const usual = Math.max(names.length > 12 ? 60 : names.length > 6 ? 78 : 100, least);
+  const fitting = Math.floor((room - GUTTER - 22 - LAST_LABEL) / Math.max(1, names.length - 1));
+  return Math.min(usual, Math.max(fitting, least, 48));
 }
 
-// Where everything stands. `first` is the first row that is shown at all; `notes` gives a step's note or nothing.
-export function layOut(steps, names, notes, rowHeight, first = 0) {
-  const pitch = pitchOf(names.length ? names : ["g0"]);
+// Where everything stands. `first` is the first row that is shown at all; `notes` gives a step's note or nothing; `room` is the
+// width that there is.
+export function layOut(steps, names, notes, rowHeight, first = 0, room = Infinity) {
+  const pitch = pitchOf(names.length ? names : ["g0"], room);
   const lefts = new Map(names.map((name, column) => [name, GUTTER + 22 + column * pitch]));
   const spans = new Map(names.map((name) => [name, []]));
   let width = GUTTER + 22 + names.length * pitch - pitch / 2;
@@ -80,9 +85,10 @@ const markers = ["message", "start", "close", "order"].map(
 );
 const DEFINITIONS = `<defs>${markers.join("")}</defs>`;
 
-export function drawNames({ names, lefts }) {
+// The names above the columns, but for those that are scrolled under the margin.
+export function drawNames({ names, lefts }, left = 0) {
   const name = (it) => `<text class="name halo" x="${lefts.get(it)}" y="20">${it}</text>`;
-  return names.map(name).join("");
+  return names.filter((it) => !left || lefts.get(it) > left + GUTTER).map(name).join("");
 }
 
 // The place of the last row that is at most this one, or 0.
@@ -150,18 +156,26 @@ function drawStep(place, row, view) {
   const classes = ["step", isWait(step.kind) ? "wait" : word(step.kind), side];
   if (step.id === view.pointed) classes.push("pointed");
   if (view.forbids.includes(step.id)) classes.push("forbids");
-  const wash = side ? `<rect class="wash" x="0" y="${y - place.rowHeight / 2}" width="${Math.max(place.width, view.wide || 0)}" height="${place.rowHeight}"/>` : "";
+  const washed = (width) => `<rect class="wash" x="0" y="${y - place.rowHeight / 2}" width="${width}" height="${place.rowHeight}"/>`;
+  const wash = side ? washed(Math.max(place.width, view.wide || 0)) : "";
   const arrow = SIDES[side] ? `<text class="side" x="8" y="${y + 4}">${SIDES[side]}</text>` : "";
   const ring = view.forbids.includes(step.id) ? `<circle class="ring" cx="${x}" cy="${y}" r="10"/>` : "";
   const shown = drawMark(step.kind, x, y) + ring + drawLabel(step, place.notes(step.id), x + 11, y + 4);
-  const number = `<text class="number" x="${GUTTER - 8}" y="${y + 4}">${row + 1}</text>`;
+  const number = `${arrow}<text class="number" x="${GUTTER - 8}" y="${y + 4}">${row + 1}</text>`;
   const group = `<g class="${classes.join(" ")}"`;
   const option = view.describe ? ` role="option" id="row-${row}" aria-label="${escaped(view.describe(step, row))}"` : "";
-  return { under: `${group}>${wash}</g>`, over: `${group}${option} data-step="${step.id}">${arrow}${number}${shown}</g>` };
+  const over = `${group}${option} data-step="${step.id}">${view.left ? "" : number}${shown}</g>`;
+  return { under: `${group}>${wash}</g>`, over, beside: `${group}>${side ? washed(GUTTER - 4) : ""}${number}</g>` };
 }
 
-// The part of the picture between two rows. `view` says which step is pointed at, what the others are to it (`sides`), and which
-// two forbid an order (`forbids`).
+// The numbers of the rows, and what each step is to the one that is pointed at, where the picture is scrolled to the right.
+function drawMargin(place, drawn, left) {
+  const sheet = `<rect class="sheet" x="0" y="0" width="${GUTTER - 4}" height="${place.height}"/>`;
+  return `<g class="margin" transform="translate(${left})">${sheet}${drawn.map((it) => it.beside).join("")}</g>`;
+}
+
+// The part of the picture between two rows. `view` says which step is pointed at, what the others are to it (`sides`), which two
+// forbid an order (`forbids`), and how far the picture is scrolled to the right (`left`).
 export function drawRows(place, rows, edges, view, from, to) {
   const last = Math.min(to, place.steps.length - 1);
   const drawn = [];
@@ -169,7 +183,8 @@ export function drawRows(place, rows, edges, view, from, to) {
   const crosses = ({ from: source, to: target }) => rows.get(source) <= last && rows.get(target) >= from && rows.get(source) >= place.first;
   const arrows = edges.filter(crosses).map((edge) => drawEdge(place, rows, edge));
   const lives = place.names.map((name) => drawLife(place, name, from, last));
-  return [drawn.map((it) => it.under), lives, arrows, drawn.map((it) => it.over)].flat().join("");
+  const margin = view.left ? drawMargin(place, drawn, view.left) : "";
+  return [drawn.map((it) => it.under), lives, arrows, drawn.map((it) => it.over), margin].flat().join("");
 }
 
 export const NOTHING_POINTED = { pointed: null, sides: new Map(), forbids: [] };

@@ -1,6 +1,6 @@
 // The space-time picture in the page: only the rows in view are drawn. It tells of pointing, choosing, dragging and keys.
 
-import { HEAD, NOTHING_POINTED, drawNames, drawRows, layOut, pictureDefinitions, savedPicture } from "./picture.js";
+import { HEAD, NOTHING_POINTED, drawNames, drawRows, labelWidth, layOut, pictureDefinitions, savedPicture } from "./picture.js";
 
 const HEIGHTS = [14, 18, 22, 28, 36];
 const AROUND = 8; // rows drawn beyond those in view
@@ -63,14 +63,13 @@ export class PictureView {
 
   place() {
     if (!this.names) return;
-    this.layout = layOut(this.steps, this.names, this.notes, this.rowHeight, this.first);
+    this.layout = layOut(this.steps, this.names, this.notes, this.rowHeight, this.first, this.host.clientWidth);
     const { height } = this.layout;
     const width = Math.max(this.layout.width, this.host.clientWidth);
     for (const [it, tall] of [[this.head, HEAD], [this.body, height]]) {
       it.setAttribute("width", width);
       it.setAttribute("height", tall);
     }
-    this.head.innerHTML = drawNames(this.layout);
     this.draw();
   }
 
@@ -98,7 +97,9 @@ export class PictureView {
   draw() {
     if (!this.layout) return;
     const [from, to] = this.inView();
-    const view = { ...this.view, describe: this.describe, wide: this.host.clientWidth };
+    const left = this.host.scrollLeft;
+    const view = { ...this.view, describe: this.describe, wide: this.host.clientWidth, left };
+    this.head.innerHTML = drawNames(this.layout, left);
     this.drawn.innerHTML = drawRows(this.layout, this.rows, this.edges, view, from, to);
     this.above.innerHTML = this.drawTakeBack() + this.drawDrop();
     const row = this.rows.get(this.view.pointed);
@@ -117,11 +118,13 @@ export class PictureView {
     return `<g class="take-back"><rect x="${x}" y="${y}" width="${width}" height="20"/><text x="${x + width / 2}" y="${y + 14}">${text}</text></g>`;
   }
 
-  // Where a button of this width leaves the step of the row free: right of it, or else left.
+  // Where a button of this width leaves the step of the row and its label free: right of them, or else left.
   besideStep(row, width) {
+    const step = this.steps[row];
     const { scrollLeft, clientWidth } = this.host;
-    const inView = this.layout.lefts.get(this.steps[row].goroutine) - scrollLeft;
-    return scrollLeft + (inView > clientWidth / 2 ? Math.max(48, inView - width - 40) : clientWidth - width - 8);
+    const x = this.layout.lefts.get(step.goroutine);
+    const right = x + 20 + labelWidth(step, this.notes(step.id));
+    return right + width + 8 <= scrollLeft + clientWidth ? right : Math.max(scrollLeft + 48, x - width - 20);
   }
 
   drawDrop() {

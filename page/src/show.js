@@ -11,13 +11,20 @@ export function describeStep(step, row, note, count) {
   return `${step.id}, ${step.kind}${line}${printed}, ${row + 1} of ${count}`;
 }
 
+// What is said where no step is chosen.
+function hint(model) {
+  if (!model) return "There is no session.";
+  if (!model.steps.length) return "No step was taken yet: step a goroutine, run, or take the next command of the example.";
+  return "Point at a step: its causes and its consequences get a colour.";
+}
+
 export function showChosen(app) {
   const { about, model } = app;
   const text = find("chosen-text");
   for (const name of ["back", "earlier", "later"]) find(name).disabled = !about;
   find("back").firstChild.textContent = about ? `Take back ${about.consequences + 1}` : "Take back";
   if (!about) {
-    text.replaceChildren("Point at a step: its causes and its consequences get a colour.");
+    text.replaceChildren(hint(model));
     return;
   }
   const row = model.row(about.id);
