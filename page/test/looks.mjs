@@ -3,7 +3,7 @@
 
 import { Browser } from "./browser.mjs";
 import { Hands } from "./hands.mjs";
-import { equal, verdict } from "./expected.mjs";
+import { equal, holds, verdict } from "./expected.mjs";
 
 const [page, folder] = process.argv.slice(2);
 const ENOUGH = 4.5;
@@ -36,6 +36,28 @@ function unnamed() {
   return all.filter((it) => !named(it)).map((it) => it.outerHTML.slice(0, 80));
 }
 
+// Runs in the page: how much of the editor's width beside the numbers of lines the note of a refusal leaves unused.
+function besideNote() {
+  const [note, gutters, editor] = [".refusal-note", ".CodeMirror-gutters", "#editor"].map((it) => document.querySelector(it).getBoundingClientRect());
+  return Math.round(editor.width - gutters.width - note.width);
+}
+
+// Runs in the page: steps whose labels reach out of the picture.
+function clippedLabels() {
+  const { right } = document.getElementById("picture").getBoundingClientRect();
+  const labels = [...document.querySelectorAll("#picture [data-step]")].filter((it) => it.querySelector(".halo").getBoundingClientRect().right > right);
+  return labels.map((it) => it.dataset.step);
+}
+
+// The table of keys, and the ring around what has the focus.
+async function lookAtHelp(browser, name) {
+  await browser.run("document.getElementById('help').click()");
+  equal(`faint texts of the help, ${name}`, await browser.run(`(${faintTexts})(${ENOUGH})`), []);
+  equal(`keys that are shown, ${name}`, await browser.run("[...document.querySelectorAll('#keys kbd')].filter((it) => !it.getClientRects().length).length"), 0);
+  await browser.shot(`${folder}/help-${name}.png`);
+  await browser.run("document.getElementById('help-dialog').close()");
+}
+
 async function look(browser, hands, width, scheme) {
   const height = width > 1000 ? 800 : 2300;
   await browser.size(width, height, scheme);
@@ -46,10 +68,14 @@ async function look(browser, hands, width, scheme) {
   equal(`faint texts at ${width}, ${scheme}`, await browser.run(`(${faintTexts})(${ENOUGH})`), []);
   equal(`controls without a name at ${width}`, await browser.run(`(${unnamed})()`), []);
   equal(`width of the page at ${width}`, await browser.run("document.documentElement.scrollWidth"), width);
+  equal(`clipped labels at ${width}`, await browser.run(`(${clippedLabels})()`), []);
+  await browser.run("document.getElementById('picture').focus()");
   await browser.shot(`${folder}/page-${width}-${scheme}.png`);
   await hands.story("number_too_large");
   equal(`faint texts of a refusal at ${width}, ${scheme}`, await browser.run(`(${faintTexts})(${ENOUGH})`), []);
+  holds(`the note of a refusal takes the width at ${width}`, (await browser.run(`(${besideNote})()`)) < 12);
   await browser.shot(`${folder}/refused-${width}-${scheme}.png`);
+  await lookAtHelp(browser, `${width}-${scheme}`);
 }
 
 const browser = await Browser.open();
@@ -58,9 +84,6 @@ try {
   await browser.size(1280, 800);
   await browser.load(page);
   for (const width of [1280, 400]) for (const scheme of ["light", "dark"]) await look(browser, new Hands(browser), width, scheme);
-  await browser.size(1280, 800, "light");
-  await browser.run("document.getElementById('help').click()");
-  await browser.shot(`${folder}/help-1280-light.png`);
   status = verdict("looks", browser.faults);
 } catch (fault) {
   console.log(fault, browser.faults);
