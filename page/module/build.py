@@ -46,10 +46,10 @@ def tools(folder, work):
 
 
 def link(folder, work, program, out):
-    """Links the program's object file with the two C files of this folder."""
+    """Links the program's object file with the C files of this folder."""
     clang, archive = f"{folder}/toolchain/bin/clang", f"{work}/program.a"
     parts = [program]
-    for name in ("heap", "system"):
+    for name in ("heap", "system", "threads"):
         parts.append(f"{work}/{name}.o")
         subprocess.run(["clang", *C_WORDS, "-c", f"{HERE}/{name}.c", "-o", parts[-1]], executable=clang, check=True)
     subprocess.run(["llvm-ar", "rc", archive, *parts], executable=clang, check=True)

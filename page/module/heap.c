@@ -78,3 +78,8 @@ answer rattle_realloc(void *block, size kept, size bytes, size alignment) {
   rattle_dealloc(block);
   return (answer){1, moved};
 }
+
+void *malloc(size bytes) { return take(bytes); }
+void free(void *block) {
+  if (block) rattle_dealloc(block);
+}
