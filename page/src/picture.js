@@ -8,7 +8,8 @@ export const HEAD = 30; // height of the row of names
 const GUTTER = 46; // width of the row numbers
 const LETTER = 7; // width of a letter of a label
 const NAME_LETTER = 7.3; // and of a name
-const LAST_LABEL = 145; // room for a label of the last column
+const BESIDE = 15; // from the middle of a mark to its label, past the tip of an arrow
+const LAST_LABEL = 149; // room for a label of the last column
 
 export const PICTURE_RULES = `
 .picture text{font:12px ui-monospace,Menlo,Consolas,monospace;fill:var(--text)}
@@ -73,7 +74,7 @@ export function layOut(steps, names, notes, rowHeight, first = 0, room = Infinit
   let width = GUTTER + 22 + names.length * pitch - pitch / 2;
   steps.forEach((step, row) => {
     spans.get(step.goroutine).push(row);
-    if (row >= first) width = Math.max(width, lefts.get(step.goroutine) + 22 + labelWidth(step, notes(step.id)));
+    if (row >= first) width = Math.max(width, lefts.get(step.goroutine) + BESIDE + 11 + labelWidth(step, notes(step.id)));
   });
   const y = (row) => HEAD + (row - first + 0.5) * rowHeight;
   return { steps, names, notes, rowHeight, first, lefts, spans, y, width: Math.ceil(width), height: y(steps.length) + 6 };
@@ -160,7 +161,7 @@ function drawStep(place, row, view) {
   const wash = side ? washed(Math.max(place.width, view.wide || 0)) : "";
   const arrow = SIDES[side] ? `<text class="side" x="8" y="${y + 4}">${SIDES[side]}</text>` : "";
   const ring = view.forbids.includes(step.id) ? `<circle class="ring" cx="${x}" cy="${y}" r="10"/>` : "";
-  const shown = drawMark(step.kind, x, y) + ring + drawLabel(step, place.notes(step.id), x + 11, y + 4);
+  const shown = drawMark(step.kind, x, y) + ring + drawLabel(step, place.notes(step.id), x + BESIDE, y + 4);
   const number = `${arrow}<text class="number" x="${GUTTER - 8}" y="${y + 4}">${row + 1}</text>`;
   const group = `<g class="${classes.join(" ")}"`;
   const option = view.describe ? ` role="option" id="row-${row}" aria-label="${escaped(view.describe(step, row))}"` : "";

@@ -123,7 +123,7 @@ export class PictureView {
     const step = this.steps[row];
     const { scrollLeft, clientWidth } = this.host;
     const x = this.layout.lefts.get(step.goroutine);
-    const right = x + 20 + labelWidth(step, this.notes(step.id));
+    const right = x + 24 + labelWidth(step, this.notes(step.id));
     return right + width + 8 <= scrollLeft + clientWidth ? right : Math.max(scrollLeft + 48, x - width - 20);
   }
 
