@@ -166,13 +166,14 @@ function drawStep(place, row, view) {
   const group = `<g class="${classes.join(" ")}"`;
   const option = view.describe ? ` role="option" id="row-${row}" aria-label="${escaped(view.describe(step, row))}"` : "";
   const over = `${group}${option} data-step="${step.id}">${view.left ? "" : number}${shown}</g>`;
-  return { under: `${group}>${wash}</g>`, over, beside: `${group}>${side ? washed(GUTTER - 4) : ""}${number}</g>` };
+  return { under: `${group}>${wash}</g>`, over, beside: `${group}>${side ? washed(GUTTER) : ""}${number}</g>` };
 }
 
 // The numbers of the rows, and what each step is to the one that is pointed at, where the picture is scrolled to the right.
 function drawMargin(place, drawn, left) {
-  const sheet = `<rect class="sheet" x="0" y="0" width="${GUTTER - 4}" height="${place.height}"/>`;
-  return `<g class="margin" transform="translate(${left})">${sheet}${drawn.map((it) => it.beside).join("")}</g>`;
+  const sheet = `<rect class="sheet" x="0" y="0" width="${GUTTER}" height="${place.height}"/>`;
+  const rule = `<path class="rule" d="M${GUTTER} 0v${place.height}"/>`;
+  return `<g class="margin" transform="translate(${left})">${sheet}${drawn.map((it) => it.beside).join("")}${rule}</g>`;
 }
 
 // The part of the picture between two rows. `view` says which step is pointed at, what the others are to it (`sides`), which two
