@@ -6,7 +6,7 @@ import { Model } from "./model.js";
 import { Annotator } from "./annotate.js";
 import { clausesAt } from "./clauses.js";
 import { PORTION, runInPortions } from "./runs.js";
-import { find, pause } from "./element.js";
+import { find, inSteps, pause } from "./element.js";
 import { NOTHING_POINTED } from "./picture.js";
 
 const EDGES_AT_ONCE = 40; // steps whose edges are found in one go
@@ -121,8 +121,8 @@ export class App {
     if (!reply.isOk) return this.transcript.meaning(reply.words[1]) || "This line is no command.";
     if (word === "step") return `${reply.words[1]}: ${this.kindInWords(reply.words.slice(2).join(" "))}`;
     if (word === "undo") return `${reply.words[1]} is taken back.`;
-    if (word === "back") return `${count} steps are taken back: ${reply.words[2]} and what rested on it.`;
-    if (word === "redo") return `${count} steps are taken again.`;
+    if (word === "back") return `${inSteps(count)} taken back: ${reply.words[2]}${count === 1 ? "" : " and what rested on it"}.`;
+    if (word === "redo") return `${inSteps(count)} taken again.`;
     if (word === "order") return "The steps stand in the new order. The state is the same.";
     if (word === "run") return this.endOfRun(Number(reply.words[1]), reply.words.slice(2).join(" "));
     return "";
@@ -130,12 +130,12 @@ export class App {
 
   endOfRun(taken, reason) {
     const why = reason.startsWith("break") ? `a breakpoint at line ${reason.slice(6)}` : ENDS_OF_RUNS[reason] || reason;
-    return `${taken} steps taken: ${why}.`;
+    return `${inSteps(taken)} taken: ${why}.`;
   }
 
   kindInWords(kind) {
     const said = this.given.kinds[kind.split(" ")[0]] || "";
-    return said ? `${kind} (it ${said})` : kind;
+    return said ? `${kind} (${said.startsWith("a ") ? "" : "it "}${said})` : kind;
   }
 
   // A run of more steps than are asked for at once.

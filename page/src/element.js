@@ -17,6 +17,8 @@ export function tableRow(name, text, says) {
   return make("tr", {}, make("th", { scope: "row" }, make(name, {}, text)), make("td", {}, says));
 }
 
+export const inSteps = (count) => `${count} ${count === 1 ? "step" : "steps"}`;
+
 export const find = (id) => document.getElementById(id);
 
 // Lets the page draw and take clicks.

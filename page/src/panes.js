@@ -1,6 +1,6 @@
 // The panes: goroutines with their frames and buttons, channels with their queues, and the console.
 
-import { make } from "./element.js";
+import { inSteps, make } from "./element.js";
 
 function frameRows({ name, variables }) {
   const values = variables.length ? variables.map((it) => `${it.name} = ${it.value}`) : ["no variables"];
@@ -8,8 +8,7 @@ function frameRows({ name, variables }) {
 }
 
 function stateText({ state, steps, line }) {
-  const taken = `${steps} ${steps === 1 ? "step" : "steps"}`;
-  return line ? `${state} at line ${line}, ${taken}` : `${state}, ${taken}`;
+  return line ? `${state} at line ${line}, ${inSteps(steps)}` : `${state}, ${inSteps(steps)}`;
 }
 
 // The buttons of a goroutine that is ready: one step, or one for each clause of a select that can be taken.

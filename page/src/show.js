@@ -1,8 +1,6 @@
 // What the page says of the chosen step, and which of its buttons can be used.
 
-import { find, make } from "./element.js";
-
-const steps = (count) => `${count} ${count === 1 ? "step" : "steps"}`;
+import { find, inSteps, make } from "./element.js";
 
 // One sentence on a step, for those who see the picture and those who do not.
 export function describeStep(step, row, note, count) {
@@ -29,9 +27,9 @@ export function showChosen(app) {
   }
   const row = model.row(about.id);
   const said = `${describeStep(model.steps[row], row, app.annotator.note(about.id), model.steps.length)}. It rests on `;
-  const causes = make("span", { class: "cause-word" }, `${steps(about.causes)} ↑`);
-  const consequences = make("span", { class: "consequence-word" }, `${steps(about.consequences)} ↓`);
-  text.replaceChildren(make("strong", {}, app.pinned ? "Chosen: " : ""), said, causes, "; on it rest ", consequences, ".");
+  const causes = make("span", { class: "cause-word" }, `${inSteps(about.causes)} ↑`);
+  const consequences = make("span", { class: "consequence-word" }, `${inSteps(about.consequences)} ↓`);
+  text.replaceChildren(make("strong", {}, app.pinned ? "Chosen: " : ""), said, causes, about.consequences === 1 ? "; on it rests " : "; on it rest ", consequences, ".");
   find("earlier").disabled = row === 0;
   find("later").disabled = row === model.steps.length - 1;
 }
