@@ -1,6 +1,6 @@
 // What the log does not tell of its steps: the line of each, what it printed, and which steps of others it rests on directly.
 //
-// A second session of the same program takes the same steps, so that the user's own session gets no questions of the page. It
+// A second session of the same program takes the same steps, so that the user's own session gets none of these questions. It
 // follows the log: it undoes to where they differ, and steps on from there.
 
 import { askAll, goroutineOf, parseGoroutine, stepName } from "./protocol.js";
