@@ -1,4 +1,5 @@
-// story.mjs PAGE.html: stories by clicks and keys. What panes and picture show is compared with docs/SESSIONS.md's replies.
+// story.mjs PAGE.html: stories by clicks and keys, where the program waits and where it is run anew for each exchange. What panes
+// and picture show is compared with docs/SESSIONS.md's replies.
 
 import { Browser } from "./browser.mjs";
 import { Hands } from "./hands.mjs";
@@ -132,17 +133,20 @@ async function longRuns(hands) {
   await hands.source("package main\nfunc main() {}\n");
 }
 
-const browser = await Browser.open();
-let status = 1;
-try {
-  await browser.size(1280, 800);
-  await browser.load(process.argv[2]);
-  const hands = new Hands(browser);
-  for (const part of [takeBackAndDoAgain, messages, pickClauses, exchangeNeighbours, refusals, longRuns]) await part(hands);
-  status = verdict("stories by clicks and keys", browser.faults);
-} catch (fault) {
-  console.log(fault, browser.faults);
-} finally {
-  await browser.close();
+async function stories(hash) {
+  const browser = await Browser.open();
+  try {
+    await browser.size(1280, 800);
+    await browser.load(process.argv[2], hash);
+    const hands = new Hands(browser);
+    for (const part of [takeBackAndDoAgain, messages, pickClauses, exchangeNeighbours, refusals, longRuns]) await part(hands);
+    return verdict(`stories by clicks and keys, ${hash ? "run anew for each exchange" : "in one run that waits"}`, browser.faults);
+  } catch (fault) {
+    console.log(fault, browser.faults);
+    return 1;
+  } finally {
+    await browser.close();
+  }
 }
-process.exit(status);
+
+process.exit((await stories("")) || (await stories("#repeat")));
