@@ -15,7 +15,7 @@ function stateText({ state, steps, line }) {
 function stepButtons(goroutine, clauses, on) {
   const step = make("button", { type: "button", onclick: () => on.step(goroutine.name), "aria-label": `Step ${goroutine.name}` }, "Step");
   const picks = (clauses || []).map(({ number, text }) =>
-    make("button", { type: "button", onclick: () => on.step(goroutine.name, number), "aria-label": `Clause ${number} of ${goroutine.name}: ${text}` },
+    make("button", { type: "button", onclick: () => on.step(goroutine.name, number), "aria-label": `Clause ${number}: ${text}, of ${goroutine.name}` },
       `${number}: `, make("code", {}, text)),
   );
   return make("div", { class: "buttons" }, step, ...picks);

@@ -52,7 +52,7 @@ async function pickClauses(hands) {
   await hands.clickLabel("Step g0.2");
   equal("both clauses are offered", await hands.goroutine("g0"), "g0 ready at line 11, 5 steps main left = g0/c1 right = g0/c2 Step 1: v := <-left 2: v := <-right");
   equal("a sender waits", await hands.channel("g0/c2"), "g0/c2 open, room for 0 items none senders g0.2=2 receivers none");
-  await hands.clickLabel("Clause 2 of g0: v := <-right");
+  await hands.clickLabel("Clause 2: v := <-right, of g0");
   equal("the second clause", await hands.lastReply(), ["> step g0 2", "ok g0#6 pick 2"]);
   await hands.key("u");
   await hands.browser.run("rewind.app.chooseGoroutine('g0')");
