@@ -23,6 +23,12 @@ pub drop_cases : (cs : List code_case.Case) (i : ℕ) (c : code_case.Case) → i
     → cases_of (drop i cs) ≡ case_on (get_or cs i c) (cases_of (drop (i + 1) cs))
 drop_cases cs i c lt = rw add-one (ap cases_of (drop-cons cs i c lt))
 
+pub drop_no_stmts : (ss : List rows.Stmt) (i : ℕ) → length ss ≤ i → stmts_of (drop i ss) ≡ stop
+drop_no_stmts [] zero le = refl
+drop_no_stmts [] (suc i) le = refl
+drop_no_stmts (s ∷ ss) zero le = absurd (omega arith)
+drop_no_stmts (s ∷ ss) (suc i) le = drop_no_stmts ss i (omega arith)
+
 pub drop_no_cases : (cs : List code_case.Case) (i : ℕ) → length cs ≤ i → cases_of (drop i cs) ≡ no_case
 drop_no_cases [] zero le = refl
 drop_no_cases [] (suc i) le = refl
@@ -141,3 +147,7 @@ received_on_code targets body others d o o1 o' on to ways pre out1 out2 e1 e2 et
 pub on_ok_both : {A B : Type 0} {P Q R : Type 0} (r : Result A B) → OnOk r P → OnOk r Q → (P → Q → R) → OnOk r R
 on_ok_both (Ok x) h k f = f h k
 on_ok_both (Err e) h k f = tt
+
+pub always_ok : {A B : Type 0} {P : Type 0} (r : Result A B) → P → OnOk r P
+always_ok (Ok x) h = h
+always_ok (Err e) h = tt

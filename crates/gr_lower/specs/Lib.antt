@@ -1,6 +1,7 @@
 -- The code of a program: its instructions one after another, with the points that they mean.
 pub mod PartCode
 pub mod Sizes
+pub mod Asked
 pub mod StatementCode
 pub mod Lines
 pub mod StatementPoints

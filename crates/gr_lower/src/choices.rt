@@ -6,13 +6,14 @@ ghost use Rattle.gr_rules.specs.Points.{case_operands};
 ghost use Rattle.gr_code.specs.CodeViews.{arm_of, arms_of, instructions_of};
 ghost use Rattle.gr_code.specs.Passing.{parts_in};
 ghost use Rattle.gr_lower.specs.PartCode.{code_in};
-ghost use Rattle.gr_lower.specs.Sizes.{size_among};
+ghost use Rattle.gr_lower.specs.Asked.{clause_sizes, Asking};
 ghost use Rattle.gr_lower.specs.StatementCode.{entry as spec_entry, into as spec_into, arms};
 ghost use Rattle.gr_lower.specs.TurnHeadings.{select_heading};
 
 use crate::expressions::{lower_expr, put};
 use crate::parts::sum;
-use crate::sizing::{count_cases, size_of_all, size_of_case, size_of_targets};
+use crate::sizes::Sizes;
+use crate::sizing::count_cases;
 use gr_base::NoMemory;
 use gr_code::code::{Arm, Instruction};
 use gr_program::program::Case;
@@ -35,15 +36,14 @@ fn into(targets: &[Option<usize>], first: usize) -> Result<Option<(usize, usize)
     Ok(Some((first, sum(first, 1)?)))
 }
 
-// The parts of the operands of a clause, the first with the temporary `next`, and its arm; its instructions begin at `begins`.
+// The parts of the operands of a clause, the first with the temporary `next`, and its arm, which leads to `to`.
 fn lower_arm(
     alloc: Global,
     out: &mut Vec<Instruction>,
     case: &Case,
     next: usize,
     first: usize,
-    begins: usize,
-    on: usize,
+    to: usize,
 ) -> Result<Arm, NoMemory>
     ensures code { OnOk result ((others : Cases)
         → instructions_of out.new.items ++ code_in (case_operands others) (next + (vec_len out.new - vec_len out.old)) (vec_len out.new)
@@ -51,38 +51,29 @@ fn lower_arm(
     ensures grown { OnOk result ((others : Cases)
         → vec_len out.new + parts_in (case_operands others) ≡ vec_len out.old + parts_in (case_operands (case_on case.now others))) }
     ensures more { OnOk result (vec_len out.old ≤ vec_len out.new) }
-    ensures value { IfOk result (λ a. (others : Cases) (n : ℕ) → size_among (case_on case.now others) ≡ n + size_among others
-        → arms (case_on case.now others) next first begins on
+    ensures value { IfOk result (λ a. (others : Cases) (n begins on : ℕ) → clause_sizes (case_on case.now others) ≡ n ∷ clause_sizes others
+        → to ≡ spec_entry n begins on → arms (case_on case.now others) next first begins on
         ≡ arm_of a ∷ arms others (next + (vec_len out.new - vec_len out.old)) first (begins + n) on) }
 {
     match case {
-        Case::Default(body) => {
-            let many = size_of_all(body)?;
-            let on = entry(many, begins, on);
-            Ok(Arm::Default { on })
-        }
-        Case::Send {
-            channel,
-            value,
-            body,
-        } => {
-            let many = size_of_all(body)?;
-            let on = entry(many, begins, on);
+        Case::Default(_) => Ok(Arm::Default { on: to }),
+        Case::Send { channel, value, .. } => {
             let start = out.len();
             let channel = lower_expr(alloc, out, channel, next)?;
             let next = sum(next, out.len() - start)?;
             let value = lower_expr(alloc, out, value, next)?;
-            Ok(Arm::Send { channel, value, on })
+            Ok(Arm::Send {
+                channel,
+                value,
+                on: to,
+            })
         }
         Case::Receive {
             targets,
             channel,
             zero,
-            body,
+            ..
         } => {
-            let many = size_of_all(body)?;
-            let all = sum(size_of_targets(targets), many)?;
-            let on = entry(all, begins, on);
             let channel = lower_expr(alloc, out, channel, next)?;
             let into = into(targets, first)?;
             let zero = *zero;
@@ -90,7 +81,7 @@ fn lower_arm(
                 channel,
                 zero,
                 into,
-                on,
+                on: to,
             })
         }
     }
@@ -100,6 +91,7 @@ fn lower_arm(
 pub fn lower_arms(
     alloc: Global,
     out: &mut Vec<Instruction>,
+    sizes: &mut Sizes,
     cases: &[Case],
     first: usize,
     begins: usize,
@@ -108,15 +100,17 @@ pub fn lower_arms(
     ensures code { OnOk result (instructions_of out.new.items
         ≡ instructions_of out.old.items ++ code_in (case_operands (cases_of cases.now)) first (vec_len out.old)) }
     ensures grown { OnOk result (vec_len out.new ≡ vec_len out.old + parts_in (case_operands (cases_of cases.now))) }
-    ensures value { IfOk result (λ xs. arms_of xs.items ≡ arms (cases_of cases.now) first first begins on) }
+    ensures value { IfOk result (λ xs. Asking (λ rest. clause_sizes (cases_of cases.now) ++ rest) sizes.old sizes.new
+        (arms_of xs.items ≡ arms (cases_of cases.now) first first begins on)) }
 {
     let start = out.len();
     let mut found = Vec::new(alloc);
     let mut place = begins;
     for case in cases {
         let next = sum(first, out.len() - start)?;
-        let many = size_of_case(case)?;
-        let arm = lower_arm(alloc, out, case, next, first, place, on)?;
+        let many = sizes.ask();
+        let to = entry(many, place, on);
+        let arm = lower_arm(alloc, out, case, next, first, to)?;
         found.push(arm)?;
         let after = sum(place, many)?;
         place = after;
@@ -128,15 +122,16 @@ pub fn lower_arms(
 pub fn head_select(
     alloc: Global,
     out: &mut Vec<Instruction>,
+    sizes: &mut Sizes,
     cases: &[Case],
     first: usize,
     on: usize,
 ) -> Result<(), NoMemory>
-    ensures code { OnOk result (instructions_of out.new.items
-        ≡ instructions_of out.old.items ++ select_heading (cases_of cases.now) first (vec_len out.old) on) }
+    ensures code { OnOk result (Asking (λ rest. clause_sizes (cases_of cases.now) ++ rest) sizes.old sizes.new (instructions_of out.new.items
+        ≡ instructions_of out.old.items ++ select_heading (cases_of cases.now) first (vec_len out.old) on)) }
     ensures grown { OnOk result (vec_len out.new ≡ vec_len out.old + (parts_in (case_operands (cases_of cases.now)) + 1)) }
 {
     let begins = sum(sum(out.len(), count_cases(cases)?)?, 1)?;
-    let arms = lower_arms(alloc, out, cases, first, begins, on)?;
+    let arms = lower_arms(alloc, out, sizes, cases, first, begins, on)?;
     put(out, Instruction::Choose { arms })
 }

@@ -11,6 +11,7 @@ mod lowering;
 mod nesting;
 mod parts;
 mod placing;
+mod sizes;
 mod sizing;
 mod statements;
 

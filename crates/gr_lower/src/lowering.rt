@@ -10,6 +10,7 @@ use crate::acts::perform_none;
 use crate::frames::cells_of;
 use crate::nesting::Ways;
 use crate::placing::lines_of;
+use crate::sizes::Sizes;
 use crate::sizing::size_of_all;
 use crate::statements::lower_stmts;
 use gr_base::NoMemory;
@@ -37,9 +38,18 @@ fn count_variables(variables: &[Variable]) -> usize
 fn lower_body(alloc: Global, body: &[Stmt], variables: usize) -> Result<Vec<Instruction>, NoMemory>
     ensures { IfOk result (λ xs. instructions_of xs.items ≡ body_code variables (stmts_of body.now)) }
 {
+    let mut sizes = Sizes::new(alloc);
+    let many = size_of_all(alloc, &mut sizes, body)?;
     let mut out = Vec::new(alloc);
-    let many = size_of_all(body)?;
-    lower_stmts(alloc, &mut out, body, many, variables, many, &Ways::Outside)?;
+    lower_stmts(
+        alloc,
+        &mut out,
+        &mut sizes,
+        body,
+        variables,
+        many,
+        &Ways::Outside,
+    )?;
     perform_none(alloc, &mut out, Action::Return)?;
     Ok(out)
 }

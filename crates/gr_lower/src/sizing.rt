@@ -1,5 +1,5 @@
 //! How many instructions statements have.
-ghost use Rattle.std.specs.Prelude.{◌≡◌, ◌+◌, ◌∷◌, [], IfOk};
+ghost use Rattle.std.specs.Prelude.{◌≡◌, ◌+◌, ◌++◌, ◌∷◌, [], ℕ, List, IfOk, OnOk};
 ghost use Rattle.gr_tree.specs.Statements.{optional};
 ghost use Rattle.gr_program.specs.Programs.{Cases};
 ghost use Rattle.gr_program.specs.Views.{expr_of, prints_of, act_of, opening_of, stmt_of, stmts_of, case_on, cases_of};
@@ -7,11 +7,14 @@ ghost use Rattle.gr_rules.specs.Operands.{operand_of};
 ghost use Rattle.gr_rules.specs.Points.{printed_operands, case_operands};
 ghost use Rattle.gr_code.specs.Passing.{parts_in};
 ghost use Rattle.gr_lower.specs.Sizes.{whole_size as spec_whole, returned, tested, act_size, opening_size, targets_size, size, size_in, size_among};
+ghost use Rattle.gr_lower.specs.Asked.{clause_sizes, asked, asked_in, asked_among};
 
 use crate::parts::{count, count_all, sum};
+use crate::sizes::Sizes;
 use gr_base::NoMemory;
 use gr_program::program::{Case, Opening, Printed};
 use gr_program::{Act, Expr, Stmt};
+use std::alloc::Global;
 
 // A call or a receive is over with its last part.
 fn whole_size(value: &Expr) -> Result<usize, NoMemory>
@@ -97,14 +100,15 @@ pub fn size_of_targets(targets: &[Option<usize>]) -> usize
     if targets.is_empty() { 0 } else { 1 }
 }
 
-/// How many instructions a statement has.
+/// How many instructions a statement has. Notes the sizes that writing them asks for.
 #[cycle(sizing)]
-pub fn size_of(stmt: &Stmt) -> Result<usize, NoMemory>
-    ensures { IfOk result (λ n. n ≡ size (stmt_of stmt.now)) }
+fn size_of(alloc: Global, sizes: &mut Sizes, stmt: &Stmt) -> Result<usize, NoMemory>
+    ensures noted { OnOk result (sizes.new ≡ asked (stmt_of stmt.now) sizes.old) }
+    ensures value { IfOk result (λ n. n ≡ size (stmt_of stmt.now)) }
 {
     match stmt {
         Stmt::Act { act, .. } => size_of_act(act),
-        Stmt::Block(body) => size_of_all(body),
+        Stmt::Block(body) => size_of_all(alloc, sizes, body),
         Stmt::If {
             init,
             condition,
@@ -112,9 +116,13 @@ pub fn size_of(stmt: &Stmt) -> Result<usize, NoMemory>
             otherwise,
             ..
         } => {
+            let others = size_of_all(alloc, sizes, otherwise)?;
+            let many = size_of_all(alloc, sizes, body)?;
+            sizes.note(others)?;
+            sizes.note(many)?;
             let test = sum(count(condition)?, 1)?;
             let heading = sum(size_of_opening(init)?, test)?;
-            sum(sum(heading, size_of_all(body)?)?, size_of_all(otherwise)?)
+            sum(sum(heading, many)?, others)
         }
         Stmt::For {
             init,
@@ -123,47 +131,72 @@ pub fn size_of(stmt: &Stmt) -> Result<usize, NoMemory>
             body,
             ..
         } => {
+            let many = size_of_all(alloc, sizes, body)?;
+            sizes.note(many)?;
             let test = sum(count_tested(condition)?, 1)?;
             let heading = sum(size_of_opening(init)?, test)?;
-            sum(sum(heading, size_of_all(body)?)?, size_of_opening(post)?)
+            sum(sum(heading, many)?, size_of_opening(post)?)
         }
-        Stmt::Range { channel, body, .. } => sum(sum(count(channel)?, 4)?, size_of_all(body)?),
-        Stmt::Select { cases, .. } => sum(sum(count_cases(cases)?, 1)?, size_of_cases(cases)?),
+        Stmt::Range { channel, body, .. } => {
+            let many = size_of_all(alloc, sizes, body)?;
+            sizes.note(many)?;
+            sum(sum(count(channel)?, 4)?, many)
+        }
+        Stmt::Select { cases, .. } => {
+            let many = size_of_cases(alloc, sizes, cases)?;
+            sum(sum(count_cases(cases)?, 1)?, many)
+        }
     }
 }
 
 /// .. and how many have several.
 #[cycle(sizing)]
-pub fn size_of_all(stmts: &[Stmt]) -> Result<usize, NoMemory>
-    ensures { IfOk result (λ n. n ≡ size_in (stmts_of stmts.now)) }
+pub fn size_of_all(alloc: Global, sizes: &mut Sizes, stmts: &[Stmt]) -> Result<usize, NoMemory>
+    ensures noted { OnOk result (sizes.new ≡ asked_in (stmts_of stmts.now) sizes.old) }
+    ensures value { IfOk result (λ n. n ≡ size_in (stmts_of stmts.now)) }
 {
     let mut found = 0usize;
-    for stmt in stmts {
-        found = sum(found, size_of(stmt)?)?;
+    for i in (0..stmts.len()).rev() {
+        let here = size_of(alloc, sizes, &stmts[i])?;
+        sizes.note(found)?;
+        sizes.note(here)?;
+        found = sum(here, found)?;
     }
     Ok(found)
 }
 
-/// How many instructions a clause has after the select, before those of others.
+// How many instructions a clause has after the select, before those of others.
 #[cycle(sizing)]
-pub fn size_of_case(case: &Case) -> Result<usize, NoMemory>
-    ensures { IfOk result (λ n. (others : Cases) → size_among (case_on case.now others) ≡ n + size_among others) }
+fn size_of_case(alloc: Global, sizes: &mut Sizes, case: &Case) -> Result<usize, NoMemory>
+    ensures noted { OnOk result ((others : Cases) (rest : List ℕ) → sizes.old ≡ asked_among others rest
+        → sizes.new ≡ asked_among (case_on case.now others) rest) }
+    ensures value { IfOk result (λ n. (others : Cases) → (clause_sizes (case_on case.now others) ≡ n ∷ clause_sizes others)
+        × (size_among (case_on case.now others) ≡ n + size_among others)) }
 {
     match case {
-        Case::Default(body) => size_of_all(body),
-        Case::Send { body, .. } => size_of_all(body),
-        Case::Receive { targets, body, .. } => sum(size_of_targets(targets), size_of_all(body)?),
+        Case::Default(body) => size_of_all(alloc, sizes, body),
+        Case::Send { body, .. } => size_of_all(alloc, sizes, body),
+        Case::Receive { targets, body, .. } => {
+            let many = size_of_all(alloc, sizes, body)?;
+            sizes.note(many)?;
+            sum(size_of_targets(targets), many)
+        }
     }
 }
 
 #[cycle(sizing)]
-fn size_of_cases(cases: &[Case]) -> Result<usize, NoMemory>
-    ensures { IfOk result (λ n. n ≡ size_among (cases_of cases.now)) }
+fn size_of_cases(alloc: Global, sizes: &mut Sizes, cases: &[Case]) -> Result<usize, NoMemory>
+    ensures noted { OnOk result (sizes.new ≡ clause_sizes (cases_of cases.now) ++ asked_among (cases_of cases.now) sizes.old) }
+    ensures value { IfOk result (λ n. n ≡ size_among (cases_of cases.now)) }
 {
     let mut found = 0usize;
-    for case in cases {
-        found = sum(found, size_of_case(case)?)?;
+    let mut clauses = Sizes::new(alloc);
+    for i in (0..cases.len()).rev() {
+        let here = size_of_case(alloc, sizes, &cases[i])?;
+        clauses.note(here)?;
+        found = sum(here, found)?;
     }
+    sizes.note_all(clauses)?;
     Ok(found)
 }
 

@@ -7,37 +7,34 @@ use Rattle.gr_rules.specs.Points.{case_operands}
 use Rattle.gr_code.specs.CodeViews.{operand_of, instructions_of}
 use Rattle.gr_code.specs.Passing.{parts, parts_in}
 use Rattle.gr_lower.specs.PartCode.{code_in}
-use Rattle.gr_lower.specs.Sizes.{targets_size, size_in, size_among}
-use Rattle.gr_lower.specs.StatementCode.{entry, into, arms}
+use Rattle.gr_lower.specs.StatementCode.{into, arms}
+use Rattle.gr_lower.specs.Asked.{clause_sizes}
 use Rattle.gr_lower.proofs.ArmEmits.{code_before, default_arm_is, send_arm_is, receive_arm_is}
 use Rattle.gr_lower.proofs.choices.lower_arm.Goals as goal
 
-pub returns-in_ok-many-in-Default-clause-code : goal.returns-in_ok-many-in-Default-clause-code
-returns-in_ok-many-in-Default-clause-code c others =
+pub returns-in-Default-clause-code : goal.returns-in-Default-clause-code
+returns-in-Default-clause-code c others =
     let k = c.in-Default in
     let o = vec_len c.args.out.now in
     let out = instructions_of c.args.out.now.items in
     let n : c.args.next + (o - o) ≡ c.args.next = omega arith in
     ap (λ m. out ++ code_in (case_operands others) m o) n
-    ∙ ap (λ x. out ++ code_in (case_operands x) c.args.next o) (sym (ap (λ y. case_on y others) k.is ∙ default_is k.body others))
+    ∙ ap (λ x. out ++ code_in (case_operands x) c.args.next o) (sym (ap (λ y. case_on y others) k.is ∙ default_is k.field-0 others))
 
-pub returns-in_ok-many-in-Default-clause-grown : goal.returns-in_ok-many-in-Default-clause-grown
-returns-in_ok-many-in-Default-clause-grown c others =
+pub returns-in-Default-clause-grown : goal.returns-in-Default-clause-grown
+returns-in-Default-clause-grown c others =
     let k = c.in-Default in
-    ap (λ x. vec_len c.args.out.now + parts_in (case_operands x)) (sym (ap (λ y. case_on y others) k.is ∙ default_is k.body others))
+    ap (λ x. vec_len c.args.out.now + parts_in (case_operands x)) (sym (ap (λ y. case_on y others) k.is ∙ default_is k.field-0 others))
 
-pub returns-in_ok-many-in-Default-clause-value : goal.returns-in_ok-many-in-Default-clause-value
-returns-in_ok-many-in-Default-clause-value c others n en =
+pub returns-in-Default-clause-value : goal.returns-in-Default-clause-value
+returns-in-Default-clause-value c others n begins on en et =
     let k = c.in-Default in
     let a = c.args in
     let o = vec_len a.out.now in
-    let e = ap (λ y. case_on y others) k.is ∙ default_is k.body others in
-    let body = stmts_of k.body.items in
-    let m = c.in_ok-many-in-Default.ensures ∙ ap (λ l. size_in (stmts_of l)) c.deref.ensures.value in
-    let x = c.entry-on.ensures ∙ ap (λ m. entry m a.begins a.on) m in
+    let e = ap (λ y. case_on y others) k.is ∙ default_is k.field-0 others in
     let t : a.next + (o - o) ≡ a.next = omega arith in
-    ap (λ y. arms y a.next a.first a.begins a.on) e
-    ∙ default_arm_is body others a.next a.first a.begins a.on c.entry-on.result n _ x (sym (ap size_among e) ∙ en) t
+    ap (λ y. arms y a.next a.first begins on) e
+    ∙ default_arm_is (stmts_of k.field-0.items) others a.next a.first begins on a.to n _ et (sym (ap clause_sizes e) ∙ en) t
 
 pub returns-in_ok-value-in-Send-clause-code : goal.returns-in_ok-value-in-Send-clause-code
 returns-in_ok-value-in-Send-clause-code c others =
@@ -68,7 +65,7 @@ returns-in_ok-value-in-Send-clause-grown c others =
     omega (arith, e, c.in_ok-channel-in-Send.ensures.grown, c.in_ok-value-in-Send.ensures.grown)
 
 pub returns-in_ok-value-in-Send-clause-value : goal.returns-in_ok-value-in-Send-clause-value
-returns-in_ok-value-in-Send-clause-value c others n en =
+returns-in_ok-value-in-Send-clause-value c others n begins on en ez =
     let k = c.in-Send in
     let a = c.args in
     let f = rules.operand_of (expr_of k.channel) in
@@ -81,14 +78,11 @@ returns-in_ok-value-in-Send-clause-value c others n en =
     let eu : u ≡ a.next + parts f = omega (arith, c.in_ok-next-in-Send.ensures, c.len-start.ensures, c.len.ensures, g1) in
     let et : a.next + (o2 - o) ≡ a.next + parts f + parts g = omega (arith, g1, g2) in
     let e = ap (λ y. case_on y others) k.is ∙ send_is k.channel k.value k.body others in
-    let body = stmts_of k.body.items in
-    let m = c.in_ok-many-in-Send.ensures ∙ ap (λ l. size_in (stmts_of l)) c.deref-in-Send.ensures.value in
-    let x = c.entry-on-in-Send.ensures ∙ ap (λ m. entry m a.begins a.on) m in
-    ap (λ y. arms y a.next a.first a.begins a.on) e
-    ∙ send_arm_is (expr_of k.channel) (expr_of k.value) body others a.next a.first a.begins a.on (operand_of c.in_ok-channel-in-Send.channel)
-    (operand_of c.in_ok-value-in-Send.value)
-    c.entry-on-in-Send.result n u (a.next + (o2 - o)) c.in_ok-channel-in-Send.ensures.value c.in_ok-value-in-Send.ensures.value eu x
-    (sym (ap size_among e) ∙ en) et
+    ap (λ y. arms y a.next a.first begins on) e
+    ∙ send_arm_is (expr_of k.channel) (expr_of k.value) (stmts_of k.body.items) others a.next a.first begins on
+    (operand_of c.in_ok-channel-in-Send.channel) (operand_of c.in_ok-value-in-Send.value)
+    a.to n u (a.next + (o2 - o)) c.in_ok-channel-in-Send.ensures.value c.in_ok-value-in-Send.ensures.value eu ez
+    (sym (ap clause_sizes e) ∙ en) et
 
 pub returns-in_ok-into-in-Receive-clause-code : goal.returns-in_ok-into-in-Receive-clause-code
 returns-in_ok-into-in-Receive-clause-code c others =
@@ -111,7 +105,7 @@ returns-in_ok-into-in-Receive-clause-grown c others =
     omega (arith, e, c.in_ok-channel-in-Receive.ensures.grown)
 
 pub returns-in_ok-into-in-Receive-clause-value : goal.returns-in_ok-into-in-Receive-clause-value
-returns-in_ok-into-in-Receive-clause-value c others n en =
+returns-in_ok-into-in-Receive-clause-value c others n begins on en ez =
     let k = c.in-Receive in
     let a = c.args in
     let f = rules.operand_of (expr_of k.channel) in
@@ -119,16 +113,8 @@ returns-in_ok-into-in-Receive-clause-value c others n en =
     let o1 = vec_len c.lower_expr-in-Receive.new.out in
     let et : a.next + (o1 - o) ≡ a.next + parts f = omega (arith, c.in_ok-channel-in-Receive.ensures.grown) in
     let e = ap (λ y. case_on y others) k.is ∙ receive_is k.targets k.channel k.zero k.body others in
-    let body = stmts_of k.body.items in
-    let ts = k.targets.items in
-    let m = ap (λ l. size_in (stmts_of l)) c.deref-in-Receive.ensures.value in
-    let w = ap targets_size c.deref-in-Receive-2.ensures.value in
-    let all : c.in_ok-all-in-Receive.all
-    ≡ targets_size ts + size_in body = omega
-    (arith, m, w, c.in_ok-many-in-Receive.ensures, c.size_of_targets.ensures, c.in_ok-all-in-Receive.ensures) in
-    let x = c.entry-on-in-Receive.ensures ∙ ap (λ m. entry m a.begins a.on) all in
-    let i = c.in_ok-into-in-Receive.ensures ∙ ap (λ l. into l a.first) c.deref-in-Receive-3.ensures.value in
-    ap (λ y. arms y a.next a.first a.begins a.on) e
-    ∙ receive_arm_is ts (expr_of k.channel) (literal_of k.zero) body others a.next a.first a.begins a.on
+    let i = c.in_ok-into-in-Receive.ensures ∙ ap (λ l. into l a.first) c.deref.ensures.value in
+    ap (λ y. arms y a.next a.first begins on) e
+    ∙ receive_arm_is k.targets.items (expr_of k.channel) (literal_of k.zero) (stmts_of k.body.items) others a.next a.first begins on
     (operand_of c.in_ok-channel-in-Receive.channel) c.in_ok-into-in-Receive.into
-    c.entry-on-in-Receive.result n (a.next + (o1 - o)) c.in_ok-channel-in-Receive.ensures.value i x (sym (ap size_among e) ∙ en) et
+    a.to n (a.next + (o1 - o)) c.in_ok-channel-in-Receive.ensures.value i ez (sym (ap clause_sizes e) ∙ en) et
