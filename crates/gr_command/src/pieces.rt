@@ -1,6 +1,6 @@
 //! Pieces of replies. Each is appended to a text; where there is no room for it, a beginning of it may be.
 
-ghost use Rattle.std.specs.Prelude.{◌≡◌, ◌∷◌, ◌++◌, [], decimal, OnOk, OnErr};
+ghost use Rattle.std.specs.Prelude.{◌≡◌, ◌++◌, decimal, OnOk, OnErr};
 ghost use Rattle.gr_command.specs.Room.{Grows, IsFull};
 ghost use Rattle.gr_command.specs.Texts.{row, rows, spaced, each_spaced};
 
@@ -30,16 +30,13 @@ pub(crate) fn put(text: &mut Vec<u8>, piece: &[u8]) -> Result<(), NoMemory>
     Ok(text.extend_from_slice(piece)?)
 }
 
-/// Appends the byte.
-#[inline]
-#[tactic(auto, using(crate::proofs::Growing::grows_same, crate::proofs::Growing::grows_append))]
-fn put_byte(text: &mut Vec<u8>, byte: u8) -> Result<(), NoMemory>
-    ensures ok { OnOk result (text.new.items ≡ text.old.items ++ byte ∷ []) }
-    ensures full { OnErr result (IsFull text.old (byte ∷ [])) }
+/// Makes room for so many bytes, where it can be had.
+#[tactic(auto, using(crate::proofs::Growing::grows_same))]
+pub(crate) fn make_room(text: &mut Vec<u8>, bytes: usize)
+    ensures items { text.new.items ≡ text.old.items }
     ensures grows { Grows text.old text.new }
 {
-    text.push(byte)?;
-    Ok(())
+    let _ = text.reserve(bytes);
 }
 
 /// Appends the number in decimal.
@@ -60,7 +57,7 @@ fn put_after_space<W: Written>(text: &mut Vec<u8>, item: &W) -> Result<(), NoMem
     ensures full { OnErr result (IsFull text.old (spaced (W.text_of item.now))) }
     ensures grows { Grows text.old text.new }
 {
-    put_byte(text, b' ')?;
+    put(text, b" ")?;
     item.put_into(text)
 }
 

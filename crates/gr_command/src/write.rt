@@ -9,10 +9,13 @@ ghost use Rattle.gr_command.specs.declared.reply.RunEnd.TheVariants as ends;
 
 use crate::channels::put_channel;
 use crate::parts::put_taken;
-use crate::pieces::{Written, put, put_number, put_row, put_rows, put_spaced};
+use crate::pieces::{Written, make_room, put, put_number, put_row, put_rows, put_spaced};
 use crate::refusal::Refusal;
 use crate::reply::{ChannelShown, FrameShown, GoroutineShown, Reply, RunEnd};
 use gr_base::{Kind, NoMemory, StepId};
+
+/// The least that the name of a step takes in a list, with the space before it, as ` g0#1` does.
+const SHORTEST_NAME: usize = 5;
 
 fn refused(why: Refusal) -> &'static [u8]
     ensures { result.now ≡ refusal_text why }
@@ -177,13 +180,14 @@ fn put_log(text: &mut Vec<u8>, steps: &[(StepId, Kind)]) -> Result<(), NoMemory>
     put_total(text, steps.len() as u64)
 }
 
-// Appends a count of steps and their names, as the end of a line.
+// Appends a count of steps and their names, as the end of a line. The most of the room is made at once.
 #[tactic(auto, using(crate::proofs::Growing::grows_then))]
 fn put_ids(text: &mut Vec<u8>, ids: &[StepId]) -> Result<(), NoMemory>
     ensures ok { OnOk result (text.new.items ≡ text.old.items ++ ids_text ids.now) }
     ensures full { OnErr result (IsFull text.old (ids_text ids.now)) }
     ensures grows { Grows text.old text.new }
 {
+    make_room(text, ids.len().saturating_mul(SHORTEST_NAME));
     put_number(text, ids.len() as u64)?;
     put_spaced(text, ids)?;
     put(text, b"\n")
