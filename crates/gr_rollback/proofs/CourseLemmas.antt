@@ -25,7 +25,7 @@ use Rattle.gr_step.specs.declared.record.Record.{Record}
 use Rattle.gr_step.specs.declared.store.Store.{Store}
 use Rattle.gr_step.specs.Listings.{program_in, frame_in, state_in, IsCoded}
 use Rattle.gr_step.specs.Premises.{CanCount, Running}
-use Rattle.gr_step.specs.Records.{event_of, begun_by, is_go, taken_back}
+use Rattle.gr_step.specs.Records.{event_of, begun_by, is_go}
 use Rattle.gr_depend.specs.Logs.{records_of}
 use Rattle.gr_step.specs.Stores.{program_at, contents_at, SameListing}
 use Rattle.gr_step.specs.Stores as stores
@@ -35,7 +35,7 @@ use Rattle.gr_rollback.specs.declared.TheConstants.{LOG_LIMIT}
 use Rattle.gr_rollback.specs.declared.course.Course.{Course}
 use Rattle.gr_rollback.specs.Pasts.{Past}
 use Rattle.gr_rollback.specs.Courses.{Holds, IsCourse}
-use Rattle.gr_rollback.specs.Readiness.{IsReadyIn, IsAsIn, HasReady, Settles, Follows, KnowsMore, AllKnown, met_by, others_of, keeps_status}
+use Rattle.gr_rollback.specs.Readiness.{IsReadyIn, IsAsIn, HasReady, Settles, Follows, KnowsMore, AllKnown, KeepsStatus, met_by, others_of}
 use Rattle.gr_rollback.specs.Retracting.{SameCourse}
 use Rattle.gr_rollback.specs.Steps.{Keeps}
 use Rattle.gr_kept.proofs.KeptLemmas.{kept_is_run}
@@ -107,7 +107,7 @@ stays p w old new s same = record {
   begun = s.begun;
   kept = rw (same.records, same.contents) s.kept;
   state = s.state ∙ ap (state_in p) (sym same.contents);
-  pool = ready_still old.pool new.pool (contents_at old.store) (contents_at new.store) s.pool same.contents same.more same.ready;
+  pool = same.pool s.pool;
   short = rw same.records s.short;
   first = same.first ∙ s.first;
 }
@@ -147,17 +147,13 @@ ready_after r s t old new has only own f = record { knows = knows; each = each }
           }
     ]
 
--- where a step is taken back
-pub only_these_back : (r : Record) (t : Contents) → OnlyThese r t (taken_back r.id.go r.change t)
-only_these_back r t = record { stay = λ q e m. others_stay r.id.go r.change t q e m }
-
 -- a step and its record
 module _ (p : Program) (s t : Contents) (r : Record) (is : IsRecord p s r t) where
   pub own_was_ready : IsReadyIn s r.id.go
   own_was_ready = own_is_ready (frame_in p) p (event_of r) s t is.takes.report is.takes.steps
 
   -- .. and is so after it, where the step reached no further and left its status as it was
-  pub own_stays_ready : r.change.beyond ≡ None → keeps_status r.change.own ≡ true → IsReadyIn t r.id.go
+  pub own_stays_ready : r.change.beyond ≡ None → KeepsStatus r.change.own → IsReadyIn t r.id.go
   own_stays_ready = stays_ready r.id.go r.change s t own_was_ready is.takes.back is.takes.fits
 
   pub only_these : OnlyThese r s t

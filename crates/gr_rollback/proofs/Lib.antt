@@ -2,6 +2,7 @@ pub mod Basics
 mod PoolLemmas
 pub mod KeptLemmas
 mod OwnLemmas
+mod BringLemmas
 mod CourseLemmas
 mod StepLemmas
 mod UndoLemmas
@@ -19,3 +20,6 @@ mod WalkLemmas
 mod BackLemmas
 mod DependenceLemmas
 mod AskLemmas
+mod LeasingLemmas
+mod LendingLemmas
+mod JoiningLemmas

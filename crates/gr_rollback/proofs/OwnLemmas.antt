@@ -5,7 +5,6 @@ use Rattle.std.proofs.lemmas.Bool.{cases_Bool}
 use Rattle.std.proofs.lemmas.List.Folds.{list_any-append}
 use Rattle.gr_base.specs.declared.events.Event.{Event}
 use Rattle.gr_goros.specs.declared.undo.GoUndo.{GoUndo}
-use Rattle.gr_goros.specs.declared.undo.GoUndo.TheVariants as undos
 use Rattle.gr_goros.specs.Undoing.{Fits, undone}
 use Rattle.gr_pool.specs.Goroutines.{is_among}
 use Rattle.gr_program.specs.Programs.{Program}
@@ -26,7 +25,7 @@ use Rattle.gr_laws.proofs.CellLemmas.{go_is, go_self}
 use Rattle.gr_step.specs.Fews.{members}
 use Rattle.gr_step.specs.Records.{beyond, begun_by, go_back, go_undone, is_go, taken_back, goroutines_changed, GoesFit, CanGoBack}
 use Rattle.gr_tables.specs.NamedGoroutines.{At}
-use Rattle.gr_rollback.specs.Readiness.{IsReadyIn, keeps_status, names_met, others_of}
+use Rattle.gr_rollback.specs.Readiness.{IsReadyIn, KeepsStatus, names_met, others_of}
 use Rattle.gr_rollback.proofs.Basics.{some_inj, or_right, true_not_false, neither}
 
 module _ (frame : CodeFrame → Frame) (p : Program) (e : Event) (s t : Contents) (report : Report) (steps : StepsTo frame (attempt p e) s t report) where
@@ -86,7 +85,7 @@ either_way : {A : Type 0} (b : Bool) (x : A) → (if b then x else x) ≡ x
 either_way true x = refl
 either_way false x = refl
 
-back_none : (us : List (List ℕ × GoUndo)) (q : List ℕ) → go_back us q None ≡ None
+pub back_none : (us : List (List ℕ × GoUndo)) (q : List ℕ) → go_back us q None ≡ None
 back_none [] q = refl
 back_none (u ∷ us) q = rw (back_none us q) (either_way (same_go q u.0) None)
 
@@ -102,11 +101,11 @@ back_some : (u : GoUndo) (b : Bool) (x : Option CodeGoroutine) → (g : CodeGoro
 back_some u true x there = (undone u there.0, ap (go_undone u) there.1)
 back_some u false x there = there
 
-fitting : (u : GoUndo) (o : Option CodeGoroutine) → At (Fits u) o → (g : CodeGoroutine) × (o ≡ Some g)
+pub fitting : (u : GoUndo) (o : Option CodeGoroutine) → At (Fits u) o → (g : CodeGoroutine) × (o ≡ Some g)
 fitting u (Some g) fits = (g, refl)
 fitting u None fits = absurd fits
 
-met_is_there : (us : List (List ℕ × GoUndo)) (f : List ℕ → Option CodeGoroutine) (q : List ℕ) → GoesFit us f → is_among q (names_met us) ≡ true
+pub met_is_there : (us : List (List ℕ × GoUndo)) (f : List ℕ → Option CodeGoroutine) (q : List ℕ) → GoesFit us f → is_among q (names_met us) ≡ true
     → (g : CodeGoroutine) × (go_back us q (f q) ≡ Some g)
 met_is_there [] f q fit t = absurd (true_not_false t refl)
 met_is_there (u ∷ us) f q fit t = elim (cases_Bool (same_go q u.0)) [
@@ -125,21 +124,8 @@ met_was_there n c t q can among other =
     (there.0, ap (λ b. if b then None else go_back (goroutines_changed n c) q (t.goroutines q)) other ∙ there.1)
 
 -- a goroutine that was ready is so after a step that reached no further and left its status as it was
-status_stays : (u : GoUndo) (g : CodeGoroutine) → keeps_status u ≡ true → (undone u g).status ≡ g.status
-status_stays (undos.Went u) g keeps = refl
-status_stays (undos.Printed s) g keeps = refl
-status_stays (undos.Entered s) g keeps = refl
-status_stays (undos.Left l) g keeps = refl
-status_stays (undos.Made u) g keeps = refl
-status_stays (undos.Began s) g keeps = refl
-status_stays (undos.Met m) g keeps = absurd (true_not_false keeps refl)
-status_stays (undos.Parked s) g keeps = absurd (true_not_false keeps refl)
-status_stays (undos.Finished f) g keeps = absurd (true_not_false keeps refl)
-status_stays (undos.Faulted s) g keeps = absurd (true_not_false keeps refl)
-status_stays (undos.Retried s) g keeps = absurd (true_not_false keeps refl)
-
 pub stays_ready : (n : List ℕ) (c : Change) (s t : Contents) → IsReadyIn s n → taken_back n c t ≡ s → CanGoBack n c t → c.beyond ≡ None
-    → keeps_status c.own ≡ true → IsReadyIn t n
+    → KeepsStatus c.own → IsReadyIn t n
 stays_ready n c s t was back can alone keeps =
     let there = own_is_there n c t can in
     let undone_is : Some (undone c.own there.0) ≡ Some was.goroutine =
@@ -147,7 +133,7 @@ stays_ready n c s t was back can alone keeps =
     record {
       goroutine = there.0;
       there = there.1;
-      is_ready = sym (status_stays c.own there.0 keeps) ∙ ap (λ (g : CodeGoroutine). g.status) (some_inj undone_is) ∙ was.is_ready;
+      is_ready = sym (keeps there.0) ∙ ap (λ (g : CodeGoroutine). g.status) (some_inj undone_is) ∙ was.is_ready;
     }
   where
     own_alone : (x : Option CodeGoroutine) → (if is_go n (begun_by c) then None else go_back (goroutines_changed n c) n x) ≡ go_undone c.own x

@@ -13,7 +13,7 @@ use Rattle.gr_pool.specs.Goroutines as pools
 use Rattle.gr_pool.specs.Goroutines.{is_among, lesser, greater, with_name, without_name}
 use Rattle.gr_pool.proofs.Order.{ties_itself}
 use Rattle.gr_goros.specs.declared.undo.GoUndo.{GoUndo}
-use Rattle.gr_rollback.specs.Readiness.{IsReadyIn, IsAsIn, Settles, KnowsMore, AllKnown, names_met}
+use Rattle.gr_rollback.specs.Readiness.{IsReadyIn, IsAsIn, Settles, KnowsMore, KnowsReady, names_met}
 use Rattle.gr_rollback.proofs.Basics.{or_left, or_right, true_not_false, neither}
 
 no_tie : {o : Ordering} → o ≡ Equal → o ≡ Less → ⊥
@@ -103,6 +103,9 @@ without_others h n xs other = list_any-append (same_go h) (lesser n xs) (greater
 only_name : (h n : List ℕ) → is_among h (n ∷ []) ≡ same_go h n
 only_name h n = or_same (same_go h n) false refl
 
+pub itself_alone : (n : List ℕ) → is_among n (n ∷ []) ≡ true
+itself_alone n = only_name n n ∙ go_self n
+
 -- a goroutine is made ready where it is so
 pub settles_ready : (s : Contents) (n : List ℕ) (old new : pools.Goroutines) → IsReadyIn s n → new.ready ≡ with_name n old.ready → new.known ≡ old.known
     → Settles (n ∷ []) s old new
@@ -162,15 +165,11 @@ module _ (names : List (List ℕ)) (i : ℕ) (here : List ℕ) (within : i < len
   pub among_here : is_among here names ≡ true
   among_here = list_any_at (same_go here) names i here within (ap (same_go here) (sym is_here) ∙ go_self here)
 
-  -- one more name is known
-  pub known_more : (old new : pools.Goroutines) → AllKnown (take i names) old → KnowsMore old new → is_among here new.known ≡ true → AllKnown (take (i + 1) names) new
-  known_more old new all more known h t = elim (cases_Bool (same_go h here)) [
-    | inl e ↦ ap (λ m. is_among m new.known) (go_is h here e) ∙ known
-    | inr f ↦ more h (all h (sym (or_same (is_among h (take i names)) (same_go h here) f) ∙ sym (among_next h) ∙ t))
-  ]
-
-pub none_known : (pool : pools.Goroutines) → AllKnown [] pool
-none_known pool h t = absurd (true_not_false t refl)
+  -- it is known where it is ready, if that is so of each of them
+  pub ready_here : (s : Contents) (old pool : pools.Goroutines) → pool.known ≡ old.known → KnowsReady names s old → KnowsReady (here ∷ []) s pool
+  ready_here s old pool same knows h among up =
+      ap (is_among h) same
+      ∙ knows h (subst (λ m. is_among m names ≡ true) (sym (go_is h here (sym (only_name h here) ∙ among))) among_here) up
 
 -- a name that becomes known leaves the others known
 kept_among : (h n : List ℕ) (xs : List (List ℕ)) → is_among h xs ≡ true → is_among h (xs ++ n ∷ []) ≡ true

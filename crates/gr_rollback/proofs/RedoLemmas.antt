@@ -120,6 +120,13 @@ next_event items rest o e z parts taken last =
     let same = ends_same front.rest rest e z (sym front.whole ∙ parts ∙ ap (λ q. rest ++ option_to_list q) taken) in
     ap reverse (front.whole ∙ ap (λ xs. xs ++ e ∷ []) same.0) ∙ reverse-append rest (e ∷ [])
 
+-- it is the one that is taken off
+pub taken_off : (items rest : List Event) (o : Option Event) (e z : Event) → items ≡ rest ++ option_to_list o → o ≡ Some z
+    → Some e ≡ slice_get items (length items - 1) → z ≡ e
+taken_off items rest o e z parts taken last =
+    let front = last_item items e last in
+    sym (ends_same front.rest rest e z (sym front.whole ∙ parts ∙ ap (λ q. rest ++ option_to_list q) taken)).1
+
 -- an event that can go is not refused by the rules
 not_refused : (p : Program) (s : State) (event : Event) (rest : List Event) → CanGo p s (event ∷ rest) → (why : Refusal) → refusal p s event ≡ Some why → ⊥
 not_refused p s event rest can why refused = by_steps can.steps can.leads can.events_are

@@ -102,7 +102,7 @@ module _ (p : Program) (w : World p) (m : Machine) (s : Stands p w m) where
     pub same_stands : records_of log ≡ steps_of m → Stands p w (with_log m log)
     same_stands same =
         stands_still p w m (with_log m log) s
-        (stays p w.past m.course (with_log m log).course h (record { listing = refl; contents = refl; records = same; more = λ n k. k; ready = refl; first = refl })) refl
+        (stays p w.past m.course (with_log m log).course h (record { listing = refl; contents = refl; records = same; pool = λ has. has; first = refl })) refl
 
     pub other_steps_told : records_of log ≡ steps_of m → (NamesEach name (steps_of m) ids → ⊥) → Reordered p w ids (Err refusals.NotTheSteps) (with_log m log)
     other_steps_told same others = (

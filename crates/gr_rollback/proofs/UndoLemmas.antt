@@ -1,19 +1,15 @@
 -- The last step of a course taken back.
-use Rattle.std.proofs.Common.{◌≡◌, ℕ, ◌+◌, ◌≤◌, true, List, [], ◌∷◌, ◌++◌, length, reverse, refl, sym, ap, subst, ◌∙◌, arith}
+use Rattle.std.proofs.Common.{◌≡◌, ℕ, ◌+◌, ◌≤◌, List, [], ◌∷◌, ◌++◌, length, reverse, refl, sym, ap, subst, ◌∙◌, arith}
 use Rattle.std.proofs.lemmas.List.{length_push}
 use Rattle.gr_base.specs.declared.events.Event.{Event}
 use Rattle.gr_base.specs.declared.names.StepId.{StepId}
 use Rattle.gr_causal.specs.Machine.{IsLog}
-use Rattle.gr_causal.specs.Sequences.{Distinct}
-use Rattle.gr_pool.specs.Goroutines.{is_among}
 use Rattle.gr_program.specs.Programs.{Program}
 use Rattle.gr_rules.specs.Steps.{machine}
 use Rattle.gr_step.specs.declared.record.Record.{Record}
-use Rattle.gr_step.specs.Conflicts.{touched_by}
 use Rattle.gr_step.specs.Kept.{Kept}
 use Rattle.gr_step.specs.Listings.{state_in}
 use Rattle.gr_step.specs.Premises.{Running}
-use Rattle.gr_step.specs.Records.{CanGoBack}
 use Rattle.gr_step.specs.Stores.{contents_at, SameListing}
 use Rattle.gr_kept.proofs.KeptLemmas.{kept_is_run, runs_on}
 use Rattle.gr_kept.proofs.RecordLemmas.{no_object_twice}
@@ -25,17 +21,10 @@ use Rattle.gr_rollback.specs.Backs.{LosesLast, Undoes}
 use Rattle.gr_rollback.specs.Courses.{Holds}
 use Rattle.gr_rollback.specs.Machines.{steps_of, Stands}
 use Rattle.gr_rollback.specs.Pasts.{Past, World, id_of}
-use Rattle.gr_rollback.specs.Retracting.{GoesBack, LastGoesBack, Retracts, RetractsLast}
-use Rattle.gr_rollback.proofs.CourseLemmas.{same_program, runs_at, ready_after, only_these_back, OnlyThese}
+use Rattle.gr_rollback.specs.Retracting.{LastGoesBack, Retracts, RetractsLast}
+use Rattle.gr_rollback.proofs.CourseLemmas.{same_program, runs_at}
 use Rattle.gr_rollback.proofs.KeptLemmas.{LastKept, last_kept, none_kept, some_kept, id_alike, begins_running}
-use Rattle.gr_rollback.proofs.OwnLemmas.{own_is_there}
 use Rattle.gr_rollback.proofs.StepLemmas.{running_of}
-
--- a step that can go back: its goroutine is there, and so it is known
-pub goes_back : (p : Program) (w : Past p) (c : Course) (r : Record) → Holds p w c → CanGoBack r.id.go r.change (contents_at c.store) → Distinct (touched_by r) → GoesBack r c
-goes_back p w c r s can once =
-    let own = own_is_there r.id.go r.change (contents_at c.store) can in
-    record { can = can; known = s.pool.knows r.id.go own.0 own.1; once = once }
 
 module _ (p : Program) (w : Past p) (c : Course) (s : Holds p w c) (front : List Record) (r : Record) (items : records_of c.log ≡ front ++ r ∷ []) where
   -- the last step of a course
@@ -48,7 +37,8 @@ module _ (p : Program) (w : Past p) (c : Course) (s : Holds p w c) (front : List
     front = front;
     last = r;
     records = items;
-    goes = goes_back p w c r s last_of.tells.is.takes.fits (no_object_twice p last_of.mid r last_of.last (contents_at c.store) last_of.tells);
+    goes = record { can = last_of.tells.is.takes.fits; once = no_object_twice p last_of.mid r last_of.last (contents_at c.store) last_of.tells };
+    pool = s.pool;
   }
 
   pub last_is_kept : w.log ≡ [] → ⊥
@@ -78,14 +68,6 @@ module _ (p : Program) (w : Past p) (old new : Course) (e : Event) (s : Holds p 
   runs : Running p (contents_at new.store)
   runs = runs_on p s.begins (contents_at new.store) (records_of new.log) last.before (begins_running p s.begins (running_of p w old s).program s.begun) kept
 
-  only : OnlyThese r (contents_at old.store) (contents_at new.store)
-  only = subst (OnlyThese r (contents_at old.store)) (sym back.contents) (only_these_back r (contents_at old.store))
-
-  known : is_among r.id.go old.pool.known ≡ true
-  known =
-      let own = own_is_there r.id.go r.change (contents_at old.store) last.tells.is.takes.fits in
-      s.pool.knows r.id.go own.0 own.1
-
   -- the past before the last step
   abbrev pub past : Past p
   past = record { log = last.before; state = state_in p (contents_at new.store) }
@@ -98,7 +80,7 @@ module _ (p : Program) (w : Past p) (old new : Course) (e : Event) (s : Holds p 
     begun = s.begun;
     kept = kept;
     state = refl;
-    pool = ready_after r (contents_at old.store) (contents_at new.store) old.pool new.pool s.pool only known back.follows;
+    pool = back.pool;
     short = fewer (length (records_of new.log)) (length (records_of old.log)) LOG_LIMIT (ap length back.records ∙ length_push (records_of new.log) r) s.short;
     first = back.first ∙ s.first;
   }

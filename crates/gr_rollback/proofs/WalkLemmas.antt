@@ -7,7 +7,6 @@ use Rattle.gr_base.specs.declared.events.Event.{Event}
 use Rattle.gr_base.specs.declared.names.StepId.{StepId}
 use Rattle.std.proofs.lemmas.List.{reverse-append, length_push}
 use Rattle.gr_causal.specs.Sequences.{In, Distinct}
-use Rattle.gr_pool.specs.Goroutines.{is_among}
 use Rattle.gr_causal.proofs.ListLemmas.{In-append_right}
 use Rattle.gr_step.specs.declared.record.Record.{Record}
 use Rattle.gr_step.specs.Conflicts.{touched_by}
@@ -21,9 +20,7 @@ use Rattle.gr_rollback.specs.declared.course.Course.{Course}
 use Rattle.gr_rollback.specs.Readiness.{HasReady}
 use Rattle.gr_rollback.specs.Retracting.{LastGoesBack, SameCourse, KeepsLogRoom}
 use Rattle.gr_rollback.specs.Walks.{count_set, count_unset, IsNew, RollsBack, IsOnTheWay, Removes, GoesOn}
-use Rattle.gr_rollback.proofs.CourseLemmas.{ready_still, ready_after, only_these_back, OnlyThese}
 use Rattle.gr_rollback.proofs.MarkLemmas.{LastMark, last_mark, mark_there, set_at_end, unset_at_end}
-use Rattle.gr_rollback.proofs.OwnLemmas.{own_is_there}
 use Rattle.gr_rollback.proofs.RoomLemmas.{less_room}
 
 -- before the first step
@@ -82,11 +79,8 @@ module _ (start : Course) (at : ℕ) (marks : List Bool) (rolls : RollsBack at m
   next_can is = subst (CanGoBack step.id.go step.change) (sym way.contents)
       (rolls.each front way.tail step mark.front way.after records_are (marks_are ∙ ap (λ m. mark.front ++ m ∷ way.after) is) mark_place)
 
-  pub next_known : mark.last ≡ true → is_among step.id.go c.pool.known ≡ true
-  next_known is = let own = own_is_there step.id.go step.change (contents_at c.store) (next_can is) in way.pool.knows step.id.go own.0 own.1
-
   pub next_goes : mark.last ≡ true → LastGoesBack c
-  next_goes is = record { front = front; last = step; records = items; goes = record { can = next_can is; known = next_known is; once = step_once } }
+  next_goes is = record { front = front; last = step; records = items; goes = record { can = next_can is; once = step_once }; pool = way.pool }
 
   -- there is room for its event and its name, or for its record
   set_room : (len capacity : ℕ) → mark.last ≡ true → len + count_set way.before ≤ capacity → (len + 1) + count_set mark.front ≤ capacity
@@ -178,8 +172,7 @@ after_removal start at marks rolls c r way d q gone within is =
             (set_room start at marks rolls c r way front step gone.records within (vec_len r.ids) (vec_capacity r.ids) is way.room.ids);
       };
       log_room = less_room d.log step (unmarked way.after way.tail) (gone.log_room (unmarked way.after way.tail) way.log_room);
-      pool = ready_after step (contents_at c.store) (contents_at d.store) c.pool d.pool way.pool
-          (subst (OnlyThese step (contents_at c.store)) (sym gone.contents) (only_these_back step (contents_at c.store))) (next_known start at marks rolls c r way front step gone.records within is) gone.follows;
+      pool = gone.pool;
       first = gone.first ∙ way.first;
     }
 
@@ -199,7 +192,7 @@ way_stays start at marks c r d way same room = record {
   names = way.names;
   room = way.room;
   log_room = room (unmarked way.after way.tail) way.log_room;
-  pool = ready_still c.pool d.pool (contents_at c.store) (contents_at d.store) way.pool same.contents same.more same.ready;
+  pool = same.pool way.pool;
   first = same.first ∙ way.first;
 }
 

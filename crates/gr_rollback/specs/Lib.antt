@@ -1,5 +1,6 @@
 pub mod Pasts
 pub mod Readiness
+pub mod Prior
 pub mod Courses
 pub mod Machines
 pub mod Steps
@@ -9,3 +10,4 @@ pub mod Retracting
 pub mod Redoing
 pub mod Reordering
 pub mod Walks
+pub mod Leasing

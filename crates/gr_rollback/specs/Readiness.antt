@@ -1,13 +1,13 @@
 -- Which goroutines are ready, as a pool of names has it.
-use Rattle.std.specs.Prelude.{◌≡◌, ℕ, Bool, true, false, List, [], ◌∷◌, ◌++◌, map, Some}
+use Rattle.std.specs.Prelude.{◌≡◌, ℕ, true, false, List, [], ◌∷◌, ◌++◌, map, Some}
 use Rattle.std.specs.Option.{option_to_list}
 use Rattle.gr_pool.specs.Goroutines as pools
 use Rattle.gr_pool.specs.Goroutines.{is_among}
 use Rattle.gr_rules.specs.Goroutines.{ready}
 use Rattle.gr_code.specs.Goroutines.{CodeGoroutine}
 use Rattle.gr_contents.specs.Contents.{Contents}
+use Rattle.gr_goros.specs.Undoing.{undone}
 use Rattle.gr_goros.specs.declared.undo.GoUndo.{GoUndo}
-use Rattle.gr_goros.specs.declared.undo.GoUndo.TheVariants as undos
 use Rattle.gr_step.specs.declared.record.Change.{Change}
 use Rattle.gr_step.specs.declared.record.Record.{Record}
 use Rattle.gr_step.specs.Fews.{members}
@@ -24,10 +24,18 @@ pub record IsAsIn (pool : pools.Goroutines) (s : Contents) (n : List ℕ) : Type
   pub has : IsReadyIn s n → is_among n pool.ready ≡ true
   pub only : is_among n pool.ready ≡ true → IsReadyIn s n
 
--- the pool knows the goroutines that are there, and has those as ready that are
+-- .. of each name
+abbrev pub HasAllReady : pools.Goroutines → Contents → Type 0
+HasAllReady pool s = (n : List ℕ) → IsAsIn pool s n
+
+-- the pool knows the goroutines that are there
+abbrev pub KnowsThere : pools.Goroutines → Contents → Type 0
+KnowsThere pool s = (n : List ℕ) (g : CodeGoroutine) → s.goroutines n ≡ Some g → is_among n pool.known ≡ true
+
+-- .. and has those as ready that are
 pub record HasReady (pool : pools.Goroutines) (s : Contents) : Type 0 where
-  pub knows : (n : List ℕ) (g : CodeGoroutine) → s.goroutines n ≡ Some g → is_among n pool.known ≡ true
-  pub each : (n : List ℕ) → IsAsIn pool s n
+  pub knows : KnowsThere pool s
+  pub each : HasAllReady pool s
 
 -- the pool has those of these names as ready that are; of others nothing has changed
 pub record Settles (names : List (List ℕ)) (s : Contents) (old new : pools.Goroutines) : Type 0 where
@@ -43,19 +51,13 @@ KnowsMore old new = (n : List ℕ) → is_among n old.known ≡ true → is_amon
 abbrev pub AllKnown : List (List ℕ) → pools.Goroutines → Type 0
 AllKnown names pool = (n : List ℕ) → is_among n names ≡ true → is_among n pool.known ≡ true
 
--- whether a change by a step of the goroutine's own, which replaced this, leaves its status as it was
-abbrev pub keeps_status : GoUndo → Bool
-keeps_status (undos.Went u) = true
-keeps_status (undos.Printed s) = true
-keeps_status (undos.Entered s) = true
-keeps_status (undos.Left l) = true
-keeps_status (undos.Made u) = true
-keeps_status (undos.Began s) = true
-keeps_status (undos.Met m) = false
-keeps_status (undos.Parked s) = false
-keeps_status (undos.Finished f) = false
-keeps_status (undos.Faulted s) = false
-keeps_status (undos.Retried s) = false
+-- those of these names that are ready are known
+abbrev pub KnowsReady : List (List ℕ) → Contents → pools.Goroutines → Type 0
+KnowsReady names s pool = (n : List ℕ) → is_among n names ≡ true → IsReadyIn s n → is_among n pool.known ≡ true
+
+-- the change that replaced this leaves the status of a goroutine as it was
+abbrev pub KeepsStatus : GoUndo → Type 0
+KeepsStatus u = (g : CodeGoroutine) → (undone u g).status ≡ g.status
 
 -- the names of goroutines with their changes
 abbrev pub names_met : List (List ℕ × GoUndo) → List (List ℕ)

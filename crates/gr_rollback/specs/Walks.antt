@@ -10,7 +10,7 @@ use Rattle.gr_depend.specs.Logs.{records_of}
 use Rattle.gr_depend.specs.Room.{CanTake}
 use Rattle.gr_rollback.specs.declared.back.Rollback.{Rollback}
 use Rattle.gr_rollback.specs.declared.course.Course.{Course}
-use Rattle.gr_rollback.specs.Readiness.{HasReady, Follows}
+use Rattle.gr_rollback.specs.Readiness.{HasReady}
 
 -- how many marks are set, and how many are not
 abbrev pub count_set : List Bool → ℕ
@@ -72,7 +72,7 @@ GoesOn at marks c r d q = (start : Course) → RollsBack at marks start → IsOn
 pub record Removes (old : Course) (before : Rollback) (new : Course) (after : Rollback) : Type 0 where
   pub step : Record
   pub contents : contents_at new.store ≡ taken_back step.id.go step.change (contents_at old.store)
-  pub follows : Follows step (contents_at new.store) old.pool new.pool
+  pub pool : HasReady new.pool (contents_at new.store)
   pub records : records_of old.log ≡ records_of new.log ++ step ∷ []
   pub log_room : (rest : List Record) → CanTake old.log rest → CanTake new.log (step ∷ rest)
   pub first : new.first ≡ old.first

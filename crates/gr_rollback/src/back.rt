@@ -80,7 +80,7 @@ impl Course {
             go: last.id.go.copy(alloc)?,
             n: last.id.n,
         };
-        let event = self.retract(alloc)?;
+        let event = self.retract()?;
         rollback.ids.push_reserved(id);
         rollback.gone.push_reserved(event);
         Ok(())

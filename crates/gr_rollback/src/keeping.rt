@@ -1,24 +1,23 @@
 //! Steps that join the log, and the last record of the log, whose step is taken back.
 
-ghost use Rattle.std.specs.Prelude.{◌≡◌, ◌≤◌, ◌++◌, ◌∷◌, [], length, true, IfOk, OnOk, IfErr, OnErr};
+ghost use Rattle.std.specs.Prelude.{◌≡◌, ◌≤◌, ◌++◌, ◌∷◌, [], length, IfOk, OnOk, IfErr, OnErr};
 ghost use Rattle.std.specs.Option.{option_to_list};
 ghost use Rattle.gr_causal.specs.Sequences.{Distinct};
-ghost use Rattle.gr_pool.specs.Goroutines.{is_among};
 ghost use Rattle.gr_program.specs.Programs.{Program};
 ghost use Rattle.gr_step.specs.Conflicts.{touched_by};
 ghost use Rattle.gr_step.specs.Records.{begun_by, event_of, taken_back, CanGoBack};
 ghost use Rattle.gr_step.specs.Stores.{contents_at, taken_at, SameListing, HasRoomFor};
 ghost use Rattle.gr_depend.specs.Logs.{records_of};
-ghost use Rattle.gr_rollback.specs.Readiness.{KnowsMore, AllKnown, Follows};
+ghost use Rattle.gr_rollback.specs.Readiness.{HasReady, KnowsMore, AllKnown};
 
 use crate::LOG_LIMIT;
+use crate::bringing::bring_step_back;
 use crate::course::Course;
-use crate::readiness::{know_child, know_others, settle_others, settle_taken};
+use crate::readiness::{know_child, settle_again, settle_taken};
 use gr_base::{Event, NoMemory};
 use gr_depend::Log;
 use gr_pool::Pool;
 use gr_step::{Record, StepRefused, Store};
-use std::alloc::Global;
 
 /// Takes a step back directly after it, which takes no memory.
 fn withdraw(store: &mut Store, step: Record)
@@ -55,33 +54,24 @@ fn enter(log: &mut Log, pool: &mut Pool, step: Record) -> Result<(), Record>
 }
 
 /// Takes a step back whose record has left the log. Refused, the record is handed back, and nothing has changed.
-fn take_back(
-    alloc: Global,
-    store: &mut Store,
-    pool: &mut Pool,
-    step: Record,
-) -> Result<Event, Record>
+fn take_back(store: &mut Store, pool: &mut Pool, step: Record) -> Result<Event, Record>
     requires fits { CanGoBack step.id.go step.change (contents_at store.old) }
-    requires known { is_among step.id.go pool.old.known ≡ true }
+    requires ready { HasReady pool.old (contents_at store.old) }
     ensures back { OnOk result (contents_at store.new ≡ taken_back step.id.go step.change (contents_at store.old)) }
     ensures event { IfOk result (λ event. event ≡ event_of step) }
     ensures err { OnErr result (contents_at store.new ≡ contents_at store.old) }
     ensures returned { IfErr result (λ handed. handed ≡ step) }
     ensures listing { SameListing store.old store.new }
     ensures taken { taken_at store.new ≡ taken_at store.old }
-    ensures follows { OnOk result (Follows step (contents_at store.new) pool.old pool.new) }
-    ensures more { OnErr result (KnowsMore pool.old pool.new) }
-    ensures ready { OnErr result (pool.new.ready ≡ pool.old.ready) }
+    ensures ready { HasReady pool.new (contents_at store.new) }
 {
-    let Ok(others) = know_others(alloc, pool, &step.change) else {
-        return Err(step);
-    };
+    bring_step_back(pool, &step);
     match store.unstep(step) {
-        Ok(event) => {
-            settle_others(pool, store, &event.go, others.as_slice());
-            Ok(event)
+        Ok(event) => Ok(event),
+        Err((step, NoMemory)) => {
+            settle_again(pool, store, &step);
+            Err(step)
         }
-        Err((step, NoMemory)) => Err(step),
     }
 }
 
@@ -110,7 +100,7 @@ impl Course {
     }
 
     /// Takes the last record out of the log, and its step back. Refused, nothing has changed.
-    pub(crate) fn retract(&mut self, alloc: Global) -> Result<Event, NoMemory>
+    pub(crate) fn retract(&mut self) -> Result<Event, NoMemory>
         requires { LastGoesBack self.old }
         ensures ok { IfOk result (λ event. Retracts self.old event self.new) }
         ensures err { OnErr result (SameCourse self.old self.new) }
@@ -121,7 +111,7 @@ impl Course {
         let Some(step) = self.log.pop() else {
             return Err(NoMemory);
         };
-        match take_back(alloc, &mut self.store, &mut self.pool, step) {
+        match take_back(&mut self.store, &mut self.pool, step) {
             Ok(event) => Ok(event),
             Err(step) => {
                 self.log.push(step).unwrap();

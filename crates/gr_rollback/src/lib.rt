@@ -3,9 +3,11 @@
 
 mod asking;
 mod back;
+mod bringing;
 mod course;
 mod keeping;
 pub mod laws;
+mod leasing;
 pub mod machine;
 mod readiness;
 mod redo;

@@ -100,14 +100,14 @@ impl Machine {
         let Ok(go) = last.id.go.copy(alloc) else {
             return Err(BackRefused::NoMemory(Vec::new(alloc)));
         };
-        match self.retract_last(alloc) {
+        match self.retract_last() {
             Ok(()) => Ok(StepId { go, n }),
             Err(NoMemory) => Err(BackRefused::NoMemory(Vec::new(alloc))),
         }
     }
 
     /// Takes the last step back, which alone may then be done again. Refused, nothing has changed.
-    fn retract_last(&mut self, alloc: Global) -> Result<(), NoMemory>
+    fn retract_last(&mut self) -> Result<(), NoMemory>
         requires { LastGoesBack self.old.course }
         ensures ok { OnOk result (RetractsLast self.old self.new) }
         ensures err { OnErr result (SameCourse self.old.course self.new.course) }
@@ -116,7 +116,7 @@ impl Machine {
         ensures taken { taken_at (store_of self.new) ≡ taken_at (store_of self.old) }
     {
         self.again.reserve(1)?;
-        let event = self.course.retract(alloc)?;
+        let event = self.course.retract()?;
         self.again.clear();
         self.again.push_reserved(event);
         Ok(())

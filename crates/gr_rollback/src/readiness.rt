@@ -1,18 +1,18 @@
 //! Which goroutines are ready, kept in a pool beside the store.
 
-ghost use Rattle.std.specs.Prelude.{◌≡◌, ◌∷◌, ◌++◌, [], None, true, ◌↔◌, IsTrue, IfOk, OnOk, option_copied};
+ghost use Rattle.std.specs.Prelude.{◌≡◌, ◌∷◌, [], None, true, ◌↔◌, IsTrue, OnOk, option_copied};
 ghost use Rattle.std.specs.Option.{option_to_list};
 ghost use Rattle.gr_pool.specs.Goroutines.{is_among};
 ghost use Rattle.gr_step.specs.Records.{begun_by};
 ghost use Rattle.gr_step.specs.Stores.{contents_at};
-ghost use Rattle.gr_rollback.specs.Readiness.{IsReadyIn, Settles, KnowsMore, AllKnown, keeps_status, names_met, others_of, met_by};
+ghost use Rattle.gr_rollback.specs.Readiness.{IsReadyIn, KeepsStatus, KnowsReady, KnowsThere, Settles, KnowsMore, AllKnown, names_met, others_of, met_by};
 
+use crate::bringing::{Prior, prior_to};
 use gr_base::{GoName, NoMemory};
 use gr_goros::{GoUndo, Status};
 use gr_pool::Pool;
 use gr_step::record::Change;
 use gr_step::{Record, Store};
-use std::alloc::Global;
 
 // Whether a goroutine is there, and ready.
 fn is_ready(store: &Store, go: &GoName) -> bool
@@ -27,9 +27,9 @@ fn is_ready(store: &Store, go: &GoName) -> bool
     }
 }
 
-/// Makes a goroutine that is known ready in the pool where it is so in the store, and else not. It takes no memory.
+/// Makes a goroutine ready in the pool where it is so in the store, and known then, and else not. It takes no memory.
 fn settle(pool: &mut Pool, store: &Store, go: &GoName)
-    requires { is_among go.now pool.old.known ≡ true }
+    requires { KnowsReady (go.now ∷ []) (contents_at store.now) pool.old }
     ensures { Settles (go.now ∷ []) (contents_at store.now) pool.old pool.new }
 {
     if is_ready(store, go) {
@@ -37,73 +37,6 @@ fn settle(pool: &mut Pool, store: &Store, go: &GoName)
     } else {
         pool.remove(go);
     }
-}
-
-/// The same for each of the goroutines.
-fn settle_all(pool: &mut Pool, store: &Store, names: &[GoName])
-    requires { AllKnown names.now pool.old }
-    ensures { Settles names.now (contents_at store.now) pool.old pool.new }
-{
-    for go in names {
-        settle(pool, store, go);
-    }
-}
-
-/// The same for the goroutine of a step and for the others that it met or started.
-pub(crate) fn settle_others(pool: &mut Pool, store: &Store, go: &GoName, others: &[GoName])
-    requires own { is_among go.now pool.old.known ≡ true }
-    requires others { AllKnown others.now pool.old }
-    ensures { Settles (go.now ∷ others.now) (contents_at store.now) pool.old pool.new }
-{
-    settle(pool, store, go);
-    settle_all(pool, store, others);
-}
-
-/// Makes the goroutines known. Refused, some may be.
-fn know_all(pool: &mut Pool, names: &[GoName]) -> Result<(), NoMemory>
-    ensures known { OnOk result (AllKnown names.now pool.new) }
-    ensures more { KnowsMore pool.old pool.new }
-    ensures ready { pool.new.ready ≡ pool.old.ready }
-{
-    for go in names {
-        pool.know(go)?;
-    }
-    Ok(())
-}
-
-/// The goroutines that a step met, and the one that it started. For a step that reached no further than its goroutine it
-/// takes no memory.
-fn others(alloc: Global, change: &Change) -> Result<Vec<GoName>, NoMemory>
-    ensures { IfOk result (λ names. names.items ≡ others_of change.now) }
-{
-    let mut names = Vec::new(alloc);
-    let Some(beyond) = &change.beyond else {
-        return Ok(names);
-    };
-    let met = beyond.met.as_slice();
-    for (go, _) in met {
-        names.push(go.copy(alloc)?)?;
-    }
-    if let Some(child) = beyond.begins() {
-        names.push(child.copy(alloc)?)?;
-    }
-    Ok(names)
-}
-
-/// The goroutines that a step met, and the one that it started, each made known. Refused, more may be known.
-pub(crate) fn know_others(
-    alloc: Global,
-    pool: &mut Pool,
-    change: &Change,
-) -> Result<Vec<GoName>, NoMemory>
-    ensures names { IfOk result (λ names. names.items ≡ others_of change.now) }
-    ensures known { OnOk result (AllKnown (others_of change.now) pool.new) }
-    ensures more { KnowsMore pool.old pool.new }
-    ensures ready { pool.new.ready ≡ pool.old.ready }
-{
-    let names = others(alloc, change)?;
-    know_all(pool, names.as_slice())?;
-    Ok(names)
 }
 
 /// Makes the goroutine of a step, which was ready, unready where it is so in the store.
@@ -117,31 +50,15 @@ fn settle_own(pool: &mut Pool, store: &Store, go: &GoName)
     pool.remove(go);
 }
 
-/// Whether the goroutine is ready after a change as it was before, by what the change replaced.
-#[inline]
-fn leaves_status(undo: &GoUndo) -> bool
-    ensures { result ≡ keeps_status undo.now }
-{
-    match undo {
-        GoUndo::Went(_)
-        | GoUndo::Printed(_)
-        | GoUndo::Entered(_)
-        | GoUndo::Left(_)
-        | GoUndo::Made(_)
-        | GoUndo::Began(_) => true,
-        _ => false,
-    }
-}
-
 /// Makes the goroutine of a step unready where it is so in the store. The step reached no further than the goroutine, which was
 /// ready; what the step replaced tells of most that it is ready still.
 #[inline]
 fn settle_alone(pool: &mut Pool, store: &Store, step: &Record)
     requires own { is_among step.now.id.go pool.old.ready ≡ true }
-    requires ready { keeps_status step.now.change.own ≡ true → IsReadyIn (contents_at store.now) step.now.id.go }
+    requires ready { KeepsStatus step.now.change.own → IsReadyIn (contents_at store.now) step.now.id.go }
     ensures { Settles (step.now.id.go ∷ []) (contents_at store.now) pool.old pool.new }
 {
-    if leaves_status(&step.change.own) {
+    if let Prior::Same = prior_to(&step.change.own) {
         return;
     }
     settle_own(pool, store, &step.id.go);
@@ -149,7 +66,7 @@ fn settle_alone(pool: &mut Pool, store: &Store, step: &Record)
 
 /// Settles each of the goroutines that a step met.
 fn settle_met(pool: &mut Pool, store: &Store, met: &[(GoName, GoUndo)])
-    requires { AllKnown (names_met met.now) pool.old }
+    requires { KnowsReady (names_met met.now) (contents_at store.now) pool.old }
     ensures { Settles (names_met met.now) (contents_at store.now) pool.old pool.new }
 {
     for (go, _) in met {
@@ -159,7 +76,7 @@ fn settle_met(pool: &mut Pool, store: &Store, met: &[(GoName, GoUndo)])
 
 /// Settles the goroutine that a step started, if it started one.
 fn settle_child(pool: &mut Pool, store: &Store, child: Option<&GoName>)
-    requires { AllKnown (option_to_list (option_copied child)) pool.old }
+    requires { KnowsReady (option_to_list (option_copied child)) (contents_at store.now) pool.old }
     ensures { Settles (option_to_list (option_copied child.entry)) (contents_at store.now) pool.old pool.new }
 {
     if let Some(go) = child {
@@ -182,14 +99,12 @@ pub(crate) fn know_child(pool: &mut Pool, change: &Change) -> Result<(), NoMemor
     pool.know(go)
 }
 
-/// Brings the pool to what is ready after a step, whose goroutine was ready, of that and of those that the step met and started.
-fn settle_further(pool: &mut Pool, store: &Store, step: &Record)
-    requires own { is_among step.now.id.go pool.old.ready ≡ true }
-    requires met { AllKnown (met_by step.now.change) pool.old }
-    requires child { AllKnown (option_to_list (begun_by step.now.change)) pool.old }
-    ensures { Settles (step.now.id.go ∷ others_of step.now.change) (contents_at store.now) pool.old pool.new }
+/// Settles the goroutines that a step met, and the one that it started.
+fn settle_others(pool: &mut Pool, store: &Store, step: &Record)
+    requires met { KnowsReady (met_by step.now.change) (contents_at store.now) pool.old }
+    requires child { KnowsReady (option_to_list (begun_by step.now.change)) (contents_at store.now) pool.old }
+    ensures { Settles (others_of step.now.change) (contents_at store.now) pool.old pool.new }
 {
-    settle_own(pool, store, &step.id.go);
     let Some(beyond) = &step.change.beyond else {
         return;
     };
@@ -197,11 +112,32 @@ fn settle_further(pool: &mut Pool, store: &Store, step: &Record)
     settle_child(pool, store, beyond.begins());
 }
 
+/// Settles the goroutine of a step, which was ready, and those that the step met and started.
+fn settle_further(pool: &mut Pool, store: &Store, step: &Record)
+    requires own { is_among step.now.id.go pool.old.ready ≡ true }
+    requires met { KnowsReady (met_by step.now.change) (contents_at store.now) pool.old }
+    requires child { KnowsReady (option_to_list (begun_by step.now.change)) (contents_at store.now) pool.old }
+    ensures { Settles (step.now.id.go ∷ others_of step.now.change) (contents_at store.now) pool.old pool.new }
+{
+    settle_own(pool, store, &step.id.go);
+    settle_others(pool, store, step);
+}
+
+/// Settles the goroutine of a step and those that it met and started, where all that are there are known. It takes no memory.
+#[inline(never)]
+pub(crate) fn settle_again(pool: &mut Pool, store: &Store, step: &Record)
+    requires { KnowsThere pool.old (contents_at store.now) }
+    ensures { Settles (step.now.id.go ∷ others_of step.now.change) (contents_at store.now) pool.old pool.new }
+{
+    settle(pool, store, &step.id.go);
+    settle_others(pool, store, step);
+}
+
 /// Brings the pool to what is ready after a step, whose goroutine was ready; those that it met and started are known. Where the
 /// step reached no further than its goroutine, and that is ready still, the pool stays. It takes no memory.
 pub(crate) fn settle_taken(pool: &mut Pool, store: &Store, step: &Record)
     requires own { is_among step.now.id.go pool.old.ready ≡ true }
-    requires ready { step.now.change.beyond ≡ None → keeps_status step.now.change.own ≡ true → IsReadyIn (contents_at store.now) step.now.id.go }
+    requires ready { step.now.change.beyond ≡ None → KeepsStatus step.now.change.own → IsReadyIn (contents_at store.now) step.now.id.go }
     requires met { AllKnown (met_by step.now.change) pool.old }
     requires child { AllKnown (option_to_list (begun_by step.now.change)) pool.old }
     ensures { Settles (step.now.id.go ∷ others_of step.now.change) (contents_at store.now) pool.old pool.new }

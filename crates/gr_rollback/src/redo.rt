@@ -7,7 +7,7 @@ ghost use Rattle.gr_step.specs.Stores.{SameListing};
 
 use crate::machine::Machine;
 use crate::refusal::BackRefused;
-use gr_base::{NoMemory, StepId};
+use gr_base::{Event, NoMemory, StepId};
 use gr_step::StepRefused;
 use std::alloc::Global;
 
@@ -40,11 +40,10 @@ impl Machine {
         ensures listing { SameListing (store_of self.old) (store_of self.new) }
     {
         let event = self.again.last().unwrap().copy(alloc)?;
-        let go = event.go.copy(alloc)?;
         if let Err(why) = self.course.keep(event) {
             return Err(only_memory(why));
         }
-        let _ = self.again.pop();
+        let Event { go, .. } = self.again.pop().unwrap();
         let n = self.course.log.last().unwrap().id.n;
         ids.push_reserved(StepId { go, n });
         Ok(())

@@ -1,15 +1,13 @@
-use Rattle.std.proofs.Common.{ap, ◌∙◌}
-use Rattle.gr_pool.specs.Goroutines.{is_among}
 use Rattle.gr_step.specs.Stores.{contents_at}
 use Rattle.gr_rollback.specs.Readiness.{names_met}
-use Rattle.gr_rollback.proofs.PoolLemmas.{settles_more, among_here, met_here}
+use Rattle.gr_rollback.proofs.PoolLemmas.{settles_more, ready_here, met_here}
 use Rattle.gr_rollback.proofs.readiness.settle_met.Goals as goal
 
 pub settle-requires : goal.settle-requires
 settle-requires c =
     let at = met_here c.args.met.now c.loop-go.go-index c.loop-go-item.result c.loop-go-test.true c.loop-go-item.is in
-    ap (is_among c.loop-go-item.result.0) c.loop-go.invariant.known
-    ∙ c.requires c.loop-go-item.result.0 (among_here (names_met c.args.met.now) c.loop-go.go-index c.loop-go-item.result.0 at.0 at.1)
+    ready_here (names_met c.args.met.now) c.loop-go.go-index c.loop-go-item.result.0 at.0 at.1 (contents_at c.args.store.now) c.args.pool.now c.loop-go.pool
+    c.loop-go.invariant.known c.requires
 
 pub loop-go-preserved : goal.loop-go-preserved
 loop-go-preserved c =

@@ -8,10 +8,10 @@ use Rattle.gr_step.specs.Stores.{program_at, contents_at}
 use Rattle.gr_kept.proofs.RecordLemmas.{no_object_twice}
 use Rattle.gr_depend.specs.Logs.{records_of}
 use Rattle.gr_rollback.specs.declared.course.Course.{Course}
-use Rattle.gr_rollback.specs.Readiness.{AllKnown, IsReadyIn, Settles, keeps_status, met_by, others_of}
+use Rattle.gr_rollback.specs.Readiness.{AllKnown, IsReadyIn, KeepsStatus, Settles, met_by, others_of}
 use Rattle.gr_rollback.specs.Steps.{Keeps}
 use Rattle.gr_rollback.proofs.Basics.{last_same, no_item, not_nothing}
-use Rattle.gr_rollback.proofs.CourseLemmas.{can_count, stays, keeps, own_stays_ready, own_in_pool, met_in_pool, follows, logged, tells}
+use Rattle.gr_rollback.proofs.CourseLemmas.{can_count, stays, keeps, own_stays_ready, own_in_pool, met_in_pool, follows, logged, ready_still, tells}
 use Rattle.gr_rollback.proofs.StepLemmas.{is_no_step, record_is_allowed}
 use Rattle.gr_rollback.proofs.course.Course.keep.Goals as goal
 
@@ -27,8 +27,7 @@ returns-in_err-step-clause-kept c = λ p w s.
         listing = c.in_err-step.ensures.listing;
         contents = c.in_err-step.ensures.err;
         records = refl;
-        more = λ n k. k;
-        ready = refl;
+        pool = λ has. ready_still c.args.self.now.pool c.args.self.now.pool _ _ has c.in_err-step.ensures.err (λ n k. k) refl;
         first = refl;
       }),
     )
@@ -49,8 +48,9 @@ returns-in-Err-clause-kept c = λ p w s.
         listing = c.withdraw.ensures.listing ∙ c.in_ok-step.ensures.listing;
         contents = c.withdraw.ensures.back ∙ ap (λ (r : Record). taken_back r.id.go r.change (contents_at c.step.new.self)) c.in-Err.ensures.handed_back ∙ is.takes.back;
         records = c.in-Err.ensures.err;
-        more = c.in-Err.ensures.more;
-        ready = c.in-Err.ensures.ready;
+        pool = λ has. ready_still c.args.self.now.pool c.enter-entered.new.pool _ _ has
+            (c.withdraw.ensures.back ∙ ap (λ (r : Record). taken_back r.id.go r.change (contents_at c.step.new.self)) c.in-Err.ensures.handed_back ∙ is.takes.back)
+            c.in-Err.ensures.more c.in-Err.ensures.ready;
         first = refl;
       }),
     )
@@ -68,7 +68,7 @@ settle_taken-requires-clause-ready c =
     let r = c.in_ok-step.step in
     let after = contents_at c.step.new.self in
     let last = last_same (records_of c.enter-entered.new.log) (records_of c.args.self.now.log) r c.in-Some.last.now c.in_default.ensures.ok c.in-Some.ensures in
-    subst (λ (q : Record). q.change.beyond ≡ None → keeps_status q.change.own ≡ true → IsReadyIn after q.id.go) (sym last)
+    subst (λ (q : Record). q.change.beyond ≡ None → KeepsStatus q.change.own → IsReadyIn after q.id.go) (sym last)
     (own_stays_ready p (contents_at c.args.self.now.store) after r c.in_ok-step.ensures.step)
 
 pub settle_taken-requires-clause-met : goal.settle_taken-requires-clause-met

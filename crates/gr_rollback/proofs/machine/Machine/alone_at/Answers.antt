@@ -1,0 +1,16 @@
+use Rattle.std.proofs.Common.{◌%◌, ◌∙◌, length, None, sym, ap}
+use Rattle.std.specs.Prelude.{option_copied, slice_get}
+use Rattle.gr_rollback.proofs.LendingLemmas.{lent_at, names, none_of_none}
+use Rattle.gr_rollback.proofs.machine.Machine.alone_at.Goals as goal
+
+pub returns-then-count-eq0 : goal.returns-then-count-eq0
+returns-then-count-eq0 c = λ p w s.
+    let ns = names p w c.args.self.now s in
+    lent_at p w c.args.self.now s c.args.place None c.count_alone-count.ensures.ordered
+    (none_of_none ns (c.args.place % length ns) (sym c.count_alone-count.ensures.count ∙ c.if-count-eq0.true))
+
+pub returns : goal.returns
+returns c = λ p w s.
+    let ns = names p w c.args.self.now s in
+    lent_at p w c.args.self.now s c.args.place (option_copied c.nth_alone.result) c.count_alone-count.ensures.ordered
+    (c.nth_alone.ensures ∙ ap (λ n. slice_get ns (c.args.place % n)) c.count_alone-count.ensures.count)

@@ -1,0 +1,116 @@
+//! The pool of ready goroutines brought back before changes, by what these replaced.
+
+ghost use Rattle.std.specs.Prelude.{◌≡◌, ◌∷◌, [], true, option_copied};
+ghost use Rattle.gr_goros.specs.Views.{status_of};
+ghost use Rattle.gr_pool.specs.Goroutines.{is_among};
+ghost use Rattle.gr_rules.specs.Goroutines.{Status as StatusSeen};
+ghost use Rattle.gr_step.specs.Fews.{members};
+ghost use Rattle.gr_step.specs.Parts.{begun_in};
+ghost use Rattle.gr_step.specs.Records.{begun_by, goroutines_changed};
+ghost use Rattle.gr_rollback.specs.Readiness.{AllKnown, names_met, met_by};
+ghost use Rattle.gr_rollback.specs.Prior.{IsPrior, TellsPrior, BringsBack, BringsStepBack, Loses};
+
+use gr_base::GoName;
+use gr_goros::{GoUndo, Status};
+use gr_pool::Pool;
+use gr_step::Record;
+use gr_step::record::Beyond;
+
+/// Whether a goroutine was ready before a change.
+#[derive(Clone, Copy)]
+pub(crate) enum Prior {
+    Ready,
+    Unready,
+    /// As it is after the change.
+    Same,
+}
+
+/// Whether a goroutine of this status is ready.
+fn prior_in(status: &Status) -> Prior
+    ensures { (after : StatusSeen) → IsPrior result (status_of status.now) after }
+{
+    match status {
+        Status::Ready => Prior::Ready,
+        Status::Waiting(_) | Status::Finished => Prior::Unready,
+    }
+}
+
+/// Whether a goroutine was ready before the change that replaced this.
+#[inline]
+pub(crate) fn prior_to(undo: &GoUndo) -> Prior
+    ensures { TellsPrior result undo.now }
+{
+    match undo {
+        GoUndo::Went(_)
+        | GoUndo::Printed(_)
+        | GoUndo::Entered(_)
+        | GoUndo::Left(_)
+        | GoUndo::Made(_)
+        | GoUndo::Began(_)
+        | GoUndo::Faulted(_) => Prior::Same,
+        GoUndo::Parked(_) | GoUndo::Finished(_) => Prior::Ready,
+        GoUndo::Met(met) => prior_in(&met.status),
+        GoUndo::Retried(status) => prior_in(status),
+    }
+}
+
+/// Brings the pool back before a change of a goroutine that it knows. It takes no memory.
+#[inline]
+fn bring_back(pool: &mut Pool, go: &GoName, undo: &GoUndo)
+    requires { is_among go.now pool.old.known ≡ true }
+    ensures { BringsBack ((go.now, undo.now) ∷ []) pool.old pool.new }
+{
+    match prior_to(undo) {
+        Prior::Ready => pool.insert(go),
+        Prior::Unready => pool.remove(go),
+        Prior::Same => {}
+    }
+}
+
+/// The same for changes of several goroutines, the last change first.
+fn bring_all_back(pool: &mut Pool, changes: &[(GoName, GoUndo)])
+    requires { AllKnown (names_met changes.now) pool.old }
+    ensures { BringsBack changes.now pool.old pool.new }
+{
+    let mut left = changes.len();
+    while left > 0 {
+        left -= 1;
+        let (go, undo) = &changes[left];
+        bring_back(pool, go, undo);
+    }
+}
+
+/// Makes the goroutine of a name unready, if there is one.
+fn lose(pool: &mut Pool, child: Option<&GoName>)
+    ensures { Loses (option_copied child.entry) pool.old pool.new }
+{
+    if let Some(go) = child {
+        pool.remove(go);
+    }
+}
+
+/// Brings the pool back before a step that reached beyond its goroutine.
+#[inline(never)]
+fn bring_beyond_back(pool: &mut Pool, go: &GoName, own: &GoUndo, beyond: &Beyond)
+    requires own { is_among go.now pool.old.known ≡ true }
+    requires met { AllKnown (names_met (members beyond.now.met)) pool.old }
+    ensures { BringsStepBack ((go.now, own.now) ∷ members beyond.now.met) (begun_in beyond.now) pool.old pool.new }
+{
+    bring_all_back(pool, beyond.met.as_slice());
+    bring_back(pool, go, own);
+    lose(pool, beyond.begins());
+}
+
+/// Brings the pool back before a step, whose goroutine and those that it met are known. It takes no memory.
+#[inline]
+pub(crate) fn bring_step_back(pool: &mut Pool, step: &Record)
+    requires own { is_among step.now.id.go pool.old.known ≡ true }
+    requires met { AllKnown (met_by step.now.change) pool.old }
+    ensures { BringsStepBack (goroutines_changed step.now.id.go step.now.change) (begun_by step.now.change) pool.old pool.new }
+{
+    let own = &step.change.own;
+    match &step.change.beyond {
+        None => bring_back(pool, &step.id.go, own),
+        Some(beyond) => bring_beyond_back(pool, &step.id.go, own, beyond),
+    }
+}

@@ -1,0 +1,190 @@
+//! Steps that a goroutine takes by itself on a copy, and that join the log together.
+
+ghost use Rattle.std.specs.Prelude.{◌≡◌, ◌+◌, ◌<◌, ◌≤◌, ◌++◌, ◌↔◌, length, take, filter, slice_get, get_or, [], All, IfOk, IfSome, IsTrue, OnOk, OnErr, option_copied, option_map};
+ghost use Rattle.gr_causal.specs.Sequences.{Distinct};
+ghost use Rattle.gr_pool.specs.Goroutines.{IsInOrder};
+ghost use Rattle.gr_program.specs.Programs.{Program as ProgramSeen};
+ghost use Rattle.gr_step.specs.Conflicts.{touched_by};
+ghost use Rattle.gr_step.specs.Leasing.{IsLease, IsAsLent, goes_alone, loan_of};
+ghost use Rattle.gr_step.specs.Stores.{IsRun, SameListing, state_at, taken_at};
+ghost use Rattle.gr_depend.specs.Logs.{records_of};
+
+use crate::LOG_LIMIT;
+use crate::course::Course;
+use crate::machine::Machine;
+use gr_base::{GoName, NoMemory};
+use gr_depend::Log;
+use gr_pool::Pool;
+use gr_step::{Lease, Record, Store};
+use std::alloc::Global;
+
+/// Whether the next step of the ready goroutine at a place is local.
+fn is_alone(store: &Store, pool: &Pool, place: usize) -> bool
+    requires run { IsRun store.now }
+    requires within { place < length pool.now.ready }
+    ensures { result ≡ goes_alone (state_at store.now) (get_or pool.now.ready place []) }
+{
+    match pool.get(place) {
+        Some(go) => store.has_own_step(go),
+        None => unreachable!(),
+    }
+}
+
+/// Of how many ready goroutines the next step is local.
+fn count_alone(store: &Store, pool: &Pool) -> usize
+    requires { IsRun store.now }
+    ensures count { result ≡ length (filter (goes_alone (state_at store.now)) pool.now.ready) }
+    ensures ordered { IsInOrder pool.now.ready }
+{
+    let mut count = 0;
+    for place in 0..pool.len() {
+        if !is_alone(store, pool, place) {
+            continue;
+        }
+        count += 1;
+    }
+    count
+}
+
+/// Of the ready goroutines whose next step is local, the one with a number, counted from 0.
+fn nth_alone<'a>(store: &Store, pool: &'a Pool, number: usize) -> Option<&'a GoName>
+    requires { IsRun store.now }
+    ensures { option_copied result ≡ slice_get (filter (goes_alone (state_at store.now)) pool.now.ready) number }
+{
+    let mut left = number;
+    for place in 0..pool.len() {
+        if !is_alone(store, pool, place) {
+            continue;
+        }
+        if left == 0 {
+            return pool.get(place);
+        }
+        left -= 1;
+    }
+    None
+}
+
+/// Takes records from the end of the log until it has so many.
+fn shorten(log: &mut Log, len: usize)
+    requires { len ≤ length (records_of log.old) }
+    ensures { records_of log.new ≡ take len (records_of log.old) }
+{
+    while log.len() > len {
+        log.pop();
+    }
+}
+
+/// Lets records join the log. Refused, none has.
+fn push_all(log: &mut Log, records: Vec<Record>) -> Result<(), NoMemory>
+    requires { All (λ r. Distinct (touched_by r)) records.items }
+    ensures ok { OnOk result (records_of log.new ≡ records_of log.old ++ records.items) }
+    ensures err { OnErr result (records_of log.new ≡ records_of log.old) }
+{
+    let before = log.len();
+    for record in records {
+        if let Err((_, NoMemory)) = log.push(record) {
+            shorten(log, before);
+            return Err(NoMemory);
+        }
+    }
+    Ok(())
+}
+
+impl Course {
+    ghost use Rattle.gr_rollback.specs.Pasts.{Past};
+    ghost use Rattle.gr_rollback.specs.Courses.{IsCourse, Holds};
+    ghost use Rattle.gr_rollback.specs.Leasing.{KeepsAll};
+
+    /// Lets the steps of a lease join the log, whose goroutine is as it was lent. Refused, none has.
+    fn keep_all(&mut self, alloc: Global, lease: &mut Lease) -> Result<(), NoMemory>
+        requires course { IsCourse self.old }
+        requires lease { IsLease lease.old }
+        requires lent { IsAsLent lease.old self.old.store }
+        requires room { length (records_of self.old.log) + (loan_of lease.old).steps ≤ LOG_LIMIT }
+        ensures kept { (p : ProgramSeen) (w : Past p) → Holds p w self.old
+            → OnOk result (KeepsAll p w (loan_of lease.old).name (loan_of lease.old).steps self.new) }
+        ensures err { (p : ProgramSeen) (w : Past p) → Holds p w self.old → OnErr result (Holds p w self.new) }
+        ensures loan { loan_of lease.new ≡ loan_of lease.old }
+        ensures listing { SameListing self.old.store self.new.store }
+        ensures taken { taken_at self.new.store ≡ taken_at self.old.store }
+    {
+        let records = lease.take_records(alloc);
+        push_all(&mut self.log, records)?;
+        self.store.take_over(lease);
+        Ok(())
+    }
+}
+
+impl Machine {
+    ghost use Rattle.gr_rollback.specs.Pasts.{World};
+    ghost use Rattle.gr_rollback.specs.Machines.{store_of, steps_of, Stands, IsMachine};
+    ghost use Rattle.gr_rollback.specs.Leasing.{AllTaken, IsLentAt, SomeGoesAlone};
+
+    /// Of the goroutines whose next step is local, in the order of names, the one at a place, modulo their number.
+    fn alone_at(&self, place: u32) -> Option<&GoName>
+        requires { IsMachine self.now }
+        ensures { (p : ProgramSeen) (w : World p) → Stands p w self.now → IsLentAt w.past.state place (option_copied result) }
+    {
+        let count = count_alone(&self.course.store, &self.course.pool);
+        if count == 0 {
+            return None;
+        }
+        nth_alone(
+            &self.course.store,
+            &self.course.pool,
+            place as usize % count,
+        )
+    }
+
+    /// A copy of a goroutine whose next step is local, to take steps of its own: of those, in the order of names, the one at the
+    /// place, modulo their number; `None` where there is none.
+    pub fn lend_at(&self, alloc: Global, place: u32) -> Result<Option<Lease>, NoMemory>
+        requires { IsMachine self.now }
+        ensures lease { IfOk result (λ o. IfSome o (λ l. IsLease l × IsAsLent l (store_of self.now))) }
+        ensures fresh { IfOk result (λ o. IfSome o (λ l. (loan_of l).steps ≡ 0)) }
+        ensures which { (p : ProgramSeen) (w : World p) → Stands p w self.now
+            → IfOk result (λ o. IsLentAt w.past.state place (option_map (λ l. (loan_of l).name) o)) }
+    {
+        let Some(go) = self.alone_at(place) else {
+            return Ok(None);
+        };
+        self.course.store.lend(alloc, go)
+    }
+
+    /// Whether the next step of some goroutine is local. It takes no memory.
+    pub fn has_own_step(&self) -> bool
+        requires { IsMachine self.now }
+        ensures { (p : ProgramSeen) (w : World p) → Stands p w self.now → IsTrue result ↔ SomeGoesAlone w.past.state }
+    {
+        match nth_alone(&self.course.store, &self.course.pool, 0) {
+            Some(_) => true,
+            None => false,
+        }
+    }
+
+    /// Whether the goroutine of a lease is as it was lent, in a run of the same program that goes on. It takes no memory.
+    pub fn has_as_lent(&self, lease: &Lease) -> bool
+        ensures { IsTrue result ↔ IsAsLent lease.now (store_of self.now) }
+    {
+        self.course.store.has_as_lent(lease)
+    }
+
+    /// Lets the steps of a lease join the log, whose goroutine is as it was lent, and which took some; nothing may be done again
+    /// after them. Refused, nothing has changed, but that the lease has its steps no more.
+    pub fn keep_all(&mut self, alloc: Global, lease: &mut Lease) -> Result<(), NoMemory>
+        requires machine { IsMachine self.old }
+        requires lease { IsLease lease.old }
+        requires lent { IsAsLent lease.old (store_of self.old) }
+        requires some { 0 < (loan_of lease.old).steps }
+        requires room { length (steps_of self.old) + (loan_of lease.old).steps ≤ LOG_LIMIT }
+        ensures kept { (p : ProgramSeen) (w : World p) → Stands p w self.old
+            → AllTaken p w (loan_of lease.old).name (loan_of lease.old).steps result self.new }
+        ensures loan { loan_of lease.new ≡ loan_of lease.old }
+        ensures listing { SameListing (store_of self.old) (store_of self.new) }
+        ensures taken { taken_at (store_of self.new) ≡ taken_at (store_of self.old) }
+    {
+        self.course.keep_all(alloc, lease)?;
+        self.again.clear();
+        Ok(())
+    }
+}
