@@ -16,8 +16,11 @@ mod OneMeaningUndo
 mod OneMeaningBack
 mod OneMeaningRedo
 mod OneMeaningOrders
+mod OneMeaningBatches
 mod OneMeaningNext
 mod ReachedWorlds
 mod OneMeaningJournals
 mod GrantLemmas
+mod CommitLemmas
+mod CopyLemmas
 mod PlainLemmas

@@ -8,7 +8,7 @@ use Rattle.gr_program.specs.Programs.{Program}
 use Rattle.gr_session.specs.declared.journal.Entry.{Entry}
 use Rattle.gr_session.specs.declared.open.OpenError.{OpenError}
 use Rattle.gr_session.specs.declared.open.OpenError.TheVariants as opening
-use Rattle.gr_session.specs.Journal.{IsLegal}
+use Rattle.gr_session.specs.Entries.{IsLegal}
 use Rattle.gr_session.specs.Source.{IsProgramOf}
 use Rattle.gr_session.specs.Refused.{NoProgram, SaysWhy}
 use Rattle.rewind.specs.declared.stream.ServeFault.{ServeFault}

@@ -4,6 +4,8 @@
 #[cfg(test)]
 mod base;
 #[cfg(test)]
+mod batching;
+#[cfg(test)]
 mod channels;
 #[cfg(test)]
 mod debugger;
