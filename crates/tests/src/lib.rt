@@ -12,4 +12,6 @@ mod pool;
 #[cfg(test)]
 mod scan;
 #[cfg(test)]
+mod sharing;
+#[cfg(test)]
 mod syntax;
