@@ -49,7 +49,7 @@ impl Lanes {
             writes: true,
         };
         self.add_to_run(read)?;
-        let noted = self.add_to_go(&step.id.go, written);
+        let noted = self.add_to_lane(&step.id.go, written);
         if let Err(error) = noted {
             self.take_from_run();
             return Err(error);
@@ -102,7 +102,7 @@ impl Lanes {
         ensures lists { (before : Object → List Touch) (place : ℕ) → ((q : Object) → list_of self.old q ≡ before q ++ kept_for q place step.now) → (q : Object) → list_of self.new q ≡ before q }
         ensures room { KeepsRoom self.old self.new }
     {
-        self.take_from_go(&step.id.go);
+        self.take_from_lane(&step.id.go);
         self.take_from_run();
     }
 
