@@ -93,6 +93,7 @@ impl Key {
     }
 
     /// Whether this is the key of the object.
+    #[inline]
     pub(crate) fn is_of(&self, object: &ObjectRef<'_>) -> bool
         ensures { result ≡ same (object_of self.now) (seen object.now) }
     {

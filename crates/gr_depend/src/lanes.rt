@@ -89,6 +89,7 @@ impl Lanes {
     }
 
     /// The number of the lane of an object, if it has one, by the guess for objects like this.
+    #[inline]
     fn guessed(&self, object: &ObjectRef<'_>) -> Option<usize>
         ensures named { IfSome result (λ i. slice_get (keys self.now.map) i ≡ Some (key_of (seen object.now))) }
         ensures absent { IfNone result (get same_key self.now.map (key_of (seen object.now)) ≡ None) }
@@ -296,8 +297,12 @@ impl Lanes {
     }
 
     /// Adds a touch to the list of an object that is not `Run`.
-    #[inline]
-    fn add_to_other(&mut self, object: &ObjectRef<'_>, touch: Touch) -> Result<(), NoMemory>
+    #[inline(always)]
+    pub(crate) fn add_to_other(
+        &mut self,
+        object: &ObjectRef<'_>,
+        touch: Touch,
+    ) -> Result<(), NoMemory>
         requires { same objects.Run (seen object.now) ≡ false }
         ensures ok { OnOk result (Adds (seen object.now) touch self.old self.new) }
         ensures err { OnErr result (KeepsLists self.old self.new) }
