@@ -45,7 +45,7 @@ impl Goroutine {
     {
         if let Some(undo) = self.top.count(self.top.instruction(code)) {
             self.steps += 1;
-            return Ok((Kind::Pure, GoUndo::Went(undo)));
+            return Ok((Kind::Pure, GoUndo::Went(self.top.kept_function(), undo)));
         }
         self.take_task(alloc, code)
     }
@@ -66,7 +66,7 @@ impl Goroutine {
         match self.top.task(alloc, instruction, has_caller) {
             Ok(Task::Steps(undo)) => {
                 self.steps += 1;
-                Ok((Kind::Pure, GoUndo::Went(undo)))
+                Ok((Kind::Pure, GoUndo::Went(self.top.kept_function(), undo)))
             }
             Ok(Task::Prints(line)) => self.print(code, line),
             Ok(Task::Enters(function, arguments)) => self.enter(alloc, code, function, arguments),
@@ -148,7 +148,7 @@ impl Goroutine {
             Left {
                 frame: Frame::unseen(alloc),
                 caller: FrameUndo {
-                    spot: self.top.spot(),
+                    number: self.top.number(),
                     cells: Former::Same,
                 },
             },

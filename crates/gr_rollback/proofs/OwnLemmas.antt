@@ -126,11 +126,11 @@ met_was_there n c t q can among other =
 
 -- a goroutine that was ready is so after a step that reached no further and left its status as it was
 status_stays : (u : GoUndo) (g : CodeGoroutine) → keeps_status u ≡ true → (undone u g).status ≡ g.status
-status_stays (undos.Went u) g keeps = refl
+status_stays (undos.Went f u) g keeps = refl
 status_stays (undos.Printed s) g keeps = refl
 status_stays (undos.Entered s) g keeps = refl
 status_stays (undos.Left l) g keeps = refl
-status_stays (undos.Made u) g keeps = refl
+status_stays (undos.Made f u) g keeps = refl
 status_stays (undos.Began s) g keeps = refl
 status_stays (undos.Met m) g keeps = absurd (true_not_false keeps refl)
 status_stays (undos.Parked s) g keeps = absurd (true_not_false keeps refl)

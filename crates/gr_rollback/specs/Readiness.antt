@@ -45,11 +45,11 @@ AllKnown names pool = (n : List ℕ) → is_among n names ≡ true → is_among 
 
 -- whether a change by a step of the goroutine's own, which replaced this, leaves its status as it was
 abbrev pub keeps_status : GoUndo → Bool
-keeps_status (undos.Went u) = true
+keeps_status (undos.Went f u) = true
 keeps_status (undos.Printed s) = true
 keeps_status (undos.Entered s) = true
 keeps_status (undos.Left l) = true
-keeps_status (undos.Made u) = true
+keeps_status (undos.Made f u) = true
 keeps_status (undos.Began s) = true
 keeps_status (undos.Met m) = false
 keeps_status (undos.Parked s) = false

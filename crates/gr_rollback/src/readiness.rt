@@ -123,11 +123,11 @@ fn leaves_status(undo: &GoUndo) -> bool
     ensures { result ≡ keeps_status undo.now }
 {
     match undo {
-        GoUndo::Went(_)
+        GoUndo::Went(_, _)
         | GoUndo::Printed(_)
         | GoUndo::Entered(_)
         | GoUndo::Left(_)
-        | GoUndo::Made(_)
+        | GoUndo::Made(_, _)
         | GoUndo::Began(_) => true,
         _ => false,
     }
