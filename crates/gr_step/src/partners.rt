@@ -8,6 +8,7 @@ ghost use Rattle.gr_rules.specs.Goroutines.{Wait};
 ghost use Rattle.gr_contents.specs.Partners.{is_waiting};
 ghost use Rattle.gr_code.specs.CodeViews.{program_code_of};
 ghost use Rattle.gr_goros.specs.Views.{arrival_of};
+ghost use Rattle.gr_step.specs.Fews.{members};
 ghost use Rattle.gr_tables.specs.NamedChannels.{contents_of, rooms_of, ChansFit, HasRooms, TookBack};
 ghost use Rattle.gr_tables.specs.NamedGoroutines.{At, goroutines_of, name_at, seen_at, CanArrive, Arrives, ChangesBy, KeepsContents};
 ghost use Rattle.gr_step.specs.Parts.{channel_in, AreTouched};
@@ -24,6 +25,7 @@ use gr_base::{ChName, Event, GoName, Kind, NoMemory, Object};
 use gr_channels::ChanUndo;
 use gr_code::code::Code;
 use gr_goros::{Arrival, GoUndo, Status};
+use gr_tables::channels::Channels;
 use std::slice;
 
 /// The change of a step that met nobody, and changed these channels.
@@ -31,13 +33,13 @@ pub(crate) fn told(
     kind: Kind,
     own: GoUndo,
     beyond: Box<Beyond>,
-    channels: Vec<(ChName, ChanUndo)>,
+    channels: Few<(ChName, ChanUndo)>,
 ) -> Change
     ensures { (operation : attempts.Operation) (reads writes : List Object) → IsReached operation reads writes beyond.value
-        → Tells result kind (Some operation) reads writes own [] channels.items }
+        → Tells result kind (Some operation) reads writes own [] (members channels) }
 {
     let mut beyond = beyond;
-    beyond.channels = Few::of_many(channels);
+    beyond.channels = channels;
     Change {
         kind,
         own,
@@ -51,18 +53,31 @@ fn told_with(
     own: GoUndo,
     beyond: Box<Beyond>,
     met: (GoName, GoUndo),
-    channels: Vec<(ChName, ChanUndo)>,
+    channels: Few<(ChName, ChanUndo)>,
 ) -> Change
     ensures { (operation : attempts.Operation) (reads writes : List Object) → IsReached operation reads writes beyond.value
-        → Tells result kind (Some operation) reads writes own (met ∷ []) channels.items }
+        → Tells result kind (Some operation) reads writes own (met ∷ []) (members channels) }
 {
     let mut beyond = beyond;
     beyond.met = Few::One(met);
-    beyond.channels = Few::of_many(channels);
+    beyond.channels = channels;
     Change {
         kind,
         own,
         beyond: Some(beyond),
+    }
+}
+
+/// Takes changes of channels back, the last first, for which there is room.
+fn put_few_back(channels: &mut Channels, undos: Few<(ChName, ChanUndo)>)
+    requires fits { ChansFit (members undos) (contents_of channels.old) }
+    requires room { HasRooms (members undos) (rooms_of channels.old) }
+    ensures { TookBack (members undos) channels.old channels.new }
+{
+    match undos {
+        Few::Empty => {}
+        Few::One((name, undo)) => channels.put_back(&name, undo),
+        Few::Many(undos) => channels.put_all_back(undos),
     }
 }
 
@@ -75,7 +90,7 @@ pub(crate) struct Prepared {
     pub(crate) names: Vec<ChName>,
     /// The channel of the communication.
     pub(crate) channel: ChName,
-    /// No change of a channel yet, with room for one.
+    /// No change of a channel yet, with room for one where it is still to leave any.
     pub(crate) done: Vec<(ChName, ChanUndo)>,
     pub(crate) beyond: Box<Beyond>,
 }
@@ -104,7 +119,8 @@ impl Objects {
         let others = channels_but(self.alloc, slice::from_ref(channel), waits)?;
         let beyond = reached_with(self.alloc, operation, touched, go, &others)?;
         let names = channels_to_leave(self.alloc, channel, waits, others)?;
-        let done = Vec::with_capacity(self.alloc, 1)?;
+        let room = if names.is_empty() { 0 } else { 1 };
+        let done = Vec::with_capacity(self.alloc, room)?;
         Ok(Prepared {
             go: go.copy(self.alloc)?,
             number,
@@ -122,22 +138,22 @@ impl Objects {
         code: &Code,
         number: usize,
         arrival: Arrival,
-        done: Vec<(ChName, ChanUndo)>,
-    ) -> Result<(GoUndo, Vec<(ChName, ChanUndo)>), NoMemory>
+        done: Few<(ChName, ChanUndo)>,
+    ) -> Result<(GoUndo, Few<(ChName, ChanUndo)>), NoMemory>
         requires can { At (CanArrive (program_code_of code.now) (arrival_of arrival)) (seen_at self.old.goroutines number) }
-        requires fits { ChansFit done.items (contents_of self.old.channels) }
-        requires room { HasRooms done.items (rooms_of self.old.channels) }
+        requires fits { ChansFit (members done) (contents_of self.old.channels) }
+        requires room { HasRooms (members done) (rooms_of self.old.channels) }
         ensures after { IfOk result (λ r. ChangesBy number (Arrives (program_code_of code.now) (arrival_of arrival) r.0) self.old.goroutines self.new.goroutines) }
         ensures returned { IfOk result (λ r. r.1 ≡ done) }
         ensures channels { OnOk result (self.new.channels ≡ self.old.channels) }
         ensures err_goroutines { OnErr result (KeepsContents self.old.goroutines self.new.goroutines) }
-        ensures err_channels { OnErr result (TookBack done.items self.old.channels self.new.channels) }
+        ensures err_channels { OnErr result (TookBack (members done) self.old.channels self.new.channels) }
         ensures run { self.new.run ≡ self.old.run }
     {
         match self.goroutines.deliver(number, code, arrival) {
             Ok(undo) => Ok((undo, done)),
             Err(error) => {
-                self.channels.put_all_back(done);
+                put_few_back(&mut self.channels, done);
                 Err(error)
             }
         }
@@ -152,14 +168,14 @@ impl Objects {
         passes: Arrival,
         kind: Kind,
         beyond: Box<Beyond>,
-        done: Vec<(ChName, ChanUndo)>,
+        done: Few<(ChName, ChanUndo)>,
     ) -> Result<Change, NoMemory>
-        requires { CanPass (program_code_of code.now) event.now number (arrival_of passes) done.items self.old }
+        requires { CanPass (program_code_of code.now) event.now number (arrival_of passes) (members done) self.old }
         ensures ok { (operation : attempts.Operation) (reads writes : List Object) → IsReached operation reads writes beyond.value
-            → IfOk result (λ change. IsPass (program_code_of code.now) event.now.go (arrival_of passes) kind operation reads writes done.items change
+            → IfOk result (λ change. IsPass (program_code_of code.now) event.now.go (arrival_of passes) kind operation reads writes (members done) change
             self.old self.new) }
         ensures err_goroutines { OnErr result (goroutines_of self.new.goroutines ≡ goroutines_of self.old.goroutines) }
-        ensures err_channels { OnErr result (TookBack done.items self.old.channels self.new.channels) }
+        ensures err_channels { OnErr result (TookBack (members done) self.old.channels self.new.channels) }
         ensures run { self.new.run ≡ self.old.run }
     {
         let (own, done) = self.arrive(code, number, passes, done)?;
@@ -177,21 +193,21 @@ impl Objects {
         go: &GoName,
         partner: usize,
         meets: Arrival,
-        done: Vec<(ChName, ChanUndo)>,
-    ) -> Result<(GoUndo, GoUndo, Vec<(ChName, ChanUndo)>), NoMemory>
+        done: Few<(ChName, ChanUndo)>,
+    ) -> Result<(GoUndo, GoUndo, Few<(ChName, ChanUndo)>), NoMemory>
         requires named { name_at self.old.goroutines number ≡ Some event.now.go }
         requires partner_named { name_at self.old.goroutines partner ≡ Some go.now }
         requires apart { same_go go.now event.now.go ≡ false }
         requires can { CanArriveAt (program_code_of code.now) (arrival_of passes) (goroutines_of self.old.goroutines event.now.go) }
         requires partner_can { CanArriveAt (program_code_of code.now) (arrival_of meets) (goroutines_of self.old.goroutines go.now) }
-        requires fits { ChansFit done.items (contents_of self.old.channels) }
-        requires room { HasRooms done.items (rooms_of self.old.channels) }
+        requires fits { ChansFit (members done) (contents_of self.old.channels) }
+        requires room { HasRooms (members done) (rooms_of self.old.channels) }
         ensures after { IfOk result (λ r. BothArrive (program_code_of code.now) event.now.go go.now (arrival_of passes) (arrival_of meets) r.0 r.1
             (goroutines_of self.old.goroutines) (goroutines_of self.new.goroutines)) }
         ensures returned { IfOk result (λ r. r.2 ≡ done) }
         ensures channels { OnOk result (self.new.channels ≡ self.old.channels) }
         ensures err_goroutines { OnErr result (goroutines_of self.new.goroutines ≡ goroutines_of self.old.goroutines) }
-        ensures err_channels { OnErr result (TookBack done.items self.old.channels self.new.channels) }
+        ensures err_channels { OnErr result (TookBack (members done) self.old.channels self.new.channels) }
         ensures run { self.new.run ≡ self.old.run }
     {
         let (own, done) = self.arrive(code, number, passes, done)?;
@@ -202,6 +218,32 @@ impl Objects {
                 Err(error)
             }
         }
+    }
+
+    /// A goroutine leaves the queues of the channels of these names, after a change of a channel in the same step. Refused, that
+    /// change is taken back.
+    #[inline]
+    fn leave_after(
+        &mut self,
+        done: Vec<(ChName, ChanUndo)>,
+        change: (ChName, ChanUndo),
+        names: &[ChName],
+        go: &GoName,
+    ) -> Result<Few<(ChName, ChanUndo)>, NoMemory>
+        requires fits { ChansFit (change ∷ []) (contents_of self.old.channels) }
+        requires room { HasRooms (change ∷ []) (rooms_of self.old.channels) }
+        ensures contents { OnOk result (contents_of self.new.channels ≡ withdrawn go.now names.now (contents_of self.old.channels)) }
+        ensures back { IfOk result (λ undos. Follows (change ∷ []) (members undos) self.old.channels self.new.channels) }
+        ensures gates { IfOk result (λ undos. MoreAtGates names.now (change ∷ []) (members undos)) }
+        ensures err { OnErr result (TookBack (change ∷ []) self.old.channels self.new.channels) }
+    {
+        if names.is_empty() {
+            return Ok(Few::One(change));
+        }
+        let mut done = done;
+        done.push_reserved(change);
+        let done = self.channels.withdraw_after(done, names, go)?;
+        Ok(Few::of_many(done))
     }
 
     /// The goroutine with a number goes past its communication, with all made ready for that, and its partner too, after a change
@@ -233,9 +275,7 @@ impl Objects {
             done,
             beyond,
         } = prepared;
-        let mut done = done;
-        done.push_reserved((channel, undo));
-        let done = self.channels.withdraw_after(done, &names, &go)?;
+        let done = self.leave_after(done, (channel, undo), &names, &go)?;
         let (own, met, done) = self.both_arrive(
             code, event, number, passes, &go, partner, meets, done,
         )?;

@@ -16,6 +16,7 @@ ghost use Rattle.gr_step.specs.Premises.{Acting, OfGoroutine};
 ghost use Rattle.gr_step.specs.Communicating.{TrialIsSound, Tried};
 
 use crate::beyond::reached;
+use crate::few::Few;
 use crate::listing::Listing;
 use crate::objects::Objects;
 use crate::record::{Change, Operation};
@@ -108,11 +109,10 @@ impl Objects {
         let touched = entered(found);
         let beyond = reached(self.alloc, operation, touched)?;
         let name = channel.copy(self.alloc)?;
-        let mut done = Vec::with_capacity(self.alloc, 1)?;
         let Offered::Buffered(undo) = self.channels.offer(channel, value)? else {
             unreachable!()
         };
-        done.push_reserved((name, undo));
+        let done = Few::One((name, undo));
         let kind = kind_by(clause, Kind::Buffer);
         let passes = Arrival::Passes { clause, got: None };
         self.pass(&listing.code, event, number, passes, kind, beyond, done)
