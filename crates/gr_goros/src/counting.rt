@@ -12,17 +12,96 @@ ghost use Rattle.gr_code.specs.CodeViews.{action_of, instruction_of, operand_of,
 ghost use Rattle.gr_goros.specs.Tasks.{Counts, performed, tested, updated};
 ghost use Rattle.gr_goros.specs.Undoing.{frame_before};
 
+use crate::cells::put_number;
 use crate::frame::Frame;
-use crate::undo::FrameUndo;
-use gr_code::code::{Action, Instruction, Operand};
+use crate::goroutine::Goroutine;
+use crate::undo::{Former, FrameUndo, GoUndo};
+use crate::wait::Status;
+use gr_code::code::{Action, Code, Instruction, Operand};
 use gr_eval::{Scalar, number_in, number_of, of_numbers, on_ints};
 use gr_tree::BinaryOp;
+use std::mem;
+
+/// What a step over whole numbers replaced: where its frame stood, and what was in the one cell that it wrote to, if it wrote to one.
+#[derive(Clone, Copy)]
+pub(crate) struct Counted {
+    pub(crate) number: usize,
+    pub(crate) writes: bool,
+    pub(crate) slot: usize,
+    pub(crate) former: i64,
+}
+
+impl Counted {
+    /// The frame before it.
+    #[inline]
+    pub(crate) fn undo(self) -> FrameUndo {
+        let cells = if self.writes {
+            Former::Int(self.slot, self.former)
+        } else {
+            Former::Same
+        };
+        FrameUndo {
+            number: self.number,
+            cells,
+        }
+    }
+}
+
+impl Goroutine {
+    /// Takes the next step, if it is ready and the step is over whole numbers alone, and answers its ordinal and what it replaced.
+    /// `None` where it is another step; nothing has changed.
+    #[inline]
+    pub fn count_step(&mut self, code: &Code) -> Option<(u64, GoUndo)>
+        requires right { self.old.content.status ≡ ready → ¬ (task_of (program_code_of code.now) self.old.content ≡ wrong) }
+        requires counted { self.old.content.steps + 1 < 2 ^ 64 }
+        ensures step { IfSome result (λ r. IsStep (kinds.Pure, r.1) (local (program_code_of code.now) self.old.content) self.old self.new) }
+        ensures ordinal { IfSome result (λ r. r.0 ≡ self.old.content.steps + 1) }
+        ensures ready { IfSome result (λ _. self.old.content.status ≡ ready) }
+        ensures alone { IfSome result (λ _. is_local (program_code_of code.now) self.old.content ≡ true) }
+        ensures none { IfNone result (self.new ≡ self.old) }
+    {
+        let Status::Ready = self.status else {
+            return None;
+        };
+        let counted = self.top.count(self.top.instruction(code))?;
+        self.steps += 1;
+        Some((
+            self.steps,
+            GoUndo::Went(self.top.kept_function(), counted.undo()),
+        ))
+    }
+}
 
 impl Frame {
+    /// Goes on at another instruction.
+    #[inline]
+    fn count_past(&mut self, on: usize) -> Counted {
+        let number = mem::replace(&mut self.number, on);
+        Counted {
+            number,
+            writes: false,
+            slot: 0,
+            former: 0,
+        }
+    }
+
+    /// Goes on with a number in a cell that holds another.
+    #[inline]
+    fn count_into(&mut self, slot: usize, former: i64, n: i64, on: usize) -> Counted {
+        let number = mem::replace(&mut self.number, on);
+        put_number(&mut self.cells, slot, former, n);
+        Counted {
+            number,
+            writes: true,
+            slot,
+            former,
+        }
+    }
+
     /// Takes the step of an instruction that reads whole numbers alone, and writes one to a cell that holds one, if any.
     /// `None` where it is another step; the frame is then as it was.
     #[inline]
-    pub(crate) fn count(&mut self, instruction: &Instruction) -> Option<FrameUndo>
+    pub(crate) fn count(&mut self, instruction: &Instruction) -> Option<Counted>
         requires { ¬ (frames.task self.old (instruction_of instruction.now) ≡ wrong) }
         ensures { Counts result (frames.task self.old (instruction_of instruction.now)) self.old self.new }
     {
@@ -38,11 +117,11 @@ impl Frame {
 
     /// .. of a statement without operands.
     #[inline]
-    fn count_on(&mut self, action: &Action) -> Option<FrameUndo>
+    fn count_on(&mut self, action: &Action) -> Option<Counted>
         ensures { Counts result (performed self.old (action_of action.now) nothing) self.old self.new }
     {
         match action {
-            Action::GoOn { on } => Some(self.go_on(*on)),
+            Action::GoOn { on } => Some(self.count_past(*on)),
             _ => None,
         }
     }
@@ -50,7 +129,7 @@ impl Frame {
     /// .. of a statement with one operand.
     #[inline]
     #[tactic(auto, using(crate::proofs::TaskLemmas::updated_is))]
-    fn count_by(&mut self, action: &Action, operand: &Operand) -> Option<FrameUndo>
+    fn count_by(&mut self, action: &Action, operand: &Operand) -> Option<Counted>
         requires { ¬ (performed self.old (action_of action.now) (also (operand_of operand.now) nothing) ≡ wrong) }
         ensures { Counts result (performed self.old (action_of action.now) (also (operand_of operand.now) nothing)) self.old self.new }
     {
@@ -64,14 +143,14 @@ impl Frame {
 
     /// Goes on where a condition on numbers holds, or where it does not.
     #[inline]
-    fn compare(&mut self, operand: &Operand, holds: usize, fails: usize) -> Option<FrameUndo>
+    fn compare(&mut self, operand: &Operand, holds: usize, fails: usize) -> Option<Counted>
         requires { ¬ (tested self.old holds fails (also (operand_of operand.now) nothing) ≡ wrong) }
         ensures { Counts result (tested self.old holds fails (also (operand_of operand.now) nothing)) self.old self.new }
     {
         match of_numbers(self.cells(), operand) {
             Some(Ok(Scalar::Bool(truth))) => {
                 let on = if truth { holds } else { fails };
-                Some(self.go_on(on))
+                Some(self.count_past(on))
             }
             _ => None,
         }
@@ -85,14 +164,14 @@ impl Frame {
         op: BinaryOp,
         operand: &Operand,
         on: usize,
-    ) -> Option<FrameUndo>
+    ) -> Option<Counted>
         requires { ¬ (updated self.old variable op on (also (operand_of operand.now) nothing) ≡ wrong) }
         ensures { Counts result (updated self.old variable op on (also (operand_of operand.now) nothing)) self.old self.new }
     {
         let y = number_of(self.cells(), operand)?;
         let x = number_in(self.cells(), variable)?;
         match on_ints(op, x, y) {
-            Ok(Scalar::Int(n)) => Some(self.set_number(variable, x, n, on)),
+            Ok(Scalar::Int(n)) => Some(self.count_into(variable, x, n, on)),
             _ => None,
         }
     }
@@ -104,7 +183,7 @@ impl Frame {
         targets: &[Option<usize>],
         operand: &Operand,
         on: usize,
-    ) -> Option<FrameUndo>
+    ) -> Option<Counted>
         requires { ¬ (performed self.old (Assigns targets.now on) (also (operand_of operand.now) nothing) ≡ wrong) }
         ensures { Counts result (performed self.old (Assigns targets.now on) (also (operand_of operand.now) nothing)) self.old self.new }
     {
@@ -113,7 +192,7 @@ impl Frame {
         };
         let x = number_in(self.cells(), *variable)?;
         match of_numbers(self.cells(), operand) {
-            Some(Ok(Scalar::Int(n))) => Some(self.set_number(*variable, x, n, on)),
+            Some(Ok(Scalar::Int(n))) => Some(self.count_into(*variable, x, n, on)),
             _ => None,
         }
     }

@@ -26,8 +26,8 @@ use std::mem;
 #[derive(Debug, Drop)]
 pub struct Frame {
     function: u32,
-    number: usize,
-    cells: Vec<Option<Value>>,
+    pub(crate) number: usize,
+    pub(crate) cells: Vec<Option<Value>>,
 }
 
 impl Model for Frame {

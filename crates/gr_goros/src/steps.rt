@@ -43,9 +43,10 @@ impl Goroutine {
         ensures err { OnErr result (self.new.content ≡ self.old.content) }
         ensures err_room { OnErr result (self.old.room ≤ self.new.room) }
     {
-        if let Some(undo) = self.top.count(self.top.instruction(code)) {
+        if let Some(counted) = self.top.count(self.top.instruction(code)) {
             self.steps += 1;
-            return Ok((Kind::Pure, GoUndo::Went(self.top.kept_function(), undo)));
+            let own = GoUndo::Went(self.top.kept_function(), counted.undo());
+            return Ok((Kind::Pure, own));
         }
         self.take_task(alloc, code)
     }

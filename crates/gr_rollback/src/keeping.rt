@@ -91,8 +91,38 @@ impl Course {
     ghost use Rattle.gr_rollback.specs.Steps.{Kept};
     ghost use Rattle.gr_rollback.specs.Retracting.{LastGoesBack, Retracts, SameCourse, KeepsLogRoom};
 
-    /// Takes the step of an event, whose record joins the log. Refused, nothing has changed.
+    /// Takes the step of an event, whose record joins the log. Refused, nothing has changed. A step over whole numbers alone, as most
+    /// are, is looked for first: its goroutine is ready after it, and it reached no other.
     pub(crate) fn keep(&mut self, event: Event) -> Result<(), StepRefused>
+        requires { IsCourse self.old }
+        ensures kept { (p : Program) (w : Past p) → Holds p w self.old → Kept p w event result self.new }
+        ensures listing { SameListing self.old.store self.new.store }
+    {
+        match self.store.count_step(event) {
+            Ok(step) => self.join(step),
+            Err(event) => self.keep_further(event),
+        }
+    }
+
+    /// Lets the record of a step over whole numbers join the log. Refused, the step is taken back.
+    #[inline]
+    fn join(&mut self, step: Record) -> Result<(), StepRefused> {
+        if self.log.len() >= LOG_LIMIT {
+            withdraw(&mut self.store, step);
+            return Err(StepRefused::NoMemory);
+        }
+        match self.log.push(step) {
+            Ok(()) => Ok(()),
+            Err((step, _)) => {
+                withdraw(&mut self.store, step);
+                Err(StepRefused::NoMemory)
+            }
+        }
+    }
+
+    /// .. of any event.
+    #[inline(never)]
+    fn keep_further(&mut self, event: Event) -> Result<(), StepRefused>
         requires { IsCourse self.old }
         ensures kept { (p : Program) (w : Past p) → Holds p w self.old → Kept p w event result self.new }
         ensures listing { SameListing self.old.store self.new.store }

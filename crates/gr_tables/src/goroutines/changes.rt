@@ -108,6 +108,15 @@ impl Goroutines {
         step_in(slot, self.alloc, code)
     }
 
+    /// The goroutine with a number takes its next step, if it is one over whole numbers alone, as `Goroutine::count_step` does.
+    #[inline]
+    pub fn count_step(&mut self, number: usize, code: &Code) -> Option<(u64, GoUndo)> {
+        match self.map.get_index_mut(number) {
+            Some(Some(goroutine)) => goroutine.count_step(code),
+            _ => None,
+        }
+    }
+
     /// Takes a change of the goroutine with a number back, as `Goroutine::undo` does. It takes memory only where there is no
     /// room; refused, no content has changed, and the change is handed back.
     pub fn undo(&mut self, number: usize, undo: GoUndo) -> Result<(), (GoUndo, NoMemory)>
