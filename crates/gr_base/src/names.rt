@@ -94,7 +94,7 @@ impl PartialEq for GoName {
 
     ghost laws = { Prim.search (comparing, rules) };
 
-    #[inline]
+    #[inline(always)]
     fn eq(&self, other: &GoName) -> bool {
         match self.counts() {
             [] => other.counts().is_empty(),
@@ -140,7 +140,7 @@ impl Ord for GoName {
 
     ghost matches_eq = { Prim.search (comparing, rules) };
 
-    #[inline]
+    #[inline(always)]
     fn cmp(&self, other: &GoName) -> Ordering {
         let others = other.counts();
         match self.counts() {

@@ -82,7 +82,7 @@ impl Key {
     }
 
     /// Whether this is the key of the goroutine.
-    #[inline]
+    #[inline(always)]
     pub(crate) fn is_of_go(&self, go: &GoName) -> bool
         ensures { result ≡ same (object_of self.now) (Go go.now) }
     {
@@ -93,7 +93,7 @@ impl Key {
     }
 
     /// Whether this is the key of the object.
-    #[inline]
+    #[inline(always)]
     pub(crate) fn is_of(&self, object: &ObjectRef<'_>) -> bool
         ensures { result ≡ same (object_of self.now) (seen object.now) }
     {

@@ -45,7 +45,7 @@ impl Lane {
     }
 
     /// Adds a touch. Refused, the touches are as before. It takes no memory where there is room.
-    #[inline]
+    #[inline(always)]
     pub(crate) fn push(&mut self, touch: Touch) -> Result<(), NoMemory>
         ensures ok { OnOk result (self.new.0 ≡ self.old.0 ++ touch ∷ []) }
         ensures err { OnErr result (self.new.0 ≡ self.old.0) }

@@ -26,7 +26,7 @@ impl Lanes {
     ghost use Rattle.gr_base.specs.declared.objects.Object.{Object};
 
     /// Adds the touches of a step at a place. Refused, all lists are as before.
-    #[inline]
+    #[inline(always)]
     pub(crate) fn note(&mut self, place: u64, step: &Record) -> Result<(), NoMemory>
         ensures ok { OnOk result ((q : Object) → list_of self.new q ≡ list_of self.old q ++ kept_for q place step.now) }
         ensures err { OnErr result (KeepsLists self.old self.new) }
@@ -40,7 +40,7 @@ impl Lanes {
     }
 
     /// The same of a step that reached no further than its goroutine.
-    #[inline]
+    #[inline(always)]
     fn note_alone(&mut self, place: u64, step: &Record) -> Result<(), NoMemory>
         requires { step.now.change.beyond ≡ None }
         ensures ok { OnOk result ((q : Object) → list_of self.new q ≡ list_of self.old q ++ kept_for q place step.now) }
@@ -203,7 +203,7 @@ impl Lanes {
     }
 
     /// Adds a touch to the lists of parts of a channel. Refused, all lists are as before.
-    #[inline]
+    #[inline(always)]
     fn note_parts(
         &mut self,
         channel: &ChName,

@@ -33,7 +33,7 @@ pub(crate) struct Counted {
 
 impl Counted {
     /// The frame before it.
-    #[inline]
+    #[inline(always)]
     pub(crate) fn undo(self) -> FrameUndo {
         let cells = if self.writes {
             Former::Int(self.slot, self.former)
@@ -50,7 +50,7 @@ impl Counted {
 impl Goroutine {
     /// Takes the next step, if it is ready and the step is over whole numbers alone, and answers its ordinal and what it replaced.
     /// `None` where it is another step; nothing has changed.
-    #[inline]
+    #[inline(always)]
     pub fn count_step(&mut self, code: &Code) -> Option<(u64, GoUndo)>
         requires right { self.old.content.status ≡ ready → ¬ (task_of (program_code_of code.now) self.old.content ≡ wrong) }
         requires counted { self.old.content.steps + 1 < 2 ^ 64 }
@@ -74,7 +74,7 @@ impl Goroutine {
 
 impl Frame {
     /// Goes on at another instruction.
-    #[inline]
+    #[inline(always)]
     fn count_past(&mut self, on: usize) -> Counted {
         let number = mem::replace(&mut self.number, on);
         Counted {
@@ -86,7 +86,7 @@ impl Frame {
     }
 
     /// Goes on with a number in a cell that holds another.
-    #[inline]
+    #[inline(always)]
     fn count_into(&mut self, slot: usize, former: i64, n: i64, on: usize) -> Counted {
         let number = mem::replace(&mut self.number, on);
         put_number(&mut self.cells, slot, former, n);
@@ -100,7 +100,7 @@ impl Frame {
 
     /// Takes the step of an instruction that reads whole numbers alone, and writes one to a cell that holds one, if any.
     /// `None` where it is another step; the frame is then as it was.
-    #[inline]
+    #[inline(always)]
     pub(crate) fn count(&mut self, instruction: &Instruction) -> Option<Counted>
         requires { ¬ (frames.task self.old (instruction_of instruction.now) ≡ wrong) }
         ensures { Counts result (frames.task self.old (instruction_of instruction.now)) self.old self.new }
@@ -116,7 +116,7 @@ impl Frame {
     }
 
     /// .. of a statement without operands.
-    #[inline]
+    #[inline(always)]
     fn count_on(&mut self, action: &Action) -> Option<Counted>
         ensures { Counts result (performed self.old (action_of action.now) nothing) self.old self.new }
     {
@@ -127,7 +127,7 @@ impl Frame {
     }
 
     /// .. of a statement with one operand.
-    #[inline]
+    #[inline(always)]
     #[tactic(auto, using(crate::proofs::TaskLemmas::updated_is))]
     fn count_by(&mut self, action: &Action, operand: &Operand) -> Option<Counted>
         requires { ¬ (performed self.old (action_of action.now) (also (operand_of operand.now) nothing) ≡ wrong) }
@@ -142,7 +142,7 @@ impl Frame {
     }
 
     /// Goes on where a condition on numbers holds, or where it does not.
-    #[inline]
+    #[inline(always)]
     fn compare(&mut self, operand: &Operand, holds: usize, fails: usize) -> Option<Counted>
         requires { ¬ (tested self.old holds fails (also (operand_of operand.now) nothing) ≡ wrong) }
         ensures { Counts result (tested self.old holds fails (also (operand_of operand.now) nothing)) self.old self.new }
@@ -157,7 +157,7 @@ impl Frame {
     }
 
     /// Assigns with an operator on numbers.
-    #[inline]
+    #[inline(always)]
     fn count_up(
         &mut self,
         variable: usize,
@@ -177,7 +177,7 @@ impl Frame {
     }
 
     /// Assigns a number to one variable.
-    #[inline]
+    #[inline(always)]
     fn set_one(
         &mut self,
         targets: &[Option<usize>],

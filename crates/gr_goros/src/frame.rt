@@ -182,7 +182,7 @@ impl Frame {
     }
 
     /// Goes on with a number in a cell that holds another.
-    #[inline]
+    #[inline(always)]
     pub(crate) fn set_number(&mut self, slot: usize, former: i64, n: i64, on: usize) -> FrameUndo
         requires { held (slice_get self.old.cells slot) ≡ gives (Int former) }
         ensures after { self.new ≡ with_cell self.old slot (Int n) on }

@@ -34,7 +34,7 @@ impl Goroutine {
     }
 
     /// Takes the next step, which reaches no further than the goroutine. Refused, nothing has changed.
-    #[inline]
+    #[inline(always)]
     pub fn local_step(&mut self, alloc: Global, code: &Code) -> Result<(Kind, GoUndo), NoMemory>
         requires right { ¬ (local (program_code_of code.now) self.old.content ≡ wrong) }
         requires here { is_local_now (program_code_of code.now) self.old.content ≡ true }
@@ -54,6 +54,7 @@ impl Goroutine {
 
 impl Goroutine {
     /// Takes the next step, of whatever kind. Refused, nothing has changed.
+    #[inline(never)]
     fn take_task(&mut self, alloc: Global, code: &Code) -> Result<(Kind, GoUndo), NoMemory>
         requires right { ¬ (local (program_code_of code.now) self.old.content ≡ wrong) }
         requires here { is_local_now (program_code_of code.now) self.old.content ≡ true }

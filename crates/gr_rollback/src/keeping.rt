@@ -21,6 +21,7 @@ use gr_step::{Record, StepRefused, Store};
 use std::alloc::Global;
 
 /// Takes a step back directly after it, which takes no memory.
+#[inline(never)]
 fn withdraw(store: &mut Store, step: Record)
     requires fits { CanGoBack step.id.go step.change (contents_at store.old) }
     requires room { HasRoomFor step store.old }
@@ -32,6 +33,7 @@ fn withdraw(store: &mut Store, step: Record)
 
 /// Lets the record of a step join the log, and makes the goroutine known that the step started. Refused, the record is handed
 /// back, and no record has changed.
+#[inline(always)]
 fn enter(log: &mut Log, pool: &mut Pool, step: Record) -> Result<(), Record>
     requires { Distinct (touched_by step) }
     ensures ok { OnOk result (records_of log.new ≡ records_of log.old ++ step ∷ []) }
@@ -93,6 +95,7 @@ impl Course {
 
     /// Takes the step of an event, whose record joins the log. Refused, nothing has changed. A step over whole numbers alone, as most
     /// are, is looked for first: its goroutine is ready after it, and it reached no other.
+    #[inline(always)]
     pub(crate) fn keep(&mut self, event: Event) -> Result<(), StepRefused>
         requires { IsCourse self.old }
         ensures kept { (p : Program) (w : Past p) → Holds p w self.old → Kept p w event result self.new }
@@ -105,7 +108,7 @@ impl Course {
     }
 
     /// Lets the record of a step over whole numbers join the log. Refused, the step is taken back.
-    #[inline]
+    #[inline(always)]
     fn join(&mut self, step: Record) -> Result<(), StepRefused> {
         if self.log.len() >= LOG_LIMIT {
             withdraw(&mut self.store, step);

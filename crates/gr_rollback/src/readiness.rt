@@ -118,7 +118,7 @@ fn settle_own(pool: &mut Pool, store: &Store, go: &GoName)
 }
 
 /// Whether the goroutine is ready after a change as it was before, by what the change replaced.
-#[inline]
+#[inline(always)]
 fn leaves_status(undo: &GoUndo) -> bool
     ensures { result ≡ keeps_status undo.now }
 {
@@ -135,7 +135,7 @@ fn leaves_status(undo: &GoUndo) -> bool
 
 /// Makes the goroutine of a step unready where it is so in the store. The step reached no further than the goroutine, which was
 /// ready; what the step replaced tells of most that it is ready still.
-#[inline]
+#[inline(always)]
 fn settle_alone(pool: &mut Pool, store: &Store, step: &Record)
     requires own { is_among step.now.id.go pool.old.ready ≡ true }
     requires ready { keeps_status step.now.change.own ≡ true → IsReadyIn (contents_at store.now) step.now.id.go }
@@ -183,6 +183,7 @@ pub(crate) fn know_child(pool: &mut Pool, change: &Change) -> Result<(), NoMemor
 }
 
 /// Brings the pool to what is ready after a step, whose goroutine was ready, of that and of those that the step met and started.
+#[inline(never)]
 fn settle_further(pool: &mut Pool, store: &Store, step: &Record)
     requires own { is_among step.now.id.go pool.old.ready ≡ true }
     requires met { AllKnown (met_by step.now.change) pool.old }
@@ -199,6 +200,7 @@ fn settle_further(pool: &mut Pool, store: &Store, step: &Record)
 
 /// Brings the pool to what is ready after a step, whose goroutine was ready; those that it met and started are known. Where the
 /// step reached no further than its goroutine, and that is ready still, the pool stays. It takes no memory.
+#[inline(always)]
 pub(crate) fn settle_taken(pool: &mut Pool, store: &Store, step: &Record)
     requires own { is_among step.now.id.go pool.old.ready ≡ true }
     requires ready { step.now.change.beyond ≡ None → keeps_status step.now.change.own ≡ true → IsReadyIn (contents_at store.now) step.now.id.go }

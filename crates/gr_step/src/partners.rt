@@ -29,6 +29,7 @@ use gr_tables::channels::Channels;
 use std::slice;
 
 /// The change of a step that met nobody, and changed these channels.
+#[inline(always)]
 pub(crate) fn told(
     kind: Kind,
     own: GoUndo,
@@ -48,6 +49,7 @@ pub(crate) fn told(
 }
 
 /// The change of a step that met one goroutine, and changed these channels.
+#[inline(always)]
 fn told_with(
     kind: Kind,
     own: GoUndo,
@@ -133,6 +135,7 @@ impl Objects {
 
     /// What arrives takes the goroutine with a number past its instruction, after `done` was done in the same step. Refused,
     /// `done` is taken back.
+    #[inline(always)]
     pub(crate) fn arrive(
         &mut self,
         code: &Code,
@@ -184,6 +187,7 @@ impl Objects {
 
     /// What arrives takes two goroutines past their communication, one after the other, after `done` was done in the same step.
     /// Refused, neither has changed, and `done` is taken back.
+    #[inline(always)]
     fn both_arrive(
         &mut self,
         code: &Code,
@@ -222,7 +226,7 @@ impl Objects {
 
     /// A goroutine leaves the queues of the channels of these names, after a change of a channel in the same step. Refused, that
     /// change is taken back.
-    #[inline]
+    #[inline(always)]
     fn leave_after(
         &mut self,
         done: Vec<(ChName, ChanUndo)>,

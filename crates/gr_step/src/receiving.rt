@@ -26,6 +26,7 @@ use gr_goros::Arrival;
 
 impl Objects {
     /// Takes the front item, where nobody waits to send. Refused, nothing has changed.
+    #[inline(always)]
     pub(crate) fn take_item(
         &mut self,
         listing: &Listing,
@@ -114,6 +115,7 @@ impl Objects {
     }
 
     /// Takes the value of the first goroutine that waits to send, where there is no item. Refused, nothing has changed.
+    #[inline(always)]
     pub(crate) fn meet(
         &mut self,
         listing: &Listing,

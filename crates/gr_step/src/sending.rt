@@ -37,6 +37,7 @@ pub(crate) fn kind_by(clause: Option<u32>, kind: Kind) -> Kind
 
 impl Objects {
     /// Hands a value to the first goroutine that waits to receive it. Refused, nothing has changed.
+    #[inline(always)]
     pub(crate) fn hand(
         &mut self,
         listing: &Listing,
@@ -84,6 +85,7 @@ impl Objects {
         )
     }
     /// Puts a value into the buffer. Refused, nothing has changed.
+    #[inline(always)]
     pub(crate) fn buffer(
         &mut self,
         listing: &Listing,

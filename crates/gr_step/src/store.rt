@@ -90,7 +90,7 @@ impl Store {
     }
 
     /// Takes the step of an event, if it is one over whole numbers alone; else nothing has changed, and the event is handed back.
-    #[inline]
+    #[inline(always)]
     pub fn count_step(&mut self, event: Event) -> Result<Record, Event>
         requires run { IsRun self.old }
         requires counted { CanCount (contents_at self.old) }

@@ -49,7 +49,7 @@ impl Goroutines {
     }
 
     /// The number of a goroutine that is there.
-    #[inline]
+    #[inline(always)]
     pub fn number(&self, name: &GoName) -> Option<usize>
         ensures named { IfSome result (λ i. name_at self.now i ≡ Some name.now) }
         ensures present { is_some result ≡ is_some (seen_of self.now name.now) }
@@ -62,7 +62,7 @@ impl Goroutines {
     }
 
     /// Whether the goroutine of a name has the number, and is there.
-    #[inline]
+    #[inline(always)]
     fn is_at(&self, name: &GoName, number: usize) -> bool
         ensures named { IsTrue result → name_at self.now number ≡ Some name.now }
         ensures present { IsTrue result → IsSome (seen_of self.now name.now) }

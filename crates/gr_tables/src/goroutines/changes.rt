@@ -109,7 +109,7 @@ impl Goroutines {
     }
 
     /// The goroutine with a number takes its next step, if it is one over whole numbers alone, as `Goroutine::count_step` does.
-    #[inline]
+    #[inline(always)]
     pub fn count_step(&mut self, number: usize, code: &Code) -> Option<(u64, GoUndo)> {
         match self.map.get_index_mut(number) {
             Some(Some(goroutine)) => goroutine.count_step(code),

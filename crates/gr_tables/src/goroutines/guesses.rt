@@ -16,7 +16,7 @@ pub(super) struct Guesses {
 }
 
 /// The class of a name, by its last count. Few counts have a class each.
-#[inline]
+#[inline(always)]
 fn class(name: &GoName) -> usize
     ensures { result < 256 }
 {
@@ -35,7 +35,7 @@ impl Guesses {
     }
 
     /// A guess of the number of a goroutine.
-    #[inline]
+    #[inline(always)]
     pub(super) fn of(&self, name: &GoName) -> usize {
         self.numbers[class(name)].get()
     }
