@@ -87,7 +87,7 @@ impl Key {
         ensures { result ≡ same (object_of self.now) (Go go.now) }
     {
         match self {
-            Key::Go(own) => own == go,
+            Key::Go(own) => *own == *go,
             _ => false,
         }
     }
@@ -99,12 +99,12 @@ impl Key {
     {
         match (self, object) {
             (Key::Run, ObjectRef::Run) => true,
-            (Key::Go(own), ObjectRef::Go(go)) => own == *go,
-            (Key::Gate(own), ObjectRef::Gate(channel)) => own == *channel,
-            (Key::Tail(own), ObjectRef::Tail(channel)) => own == *channel,
-            (Key::Head(own), ObjectRef::Head(channel)) => own == *channel,
+            (Key::Go(own), ObjectRef::Go(go)) => *own == **go,
+            (Key::Gate(own), ObjectRef::Gate(channel)) => *own == **channel,
+            (Key::Tail(own), ObjectRef::Tail(channel)) => *own == **channel,
+            (Key::Head(own), ObjectRef::Head(channel)) => *own == **channel,
             (Key::Slot(own, slot), ObjectRef::Slot(channel, place)) => {
-                own == *channel && *slot == *place
+                *own == **channel && *slot == *place
             }
             _ => false,
         }

@@ -113,6 +113,9 @@ impl Pool {
         }
         let found = place_of(self.known.as_slice(), self.ready.as_slice(), name);
         let Err(place) = found else { return };
+        if place <= guess {
+            self.last.set(guess.wrapping_add(1));
+        }
         let known = known_place(&self.known, name, self.gone.get());
         self.ready.insert(place, known).unwrap();
     }
@@ -124,6 +127,10 @@ impl Pool {
     {
         let found = place_of(self.known.as_slice(), self.ready.as_slice(), name);
         let Ok(place) = found else { return };
+        let guess = self.last.get();
+        if place < guess {
+            self.last.set(guess.wrapping_sub(1));
+        }
         self.gone.set(self.ready[place]);
         let _ = self.ready.remove(place);
     }

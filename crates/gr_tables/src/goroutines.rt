@@ -68,7 +68,7 @@ impl Goroutines {
         ensures present { IsTrue result → IsSome (seen_of self.now name.now) }
     {
         match self.map.get_index(number) {
-            Some((known, Some(_))) => known == name,
+            Some((known, Some(_))) => *known == *name,
             _ => false,
         }
     }
