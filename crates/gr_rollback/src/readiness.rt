@@ -15,6 +15,7 @@ use gr_step::{Record, Store};
 use std::alloc::Global;
 
 // Whether a goroutine is there, and ready.
+#[inline(always)]
 fn is_ready(store: &Store, go: &GoName) -> bool
     ensures { IsTrue result ↔ IsReadyIn (contents_at store.now) go.now }
 {
@@ -28,6 +29,7 @@ fn is_ready(store: &Store, go: &GoName) -> bool
 }
 
 /// Makes a goroutine that is known ready in the pool where it is so in the store, and else not. It takes no memory.
+#[inline(always)]
 fn settle(pool: &mut Pool, store: &Store, go: &GoName)
     requires { is_among go.now pool.old.known ≡ true }
     ensures { Settles (go.now ∷ []) (contents_at store.now) pool.old pool.new }
@@ -183,7 +185,7 @@ pub(crate) fn know_child(pool: &mut Pool, change: &Change) -> Result<(), NoMemor
 }
 
 /// Brings the pool to what is ready after a step, whose goroutine was ready, of that and of those that the step met and started.
-#[inline(never)]
+#[inline]
 fn settle_further(pool: &mut Pool, store: &Store, step: &Record)
     requires own { is_among step.now.id.go pool.old.ready ≡ true }
     requires met { AllKnown (met_by step.now.change) pool.old }

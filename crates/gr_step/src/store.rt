@@ -181,6 +181,7 @@ impl Store {
     }
 
     /// The goroutine of a name, if there is one.
+    #[inline(always)]
     pub fn goroutine(&self, go: &GoName) -> Option<&Goroutine>
         ensures { option_map (λ g. g.content) (option_copied result) ≡ (contents_at self.now).goroutines go.now }
     {
