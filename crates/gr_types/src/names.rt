@@ -64,6 +64,9 @@ impl NameTable {
     pub fn number(&self, name: &[u8]) -> Option<usize>
         ensures { result ≡ in_block (block_of self.now) name.now }
     {
+        if self.numbers.is_empty() {
+            return None;
+        }
         self.numbers.get(name).copied()
     }
 
