@@ -94,8 +94,16 @@ impl PartialEq for GoName {
 
     ghost laws = { Prim.search (comparing, rules) };
 
+    #[inline(always)]
     fn eq(&self, other: &GoName) -> bool {
-        self.counts() == other.counts()
+        match self.counts() {
+            [] => other.counts().is_empty(),
+            [count] => match other.counts() {
+                [other] => *count == *other,
+                _ => false,
+            },
+            counts => counts == other.counts(),
+        }
     }
 }
 
@@ -132,8 +140,24 @@ impl Ord for GoName {
 
     ghost matches_eq = { Prim.search (comparing, rules) };
 
+    #[inline(always)]
     fn cmp(&self, other: &GoName) -> Ordering {
-        self.counts().cmp(&other.counts())
+        let others = other.counts();
+        match self.counts() {
+            [] => {
+                if others.is_empty() {
+                    Ordering::Equal
+                } else {
+                    Ordering::Less
+                }
+            }
+            [count] => match others {
+                [] => Ordering::Greater,
+                [other_count] => (*count).cmp(other_count),
+                _ => self.counts().cmp(&others),
+            },
+            counts => counts.cmp(&others),
+        }
     }
 }
 

@@ -4,6 +4,7 @@ pub mod NoteLemmas
 pub mod ToldLemmas
 pub mod TouchLemmas
 pub mod RoomLemmas
+pub mod AddingLemmas
 pub mod MarkLemmas
 pub mod WalkLemmas
 pub mod ConflictLemmas

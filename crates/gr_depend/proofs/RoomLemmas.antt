@@ -88,7 +88,7 @@ fits_less l less more cut fits = record {
       (filter_both (λ t. t.writes) (less objects.Run) run.0 ∙ ap (filter (λ t. t.writes)) run.1) fits.stops;
 }
 
-touches_both : (q : Object) (t : Touch) (xs ys : List Object) → touches_for q t (xs ++ ys) ≡ touches_for q t xs ++ touches_for q t ys
+pub touches_both : (q : Object) (t : Touch) (xs ys : List Object) → touches_for q t (xs ++ ys) ≡ touches_for q t xs ++ touches_for q t ys
 touches_both q t [] ys = refl
 touches_both q t (x ∷ xs) ys =
     first_more q t x (xs ++ ys) ∙ ap (λ l. one_for q t x ++ l) (touches_both q t xs ys)

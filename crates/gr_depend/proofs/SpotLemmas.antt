@@ -9,7 +9,7 @@ use Rattle.gr_code.specs.Goroutines.{CodeGoroutine}
 use Rattle.gr_goros.specs.declared.undo.Spot.{Spot}
 use Rattle.gr_goros.specs.declared.undo.GoUndo.{GoUndo}
 use Rattle.gr_goros.specs.declared.undo.GoUndo.TheVariants as undos
-use Rattle.gr_goros.specs.Undoing.{at_spot, frame_before, on_innermost, undone}
+use Rattle.gr_goros.specs.Undoing.{at_spot, frame_in, on_innermost, undone}
 use Rattle.gr_tables.specs.Back.{back_at}
 use Rattle.gr_depend.specs.Given.{spot_in, spot_before}
 
@@ -35,13 +35,13 @@ module _ (f : CodeFrame) (below : List CodeFrame) where
   Tells None g h = (h.frames ≡ g.frames) × (h.steps ≡ g.steps)
 
   told : (u : GoUndo) (h : CodeGoroutine) → (undone u h).frames ≡ f ∷ below → Tells (spot_in u) (undone u h) h
-  told (undos.Went u) h e = at_innermost u.spot (frame_before u) h.frames (λ k. (refl, refl)) e
+  told (undos.Went k u) h e = at_innermost _ (frame_in k u) h.frames (λ j. (refl, refl)) e
   told (undos.Printed s) h e = at_innermost s (at_spot s) h.frames (λ k. (refl, refl)) e
   told (undos.Entered s) h e = at_innermost s (at_spot s) (drop 1 h.frames) (λ k. (refl, refl)) e
   told (undos.Left l) h e = at_head _ l.value.frame _ (refl, refl) e
-  told (undos.Made u) h e = at_innermost u.spot (frame_before u) h.frames (λ k. (refl, refl)) e
+  told (undos.Made k u) h e = at_innermost _ (frame_in k u) h.frames (λ k. (refl, refl)) e
   told (undos.Began s) h e = at_innermost s (at_spot s) h.frames (λ k. (refl, refl)) e
-  told (undos.Met m) h e = at_innermost m.value.frame.spot (frame_before m.value.frame) h.frames (λ k. (refl, refl)) e
+  told (undos.Met m) h e = at_innermost _ (frame_in m.value.function m.value.frame) h.frames (λ k. (refl, refl)) e
   told (undos.Parked s) h e = at_innermost s (at_spot s) h.frames (λ k. (refl, refl)) e
   told (undos.Finished k) h e = at_head _ k [] (refl, refl) e
   told (undos.Faulted s) h e = at_innermost s (at_spot s) h.frames (λ k. (refl, refl)) e

@@ -50,13 +50,13 @@ GivenByInstruction = (means : ℕ → Meanings) (p : Program) (code : ProgramCod
 
 -- where the innermost frame of a goroutine stood before a change, if that keeps it
 abbrev pub spot_in : GoUndo → Option Spot
-spot_in (undos.Went u) = Some u.spot
+spot_in (undos.Went f u) = Some (record { function = f; number = u.number })
 spot_in (undos.Printed s) = Some s
 spot_in (undos.Entered s) = Some s
 spot_in (undos.Left l) = Some (record { function = l.value.frame.function; number = l.value.frame.number })
-spot_in (undos.Made u) = Some u.spot
+spot_in (undos.Made f u) = Some (record { function = f; number = u.number })
 spot_in (undos.Began s) = Some s
-spot_in (undos.Met m) = Some m.value.frame.spot
+spot_in (undos.Met m) = Some (record { function = m.value.function; number = m.value.frame.number })
 spot_in (undos.Parked s) = Some s
 spot_in (undos.Finished f) = Some (record { function = f.function; number = f.number })
 spot_in (undos.Faulted s) = Some s

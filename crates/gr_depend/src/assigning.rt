@@ -34,21 +34,21 @@ fn kept_spot(undo: &GoUndo) -> Option<Spot>
     ensures { result ≡ spot_in undo.now }
 {
     match undo {
-        GoUndo::Went(before) | GoUndo::Made(before) => Some(before.spot),
+        GoUndo::Went(function, before) | GoUndo::Made(function, before) => Some(Spot {
+            function: *function,
+            number: before.number,
+        }),
         GoUndo::Printed(spot)
         | GoUndo::Entered(spot)
         | GoUndo::Began(spot)
         | GoUndo::Parked(spot)
         | GoUndo::Faulted(spot) => Some(*spot),
-        GoUndo::Left(left) => Some(Spot {
-            function: left.frame.function(),
-            number: left.frame.number(),
+        GoUndo::Left(left) => Some(left.frame.spot()),
+        GoUndo::Finished(frame) => Some(frame.spot()),
+        GoUndo::Met(met) => Some(Spot {
+            function: met.function,
+            number: met.frame.number,
         }),
-        GoUndo::Finished(frame) => Some(Spot {
-            function: frame.function(),
-            number: frame.number(),
-        }),
-        GoUndo::Met(met) => Some(met.frame.spot),
         GoUndo::Retried(_) => None,
     }
 }
@@ -195,13 +195,13 @@ fn gives_at(program: &Program, function: usize, instruction: &Instruction, name:
 fn gives_there(program: &Program, code: &Code, spot: Spot, name: &[u8]) -> bool
     ensures { result ≡ any_called name.now (given_there (program_of program.now) (program_code_of code.now) spot) }
 {
-    let Some(function) = code_at(code, spot.function) else {
+    let Some(function) = code_at(code, spot.function as usize) else {
         return false;
     };
     let Some(instruction) = instruction_at(function, spot.number) else {
         return false;
     };
-    gives_at(program, spot.function, instruction, name)
+    gives_at(program, spot.function as usize, instruction, name)
 }
 
 /// Where the goroutine of a step stood.

@@ -20,7 +20,7 @@ pub(crate) struct Guesses {
 }
 
 /// The class of the objects of a kind with a count. Few counts have a class each.
-#[inline]
+#[inline(always)]
 fn class(kind: u32, count: u32) -> usize
     ensures { result < 256 }
 {
@@ -28,7 +28,7 @@ fn class(kind: u32, count: u32) -> usize
 }
 
 /// The class of a goroutine.
-#[inline]
+#[inline(always)]
 fn class_of_go(go: &GoName) -> usize
     ensures { result < 256 }
 {
@@ -39,7 +39,7 @@ fn class_of_go(go: &GoName) -> usize
 }
 
 /// The class of an object.
-#[inline]
+#[inline(always)]
 fn class_of(object: &ObjectRef<'_>) -> usize
     ensures { result < 256 }
 {
@@ -65,13 +65,13 @@ impl Guesses {
     }
 
     /// A guess of the number of the lane of an object.
-    #[inline]
+    #[inline(always)]
     pub(crate) fn of(&self, object: &ObjectRef<'_>) -> usize {
         self.numbers[class_of(object)].get()
     }
 
     /// A guess of the number of the lane of a goroutine.
-    #[inline]
+    #[inline(always)]
     pub(crate) fn of_go(&self, go: &GoName) -> usize {
         self.numbers[class_of_go(go)].get()
     }

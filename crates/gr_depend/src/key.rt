@@ -82,28 +82,29 @@ impl Key {
     }
 
     /// Whether this is the key of the goroutine.
-    #[inline]
+    #[inline(always)]
     pub(crate) fn is_of_go(&self, go: &GoName) -> bool
         ensures { result ≡ same (object_of self.now) (Go go.now) }
     {
         match self {
-            Key::Go(own) => own == go,
+            Key::Go(own) => *own == *go,
             _ => false,
         }
     }
 
     /// Whether this is the key of the object.
+    #[inline(always)]
     pub(crate) fn is_of(&self, object: &ObjectRef<'_>) -> bool
         ensures { result ≡ same (object_of self.now) (seen object.now) }
     {
         match (self, object) {
             (Key::Run, ObjectRef::Run) => true,
-            (Key::Go(own), ObjectRef::Go(go)) => own == *go,
-            (Key::Gate(own), ObjectRef::Gate(channel)) => own == *channel,
-            (Key::Tail(own), ObjectRef::Tail(channel)) => own == *channel,
-            (Key::Head(own), ObjectRef::Head(channel)) => own == *channel,
+            (Key::Go(own), ObjectRef::Go(go)) => *own == **go,
+            (Key::Gate(own), ObjectRef::Gate(channel)) => *own == **channel,
+            (Key::Tail(own), ObjectRef::Tail(channel)) => *own == **channel,
+            (Key::Head(own), ObjectRef::Head(channel)) => *own == **channel,
             (Key::Slot(own, slot), ObjectRef::Slot(channel, place)) => {
-                own == *channel && *slot == *place
+                *own == **channel && *slot == *place
             }
             _ => false,
         }

@@ -45,13 +45,15 @@ impl Lane {
     }
 
     /// Adds a touch. Refused, the touches are as before. It takes no memory where there is room.
+    #[inline(always)]
     pub(crate) fn push(&mut self, touch: Touch) -> Result<(), NoMemory>
         ensures ok { OnOk result (self.new.0 ≡ self.old.0 ++ touch ∷ []) }
         ensures err { OnErr result (self.new.0 ≡ self.old.0) }
         ensures succeeds { 0 < self.old.1 → IsOk result }
         ensures room { size_of self.old ≤ size_of self.new }
     {
-        self.touches.push(touch)?;
+        self.touches.reserve(1)?;
+        self.touches.push_reserved(touch);
         Ok(())
     }
 

@@ -53,7 +53,7 @@ impl Lanes {
     }
 
     /// The number of the lane of an object, if it has one.
-    #[inline]
+    #[inline(always)]
     fn number(&self, object: &ObjectRef<'_>) -> Option<usize>
         ensures named { IfSome result (λ i. slice_get (keys self.now.map) i ≡ Some (key_of (seen object.now))) }
         ensures absent { IfNone result (get same_key self.now.map (key_of (seen object.now)) ≡ None) }
@@ -65,6 +65,7 @@ impl Lanes {
     }
 
     /// The number of the lane of a goroutine, if it has one.
+    #[inline(always)]
     fn number_of_go(&self, go: &GoName) -> Option<usize>
         ensures named { IfSome result (λ i. slice_get (keys self.now.map) i ≡ Some (key_of (objects.Go go.now))) }
         ensures absent { IfNone result (get same_key self.now.map (key_of (objects.Go go.now)) ≡ None) }
@@ -78,7 +79,7 @@ impl Lanes {
     }
 
     /// Whether the lane with a number is that of a goroutine.
-    #[inline]
+    #[inline(always)]
     fn is_go_at(&self, go: &GoName, number: usize) -> bool
         ensures { IsTrue result ↔ (slice_get (keys self.now.map) number ≡ Some (key_of (objects.Go go.now))) }
     {
@@ -89,6 +90,7 @@ impl Lanes {
     }
 
     /// The number of the lane of an object, if it has one, by the guess for objects like this.
+    #[inline(always)]
     fn guessed(&self, object: &ObjectRef<'_>) -> Option<usize>
         ensures named { IfSome result (λ i. slice_get (keys self.now.map) i ≡ Some (key_of (seen object.now))) }
         ensures absent { IfNone result (get same_key self.now.map (key_of (seen object.now)) ≡ None) }
@@ -121,7 +123,7 @@ impl Lanes {
     }
 
     /// Whether the lane with a number is that of an object.
-    #[inline]
+    #[inline(always)]
     fn is_at(&self, object: &ObjectRef<'_>, number: usize) -> bool
         ensures { IsTrue result ↔ (slice_get (keys self.now.map) number ≡ Some (key_of (seen object.now))) }
     {
@@ -280,7 +282,7 @@ impl Lanes {
     }
 
     /// Adds a touch to the list of `Run`.
-    #[inline]
+    #[inline(always)]
     pub(crate) fn add_to_run(&mut self, touch: Touch) -> Result<(), NoMemory>
         ensures ok { OnOk result (Adds objects.Run touch self.old self.new) }
         ensures err { OnErr result (KeepsLists self.old self.new) }
@@ -296,8 +298,12 @@ impl Lanes {
     }
 
     /// Adds a touch to the list of an object that is not `Run`.
-    #[inline]
-    fn add_to_other(&mut self, object: &ObjectRef<'_>, touch: Touch) -> Result<(), NoMemory>
+    #[inline(always)]
+    pub(crate) fn add_to_other(
+        &mut self,
+        object: &ObjectRef<'_>,
+        touch: Touch,
+    ) -> Result<(), NoMemory>
         requires { same objects.Run (seen object.now) ≡ false }
         ensures ok { OnOk result (Adds (seen object.now) touch self.old self.new) }
         ensures err { OnErr result (KeepsLists self.old self.new) }
@@ -311,7 +317,7 @@ impl Lanes {
     }
 
     /// Adds a touch to the list of a goroutine.
-    #[inline]
+    #[inline(always)]
     pub(crate) fn add_to_go(&mut self, go: &GoName, touch: Touch) -> Result<(), NoMemory>
         ensures ok { OnOk result (Adds (objects.Go go.now) touch self.old self.new) }
         ensures err { OnErr result (KeepsLists self.old self.new) }

@@ -75,7 +75,7 @@ impl Log {
     }
 
     /// Adds a step at the end. Refused, the log is as before, and the record is handed back. It is not refused where there is room.
-    #[inline]
+    #[inline(always)]
     pub fn push(&mut self, step: Record) -> Result<(), (Record, NoMemory)>
         requires { Distinct (touched_by step) }
         ensures ok { OnOk result (records_of self.new ≡ records_of self.old ++ step ∷ []) }

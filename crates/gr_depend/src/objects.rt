@@ -174,7 +174,8 @@ impl<'a> Objects<'a> {
 }
 
 /// The channel of an operation.
-fn channel_of(operation: &Operation) -> &ChName
+#[inline]
+pub(crate) fn channel_of(operation: &Operation) -> &ChName
     ensures { result.now ≡ channel_in operation.now }
 {
     match operation {
@@ -194,7 +195,8 @@ fn run_unless<'a>(stops: bool) -> Option<ObjectRef<'a>>
 }
 
 /// What a step read beside its channel.
-fn others_read(beyond: &Beyond) -> &[Object]
+#[inline]
+pub(crate) fn others_read(beyond: &Beyond) -> &[Object]
     ensures { result.now ≡ read_by_more beyond.now.more }
 {
     match &beyond.more {
@@ -204,7 +206,8 @@ fn others_read(beyond: &Beyond) -> &[Object]
 }
 
 /// What a step wrote beside its channel.
-fn others_written(beyond: &Beyond) -> &[Object]
+#[inline]
+pub(crate) fn others_written(beyond: &Beyond) -> &[Object]
     ensures { result.now ≡ written_by_more beyond.now.more }
 {
     match &beyond.more {
@@ -229,6 +232,20 @@ fn told<'a>(
     };
     let place = beyond.touched.slot;
     Objects::with_channel(front, parts, channel_of(operation), place, partner, others)
+}
+
+/// Parts of a channel.
+pub(crate) fn parts_of(channel: &ChName, parts: Parts, slot: Option<u32>) -> Objects<'_>
+    ensures { seen_in result ≡ parts_before parts slot (Some channel.now) [] }
+{
+    Objects::with_channel(None, parts, channel, slot, None, &[])
+}
+
+/// The parts of its channel that a step wrote.
+pub(crate) fn parts_written(beyond: &Beyond) -> Objects<'_>
+    ensures { seen_in result ≡ parts_before beyond.now.touched.written beyond.now.touched.slot (option_map channel_in beyond.now.operation) [] }
+{
+    told(None, beyond, beyond.touched.written, None, &[])
 }
 
 /// What a step read and did not write.

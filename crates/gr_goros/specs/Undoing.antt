@@ -30,13 +30,21 @@ restored (former.Nil k) cells = slice_set cells k (Some (values.Chan None))
 restored (former.Channel k name) cells = slice_set cells k (Some (values.Chan (Some name)))
 restored (former.Each ws) cells = each_restored ws.items cells
 
+-- where a frame stands
+abbrev pub spot_of : CodeFrame → Spot
+spot_of f = record { function = f.function; number = f.number }
+
 -- a frame where it stood
 abbrev pub at_spot : Spot → CodeFrame → CodeFrame
 at_spot s f = record f { function = s.function; number = s.number }
 
 -- a frame before it went on
 abbrev pub frame_before : FrameUndo → CodeFrame → CodeFrame
-frame_before u f = at_spot u.spot (record f { cells = restored u.cells f.cells })
+frame_before u f = record f { number = u.number; cells = restored u.cells f.cells }
+
+-- .. in the function with this number
+abbrev pub frame_in : ℕ → FrameUndo → CodeFrame → CodeFrame
+frame_in function u f = record (frame_before u f) { function = function }
 
 -- with another innermost frame
 abbrev pub on_innermost : (CodeFrame → CodeFrame) → List CodeFrame → List CodeFrame
@@ -53,13 +61,13 @@ before_step g fs = record g { frames = fs; steps = g.steps - 1 }
 
 -- the goroutine before the change, from the goroutine after it
 abbrev pub undone : GoUndo → CodeGoroutine → CodeGoroutine
-undone (undos.Went u) g = before_step g (on_innermost (frame_before u) g.frames)
+undone (undos.Went f u) g = before_step g (on_innermost (frame_in f u) g.frames)
 undone (undos.Printed s) g = record (before_step g (on_innermost (at_spot s) g.frames)) { text = front g.text }
 undone (undos.Entered s) g = before_step g (on_innermost (at_spot s) (drop 1 g.frames))
 undone (undos.Left l) g = before_step g (l.value.frame ∷ on_innermost (frame_before l.value.caller) g.frames)
-undone (undos.Made u) g = record (before_step g (on_innermost (frame_before u) g.frames)) { channels = g.channels - 1 }
+undone (undos.Made f u) g = record (before_step g (on_innermost (frame_in f u) g.frames)) { channels = g.channels - 1 }
 undone (undos.Began s) g = record (before_step g (on_innermost (at_spot s) g.frames)) { children = g.children - 1 }
-undone (undos.Met m) g = record g { status = status_of m.value.status; frames = on_innermost (frame_before m.value.frame) g.frames }
+undone (undos.Met m) g = record g { status = status_of m.value.status; frames = on_innermost (frame_in m.value.function m.value.frame) g.frames }
 undone (undos.Parked s) g = record (before_step g (on_innermost (at_spot s) g.frames)) { status = ready }
 undone (undos.Finished f) g = record g { status = ready; frames = f ∷ []; steps = g.steps - 1 }
 undone (undos.Faulted s) g = before_step g (on_innermost (at_spot s) g.frames)
@@ -71,11 +79,11 @@ IsLive g = is_finished g.status ≡ false
 
 -- what taking a change back needs of the content: counts that were raised can be lowered, what came in is there
 abbrev pub Fits : GoUndo → CodeGoroutine → Type 0
-Fits (undos.Went u) g = IsLive g × (0 < g.steps)
+Fits (undos.Went f u) g = IsLive g × (0 < g.steps)
 Fits (undos.Printed s) g = IsLive g × (0 < g.steps) × (0 < length g.text)
 Fits (undos.Entered s) g = IsLive g × (0 < g.steps) × (1 < length g.frames)
 Fits (undos.Left l) g = IsLive g × (0 < g.steps)
-Fits (undos.Made u) g = IsLive g × (0 < g.steps) × (0 < g.channels)
+Fits (undos.Made f u) g = IsLive g × (0 < g.steps) × (0 < g.channels)
 Fits (undos.Began s) g = IsLive g × (0 < g.steps) × (0 < g.children)
 Fits (undos.Met m) g = IsLive g × (is_finished (status_of m.value.status) ≡ false)
 Fits (undos.Parked s) g = IsLive g × (0 < g.steps)

@@ -69,21 +69,22 @@ impl Goroutine {
             Arrival::Value(value) => {
                 let undo = self.top.resume(instruction, value);
                 self.steps += 1;
-                Ok(GoUndo::Went(undo))
+                Ok(GoUndo::Went(self.top.kept_function(), undo))
             }
             Arrival::Channel(value) => {
                 let undo = self.top.resume(instruction, value);
                 self.steps += 1;
                 self.channels += 1;
-                Ok(GoUndo::Made(undo))
+                Ok(GoUndo::Made(self.top.kept_function(), undo))
             }
             Arrival::Completion => {
                 let spot = self.top.complete(instruction);
                 self.steps += 1;
-                Ok(GoUndo::Went(FrameUndo {
-                    spot,
+                let undo = FrameUndo {
+                    number: spot.number,
                     cells: Former::Same,
-                }))
+                };
+                Ok(GoUndo::Went(spot.function, undo))
             }
             Arrival::Child => {
                 let spot = self.top.complete(instruction);
@@ -94,15 +95,16 @@ impl Goroutine {
             Arrival::Passes { clause, got } => {
                 let undo = self.top.pass(alloc, instruction, clause, got)?;
                 self.steps += 1;
-                Ok(GoUndo::Went(undo))
+                Ok(GoUndo::Went(self.top.kept_function(), undo))
             }
             Arrival::IsMet { clause, got } => {
                 let mut met = Box::new(
                     alloc,
                     Met {
                         status: Status::Ready,
+                        function: self.top.kept_function(),
                         frame: FrameUndo {
-                            spot: self.top.spot(),
+                            number: self.top.number(),
                             cells: Former::Same,
                         },
                     },

@@ -59,7 +59,7 @@ fn note(
 }
 
 /// Puts what a cell held back into it, if there is one with the number.
-#[inline]
+#[inline(always)]
 fn put(cells: &mut Vec<Option<Value>>, slot: usize, held: Option<Value>)
     ensures { cells.new.items ≡ slice_set cells.old.items slot held }
 {
@@ -69,7 +69,7 @@ fn put(cells: &mut Vec<Option<Value>>, slot: usize, held: Option<Value>)
 }
 
 /// Puts a number into a cell that holds another.
-#[inline]
+#[inline(always)]
 #[tactic(auto, using(crate::proofs::CellLemmas::number_back))]
 pub(crate) fn put_number(cells: &mut Vec<Option<Value>>, slot: usize, former: i64, n: i64)
     requires { held (slice_get cells.old.items slot) ≡ gives (Int former) }

@@ -1,30 +1,124 @@
 //! Steps of a frame that read and replace whole numbers alone, as most steps do.
 
-ghost use Rattle.std.specs.Prelude.{◌≡◌, slice_get};
+ghost use Rattle.std.specs.Prelude.{◌≡◌, ◌+◌, ◌<◌, ◌^◌, Bool, true, slice_get, IfSome, IfNone};
+ghost use Rattle.gr_base.specs.declared.kinds.Kind.TheVariants as kinds;
 ghost use Rattle.gr_base.specs.declared.values.Value.TheVariants.{Int};
 ghost use Rattle.gr_rules.specs.Outcomes.{gives, wrong};
 ghost use Rattle.gr_rules.specs.Evaluation as rules;
+ghost use Rattle.gr_rules.specs.Evaluation.{held};
 ghost use Rattle.gr_rules.specs.Operands.{also, nothing};
+ghost use Rattle.gr_rules.specs.Goroutines.{ready};
 ghost use Rattle.gr_code.specs.Instructions.{Assigns};
 ghost use Rattle.gr_code.specs.CodeFrames as frames;
-ghost use Rattle.gr_code.specs.CodeFrames.{with_cell};
-ghost use Rattle.gr_code.specs.CodeViews.{action_of, instruction_of, operand_of, operands_of};
-ghost use Rattle.gr_goros.specs.Tasks.{Counts, performed, tested, updated};
-ghost use Rattle.gr_goros.specs.Undoing.{frame_before};
+ghost use Rattle.gr_code.specs.CodeFrames.{at_number, with_cell};
+ghost use Rattle.gr_code.specs.CodeViews.{action_of, instruction_of, operand_of, operands_of, program_code_of};
+ghost use Rattle.gr_code.specs.Goroutines.{CodeGoroutine, is_local, is_local_action, is_local_instruction, local, task_of};
+ghost use Rattle.gr_goros.specs.Tasks.{Counts, IsStep, kept_of, performed, tested, updated};
+ghost use Rattle.gr_goros.specs.Undoing.{frame_before, undone};
 
+use crate::cells::put_number;
 use crate::frame::Frame;
-use crate::undo::FrameUndo;
-use gr_code::code::{Action, Instruction, Operand};
+use crate::goroutine::Goroutine;
+use crate::undo::{Former, FrameUndo, GoUndo};
+use crate::wait::Status;
+use gr_code::code::{Action, Code, Instruction, Operand};
 use gr_eval::{Scalar, number_in, number_of, of_numbers, on_ints};
 use gr_tree::BinaryOp;
+use std::mem;
+
+/// What a step over whole numbers replaced: where its frame stood, and what was in the one cell that it wrote to, if it wrote to one.
+#[derive(Clone, Copy)]
+pub(crate) struct Counted {
+    pub(crate) number: usize,
+    pub(crate) writes: bool,
+    pub(crate) slot: usize,
+    pub(crate) former: i64,
+}
+
+impl Counted {
+    /// The frame before it.
+    #[inline(always)]
+    pub(crate) fn undo(self) -> FrameUndo
+        ensures { result ≡ kept_of self }
+    {
+        let cells = if self.writes {
+            Former::Int(self.slot, self.former)
+        } else {
+            Former::Same
+        };
+        FrameUndo {
+            number: self.number,
+            cells,
+        }
+    }
+}
+
+impl Goroutine {
+    /// Takes the next step, if it is ready and the step is over whole numbers alone, and answers its ordinal and what it replaced.
+    /// `None` where it is another step; nothing has changed.
+    #[inline(always)]
+    pub fn count_step(&mut self, code: &Code) -> Option<(u64, GoUndo)>
+        requires right { self.old.content.status ≡ ready → ¬ (task_of (program_code_of code.now) self.old.content ≡ wrong) }
+        requires counted { self.old.content.steps + 1 < 2 ^ 64 }
+        ensures step { IfSome result (λ r. IsStep (kinds.Pure, r.1) (local (program_code_of code.now) self.old.content) self.old self.new) }
+        ensures ordinal { IfSome result (λ r. r.0 ≡ self.old.content.steps + 1) }
+        ensures ready { IfSome result (λ _. self.old.content.status ≡ ready) }
+        ensures alone { IfSome result (λ _. is_local (program_code_of code.now) self.old.content ≡ true) }
+        ensures stays { IfSome result (λ r. (g : CodeGoroutine) → (undone r.1 g).status ≡ g.status) }
+        ensures none { IfNone result (self.new ≡ self.old) }
+    {
+        let Status::Ready = self.status else {
+            return None;
+        };
+        let counted = self.top.count(self.top.instruction(code))?;
+        self.steps += 1;
+        Some((
+            self.steps,
+            GoUndo::Went(self.top.kept_function(), counted.undo()),
+        ))
+    }
+}
 
 impl Frame {
+    /// Goes on at another instruction.
+    #[inline(always)]
+    fn count_past(&mut self, on: usize) -> Counted
+        ensures after { self.new ≡ at_number self.old on }
+        ensures back { frame_before (kept_of result) self.new ≡ self.old }
+    {
+        let number = mem::replace(&mut self.number, on);
+        Counted {
+            number,
+            writes: false,
+            slot: 0,
+            former: 0,
+        }
+    }
+
+    /// Goes on with a number in a cell that holds another.
+    #[inline(always)]
+    fn count_into(&mut self, slot: usize, former: i64, n: i64, on: usize) -> Counted
+        requires { held (slice_get self.old.cells slot) ≡ gives (Int former) }
+        ensures after { self.new ≡ with_cell self.old slot (Int n) on }
+        ensures back { frame_before (kept_of result) self.new ≡ self.old }
+    {
+        let number = mem::replace(&mut self.number, on);
+        put_number(&mut self.cells, slot, former, n);
+        Counted {
+            number,
+            writes: true,
+            slot,
+            former,
+        }
+    }
+
     /// Takes the step of an instruction that reads whole numbers alone, and writes one to a cell that holds one, if any.
     /// `None` where it is another step; the frame is then as it was.
-    #[inline]
-    pub(crate) fn count(&mut self, instruction: &Instruction) -> Option<FrameUndo>
+    #[inline(always)]
+    pub(crate) fn count(&mut self, instruction: &Instruction) -> Option<Counted>
         requires { ¬ (frames.task self.old (instruction_of instruction.now) ≡ wrong) }
-        ensures { Counts result (frames.task self.old (instruction_of instruction.now)) self.old self.new }
+        ensures counts { Counts result (frames.task self.old (instruction_of instruction.now)) self.old self.new }
+        ensures alone { IfSome result (λ _. (caller : Bool) → is_local_instruction caller (instruction_of instruction.now) ≡ true) }
     {
         let Instruction::Perform { action, operands } = instruction else {
             return None;
@@ -37,22 +131,24 @@ impl Frame {
     }
 
     /// .. of a statement without operands.
-    #[inline]
-    fn count_on(&mut self, action: &Action) -> Option<FrameUndo>
-        ensures { Counts result (performed self.old (action_of action.now) nothing) self.old self.new }
+    #[inline(always)]
+    fn count_on(&mut self, action: &Action) -> Option<Counted>
+        ensures counts { Counts result (performed self.old (action_of action.now) nothing) self.old self.new }
+        ensures alone { IfSome result (λ _. (caller : Bool) → is_local_action caller (action_of action.now) ≡ true) }
     {
         match action {
-            Action::GoOn { on } => Some(self.go_on(*on)),
+            Action::GoOn { on } => Some(self.count_past(*on)),
             _ => None,
         }
     }
 
     /// .. of a statement with one operand.
-    #[inline]
+    #[inline(always)]
     #[tactic(auto, using(crate::proofs::TaskLemmas::updated_is))]
-    fn count_by(&mut self, action: &Action, operand: &Operand) -> Option<FrameUndo>
+    fn count_by(&mut self, action: &Action, operand: &Operand) -> Option<Counted>
         requires { ¬ (performed self.old (action_of action.now) (also (operand_of operand.now) nothing) ≡ wrong) }
-        ensures { Counts result (performed self.old (action_of action.now) (also (operand_of operand.now) nothing)) self.old self.new }
+        ensures counts { Counts result (performed self.old (action_of action.now) (also (operand_of operand.now) nothing)) self.old self.new }
+        ensures alone { IfSome result (λ _. (caller : Bool) → is_local_action caller (action_of action.now) ≡ true) }
     {
         match action {
             Action::Update { variable, op, on } => self.count_up(*variable, *op, operand, *on),
@@ -63,48 +159,48 @@ impl Frame {
     }
 
     /// Goes on where a condition on numbers holds, or where it does not.
-    #[inline]
-    fn compare(&mut self, operand: &Operand, holds: usize, fails: usize) -> Option<FrameUndo>
+    #[inline(always)]
+    fn compare(&mut self, operand: &Operand, holds: usize, fails: usize) -> Option<Counted>
         requires { ¬ (tested self.old holds fails (also (operand_of operand.now) nothing) ≡ wrong) }
         ensures { Counts result (tested self.old holds fails (also (operand_of operand.now) nothing)) self.old self.new }
     {
         match of_numbers(self.cells(), operand) {
             Some(Ok(Scalar::Bool(truth))) => {
                 let on = if truth { holds } else { fails };
-                Some(self.go_on(on))
+                Some(self.count_past(on))
             }
             _ => None,
         }
     }
 
     /// Assigns with an operator on numbers.
-    #[inline]
+    #[inline(always)]
     fn count_up(
         &mut self,
         variable: usize,
         op: BinaryOp,
         operand: &Operand,
         on: usize,
-    ) -> Option<FrameUndo>
+    ) -> Option<Counted>
         requires { ¬ (updated self.old variable op on (also (operand_of operand.now) nothing) ≡ wrong) }
         ensures { Counts result (updated self.old variable op on (also (operand_of operand.now) nothing)) self.old self.new }
     {
         let y = number_of(self.cells(), operand)?;
         let x = number_in(self.cells(), variable)?;
         match on_ints(op, x, y) {
-            Ok(Scalar::Int(n)) => Some(self.set_number(variable, x, n, on)),
+            Ok(Scalar::Int(n)) => Some(self.count_into(variable, x, n, on)),
             _ => None,
         }
     }
 
     /// Assigns a number to one variable.
-    #[inline]
+    #[inline(always)]
     fn set_one(
         &mut self,
         targets: &[Option<usize>],
         operand: &Operand,
         on: usize,
-    ) -> Option<FrameUndo>
+    ) -> Option<Counted>
         requires { ¬ (performed self.old (Assigns targets.now on) (also (operand_of operand.now) nothing) ≡ wrong) }
         ensures { Counts result (performed self.old (Assigns targets.now on) (also (operand_of operand.now) nothing)) self.old self.new }
     {
@@ -113,7 +209,7 @@ impl Frame {
         };
         let x = number_in(self.cells(), *variable)?;
         match of_numbers(self.cells(), operand) {
-            Some(Ok(Scalar::Int(n))) => Some(self.set_number(*variable, x, n, on)),
+            Some(Ok(Scalar::Int(n))) => Some(self.count_into(*variable, x, n, on)),
             _ => None,
         }
     }

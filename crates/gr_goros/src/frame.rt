@@ -1,15 +1,13 @@
 //! Frames of code, and how they go on.
 
-ghost use Rattle.std.specs.Prelude.{◌≡◌, IfOk, OnErr, slice_get};
-ghost use Rattle.gr_base.specs.declared.values.Value.TheVariants.{Int};
+ghost use Rattle.std.specs.Prelude.{◌≡◌, IfOk, OnErr};
 ghost use Rattle.gr_rules.specs.Outcomes.{gives, wrong};
-ghost use Rattle.gr_rules.specs.Evaluation.{held};
 ghost use Rattle.gr_rules.specs.Frames.{assigned};
 ghost use Rattle.gr_code.specs.CodeFrames.{Steps, acted, at_number, with_cell, with_part, with_received, entered, after_in, resumed_in};
 ghost use Rattle.gr_code.specs.Instructions.{Assigns};
 ghost use Rattle.gr_code.specs.CodeViews.{instruction_of, program_code_of};
 ghost use Rattle.gr_code.specs.Goroutines.{instruction_in, line_of};
-ghost use Rattle.gr_goros.specs.Undoing.{at_spot, frame_before};
+ghost use Rattle.gr_goros.specs.Undoing.{at_spot, frame_before, frame_in, spot_of};
 
 use crate::cells;
 use crate::copying::copy_all;
@@ -25,9 +23,9 @@ use std::mem;
 /// A function that was called and has not returned.
 #[derive(Debug, Drop)]
 pub struct Frame {
-    function: usize,
-    number: usize,
-    cells: Vec<Option<Value>>,
+    function: u32,
+    pub(crate) number: usize,
+    pub(crate) cells: Vec<Option<Value>>,
 }
 
 impl Model for Frame {
@@ -58,11 +56,14 @@ impl Frame {
         requires { ¬ (entered (program_code_of code.now) function values.items ≡ wrong) }
         ensures { IfOk result (λ f. entered (program_code_of code.now) function values.items ≡ gives f) }
     {
+        let Ok(counted) = u32::try_from(function) else {
+            return Err(NoMemory);
+        };
         let function_code = code_of(code, function);
         let mut cells = cells::empty(alloc, function_code.cells)?;
         cells::fill(&mut cells, &function_code.parameters, values);
         Ok(Frame {
-            function,
+            function: counted,
             number: 0,
             cells,
         })
@@ -85,6 +86,14 @@ impl Frame {
     pub fn function(&self) -> usize
         ensures { result ≡ self.now.function }
     {
+        self.function as usize
+    }
+
+    /// The same, as it is kept.
+    #[inline]
+    pub(crate) fn kept_function(&self) -> u32
+        ensures { result ≡ self.now.function }
+    {
         self.function
     }
 
@@ -98,10 +107,8 @@ impl Frame {
 
     /// Where it stands.
     #[inline]
-    pub(crate) fn spot(&self) -> Spot
-        ensures stays { at_spot result self.now ≡ self.now }
-        ensures function { result.function ≡ self.now.function }
-        ensures number { result.number ≡ self.now.number }
+    pub fn spot(&self) -> Spot
+        ensures { result ≡ spot_of self.now }
     {
         Spot {
             function: self.function,
@@ -124,7 +131,7 @@ impl Frame {
         requires { ¬ (instruction_in (program_code_of code.now) self.now ≡ wrong) }
         ensures { instruction_in (program_code_of code.now) self.now ≡ gives (instruction_of result.now) }
     {
-        match function_at(code, self.function) {
+        match function_at(code, self.function()) {
             Some(function_code) => match instruction_at(function_code, self.number) {
                 Some(instruction) => instruction,
                 None => unreachable!(),
@@ -139,7 +146,7 @@ impl Frame {
         requires { ¬ (line_of (program_code_of code.now) self.now ≡ None) }
         ensures { line_of (program_code_of code.now) self.now ≡ Some result }
     {
-        match function_at(code, self.function) {
+        match function_at(code, self.function()) {
             Some(function_code) => match line_at(function_code, self.number) {
                 Some(line) => *line,
                 None => unreachable!(),
@@ -154,10 +161,9 @@ impl Frame {
         ensures after { self.new ≡ at_number self.old on }
         ensures back { frame_before result self.new ≡ self.old }
     {
-        let spot = self.spot();
-        self.number = on;
+        let number = mem::replace(&mut self.number, on);
         FrameUndo {
-            spot,
+            number,
             cells: Former::Same,
         }
     }
@@ -168,26 +174,9 @@ impl Frame {
         ensures after { self.new ≡ with_cell self.old slot value on }
         ensures back { frame_before result self.new ≡ self.old }
     {
-        let spot = self.spot();
-        self.number = on;
+        let number = mem::replace(&mut self.number, on);
         let cells = cells::write(&mut self.cells, slot, value);
-        FrameUndo { spot, cells }
-    }
-
-    /// Goes on with a number in a cell that holds another.
-    #[inline]
-    pub(crate) fn set_number(&mut self, slot: usize, former: i64, n: i64, on: usize) -> FrameUndo
-        requires { held (slice_get self.old.cells slot) ≡ gives (Int former) }
-        ensures after { self.new ≡ with_cell self.old slot (Int n) on }
-        ensures back { frame_before result self.new ≡ self.old }
-    {
-        let spot = self.spot();
-        self.number = on;
-        cells::put_number(&mut self.cells, slot, former, n);
-        FrameUndo {
-            spot,
-            cells: Former::Int(slot, former),
-        }
+        FrameUndo { number, cells }
     }
 
     /// Goes on with the value of its part, which is kept nowhere where the part is the whole statement.
@@ -215,10 +204,9 @@ impl Frame {
         ensures err { OnErr result (self.new ≡ self.old) }
     {
         let written = cells::assign(alloc, &mut self.cells, targets, values)?;
-        let spot = self.spot();
-        self.number = on;
+        let number = mem::replace(&mut self.number, on);
         Ok(FrameUndo {
-            spot,
+            number,
             cells: Former::Each(written),
         })
     }
@@ -245,10 +233,9 @@ impl Frame {
             (value_slot, value),
             (sent_slot, Value::Bool(sent)),
         )?;
-        let spot = self.spot();
-        self.number = on;
+        let number = mem::replace(&mut self.number, on);
         Ok(FrameUndo {
-            spot,
+            number,
             cells: Former::Each(written),
         })
     }
@@ -301,9 +288,18 @@ impl Frame {
     pub(crate) fn undo(&mut self, undo: FrameUndo)
         ensures { self.new ≡ frame_before undo self.old }
     {
-        let FrameUndo { spot, cells } = undo;
-        self.stand_at(spot);
+        let FrameUndo { number, cells } = undo;
+        self.number = number;
         cells::put_back(&mut self.cells, cells);
+    }
+
+    /// .. in the function with a number.
+    #[inline]
+    pub(crate) fn undo_in(&mut self, function: u32, undo: FrameUndo)
+        ensures { self.new ≡ frame_in function undo self.old }
+    {
+        self.function = function;
+        self.undo(undo);
     }
 
     /// Stands there.

@@ -34,7 +34,7 @@ impl Goroutine {
     }
 
     /// Takes the next step, which reaches no further than the goroutine. Refused, nothing has changed.
-    #[inline]
+    #[inline(always)]
     pub fn local_step(&mut self, alloc: Global, code: &Code) -> Result<(Kind, GoUndo), NoMemory>
         requires right { ¬ (local (program_code_of code.now) self.old.content ≡ wrong) }
         requires here { is_local_now (program_code_of code.now) self.old.content ≡ true }
@@ -43,9 +43,10 @@ impl Goroutine {
         ensures err { OnErr result (self.new.content ≡ self.old.content) }
         ensures err_room { OnErr result (self.old.room ≤ self.new.room) }
     {
-        if let Some(undo) = self.top.count(self.top.instruction(code)) {
+        if let Some(counted) = self.top.count(self.top.instruction(code)) {
             self.steps += 1;
-            return Ok((Kind::Pure, GoUndo::Went(undo)));
+            let own = GoUndo::Went(self.top.kept_function(), counted.undo());
+            return Ok((Kind::Pure, own));
         }
         self.take_task(alloc, code)
     }
@@ -53,6 +54,7 @@ impl Goroutine {
 
 impl Goroutine {
     /// Takes the next step, of whatever kind. Refused, nothing has changed.
+    #[inline(never)]
     fn take_task(&mut self, alloc: Global, code: &Code) -> Result<(Kind, GoUndo), NoMemory>
         requires right { ¬ (local (program_code_of code.now) self.old.content ≡ wrong) }
         requires here { is_local_now (program_code_of code.now) self.old.content ≡ true }
@@ -66,7 +68,7 @@ impl Goroutine {
         match self.top.task(alloc, instruction, has_caller) {
             Ok(Task::Steps(undo)) => {
                 self.steps += 1;
-                Ok((Kind::Pure, GoUndo::Went(undo)))
+                Ok((Kind::Pure, GoUndo::Went(self.top.kept_function(), undo)))
             }
             Ok(Task::Prints(line)) => self.print(code, line),
             Ok(Task::Enters(function, arguments)) => self.enter(alloc, code, function, arguments),
@@ -148,7 +150,7 @@ impl Goroutine {
             Left {
                 frame: Frame::unseen(alloc),
                 caller: FrameUndo {
-                    spot: self.top.spot(),
+                    number: self.top.number(),
                     cells: Former::Same,
                 },
             },

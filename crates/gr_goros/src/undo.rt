@@ -30,14 +30,14 @@ pub enum Former {
 /// Where a frame stands: the number of its function, and that of the next instruction there.
 #[derive(Clone, Copy, Debug)]
 pub struct Spot {
-    pub function: usize,
+    pub function: u32,
     pub number: usize,
 }
 
-/// A frame before it went on.
+/// A frame before it went on in its function: the number of its next instruction, and what was in its cells.
 #[derive(Debug, Drop)]
 pub struct FrameUndo {
-    pub spot: Spot,
+    pub number: usize,
     pub cells: Former,
 }
 
@@ -52,22 +52,25 @@ pub struct Left {
 #[derive(Debug, Drop)]
 pub struct Met {
     pub status: Status,
+    /// The number of the function of its innermost frame.
+    pub function: u32,
     pub frame: FrameUndo,
 }
 
-/// What a change of a goroutine replaced, by which it is undone. Each step of its own keeps where the innermost frame stood.
+/// What a change of a goroutine replaced, by which it is undone. Each step of its own keeps where the innermost frame stood, the
+/// number of its function beside the rest where that takes no more room.
 #[derive(Debug, Drop)]
 pub enum GoUndo {
-    /// The innermost frame went on, in a step.
-    Went(FrameUndo),
+    /// The innermost frame, of the function with a number, went on in a step.
+    Went(u32, FrameUndo),
     /// It printed a line.
     Printed(Spot),
     /// A function was called.
     Entered(Spot),
     /// A function returned to its caller.
     Left(Box<Left>),
-    /// A channel was made.
-    Made(FrameUndo),
+    /// A channel was made, in a frame of the function with a number.
+    Made(u32, FrameUndo),
     /// A goroutine was started.
     Began(Spot),
     /// A partner met it.
@@ -129,8 +132,8 @@ impl Goroutine {
         ensures spends { self.old.room + entered undo ≤ self.new.room + need undo }
     {
         match undo {
-            GoUndo::Went(undo) => {
-                self.top.undo(undo);
+            GoUndo::Went(function, undo) => {
+                self.top.undo_in(function, undo);
                 self.steps -= 1;
             }
             GoUndo::Printed(spot) => {
@@ -150,8 +153,8 @@ impl Goroutine {
                 self.below.push_reserved(caller);
                 self.steps -= 1;
             }
-            GoUndo::Made(undo) => {
-                self.top.undo(undo);
+            GoUndo::Made(function, undo) => {
+                self.top.undo_in(function, undo);
                 self.steps -= 1;
                 self.channels -= 1;
             }
@@ -161,8 +164,12 @@ impl Goroutine {
                 self.children -= 1;
             }
             GoUndo::Met(met) => {
-                let Met { status, frame } = Box::into_inner(met);
-                self.top.undo(frame);
+                let Met {
+                    status,
+                    function,
+                    frame,
+                } = Box::into_inner(met);
+                self.top.undo_in(function, frame);
                 self.status = status;
             }
             GoUndo::Parked(spot) => {

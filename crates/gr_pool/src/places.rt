@@ -28,6 +28,7 @@ pub fn place_of(known: &[GoName], ready: &[usize], name: &GoName) -> Result<usiz
 }
 
 /// Whether the name stands at the place.
+#[inline(always)]
 pub fn stands_at(known: &[GoName], ready: &[usize], name: &GoName, place: usize) -> bool
     requires within { All (λ place. place < length known.now) ready.now }
     requires ordered { IsInOrder (names_at known.now ready.now) }
@@ -70,6 +71,7 @@ fn place_after(known: &[GoName], ready: &[usize], name: &GoName, guess: usize) -
 
 /// Where the first name after this one stands, else the first of all. The time is constant where the name stands at the
 /// guess, and else logarithmic.
+#[inline(always)]
 pub fn next_place(known: &[GoName], ready: &[usize], name: &GoName, guess: usize) -> usize
     requires within { All (λ place. place < length known.now) ready.now }
     requires ordered { IsInOrder (names_at known.now ready.now) }

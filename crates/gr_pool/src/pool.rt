@@ -130,6 +130,7 @@ impl Pool {
 
     /// The first ready goroutine after this one in name order, else the first of all. The time is constant where one alone
     /// is ready, and where this one was the last answer and the ready ones are the same since; else it is logarithmic.
+    #[inline(always)]
     pub fn next_after(&self, name: &GoName) -> Option<&GoName>
         ensures next { option_copied result ≡ next_name name.now self.now.ready }
         ensures ordered { IsInOrder self.now.ready }

@@ -23,3 +23,4 @@ mod AskLemmas
 mod LeasingLemmas
 mod LendingLemmas
 mod JoiningLemmas
+mod CountedLemmas

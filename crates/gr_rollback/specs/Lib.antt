@@ -11,3 +11,4 @@ pub mod Redoing
 pub mod Reordering
 pub mod Walks
 pub mod Leasing
+pub mod Joined

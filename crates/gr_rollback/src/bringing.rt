@@ -41,11 +41,11 @@ pub(crate) fn prior_to(undo: &GoUndo) -> Prior
     ensures { TellsPrior result undo.now }
 {
     match undo {
-        GoUndo::Went(_)
+        GoUndo::Went(_, _)
         | GoUndo::Printed(_)
         | GoUndo::Entered(_)
         | GoUndo::Left(_)
-        | GoUndo::Made(_)
+        | GoUndo::Made(_, _)
         | GoUndo::Began(_)
         | GoUndo::Faulted(_) => Prior::Same,
         GoUndo::Parked(_) | GoUndo::Finished(_) => Prior::Ready,

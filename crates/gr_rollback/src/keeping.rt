@@ -20,6 +20,7 @@ use gr_pool::Pool;
 use gr_step::{Record, StepRefused, Store};
 
 /// Takes a step back directly after it, which takes no memory.
+#[inline(never)]
 fn withdraw(store: &mut Store, step: Record)
     requires fits { CanGoBack step.id.go step.change (contents_at store.old) }
     requires room { HasRoomFor step store.old }
@@ -31,6 +32,7 @@ fn withdraw(store: &mut Store, step: Record)
 
 /// Lets the record of a step join the log, and makes the goroutine known that the step started. Refused, the record is handed
 /// back, and no record has changed.
+#[inline(always)]
 fn enter(log: &mut Log, pool: &mut Pool, step: Record) -> Result<(), Record>
     requires { Distinct (touched_by step) }
     ensures ok { OnOk result (records_of log.new ≡ records_of log.old ++ step ∷ []) }
@@ -78,11 +80,48 @@ fn take_back(store: &mut Store, pool: &mut Pool, step: Record) -> Result<Event, 
 impl Course {
     ghost use Rattle.gr_rollback.specs.Pasts.{Past};
     ghost use Rattle.gr_rollback.specs.Courses.{IsCourse, Holds};
+    ghost use Rattle.gr_rollback.specs.Joined.{Joined};
     ghost use Rattle.gr_rollback.specs.Steps.{Kept};
     ghost use Rattle.gr_rollback.specs.Retracting.{LastGoesBack, Retracts, SameCourse, KeepsLogRoom};
 
-    /// Takes the step of an event, whose record joins the log. Refused, nothing has changed.
+    /// Takes the step of an event, whose record joins the log. Refused, nothing has changed. A step over whole numbers alone, as most
+    /// are, is looked for first: its goroutine is ready after it, and it reached no other.
+    #[inline(always)]
     pub(crate) fn keep(&mut self, event: Event) -> Result<(), StepRefused>
+        requires { IsCourse self.old }
+        ensures kept { (p : Program) (w : Past p) → Holds p w self.old → Kept p w event result self.new }
+        ensures listing { SameListing self.old.store self.new.store }
+    {
+        match self.store.count_step(event) {
+            Ok(step) => self.join(step),
+            Err(event) => self.keep_further(event),
+        }
+    }
+
+    /// Lets the record of a step that reached no further than its goroutine join the log. Refused, the step is taken back.
+    #[inline(always)]
+    fn join(&mut self, step: Record) -> Result<(), StepRefused>
+        requires fits { CanGoBack step.id.go step.change (contents_at self.old.store) }
+        requires room { HasRoomFor step self.old.store }
+        requires once { Distinct (touched_by step) }
+        ensures { Joined self.old step result self.new }
+    {
+        if self.log.len() >= LOG_LIMIT {
+            withdraw(&mut self.store, step);
+            return Err(StepRefused::NoMemory);
+        }
+        match self.log.push(step) {
+            Ok(()) => Ok(()),
+            Err((step, _)) => {
+                withdraw(&mut self.store, step);
+                Err(StepRefused::NoMemory)
+            }
+        }
+    }
+
+    /// .. of any event.
+    #[inline(never)]
+    fn keep_further(&mut self, event: Event) -> Result<(), StepRefused>
         requires { IsCourse self.old }
         ensures kept { (p : Program) (w : Past p) → Holds p w self.old → Kept p w event result self.new }
         ensures listing { SameListing self.old.store self.new.store }

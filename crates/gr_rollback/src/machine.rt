@@ -65,6 +65,7 @@ impl Machine {
     }
 
     /// Whose turn it is: the first ready goroutine after that of the last step, in the order of names, else the first of all.
+    #[inline(always)]
     pub fn next_turn(&self) -> Option<&GoName>
         ensures { (p : ProgramSeen) (w : World p) → Stands p w self.now → IsTurn w.past.state (last_owner p w.past.log) (option_copied result) }
     {
@@ -76,6 +77,7 @@ impl Machine {
 
     /// Takes the step of an event, whose record is then the last of the log; nothing may be done again after it. Refused, nothing
     /// has changed. A full log and want of memory are one refusal.
+    #[inline(always)]
     pub fn step(&mut self, event: Event) -> Result<(), StepRefused>
         requires { IsMachine self.old }
         ensures taken { (p : ProgramSeen) (w : World p) → Stands p w self.old → Taken p w event result self.new }

@@ -15,6 +15,7 @@ use gr_step::record::Change;
 use gr_step::{Record, Store};
 
 // Whether a goroutine is there, and ready.
+#[inline(always)]
 fn is_ready(store: &Store, go: &GoName) -> bool
     ensures { IsTrue result ↔ IsReadyIn (contents_at store.now) go.now }
 {
@@ -28,6 +29,7 @@ fn is_ready(store: &Store, go: &GoName) -> bool
 }
 
 /// Makes a goroutine ready in the pool where it is so in the store, and known then, and else not. It takes no memory.
+#[inline(always)]
 fn settle(pool: &mut Pool, store: &Store, go: &GoName)
     requires { KnowsReady (go.now ∷ []) (contents_at store.now) pool.old }
     ensures { Settles (go.now ∷ []) (contents_at store.now) pool.old pool.new }
@@ -52,7 +54,7 @@ fn settle_own(pool: &mut Pool, store: &Store, go: &GoName)
 
 /// Makes the goroutine of a step unready where it is so in the store. The step reached no further than the goroutine, which was
 /// ready; what the step replaced tells of most that it is ready still.
-#[inline]
+#[inline(always)]
 fn settle_alone(pool: &mut Pool, store: &Store, step: &Record)
     requires own { is_among step.now.id.go pool.old.ready ≡ true }
     requires ready { KeepsStatus step.now.change.own → IsReadyIn (contents_at store.now) step.now.id.go }
@@ -113,6 +115,7 @@ fn settle_others(pool: &mut Pool, store: &Store, step: &Record)
 }
 
 /// Settles the goroutine of a step, which was ready, and those that the step met and started.
+#[inline]
 fn settle_further(pool: &mut Pool, store: &Store, step: &Record)
     requires own { is_among step.now.id.go pool.old.ready ≡ true }
     requires met { KnowsReady (met_by step.now.change) (contents_at store.now) pool.old }
@@ -135,6 +138,7 @@ pub(crate) fn settle_again(pool: &mut Pool, store: &Store, step: &Record)
 
 /// Brings the pool to what is ready after a step, whose goroutine was ready; those that it met and started are known. Where the
 /// step reached no further than its goroutine, and that is ready still, the pool stays. It takes no memory.
+#[inline(always)]
 pub(crate) fn settle_taken(pool: &mut Pool, store: &Store, step: &Record)
     requires own { is_among step.now.id.go pool.old.ready ≡ true }
     requires ready { step.now.change.beyond ≡ None → KeepsStatus step.now.change.own → IsReadyIn (contents_at store.now) step.now.id.go }

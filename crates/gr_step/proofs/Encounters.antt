@@ -131,8 +131,6 @@ module _ (p : Program) (e : Event) (number : ℕ) (old : Objects) (acting : Acti
         (subst {_, _} (λ k. CanArriveAt k (IsMet case got) (goroutines_of old.goroutines n)) (sym coded) meet.partner_can);
     fits = subst {_, _} (λ c. ChansFit ((c, u) ∷ []) (contents_of mid)) (sym ready.channel_is) goes.fits;
     room = subst {_, _} (λ c. HasRooms ((c, u) ∷ []) (rooms_of mid)) (sym ready.channel_is) goes.room;
-    done_none = ready.done_none;
-    done_room = ready.done_room;
   }
 
   -- what it touches

@@ -62,3 +62,4 @@ mod TakingItems
 mod WakingLemmas
 pub mod LeasingLemmas
 mod OwnStepLemmas
+mod CountTakes

@@ -36,7 +36,7 @@ acting_at p e number o a P so =
 
 -- a change that leaves as many frames needs no room for one to be taken back
 pub no_frame : (u : GoUndo) (a b : CodeGoroutine) → undone u b ≡ a → length b.frames ≡ length a.frames → need u ≡ 0
-no_frame (undos.Went u) a b back same = refl
+no_frame (undos.Went f u) a b back same = refl
 no_frame (undos.Printed n) a b back same = refl
 no_frame (undos.Entered x) a b back same = refl
 no_frame (undos.Left l) a b back same = absurd (more b.frames (ap (λ g. length g.frames) back ∙ sym same))
@@ -44,7 +44,7 @@ no_frame (undos.Left l) a b back same = absurd (more b.frames (ap (λ g. length 
     more : (fs : List CodeFrame) → length (l.value.frame ∷ on_innermost (frame_before l.value.caller) fs) ≡ length fs → ⊥
     more [] is = omega (arith, is)
     more (f ∷ fs) is = omega (arith, is)
-no_frame (undos.Made u) a b back same = refl
+no_frame (undos.Made f u) a b back same = refl
 no_frame (undos.Began n) a b back same = refl
 no_frame (undos.Met m) a b back same = refl
 no_frame (undos.Parked x) a b back same = refl

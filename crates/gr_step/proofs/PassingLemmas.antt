@@ -66,14 +66,14 @@ innermost_count change (f ∷ below) = refl
 
 -- where there are as many frames, none comes back
 pub needs_none : (u : GoUndo) (g after : CodeGoroutine) → undone u after ≡ g → length after.frames ≡ length g.frames → need u ≡ 0
-needs_none (undos.Went u) g after back count = refl
+needs_none (undos.Went f u) g after back count = refl
 needs_none (undos.Printed n) g after back count = refl
 needs_none (undos.Entered x) g after back count = refl
 needs_none (undos.Left l) g after back count =
     let longer = ap (λ (h : CodeGoroutine). length h.frames) back in
     let same = innermost_count (frame_before l.value.caller) after.frames in
     absurd (omega (arith, longer, same, count))
-needs_none (undos.Made u) g after back count = refl
+needs_none (undos.Made f u) g after back count = refl
 needs_none (undos.Began n) g after back count = refl
 needs_none (undos.Met m) g after back count = refl
 needs_none (undos.Parked x) g after back count = refl

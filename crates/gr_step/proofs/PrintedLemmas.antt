@@ -15,12 +15,12 @@ one_more xs ys is some = omega (arith, ap length is, length-take (length ys - 1)
 module _ (a b : CodeGoroutine) where
   -- where the text stays, no line was printed
   pub not_printed : (u : GoUndo) → undone u b ≡ a → Fits u b → b.text ≡ a.text → is_printed u ≡ false
-  not_printed (undos.Went u) back fits text = refl
+  not_printed (undos.Went f u) back fits text = refl
   not_printed (undos.Printed n) back fits text =
       absurd (let more = one_more a.text b.text (ap (λ g. g.text) back) fits.2 in omega (arith, more, ap length text))
   not_printed (undos.Entered x) back fits text = refl
   not_printed (undos.Left l) back fits text = refl
-  not_printed (undos.Made u) back fits text = refl
+  not_printed (undos.Made f u) back fits text = refl
   not_printed (undos.Began n) back fits text = refl
   not_printed (undos.Met m) back fits text = refl
   not_printed (undos.Parked x) back fits text = refl
@@ -33,11 +33,11 @@ module _ (a b : CodeGoroutine) where
   same line text is = let two = ap length (sym text ∙ is) in omega (arith, two, length-append a.text (line ∷ []))
 
   pub printed : (u : GoUndo) (line : List ℕ) → undone u b ≡ a → b.text ≡ a.text ++ line ∷ [] → is_printed u ≡ true
-  printed (undos.Went u) line back text = absurd (same line text (ap (λ g. g.text) back))
+  printed (undos.Went f u) line back text = absurd (same line text (ap (λ g. g.text) back))
   printed (undos.Printed n) line back text = refl
   printed (undos.Entered x) line back text = absurd (same line text (ap (λ g. g.text) back))
   printed (undos.Left l) line back text = absurd (same line text (ap (λ g. g.text) back))
-  printed (undos.Made u) line back text = absurd (same line text (ap (λ g. g.text) back))
+  printed (undos.Made f u) line back text = absurd (same line text (ap (λ g. g.text) back))
   printed (undos.Began n) line back text = absurd (same line text (ap (λ g. g.text) back))
   printed (undos.Met m) line back text = absurd (same line text (ap (λ g. g.text) back))
   printed (undos.Parked x) line back text = absurd (same line text (ap (λ g. g.text) back))

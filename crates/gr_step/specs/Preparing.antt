@@ -1,5 +1,5 @@
 -- What a step has ready that reaches beyond its goroutine, before it changes anything.
-use Rattle.std.specs.Prelude.{◌≡◌, ◌<◌, ℕ, List, [], ◌∷◌, ◌++◌, map, length, false, vec_len, vec_capacity, Option, Some, None, option_map}
+use Rattle.std.specs.Prelude.{◌≡◌, ℕ, List, [], ◌∷◌, ◌++◌, map, length, false, Option, Some, None, option_map}
 use Rattle.gr_base.specs.declared.names.ChName.{ChName}
 use Rattle.gr_base.specs.declared.events.Event.{Event}
 use Rattle.gr_base.specs.declared.kinds.Kind.{Kind}
@@ -53,8 +53,6 @@ pub record IsPrepared (operation : Operation) (reads touched : List Object) (c :
   pub named : name_at o.goroutines r.number ≡ Some n
   pub names_are : AreToLeave r.names.items c ws
   pub reached : IsReached operation reads (touched ++ objects.Go n ∷ map objects.Gate (channels_but (c ∷ []) ws)) r.beyond.value
-  pub done_none : r.done.items ≡ []
-  pub done_room : vec_len r.done < vec_capacity r.done
 
 -- two goroutines can go past their communication, with all made ready for that, after a change of their channel
 pub record CanExchange (code : ProgramCode) (e : Event) (number : ℕ) (r : Prepared) (u : ChanUndo) (passes meets : Arrival) (o : Objects) : Type 0 where
@@ -65,8 +63,6 @@ pub record CanExchange (code : ProgramCode) (e : Event) (number : ℕ) (r : Prep
   pub partner_can : CanArriveAt code meets (goroutines_of o.goroutines r.go)
   pub fits : ChansFit ((r.channel, u) ∷ []) (contents_of o.channels)
   pub room : HasRooms ((r.channel, u) ∷ []) (rooms_of o.channels)
-  pub done_none : r.done.items ≡ []
-  pub done_room : vec_len r.done < vec_capacity r.done
 
 -- two goroutines went past their communication, and the change tells of it
 pub record IsExchange (code : ProgramCode) (n m : List ℕ) (passes meets : Arrival) (names : List ChName) (kind : Kind) (operation : Operation)

@@ -36,6 +36,7 @@ pub(crate) fn with_more(
 }
 
 /// What a step reached that did this with a channel, touched these parts of it, and reached nothing else.
+#[inline(always)]
 pub(crate) fn waited(
     alloc: Global,
     operation: Option<Operation>,
@@ -56,6 +57,7 @@ pub(crate) fn waited(
 }
 
 /// What a step reached that met nobody, by what it did with a channel and touched of it, before it changes anything.
+#[inline(always)]
 pub(crate) fn reached(
     alloc: Global,
     operation: Operation,

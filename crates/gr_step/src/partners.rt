@@ -1,6 +1,6 @@
 //! Communications with a goroutine that waits (Go: Send statements, Receive operator, Select statements).
 
-ghost use Rattle.std.specs.Prelude.{◌≡◌, ◌+◌, ◌<◌, ◌≤◌, ℕ, List, [], ◌∷◌, ◌++◌, map, false, true, Some, vec_len, vec_capacity, IsSome, IfOk, OnOk, OnErr};
+ghost use Rattle.std.specs.Prelude.{◌≡◌, List, [], ◌∷◌, false, true, Some, IfOk, OnOk, OnErr};
 ghost use Rattle.gr_base.specs.declared.objects.Object.TheVariants as objects;
 ghost use Rattle.gr_rules.specs.Attempts as attempts;
 ghost use Rattle.gr_rules.specs.States.{same_go};
@@ -8,7 +8,8 @@ ghost use Rattle.gr_rules.specs.Goroutines.{Wait};
 ghost use Rattle.gr_contents.specs.Partners.{is_waiting};
 ghost use Rattle.gr_code.specs.CodeViews.{program_code_of};
 ghost use Rattle.gr_goros.specs.Views.{arrival_of};
-ghost use Rattle.gr_tables.specs.NamedChannels.{contents_of, rooms_of, ChansFit, HasRooms, TookBack};
+ghost use Rattle.gr_step.specs.Fews.{members};
+ghost use Rattle.gr_tables.specs.NamedChannels.{contents_of, rooms_of, withdrawn, ChansFit, HasRooms, TookBack, Follows, MoreAtGates};
 ghost use Rattle.gr_tables.specs.NamedGoroutines.{At, goroutines_of, name_at, seen_at, CanArrive, Arrives, ChangesBy, KeepsContents};
 ghost use Rattle.gr_step.specs.Parts.{channel_in, AreTouched};
 ghost use Rattle.gr_step.specs.Records.{operation_of};
@@ -20,24 +21,28 @@ use crate::channels_named::{channels_but, channels_to_leave};
 use crate::few::Few;
 use crate::objects::Objects;
 use crate::record::{Beyond, Change, Operation, Touched};
+use crate::unstepping::put_back;
 use gr_base::{ChName, Event, GoName, Kind, NoMemory, Object};
 use gr_channels::ChanUndo;
 use gr_code::code::Code;
 use gr_goros::{Arrival, GoUndo, Status};
+use gr_tables::channels::Channels;
+use std::alloc::Global;
 use std::slice;
 
 /// The change of a step that met nobody, and changed these channels.
+#[inline(always)]
 pub(crate) fn told(
     kind: Kind,
     own: GoUndo,
     beyond: Box<Beyond>,
-    channels: Vec<(ChName, ChanUndo)>,
+    channels: Few<(ChName, ChanUndo)>,
 ) -> Change
     ensures { (operation : attempts.Operation) (reads writes : List Object) → IsReached operation reads writes beyond.value
-        → Tells result kind (Some operation) reads writes own [] channels.items }
+        → Tells result kind (Some operation) reads writes own [] (members channels) }
 {
     let mut beyond = beyond;
-    beyond.channels = Few::of_many(channels);
+    beyond.channels = channels;
     Change {
         kind,
         own,
@@ -46,24 +51,54 @@ pub(crate) fn told(
 }
 
 /// The change of a step that met one goroutine, and changed these channels.
+#[inline(always)]
 fn told_with(
     kind: Kind,
     own: GoUndo,
     beyond: Box<Beyond>,
     met: (GoName, GoUndo),
-    channels: Vec<(ChName, ChanUndo)>,
+    channels: Few<(ChName, ChanUndo)>,
 ) -> Change
     ensures { (operation : attempts.Operation) (reads writes : List Object) → IsReached operation reads writes beyond.value
-        → Tells result kind (Some operation) reads writes own (met ∷ []) channels.items }
+        → Tells result kind (Some operation) reads writes own (met ∷ []) (members channels) }
 {
     let mut beyond = beyond;
     beyond.met = Few::One(met);
-    beyond.channels = Few::of_many(channels);
+    beyond.channels = channels;
     Change {
         kind,
         own,
         beyond: Some(beyond),
     }
+}
+
+/// A goroutine leaves the queues of the channels of these names, after a change of a channel in the same step. Refused, that change
+/// is taken back.
+#[inline]
+fn leave_after(
+    channels: &mut Channels,
+    alloc: Global,
+    change: (ChName, ChanUndo),
+    names: &[ChName],
+    go: &GoName,
+) -> Result<Few<(ChName, ChanUndo)>, NoMemory>
+    requires fits { ChansFit (change ∷ []) (contents_of channels.old) }
+    requires room { HasRooms (change ∷ []) (rooms_of channels.old) }
+    ensures contents { OnOk result (contents_of channels.new ≡ withdrawn go.now names.now (contents_of channels.old)) }
+    ensures back { IfOk result (λ undos. Follows (change ∷ []) (members undos) channels.old channels.new) }
+    ensures gates { IfOk result (λ undos. MoreAtGates names.now (change ∷ []) (members undos)) }
+    ensures err { OnErr result (TookBack (change ∷ []) channels.old channels.new) }
+{
+    if names.is_empty() {
+        return Ok(Few::One(change));
+    }
+    let Ok(mut done) = Vec::with_capacity(alloc, names.len() + 1) else {
+        put_back(channels, Few::One(change));
+        return Err(NoMemory);
+    };
+    done.push_reserved(change);
+    let done = channels.withdraw_after(done, names, go)?;
+    Ok(Few::of_many(done))
 }
 
 /// What a step with a goroutine that waits has ready before it changes anything.
@@ -75,8 +110,6 @@ pub(crate) struct Prepared {
     pub(crate) names: Vec<ChName>,
     /// The channel of the communication.
     pub(crate) channel: ChName,
-    /// No change of a channel yet, with room for one.
-    pub(crate) done: Vec<(ChName, ChanUndo)>,
     pub(crate) beyond: Box<Beyond>,
 }
 
@@ -104,44 +137,44 @@ impl Objects {
         let others = channels_but(self.alloc, slice::from_ref(channel), waits)?;
         let beyond = reached_with(self.alloc, operation, touched, go, &others)?;
         let names = channels_to_leave(self.alloc, channel, waits, others)?;
-        let done = Vec::with_capacity(self.alloc, 1)?;
         Ok(Prepared {
             go: go.copy(self.alloc)?,
             number,
             names,
             channel: channel.copy(self.alloc)?,
-            done,
             beyond,
         })
     }
 
     /// What arrives takes the goroutine with a number past its instruction, after `done` was done in the same step. Refused,
     /// `done` is taken back.
+    #[inline(always)]
     pub(crate) fn arrive(
         &mut self,
         code: &Code,
         number: usize,
         arrival: Arrival,
-        done: Vec<(ChName, ChanUndo)>,
-    ) -> Result<(GoUndo, Vec<(ChName, ChanUndo)>), NoMemory>
+        done: Few<(ChName, ChanUndo)>,
+    ) -> Result<(GoUndo, Few<(ChName, ChanUndo)>), NoMemory>
         requires can { At (CanArrive (program_code_of code.now) (arrival_of arrival)) (seen_at self.old.goroutines number) }
-        requires fits { ChansFit done.items (contents_of self.old.channels) }
-        requires room { HasRooms done.items (rooms_of self.old.channels) }
+        requires fits { ChansFit (members done) (contents_of self.old.channels) }
+        requires room { HasRooms (members done) (rooms_of self.old.channels) }
         ensures after { IfOk result (λ r. ChangesBy number (Arrives (program_code_of code.now) (arrival_of arrival) r.0) self.old.goroutines self.new.goroutines) }
         ensures returned { IfOk result (λ r. r.1 ≡ done) }
         ensures channels { OnOk result (self.new.channels ≡ self.old.channels) }
         ensures err_goroutines { OnErr result (KeepsContents self.old.goroutines self.new.goroutines) }
-        ensures err_channels { OnErr result (TookBack done.items self.old.channels self.new.channels) }
+        ensures err_channels { OnErr result (TookBack (members done) self.old.channels self.new.channels) }
         ensures run { self.new.run ≡ self.old.run }
     {
         match self.goroutines.deliver(number, code, arrival) {
             Ok(undo) => Ok((undo, done)),
             Err(error) => {
-                self.channels.put_all_back(done);
+                put_back(&mut self.channels, done);
                 Err(error)
             }
         }
     }
+
     /// The goroutine with a number goes past its communication with nobody, after `done` was done in the same step. Refused,
     /// `done` is taken back.
     pub(crate) fn pass(
@@ -152,14 +185,14 @@ impl Objects {
         passes: Arrival,
         kind: Kind,
         beyond: Box<Beyond>,
-        done: Vec<(ChName, ChanUndo)>,
+        done: Few<(ChName, ChanUndo)>,
     ) -> Result<Change, NoMemory>
-        requires { CanPass (program_code_of code.now) event.now number (arrival_of passes) done.items self.old }
+        requires { CanPass (program_code_of code.now) event.now number (arrival_of passes) (members done) self.old }
         ensures ok { (operation : attempts.Operation) (reads writes : List Object) → IsReached operation reads writes beyond.value
-            → IfOk result (λ change. IsPass (program_code_of code.now) event.now.go (arrival_of passes) kind operation reads writes done.items change
+            → IfOk result (λ change. IsPass (program_code_of code.now) event.now.go (arrival_of passes) kind operation reads writes (members done) change
             self.old self.new) }
         ensures err_goroutines { OnErr result (goroutines_of self.new.goroutines ≡ goroutines_of self.old.goroutines) }
-        ensures err_channels { OnErr result (TookBack done.items self.old.channels self.new.channels) }
+        ensures err_channels { OnErr result (TookBack (members done) self.old.channels self.new.channels) }
         ensures run { self.new.run ≡ self.old.run }
     {
         let (own, done) = self.arrive(code, number, passes, done)?;
@@ -168,6 +201,7 @@ impl Objects {
 
     /// What arrives takes two goroutines past their communication, one after the other, after `done` was done in the same step.
     /// Refused, neither has changed, and `done` is taken back.
+    #[inline(always)]
     fn both_arrive(
         &mut self,
         code: &Code,
@@ -177,21 +211,21 @@ impl Objects {
         go: &GoName,
         partner: usize,
         meets: Arrival,
-        done: Vec<(ChName, ChanUndo)>,
-    ) -> Result<(GoUndo, GoUndo, Vec<(ChName, ChanUndo)>), NoMemory>
+        done: Few<(ChName, ChanUndo)>,
+    ) -> Result<(GoUndo, GoUndo, Few<(ChName, ChanUndo)>), NoMemory>
         requires named { name_at self.old.goroutines number ≡ Some event.now.go }
         requires partner_named { name_at self.old.goroutines partner ≡ Some go.now }
         requires apart { same_go go.now event.now.go ≡ false }
         requires can { CanArriveAt (program_code_of code.now) (arrival_of passes) (goroutines_of self.old.goroutines event.now.go) }
         requires partner_can { CanArriveAt (program_code_of code.now) (arrival_of meets) (goroutines_of self.old.goroutines go.now) }
-        requires fits { ChansFit done.items (contents_of self.old.channels) }
-        requires room { HasRooms done.items (rooms_of self.old.channels) }
+        requires fits { ChansFit (members done) (contents_of self.old.channels) }
+        requires room { HasRooms (members done) (rooms_of self.old.channels) }
         ensures after { IfOk result (λ r. BothArrive (program_code_of code.now) event.now.go go.now (arrival_of passes) (arrival_of meets) r.0 r.1
             (goroutines_of self.old.goroutines) (goroutines_of self.new.goroutines)) }
         ensures returned { IfOk result (λ r. r.2 ≡ done) }
         ensures channels { OnOk result (self.new.channels ≡ self.old.channels) }
         ensures err_goroutines { OnErr result (goroutines_of self.new.goroutines ≡ goroutines_of self.old.goroutines) }
-        ensures err_channels { OnErr result (TookBack done.items self.old.channels self.new.channels) }
+        ensures err_channels { OnErr result (TookBack (members done) self.old.channels self.new.channels) }
         ensures run { self.new.run ≡ self.old.run }
     {
         let (own, done) = self.arrive(code, number, passes, done)?;
@@ -230,12 +264,10 @@ impl Objects {
             number: partner,
             names,
             channel,
-            done,
             beyond,
         } = prepared;
-        let mut done = done;
-        done.push_reserved((channel, undo));
-        let done = self.channels.withdraw_after(done, &names, &go)?;
+        let change = (channel, undo);
+        let done = leave_after(&mut self.channels, self.alloc, change, &names, &go)?;
         let (own, met, done) = self.both_arrive(
             code, event, number, passes, &go, partner, meets, done,
         )?;

@@ -14,6 +14,7 @@ ghost use Rattle.gr_step.specs.Premises.{Acting, OfGoroutine};
 ghost use Rattle.gr_step.specs.Communicating.{TrialIsSound, Tried};
 
 use crate::beyond::reached;
+use crate::few::Few;
 use crate::listing::Listing;
 use crate::objects::Objects;
 use crate::record::{Change, Operation};
@@ -25,6 +26,7 @@ use gr_goros::Arrival;
 
 impl Objects {
     /// Takes the front item, where nobody waits to send. Refused, nothing has changed.
+    #[inline(always)]
     pub(crate) fn take_item(
         &mut self,
         listing: &Listing,
@@ -50,11 +52,10 @@ impl Objects {
         let touched = left(found);
         let beyond = reached(self.alloc, operation, touched)?;
         let name = channel.copy(self.alloc)?;
-        let mut done = Vec::with_capacity(self.alloc, 1)?;
         let Taken::Item(value, undo) = self.channels.take(channel)? else {
             unreachable!()
         };
-        done.push_reserved((name, undo));
+        let done = Few::One((name, undo));
         let kind = kind_by(clause, Kind::Take);
         let got = Some((value, true));
         let passes = Arrival::Passes { clause, got };
@@ -114,6 +115,7 @@ impl Objects {
     }
 
     /// Takes the value of the first goroutine that waits to send, where there is no item. Refused, nothing has changed.
+    #[inline(always)]
     pub(crate) fn meet(
         &mut self,
         listing: &Listing,
@@ -189,7 +191,7 @@ impl Objects {
         let operation = Operation::ReceivesFrom(channel.copy(self.alloc)?);
         let touched = end_read(found);
         let beyond = reached(self.alloc, operation, touched)?;
-        let done = Vec::new(self.alloc);
+        let done = Few::Empty;
         let kind = kind_by(clause, Kind::Closed);
         let got = Some((zero, false));
         let passes = Arrival::Passes { clause, got };

@@ -16,6 +16,7 @@ ghost use Rattle.gr_step.specs.Premises.{Acting, OfGoroutine};
 ghost use Rattle.gr_step.specs.Communicating.{TrialIsSound, Tried};
 
 use crate::beyond::reached;
+use crate::few::Few;
 use crate::listing::Listing;
 use crate::objects::Objects;
 use crate::record::{Change, Operation};
@@ -36,6 +37,7 @@ pub(crate) fn kind_by(clause: Option<u32>, kind: Kind) -> Kind
 
 impl Objects {
     /// Hands a value to the first goroutine that waits to receive it. Refused, nothing has changed.
+    #[inline(always)]
     pub(crate) fn hand(
         &mut self,
         listing: &Listing,
@@ -83,6 +85,7 @@ impl Objects {
         )
     }
     /// Puts a value into the buffer. Refused, nothing has changed.
+    #[inline(always)]
     pub(crate) fn buffer(
         &mut self,
         listing: &Listing,
@@ -108,11 +111,10 @@ impl Objects {
         let touched = entered(found);
         let beyond = reached(self.alloc, operation, touched)?;
         let name = channel.copy(self.alloc)?;
-        let mut done = Vec::with_capacity(self.alloc, 1)?;
         let Offered::Buffered(undo) = self.channels.offer(channel, value)? else {
             unreachable!()
         };
-        done.push_reserved((name, undo));
+        let done = Few::One((name, undo));
         let kind = kind_by(clause, Kind::Buffer);
         let passes = Arrival::Passes { clause, got: None };
         self.pass(&listing.code, event, number, passes, kind, beyond, done)

@@ -53,7 +53,7 @@ impl Objects {
     }
 
     /// Takes the step of an event, whose goroutine is ready. Refused, nothing has changed.
-    #[inline]
+    #[inline(always)]
     pub(crate) fn take(
         &mut self,
         listing: &Listing,
@@ -77,7 +77,7 @@ impl Objects {
     }
 
     /// Takes a step that reaches no further than its goroutine.
-    #[inline]
+    #[inline(always)]
     fn take_alone(
         &mut self,
         listing: &Listing,
@@ -125,6 +125,7 @@ impl Objects {
     }
 
     /// Takes the step of an event that is possible, which asks for this. Refused, nothing has changed.
+    #[inline(always)]
     fn take_needed(
         &mut self,
         listing: &Listing,
@@ -167,6 +168,7 @@ impl Objects {
     }
 
     /// Sends a value, or waits to send it. Refused, nothing has changed.
+    #[inline(always)]
     fn send_or_wait(
         &mut self,
         listing: &Listing,
@@ -197,6 +199,7 @@ impl Objects {
     }
 
     /// Receives a value, or waits to receive one. Refused, nothing has changed.
+    #[inline(always)]
     fn receive_or_wait(
         &mut self,
         listing: &Listing,

@@ -3,6 +3,8 @@
 ghost use Rattle.std.specs.Prelude.{◌≡◌, ◌+◌, ◌-◌, ◌<◌, ◌^◌, min, option_copied, option_map, Some, None, IfOk, IfErr, IfSome, OnOk, OnErr, IsOk};
 ghost use Rattle.gr_program.specs.Views.{program_of};
 ghost use Rattle.gr_code.specs.CodeViews.{program_code_of};
+ghost use Rattle.gr_code.specs.Goroutines.{CodeGoroutine};
+ghost use Rattle.gr_goros.specs.Undoing.{undone};
 ghost use Rattle.gr_rules.specs.Tells.{ready_clauses, usual_choice as usual_by_rules};
 ghost use Rattle.gr_step.specs.Choices.{HasManyClauses};
 ghost use Rattle.gr_step.specs.Premises.{IsChecked, CanCount};
@@ -11,9 +13,9 @@ ghost use Rattle.gr_step.specs.Records.{event_of, taken_back, CanGoBack};
 
 use crate::listing::Listing;
 use crate::objects::{Objects, Run};
-use crate::record::Record;
+use crate::record::{Change, Record};
 use crate::refusal::StepRefused;
-use gr_base::{ChName, Choice, Event, GoName, NoMemory, StepId};
+use gr_base::{ChName, Choice, Event, GoName, Kind, NoMemory, StepId};
 use gr_channels::Channel;
 use gr_code::code::Code;
 use gr_goros::Goroutine;
@@ -89,6 +91,54 @@ impl Store {
         })
     }
 
+    /// Takes the step of an event, if it is one over whole numbers alone; else nothing has changed, and the event is handed back.
+    #[inline(always)]
+    pub fn count_step(&mut self, event: Event) -> Result<Record, Event>
+        requires run { IsRun self.old }
+        requires counted { CanCount (contents_at self.old) }
+        ensures step { IfOk result (λ r. IsRecord (program_at self.old) (contents_at self.old) r (contents_at self.new)) }
+        ensures event { IfOk result (λ r. event_of r ≡ event) }
+        ensures alone { IfOk result (λ r. r.change.beyond ≡ None) }
+        ensures stays { IfOk result (λ r. (g : CodeGoroutine) → (undone r.change.own g).status ≡ g.status) }
+        ensures run { IsRun self.new }
+        ensures room { IfOk result (λ r. HasRoomFor r self.new) }
+        ensures returned { IfErr result (λ e. e ≡ event) }
+        ensures err { OnErr result (contents_at self.new ≡ contents_at self.old) }
+        ensures taken { OnOk result (taken_at self.new ≡ min (taken_at self.old + 1) (2 ^ 64 - 1)) }
+        ensures not_taken { OnErr result (taken_at self.new ≡ taken_at self.old) }
+        ensures listing { SameListing self.old self.new }
+    {
+        let Choice::Plain = event.choice else {
+            return Err(event);
+        };
+        let Run::Live = self.objects.run else {
+            return Err(event);
+        };
+        let Some(number) = self.objects.goroutines.number(&event.go) else {
+            return Err(event);
+        };
+        let counted = self
+            .objects
+            .goroutines
+            .count_step(number, &self.listing.code);
+        let Some((ordinal, own)) = counted else {
+            return Err(event);
+        };
+        self.taken = self.taken.saturating_add(1);
+        Ok(Record {
+            id: StepId {
+                go: event.go,
+                n: ordinal,
+            },
+            choice: Choice::Plain,
+            change: Change {
+                kind: Kind::Pure,
+                own,
+                beyond: None,
+            },
+        })
+    }
+
     /// Takes the step of a record back, where what it wrote stands. It takes memory only where there is no room, as there is
     /// directly after the step. Refused, nothing has changed, and the record is handed back.
     pub fn unstep(&mut self, step: Record) -> Result<Event, (Record, NoMemory)>
@@ -134,6 +184,7 @@ impl Store {
     }
 
     /// The goroutine of a name, if there is one.
+    #[inline(always)]
     pub fn goroutine(&self, go: &GoName) -> Option<&Goroutine>
         ensures { option_map (λ g. g.content) (option_copied result) ≡ (contents_at self.now).goroutines go.now }
     {

@@ -64,7 +64,7 @@ fn undo_all(goroutines: &mut Goroutines, undos: Few<(GoName, GoUndo)>)
 }
 
 /// Takes changes of channels back, the last first, for which there is room.
-fn put_back(channels: &mut Channels, undos: Few<(ChName, ChanUndo)>)
+pub(crate) fn put_back(channels: &mut Channels, undos: Few<(ChName, ChanUndo)>)
     requires fits { ChansFit (members undos) (contents_of channels.old) }
     requires room { HasRooms (members undos) (rooms_of channels.old) }
     ensures { TookBack (members undos) channels.old channels.new }

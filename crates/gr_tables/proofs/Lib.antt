@@ -10,3 +10,4 @@ pub mod Reserving
 pub mod Withdrawals
 pub mod Validity
 pub mod ByNumber
+pub mod CountLemmas

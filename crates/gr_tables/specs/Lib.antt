@@ -5,3 +5,4 @@ pub mod Places
 pub mod AreChannels
 pub mod NamedGoroutines
 pub mod Slots
+pub mod Counting

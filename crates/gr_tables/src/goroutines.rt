@@ -8,12 +8,13 @@ ghost use Rattle.std.specs.List.{list_any};
 ghost use Rattle.indexmap.specs.IndexSet.{insert_key};
 
 mod changes;
+mod guesses;
 
+use crate::goroutines::guesses::Guesses;
 use gr_base::{GoName, NoMemory};
 use gr_goros::Goroutine;
 use indexmap::IndexMap;
 use std::alloc::Global;
-use std::cell::Cell;
 use std::mem;
 
 /// The goroutines of a store. A name that was known once keeps its number, and its goroutine may be absent.
@@ -21,10 +22,7 @@ use std::mem;
 pub struct Goroutines {
     map: IndexMap<GoName, Option<Goroutine>>,
     alloc: Global,
-    /// The number that was looked up last: a guess of the next one.
-    last: Cell<usize>,
-    /// The one that was looked up before it: a second guess, for two that take turns.
-    before: Cell<usize>,
+    guesses: Guesses,
     ghost unique: { IsUnique same_go map } by { Prim.hlevel props },
 }
 
@@ -39,8 +37,7 @@ impl Goroutines {
         Goroutines {
             map: IndexMap::new(alloc),
             alloc,
-            last: Cell::new(0),
-            before: Cell::new(0),
+            guesses: Guesses::new(),
         }
     }
 
@@ -52,25 +49,12 @@ impl Goroutines {
     }
 
     /// The number of a goroutine that is there.
-    #[inline]
+    #[inline(always)]
     pub fn number(&self, name: &GoName) -> Option<usize>
         ensures named { IfSome result (λ i. name_at self.now i ≡ Some name.now) }
         ensures present { is_some result ≡ is_some (seen_of self.now name.now) }
     {
-        let guess = self.last.get();
-        if self.is_at(name, guess) {
-            return Some(guess);
-        }
-        self.look_further(name)
-    }
-
-    /// The number of a goroutine that is there, by the second guess, else found by its name.
-    #[inline(never)]
-    fn look_further(&self, name: &GoName) -> Option<usize>
-        ensures named { IfSome result (λ i. name_at self.now i ≡ Some name.now) }
-        ensures present { is_some result ≡ is_some (seen_of self.now name.now) }
-    {
-        let guess = self.before.get();
+        let guess = self.guesses.of(name);
         if self.is_at(name, guess) {
             return Some(guess);
         }
@@ -78,7 +62,7 @@ impl Goroutines {
     }
 
     /// Whether the goroutine of a name has the number, and is there.
-    #[inline]
+    #[inline(always)]
     fn is_at(&self, name: &GoName, number: usize) -> bool
         ensures named { IsTrue result → name_at self.now number ≡ Some name.now }
         ensures present { IsTrue result → IsSome (seen_of self.now name.now) }
@@ -89,7 +73,8 @@ impl Goroutines {
         }
     }
 
-    /// The number of a goroutine that is there, found by its name.
+    /// The number of a goroutine that is there, found by its name. It becomes the guess for names like this.
+    #[inline(never)]
     fn look_up(&self, name: &GoName) -> Option<usize>
         ensures named { IfSome result (λ i. name_at self.now i ≡ Some name.now) }
         ensures present { is_some result ≡ is_some (seen_of self.now name.now) }
@@ -97,8 +82,7 @@ impl Goroutines {
         let (number, _, goroutine) = self.map.get_full(name)?;
         match goroutine {
             Some(_) => {
-                self.before.set(self.last.get());
-                self.last.set(number);
+                self.guesses.keep(name, number);
                 Some(number)
             }
             None => None,

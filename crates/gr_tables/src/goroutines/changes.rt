@@ -1,12 +1,13 @@
 //! Changes of one goroutine of a store, in its place.
 
-ghost use Rattle.std.specs.Prelude.{◌≡◌, ◌≤◌, IsOk, IfOk, IfErr, OnOk, OnErr};
+ghost use Rattle.std.specs.Prelude.{◌≡◌, ◌≤◌, IsOk, IfOk, IfErr, IfSome, IfNone, OnOk, OnErr};
 ghost use Rattle.gr_code.specs.CodeViews.{program_code_of};
 ghost use Rattle.gr_code.specs.Goroutines.{local, parked, retried};
 ghost use Rattle.gr_goros.specs.Undoing.{Fits, IsLive, need};
 ghost use Rattle.gr_goros.specs.Views.{arrival_of, waits_of, halted};
 ghost use Rattle.gr_goros.specs.Tasks.{IsStep};
 ghost use Rattle.gr_tables.specs.NamedGoroutines.{seen_at, At, ChangesBy, KeepsContents, StepsAlone, CanArrive, CanPark, CanEnd, Arrives, ComesTo, TakenBack};
+ghost use Rattle.gr_tables.specs.Counting.{CanTry, StepsOn};
 ghost use Rattle.gr_tables.specs.Slots.{SlotChanges, SlotKeeps};
 
 use crate::goroutines::Goroutines;
@@ -30,6 +31,19 @@ fn step_in(
         unreachable!()
     };
     goroutine.local_step(alloc, code)
+}
+
+/// The goroutine takes its next step, if it is ready and the step is over whole numbers alone; else no content has changed.
+#[inline(always)]
+fn count_in(slot: &mut Option<Goroutine>, code: &Code) -> Option<(u64, GoUndo)>
+    requires { At (CanTry (program_code_of code.now)) slot.old }
+    ensures step { IfSome result (λ r. SlotChanges (StepsOn (program_code_of code.now) r) slot.old slot.new) }
+    ensures none { IfNone result (SlotKeeps slot.old slot.new) }
+{
+    let Some(goroutine) = slot else {
+        unreachable!()
+    };
+    goroutine.count_step(code)
 }
 
 /// Takes a change of the goroutine back. Refused, no content has changed.
@@ -106,6 +120,18 @@ impl Goroutines {
     {
         let slot = self.map.get_index_mut(number).unwrap();
         step_in(slot, self.alloc, code)
+    }
+
+    /// The goroutine with a number takes its next step, if it is ready and the step is over whole numbers alone, as
+    /// `Goroutine::count_step` does; else no content has changed.
+    #[inline(always)]
+    pub fn count_step(&mut self, number: usize, code: &Code) -> Option<(u64, GoUndo)>
+        requires { At (CanTry (program_code_of code.now)) (seen_at self.old number) }
+        ensures step { IfSome result (λ r. ChangesBy number (StepsOn (program_code_of code.now) r) self.old self.new) }
+        ensures none { IfNone result (KeepsContents self.old self.new) }
+    {
+        let slot = self.map.get_index_mut(number).unwrap();
+        count_in(slot, code)
     }
 
     /// Takes a change of the goroutine with a number back, as `Goroutine::undo` does. It takes memory only where there is no

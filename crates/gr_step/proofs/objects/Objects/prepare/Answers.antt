@@ -1,4 +1,4 @@
-use Rattle.std.proofs.Common.{◌≡◌, ◌∙◌, ◌++◌, ◌∷◌, [], sym, ap, subst, arith}
+use Rattle.std.proofs.Common.{◌≡◌, ◌∙◌, ◌++◌, ◌∷◌, [], sym, ap, subst}
 use Rattle.gr_base.specs.declared.objects.Object.TheVariants as objects
 use Rattle.gr_rules.specs.Actors.{channels_but}
 use Rattle.gr_goros.specs.Views.{waits_of, status_of}
@@ -30,6 +30,4 @@ returns c = λ ws reads writes h t.
       names_are = subst {_, _} (AreToLeave c.in_ok-names.names.items c.args.channel.now) (ap waits_of c.deref-3.ensures.value ∙ waits) c.in_ok-names.ensures;
       reached = subst {_, _} (λ l. IsReached (operation_of c.args.operation) reads (writes ++ objects.Go c.args.go.now ∷ map objects.Gate l) c.in_ok-beyond.beyond.value)
           (c.deref-2.ensures.value ∙ others) (c.in_ok-beyond.ensures reads writes t);
-      done_none = c.in_ok-done.ensures.items;
-      done_room = omega (arith, c.in_ok-done.ensures.capacity, c.in_ok-done.ensures.len);
     }

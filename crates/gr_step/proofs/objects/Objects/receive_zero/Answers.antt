@@ -1,4 +1,4 @@
-use Rattle.std.proofs.Common.{◌≡◌, ◌∙◌, ◌∷◌, [], sym, ap, subst}
+use Rattle.std.proofs.Common.{◌∙◌, ◌∷◌, [], refl, ap}
 use Rattle.gr_base.specs.declared.objects.Object.TheVariants.{Gate, Head}
 use Rattle.gr_rules.specs.Attempts.{receives_from}
 use Rattle.gr_rules.specs.Touches.{slot_numbered}
@@ -13,7 +13,7 @@ pub pass-requires : goal.pass-requires
 pass-requires c =
     can_end (program_in c.args.listing.now) c.args.event.now c.args.number c.args.self.now c.requires.acting c.args.clause c.requires.clause
     c.args.channel.now c.args.zero c.requires.sound c.in-Some.found.now c.in-Some.ensures (program_code_of c.deref.result.now)
-    (ap program_code_of c.deref.ensures ∙ c.requires.coded) c.new-done.result.items c.requires.at_end c.new-done.ensures.items
+    (ap program_code_of c.deref.ensures ∙ c.requires.coded) [] c.requires.at_end refl
 
 pub returns-clause-ok : goal.returns-clause-ok
 returns-clause-ok c =
@@ -23,7 +23,7 @@ returns-clause-ok c =
     ∷ slot_numbered c.args.channel.now c.in-Some.found.now.content.capacity c.in-Some.found.now.content.head) [] told))
     (λ change x. was_ended (program_in c.args.listing.now) c.args.event.now c.args.number c.args.self.now c.requires.acting c.args.clause c.requires.clause
     c.args.channel.now c.args.zero c.requires.sound c.in-Some.found.now c.in-Some.ensures (program_code_of c.deref.result.now)
-    (ap program_code_of c.deref.ensures ∙ c.requires.coded) c.new-done.result.items c.requires.at_end c.new-done.ensures.items change c.pass.new.self x)
+    (ap program_code_of c.deref.ensures ∙ c.requires.coded) [] c.requires.at_end refl change c.pass.new.self x)
 
 pub returns-clause-room : goal.returns-clause-room
 returns-clause-room c =
@@ -33,13 +33,13 @@ returns-clause-room c =
     ∷ slot_numbered c.args.channel.now c.in-Some.found.now.content.capacity c.in-Some.found.now.content.head) [] told))
     (λ change x. end_room (program_in c.args.listing.now) c.args.event.now c.args.number c.args.self.now c.requires.acting c.args.clause c.requires.clause
     c.args.channel.now c.args.zero c.requires.sound c.in-Some.found.now c.in-Some.ensures (program_code_of c.deref.result.now)
-    (ap program_code_of c.deref.ensures ∙ c.requires.coded) c.new-done.result.items c.requires.at_end c.new-done.ensures.items change c.pass.new.self x)
+    (ap program_code_of c.deref.ensures ∙ c.requires.coded) [] c.requires.at_end refl change c.pass.new.self x)
 
 pub returns-clause-err : goal.returns-clause-err
 returns-clause-err c =
     if_err c.pass.result c.pass.ensures.err_goroutines c.pass.ensures.err_channels (λ gos took.
-    before_these c.args.self.now c.args.self.now.channels c.new-done.result.items
+    before_these c.args.self.now c.args.self.now.channels []
     (nothing (program_in c.args.listing.now) c.args.event.now c.args.number c.args.self.now c.requires.acting c.args.clause c.requires.clause
     c.args.channel.now c.args.zero c.requires.sound c.in-Some.found.now c.in-Some.ensures (program_code_of c.deref.result.now)
-    (ap program_code_of c.deref.ensures ∙ c.requires.coded) c.new-done.result.items c.requires.at_end c.new-done.ensures.items)
+    (ap program_code_of c.deref.ensures ∙ c.requires.coded) [] c.requires.at_end refl)
     c.pass.new.self gos took c.pass.ensures.run)

@@ -1,0 +1,30 @@
+-- The record of a step that was taken joins the log, or the step is taken back.
+use Rattle.std.specs.Prelude.{◌≡◌, ◌≤◌, [], ◌∷◌, ◌++◌, length, Result, Ok, Err}
+use Rattle.gr_step.specs.declared.record.Record.{Record}
+use Rattle.gr_step.specs.declared.refusal.StepRefused.{StepRefused}
+use Rattle.gr_step.specs.declared.refusal.StepRefused.TheVariants as refusals
+use Rattle.gr_step.specs.Records.{taken_back}
+use Rattle.gr_step.specs.Stores.{contents_at, SameListing}
+use Rattle.gr_depend.specs.Logs.{records_of}
+use Rattle.gr_rollback.specs.declared.TheConstants.{LOG_LIMIT}
+use Rattle.gr_rollback.specs.declared.course.Course.{Course}
+
+-- it is the last of the log, and nothing else has changed
+pub record IsLast (r : Record) (old new : Course) : Type 0 where
+  pub records : records_of new.log ≡ records_of old.log ++ r ∷ []
+  pub short : length (records_of new.log) ≤ LOG_LIMIT
+  pub store : new.store ≡ old.store
+  pub pool : new.pool ≡ old.pool
+  pub first : new.first ≡ old.first
+
+-- its step is taken back, and the log is as it was
+pub record IsTakenBack (r : Record) (old new : Course) : Type 0 where
+  pub contents : contents_at new.store ≡ taken_back r.id.go r.change (contents_at old.store)
+  pub listing : SameListing old.store new.store
+  pub records : records_of new.log ≡ records_of old.log
+  pub pool : new.pool ≡ old.pool
+  pub first : new.first ≡ old.first
+
+abbrev pub Joined : Course → Record → Result (Unit {0}) StepRefused → Course → Type 0
+Joined old r (Ok done) new = IsLast r old new
+Joined old r (Err why) new = (why ≡ refusals.NoMemory) × IsTakenBack r old new
