@@ -1,6 +1,7 @@
 #!/usr/bin/env python3
 """Writes what is said of commands, codes and exit statuses from the texts beside this file: the program's constants
-(crates/rewind/src/words.rt, meanings.rt), the manual page (docs/rewind.1), and the marked tables of docs/COMMANDS.md and docs/LANGUAGE.md.
+(crates/rewind/src/words.rt, meanings), the list of the codes (crates/rewind/specs/Codes.antt), the manual page (docs/rewind.1), and the
+marked tables of docs/COMMANDS.md and docs/LANGUAGE.md.
 
     docs/words/make.py           writes them
     docs/words/make.py --check   fails where one does not stand as made, or where a code of the definitions has no text
@@ -14,7 +15,8 @@ import textwrap
 HERE = os.path.dirname(os.path.abspath(__file__))
 ROOT = os.path.dirname(os.path.dirname(HERE))
 WORDS = "crates/rewind/src/words.rt"
-MEANINGS = "crates/rewind/src/meanings.rt"
+MEANINGS = "crates/rewind/src/meanings/%s.rt"
+NAMES = "crates/rewind/specs/Codes.antt"
 MANUAL = "docs/rewind.1"
 WIDTH = 78
 
@@ -200,16 +202,38 @@ def words():
     return "\n".join(parts)
 
 
-def meanings():
+def pages(section):
+    """The module of a section: each code with its page."""
+    rows = []
+    for entry in CODES[section]:
+        text = literal(page(section, entry))
+        rows.append(f'    (\n        b"{entry.name}",\n        {text},\n    ),\n')
+    title = TITLES[section][0].lower() + TITLES[section][1:]
+    return (
+        f"//! Pages on {title}. Made by docs/words/make.py from the texts beside it: change those.\n"
+        "ghost use Rattle.std.specs.Prelude.{◌≡◌, IfSome, is_some};\n"
+        "ghost use Rattle.rewind.specs.Explanations.{IsOn, is_among};\n"
+        f"ghost use Rattle.rewind.specs.Codes.{{{section} as names}};\n\n"
+        "use crate::pages::page_in;\n\n"
+        f"const PAGES: [(&[u8], &str); {len(rows)}] = [\n{''.join(rows)}];\n\n"
+        f"#[tactic(auto, unfolding(crate::specs::Codes::{section}))]\n"
+        f"pub(crate) fn {section}(code: &[u8]) -> Option<&'static str>\n"
+        "    ensures told { is_some result ≡ is_among names code.now }\n"
+        "    ensures page { IfSome result (λ page. IsOn code.now page.now) }\n"
+        "{\n    page_in(&PAGES, code)\n}\n"
+    )
+
+
+def names():
+    """The codes that have a page, as definitions."""
     parts = [
-        "//! What the codes mean: pages that begin with their code, with a form feed between two. Made by docs/words/make.py from the\n"
-        "//! texts beside it: change those.\n"
+        "-- The codes of which the program tells. Made by docs/words/make.py from the texts beside it: change those.\n"
+        "use Rattle.std.specs.Prelude.{ℕ, List, [], ◌∷◌, codes}\n"
     ]
     for section in CODES:
         if section:
-            pages = "\f".join(page(section, entry) for entry in CODES[section])
-            text = literal(pages).replace("\f", "\\u{c}\\\n")
-            parts.append(f"pub(crate) fn {section}() -> &'static str {{\n    {text}\n}}\n")
+            listed_names = "".join(f'    codes "{entry.name}" ∷\n' for entry in CODES[section])
+            parts.append(f"-- {TITLES[section]}\nunfoldable pub {section} : List (List ℕ)\n{section} =\n{listed_names.rstrip()} []\n")
     return "\n".join(parts)
 
 
@@ -326,7 +350,8 @@ def without_text():
 
 
 def main():
-    made = {WORDS: words(), MEANINGS: meanings(), MANUAL: manual()}
+    made = {WORDS: words(), NAMES: names(), MANUAL: manual()}
+    made.update((MEANINGS % section, pages(section)) for section in CODES if section)
     made.update((name, with_tables(name, content)) for name, content in tables().items())
     wrong = without_text()
     for path, text in made.items():

@@ -89,18 +89,18 @@ LinesAreWritten =
     ≡ codes "ok g0.2#1 pick 2\n" ∷ codes "ok 8 ended\n" ∷ codes "ok 4 fault\n" ∷ codes "ok 0 memory\n"
     ∷ codes "ok g0#6\n" ∷ codes "ok\n" ∷ codes "ok 0\n" ∷ codes "no N3\n" ∷ []
 
--- replies to commands that take steps back, take them again or put them in an order, to questions about steps, and to grants
+-- replies to commands that take steps back, take them again or put them in an order, to questions about steps, to grants, and to batches
 abbrev pub StepsAreWritten : Type 0
 StepsAreWritten =
     map said_text (said.Steps (step_of [] 7 ∷ []) ∷ said.Steps (step_of [] 1 ∷ step_of (1 ∷ []) 12 ∷ []) ∷ said.Steps []
     ∷ said.PartlyDone [] ∷ said.PartlyDone (step_of (2 ∷ []) 3 ∷ step_of [] 4 ∷ [])
     ∷ said.BreaksDependence (step_of [] 2) (step_of (1 ∷ []) 1) ∷ said.Acknowledged ∷ said.Ran 3 (ends.Break 14)
-    ∷ said.Granted 0 ∷ said.Granted 1000
+    ∷ said.Granted 0 ∷ said.Granted 1000 ∷ said.Committed 5 ∷ said.Stale
     ∷ said.No NothingToUndo ∷ said.No NotKept ∷ said.No NotTheSteps ∷ said.No NothingToRedo ∷ [])
     ≡ codes "ok 1 g0#7\n" ∷ codes "ok 2 g0#1 g0.1#12\n" ∷ codes "ok 0\n"
     ∷ codes "no B6 0\n" ∷ codes "no B6 2 g0.2#3 g0#4\n"
     ∷ codes "no B4 g0#2 g0.1#1\n" ∷ codes "ok\n" ∷ codes "ok 3 break 14\n"
-    ∷ codes "ok grant 0\n" ∷ codes "ok grant 1000\n"
+    ∷ codes "ok grant 0\n" ∷ codes "ok grant 1000\n" ∷ codes "ok batch 5\n" ∷ codes "no stale\n"
     ∷ codes "no B1\n" ∷ codes "no B2\n" ∷ codes "no B3\n" ∷ codes "no B5\n" ∷ []
 
 -- a goroutine that waits, and one that is done

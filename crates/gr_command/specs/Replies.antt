@@ -38,6 +38,10 @@ pub data Said : Type 0 where
   Acknowledged : Said
   -- workers may take so many steps
   Granted : (steps : ℕ) → Said
+  -- so many steps of a batch joined the log
+  Committed : (steps : ℕ) → Said
+  -- .. or none did, since they were of another program, goroutine or grant than is there
+  Stale : Said
   No : (why : Refusal) → Said
 
 -- the lines of a list of lines
@@ -80,6 +84,8 @@ said_of (replies.PartlyDone ids) = PartlyDone ids.items
 said_of (replies.BreaksDependence earlier later) = BreaksDependence earlier later
 said_of replies.Acknowledged = Acknowledged
 said_of (replies.Granted steps) = Granted steps
+said_of (replies.Committed steps) = Committed steps
+said_of replies.Stale = Stale
 said_of (replies.Refused why) = No why
 
 -- what is told of a status: not what is waited for

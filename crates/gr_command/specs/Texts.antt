@@ -15,7 +15,7 @@ use Rattle.gr_command.specs.declared.refusal.Refusal.TheVariants as refusals
 use Rattle.gr_command.specs.declared.reply.RunEnd.{RunEnd}
 use Rattle.gr_command.specs.declared.reply.RunEnd.TheVariants as ends
 use Rattle.gr_command.specs.declared.reply.Reply.{Reply}
-use Rattle.gr_command.specs.Replies.{Said, Stepped, Ran, Undone, Shown, Channel, Lines, Log, Steps, PartlyDone, BreaksDependence, Acknowledged, Granted, No, said_of}
+use Rattle.gr_command.specs.Replies.{Said, Stepped, Ran, Undone, Shown, Channel, Lines, Log, Steps, PartlyDone, BreaksDependence, Acknowledged, Granted, Committed, Stale, No, said_of}
 
 -- a refusal by its code
 abbrev pub refusal_text : Refusal → List ℕ
@@ -152,6 +152,8 @@ said_text (PartlyDone ids) = codes "no B6 " ++ ids_text ids
 said_text (BreaksDependence earlier later) = codes "no B4 " ++ (pair_text earlier later ++ codes "\n")
 said_text Acknowledged = codes "ok\n"
 said_text (Granted steps) = codes "ok grant " ++ (decimal steps ++ codes "\n")
+said_text (Committed steps) = codes "ok batch " ++ (decimal steps ++ codes "\n")
+said_text Stale = codes "no stale\n"
 said_text (No why) = refusal_text why
 
 -- the text of a reply of the code

@@ -68,7 +68,7 @@ pub struct ChannelShown {
     pub receivers: Vec<Waiter<()>>,
 }
 
-/// What came of a command.
+/// What came of a command, or of a batch.
 #[derive(Debug, Drop)]
 pub enum Reply {
     /// The step was taken, and is of this kind.
@@ -93,5 +93,9 @@ pub enum Reply {
     Acknowledged,
     /// The workers may now take this many steps.
     Granted(u32),
+    /// The steps of the batch joined the log, so many.
+    Committed(u32),
+    /// The steps of the batch were not taken: they are no longer steps of the program, or more than the grant.
+    Stale,
     Refused(Refusal),
 }

@@ -247,6 +247,17 @@ fn put_granted(text: &mut Vec<u8>, steps: u32) -> Result<(), NoMemory>
     put(text, b"\n")
 }
 
+#[tactic(auto, using(crate::proofs::Growing::grows_then))]
+fn put_committed(text: &mut Vec<u8>, steps: u32) -> Result<(), NoMemory>
+    ensures ok { OnOk result (text.new.items ≡ text.old.items ++ said_text (said.Committed steps)) }
+    ensures full { OnErr result (IsFull text.old (said_text (said.Committed steps))) }
+    ensures grows { Grows text.old text.new }
+{
+    put(text, b"ok batch ")?;
+    put_number(text, u64::from(steps))?;
+    put(text, b"\n")
+}
+
 fn put_reply(text: &mut Vec<u8>, reply: &Reply) -> Result<(), NoMemory>
     ensures ok { OnOk result (text.new.items ≡ text.old.items ++ reply_text reply.now) }
     ensures full { OnErr result (IsFull text.old (reply_text reply.now)) }
@@ -265,6 +276,8 @@ fn put_reply(text: &mut Vec<u8>, reply: &Reply) -> Result<(), NoMemory>
         Reply::BreaksDependence { earlier, later } => put_breaks(text, earlier, later),
         Reply::Acknowledged => put(text, b"ok\n"),
         Reply::Granted(steps) => put_granted(text, *steps),
+        Reply::Committed(steps) => put_committed(text, *steps),
+        Reply::Stale => put(text, b"no stale\n"),
         Reply::Refused(why) => put(text, refused(*why)),
     }
 }

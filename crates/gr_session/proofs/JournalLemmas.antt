@@ -9,9 +9,9 @@ use Rattle.gr_step.specs.Stores.{program_at}
 use Rattle.gr_session.specs.declared.TheConstants.{JOURNAL_LIMIT, ASKER_LIMIT}
 use Rattle.gr_session.specs.declared.debuggee.Debuggee.{Debuggee}
 use Rattle.gr_session.specs.declared.journal.Entry.{Entry}
-use Rattle.gr_session.specs.Journal.{World, first_world, Lead, no_entry, one_more, IsAskedBy}
+use Rattle.gr_session.specs.Journal.{World, first_world}
+use Rattle.gr_session.specs.Entries.{Means, Lead, no_entry, one_more, IsAskedBy}
 use Rattle.gr_session.specs.Debuggees.{Stands, store_in}
-use Rattle.gr_session.specs.Carried.{LeadsTo}
 use Rattle.gr_session.specs.Keeps.{Keeps}
 
 -- what the journal of a program means, and that it stands there
@@ -39,11 +39,12 @@ more_room es e limit h = rw (length_push es e) (omega arith)
 
 -- one more entry
 pub keeps_entry : (d new : Debuggee) (journal : List Entry) (askers : ℕ) (e : Entry) (reply : Said) → (k : Keeps d journal askers)
-    → 1 ≤ e.asker → e.asker ≤ askers → length journal < JOURNAL_LIMIT → LeadsTo (program_at (store_in d)) k.world e.command e.memory reply new
+    → 1 ≤ e.asker → e.asker ≤ askers → length journal < JOURNAL_LIMIT
+    → (u : World (program_at (store_in d))) → Means (program_at (store_in d)) k.world e.asked e.memory u reply → Stands (program_at (store_in d)) u new
     → Keeps new (journal ++ e ∷ []) askers
-keeps_entry d new journal askers e reply k low high room leads = keeps_meaning (program_at (store_in d)) (journal ++ e ∷ []) askers new
+keeps_entry d new journal askers e reply k low high room u means stands = keeps_meaning (program_at (store_in d)) (journal ++ e ∷ []) askers new
     (All-push (IsAskedBy askers) journal e k.asked (low, high)) (more_room journal e JOURNAL_LIMIT room) k.few
-    (record { world = leads.world; means = one_more e k.means leads.leads; stands = leads.stands })
+    (record { world = u; means = one_more e k.means means; stands = stands })
 
 -- the same journal
 pub keeps_still : (d new : Debuggee) (journal : List Entry) (askers : ℕ) → (k : Keeps d journal askers) → Stands (program_at (store_in d)) k.world new → Keeps new journal askers

@@ -16,8 +16,12 @@ mod OneMeaningUndo
 mod OneMeaningBack
 mod OneMeaningRedo
 mod OneMeaningOrders
+mod OneMeaningBatches
 mod OneMeaningNext
 mod ReachedWorlds
 mod OneMeaningJournals
 mod GrantLemmas
+mod CommitLemmas
+mod CopyLemmas
 mod PlainLemmas
+pub mod Crossing

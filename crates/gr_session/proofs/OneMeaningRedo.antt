@@ -16,7 +16,7 @@ use Rattle.gr_session.proofs.OneMeaningLists.{same_parts}
 use Rattle.gr_session.proofs.OneMeaningPasts.{same_past}
 
 -- the steps of the same events from one state are the same, and so is the end
-same_steps : (p : Program) (s t u : State) (steps more : List (Logged p)) → IsLog (machine p) s steps t → IsLog (machine p) s more u
+pub same_steps : (p : Program) (s t u : State) (steps more : List (Logged p)) → IsLog (machine p) s steps t → IsLog (machine p) s more u
     → events_in p steps ≡ events_in p more → (t ≡ u) × (steps ≡ more)
 same_steps p s t u steps more leads goes e =
     let both = some_is _ _ (sym leads ∙ ap (replay (machine p) s) e ∙ goes) in

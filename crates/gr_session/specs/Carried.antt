@@ -1,17 +1,20 @@
 -- What is carried out on a program under the debugger.
-use Rattle.std.specs.Prelude.{◌≡◌, length, Result, Ok, Err}
+use Rattle.std.specs.Prelude.{◌≡◌, Bool, true, length, Result, Ok, Err}
 use Rattle.gr_base.specs.declared.memory.NoMemory.{NoMemory}
 use Rattle.gr_program.specs.Programs.{Program}
 use Rattle.gr_command.specs.declared.command.Command.{Command}
 use Rattle.gr_command.specs.declared.refusal.Refusal.TheVariants as refusals
 use Rattle.gr_command.specs.declared.reply.Reply.{Reply}
 use Rattle.gr_command.specs.Replies.{Said, PartlyDone, BreaksDependence, No, said_of}
+use Rattle.gr_step.specs.declared.leasing.Batch.{Batch}
+use Rattle.gr_step.specs.Leasing.{Loan, loan_kept}
 use Rattle.gr_rollback.specs.declared.refusal.BackRefused.{BackRefused}
 use Rattle.gr_rollback.specs.declared.refusal.BackRefused.TheVariants as backs
 use Rattle.gr_session.specs.declared.debuggee.Debuggee.{Debuggee}
 use Rattle.gr_session.specs.declared.journal.Memory.{Memory}
 use Rattle.gr_session.specs.declared.journal.Memory.TheVariants.{Enough, EnoughFor}
 use Rattle.gr_session.specs.Journal.{World, Leads}
+use Rattle.gr_session.specs.Batches.{Commits}
 use Rattle.gr_session.specs.Debuggees.{Stands}
 
 -- a command leads to the world as which the program then stands, with this reply
@@ -36,3 +39,19 @@ refusal_said (backs.NoMemory ids) = (EnoughFor (length ids.items), PartlyDone id
 
 abbrev pub Tells : Memory × Reply → BackRefused → Type 0
 Tells answer why = (answer.0, said_of answer.1) ≡ refusal_said why
+
+-- the steps of a loan come to the world as which the program then stands, with this reply
+pub record CommitsTo (p : Program) (w : World p) (loan : Loan) (stood : Bool) (reply : Said) (d : Debuggee) : Type 0 where
+  pub world : World p
+  pub commits : Commits p w loan stood world reply
+  pub stands : Stands p world d
+
+-- .. where its goroutine is as it was lent, or nothing has changed
+abbrev pub CommitsLent : (p : Program) → World p → Loan → Result Reply NoMemory → Debuggee → Type 0
+CommitsLent p w loan (Ok reply) d = CommitsTo p w loan true (said_of reply) d
+CommitsLent p w loan (Err error) d = Stands p w d
+
+-- .. as the answer tells, with what is kept of it, or nothing has changed
+abbrev pub CommitsBatch : (p : Program) → World p → Loan → Result (Batch × Bool × Reply) NoMemory → Debuggee → Type 0
+CommitsBatch p w loan (Ok answer) d = (loan_kept answer.0 ≡ loan) × CommitsTo p w loan answer.1 (said_of answer.2) d
+CommitsBatch p w loan (Err error) d = Stands p w d

@@ -1,15 +1,45 @@
 -- What the workers may do.
-use Rattle.std.specs.Prelude.{◌≡◌, ℕ, ◌<◌, List, length}
+use Rattle.std.specs.Prelude.{◌≡◌, ℕ, ◌<◌, List, length, Option, Some, None}
 use Rattle.gr_program.specs.Programs.{Program}
 use Rattle.gr_rules.specs.Limits.{most_steps}
 use Rattle.gr_rules.specs.States.{live}
 use Rattle.gr_rules.specs.Turns.{IsReady}
-use Rattle.gr_session.specs.Journal.{World}
+use Rattle.gr_contents.specs.Contents.{Contents}
+use Rattle.gr_step.specs.declared.leasing.Lease.{Lease}
+use Rattle.gr_step.specs.Leasing.{IsAsLentIn, loan_of}
+use Rattle.gr_rollback.specs.Leasing.{Contains, IsLentAt, SomeGoesAlone}
+use Rattle.gr_session.specs.Journal.{World, past_of}
 
--- a worker's turn is due: the program runs, the grant is above 0, the log has room for a step, and some goroutine is ready
-pub record IsTurnDue (p : Program) (w : World p) : Type 0 where
-  pub runs : w.state.run ≡ live
+-- workers may take a step: the grant is above 0, and the log has room for it
+pub record MayStep (p : Program) (w : World p) : Type 0 where
   pub granted : 0 < w.grant
   pub room : length w.log < most_steps
+
+-- a worker's turn is due: it may take a step, the program runs, some goroutine is ready, and none has a next step that reaches no
+-- further than itself
+pub record IsTurnDue (p : Program) (w : World p) : Type 0 where
+  pub may_step : MayStep p w
+  pub runs : w.state.run ≡ live
   pub owner : List ℕ
   pub ready : IsReady w.state owner
+  pub none_alone : ¬ SomeGoesAlone w.state
+
+-- a goroutine can be lent: workers may take a step, and, while the program runs, some goroutine's next step reaches no further than
+-- itself
+pub record CanLend (p : Program) (w : World p) : Type 0 where
+  pub may_step : MayStep p w
+  pub some_alone : SomeGoesAlone w.state
+
+-- a copy of the goroutine at the place among those that can be lent, with no step yet
+pub record IsLoan (p : Program) (w : World p) (place : ℕ) (l : Lease) : Type 0 where
+  pub can_lend : CanLend p w
+  pub which : IsLentAt w.state place (Some (loan_of l).name)
+  pub contents : Contents
+  pub contains : Contains p (past_of p w) contents
+  pub there : IsAsLentIn (loan_of l) p contents
+  pub fresh : (loan_of l).steps ≡ 0
+
+-- a goroutine is lent where one can be
+abbrev pub IsLent : (p : Program) → World p → ℕ → Option Lease → Type 0
+IsLent p w place (Some l) = IsLoan p w place l
+IsLent p w place None = ¬ CanLend p w

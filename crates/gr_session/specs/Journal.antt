@@ -1,4 +1,4 @@
--- What the entries of a journal mean: what each makes of the steps that are kept, and its reply.
+-- What the commands of a journal mean: what each makes of the steps that are kept, and its reply.
 -- Lanese, Nishida, Palacios and Vidal, A theory of reversibility for Erlang (2018): forward and backward steps of a system with
 -- its history, and rollback of an action with its consequences.
 use Rattle.std.specs.Prelude.{◌≡◌, ℕ, zero, suc, ◌-◌, ◌≤◌, ◌<◌, min, not, nat_eq, List, [], ◌∷◌, ◌++◌, length, filter, All, Option, Some, None}
@@ -34,7 +34,6 @@ use Rattle.gr_rollback.specs.Backs.{IsNamed, LosesLast, LosesAll, LosesSome, aga
 use Rattle.gr_show.specs.Said.{step_kind, goroutine_said, channel_said, text_said, console_said, log_said}
 use Rattle.gr_session.specs.declared.journal.Memory.{Memory}
 use Rattle.gr_session.specs.declared.journal.Memory.TheVariants.{Enough, EnoughFor}
-use Rattle.gr_session.specs.declared.journal.Entry.{Entry}
 use Rattle.gr_session.specs.Targets.{step_asked}
 
 -- a world: the steps that are kept, the oldest first, and the state to which they lead; the events that `redo` takes, the first
@@ -176,35 +175,3 @@ pub data Leads (p : Program) (w : World p) : Command → Memory → World p → 
   tells_text : {go : List ℕ} → Leads p w (commands.Text go) Enough w (text_said (w.state.goroutines go))
   tells_console : Leads p w commands.Console Enough w (console_said p w.log)
   tells_log : Leads p w commands.Log Enough w (log_said p w.log)
-
--- entries lead from one world to another, one after the other
-pub data Lead (p : Program) : World p → List Entry → World p → Type 0 where
-  no_entry : {w : World p} → Lead p w [] w
-  one_more : {w u v : World p} {before : List Entry} {reply : Said} (e : Entry)
-      → Lead p w before u → Leads p u e.command e.memory v reply → Lead p w (before ++ e ∷ []) v
-
--- the entry is of an asker from 1 to askers
-abbrev pub IsAskedBy : ℕ → Entry → Type 0
-IsAskedBy askers e = (1 ≤ e.asker) × (e.asker ≤ askers)
-
--- in the world to which a journal leads, this holds
-pub record InItsWorld (p : Program) (journal : List Entry) (Holds : World p → Type 0) : Type 0 where
-  pub world : World p
-  pub means : Lead p (first_world p) journal world
-  pub holds : Holds world
-
--- a legal journal: each entry has a meaning where it stands
-pub record IsLegal (p : Program) (askers : ℕ) (journal : List Entry) : Type 0 where
-  pub asked : All (IsAskedBy askers) journal
-  pub world : World p
-  pub means : Lead p (first_world p) journal world
-
--- the journal got this asker's command as one entry, whose number and reply these are
-pub record Enters (p : Program) (asker : ℕ) (command : Command) (old new : List Entry) (number : ℕ) (reply : Said) : Type 0 where
-  pub memory : Memory
-  pub entered : new ≡ old ++ record { asker = asker; command = command; memory = memory } ∷ []
-  pub number_is : number ≡ length new
-  pub before : World p
-  pub stood : Lead p (first_world p) old before
-  pub after : World p
-  pub meant : Leads p before command memory after reply

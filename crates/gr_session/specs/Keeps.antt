@@ -6,7 +6,8 @@ use Rattle.gr_step.specs.Stores.{program_at}
 use Rattle.gr_session.specs.declared.TheConstants.{JOURNAL_LIMIT, ASKER_LIMIT}
 use Rattle.gr_session.specs.declared.debuggee.Debuggee.{Debuggee}
 use Rattle.gr_session.specs.declared.journal.Entry.{Entry}
-use Rattle.gr_session.specs.Journal.{World, first_world, Lead, IsAskedBy}
+use Rattle.gr_session.specs.Journal.{World, first_world}
+use Rattle.gr_session.specs.Entries.{Lead, IsAskedBy}
 use Rattle.gr_session.specs.Debuggees.{Stands, store_in}
 
 -- what a session is to those who use it

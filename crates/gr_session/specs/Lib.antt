@@ -1,9 +1,12 @@
 pub mod Targets
 pub mod Journal
+pub mod Batches
+pub mod Entries
 pub mod Debuggees
 pub mod Refusing
 pub mod Turning
 pub mod Granting
+pub mod Copies
 pub mod Carried
 pub mod Keeps
 pub mod Source

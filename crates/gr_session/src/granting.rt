@@ -1,6 +1,6 @@
 //! What the workers may do.
 
-ghost use Rattle.std.specs.Prelude.{◌≡◌, ◌+◌, ◌↔◌, length, IsTrue};
+ghost use Rattle.std.specs.Prelude.{◌≡◌, ◌+◌, ◌↔◌, length, IsTrue, IfOk, IfSome};
 ghost use Rattle.gr_program.specs.Programs.{Program};
 ghost use Rattle.gr_rules.specs.Limits.{most_steps};
 ghost use Rattle.gr_command.specs.Replies.{said_of};
@@ -9,14 +9,16 @@ ghost use Rattle.gr_step.specs.Stores.{SameListing};
 ghost use Rattle.gr_session.specs.Journal.{World};
 ghost use Rattle.gr_session.specs.Debuggees.{Stands, IsDebuggee, store_in};
 ghost use Rattle.gr_session.specs.Carried.{LeadsTo};
-ghost use Rattle.gr_session.specs.Granting.{IsTurnDue};
+ghost use Rattle.gr_step.specs.Leasing.{IsLease};
+ghost use Rattle.gr_session.specs.Granting.{MayStep, IsTurnDue, CanLend, IsLent};
 
 use crate::debuggee::Debuggee;
 use crate::journal::Memory;
 use crate::running::{ran, take_turns};
+use gr_base::NoMemory;
 use gr_command::Reply;
 use gr_rollback::LOG_LIMIT;
-use gr_step::Run;
+use gr_step::{Lease, Run};
 use std::alloc::Global;
 
 /// Grants the workers so many steps, in place of what is left of the last grant.
@@ -51,16 +53,58 @@ pub(crate) fn room(debuggee: &Debuggee) -> usize
     LOG_LIMIT - debuggee.machine.log().len()
 }
 
-/// Whether a turn would take a step, if there is memory for it.
-pub(crate) fn turn_due(debuggee: &Debuggee) -> bool
+/// Whether workers may take steps that the log has room for.
+fn may_step(debuggee: &Debuggee) -> bool
     requires { IsDebuggee debuggee.now }
-    ensures { (p : Program) → (w : World p) → Stands p w debuggee.now → IsTrue result ↔ IsTurnDue p w }
+    ensures { (p : Program) → (w : World p) → Stands p w debuggee.now → IsTrue result ↔ MayStep p w }
 {
     if debuggee.grant == 0 || room(debuggee) == 0 {
         return false;
     }
-    match debuggee.machine.store().run() {
-        Run::Live => debuggee.machine.next_turn().is_some(),
-        Run::Ended | Run::Faulted(_) => false,
+    true
+}
+
+/// Whether a goroutine can be lent.
+pub(crate) fn can_lend(debuggee: &Debuggee) -> bool
+    requires { IsDebuggee debuggee.now }
+    ensures { (p : Program) → (w : World p) → Stands p w debuggee.now → IsTrue result ↔ CanLend p w }
+{
+    if !may_step(debuggee) {
+        return false;
     }
+    debuggee.machine.has_own_step()
+}
+
+/// Whether a turn is due.
+pub(crate) fn turn_due(debuggee: &Debuggee) -> bool
+    requires { IsDebuggee debuggee.now }
+    ensures { (p : Program) → (w : World p) → Stands p w debuggee.now → IsTrue result ↔ IsTurnDue p w }
+{
+    if !may_step(debuggee) {
+        return false;
+    }
+    match debuggee.machine.store().run() {
+        Run::Live => {}
+        Run::Ended | Run::Faulted(_) => return false,
+    }
+    let Some(_) = debuggee.machine.next_turn() else {
+        return false;
+    };
+    !debuggee.machine.has_own_step()
+}
+
+/// Lends the goroutine at the place among those that can be lent.
+pub(crate) fn lend(
+    alloc: Global,
+    debuggee: &Debuggee,
+    place: u32,
+) -> Result<Option<Lease>, NoMemory>
+    requires { IsDebuggee debuggee.now }
+    ensures lease { IfOk result (λ o. IfSome o IsLease) }
+    ensures lent { (p : Program) → (w : World p) → Stands p w debuggee.now → IfOk result (IsLent p w place) }
+{
+    if !may_step(debuggee) {
+        return Ok(None);
+    }
+    debuggee.machine.lend_at(alloc, place)
 }

@@ -1,6 +1,10 @@
-//! What a session keeps of the commands that were asked, and who asks.
+//! What a session keeps of the commands and batches that were asked, and who asks.
 
+ghost use Rattle.std.specs.Prelude.{◌≡◌, ◌↔◌, ◌++◌, ◌∷◌, [], ◌<◌, ◌≤◌, length, vec_len, vec_capacity, OnOk, IsErrOf};
+
+use crate::JOURNAL_LIMIT;
 use gr_command::{Command, Reply};
+use gr_step::Batch;
 
 /// How far memory allowed a command to be carried out.
 #[derive(Clone, Copy, Debug, PartialEq, Eq)]
@@ -11,12 +15,22 @@ pub enum Memory {
     EnoughFor(u64),
 }
 
-/// What the journal keeps of a command.
-#[derive(Debug, Drop)]
+/// What is asked of a session.
+#[derive(Drop)]
+pub enum Asked {
+    Command(Command),
+    /// That the steps of a batch join the log; and whether its goroutine stood as it was lent, in a run of the same program that
+    /// went on.
+    Batch(Batch, bool),
+}
+
+/// What the journal keeps of what was asked.
+#[derive(Drop)]
 pub struct Entry {
     /// The number of the asker, from 1.
     pub asker: u32,
-    pub command: Command,
+    pub asked: Asked,
+    /// For a batch it was enough, or the batch would have no entry.
     pub memory: Memory,
 }
 
@@ -26,7 +40,7 @@ pub struct DeskId {
     pub number: u32,
 }
 
-/// That the journal keeps a command.
+/// That the journal keeps what was asked.
 #[derive(Debug, Drop)]
 pub struct Receipt {
     /// The number of the entry, from 1.
@@ -34,12 +48,12 @@ pub struct Receipt {
     pub reply: Reply,
 }
 
-/// Why a command got no entry in the journal.
+/// Why a command or a batch got no entry in the journal.
 #[derive(Clone, Copy, Debug, PartialEq, Eq)]
 pub enum AskRefused {
     /// Q1: the journal is full.
     JournalFull,
-    /// Q2: there is no memory for the entry, or for the answer to a query.
+    /// Q2: there is no memory for the entry, for the answer to a query, or for the steps of a batch.
     NoMemory,
 }
 
@@ -50,4 +64,45 @@ pub enum EnrolRefused {
     Full,
     /// E2: a growth was refused.
     NoMemory,
+}
+
+/// Makes room for an entry in a journal, which stays as it is.
+pub(crate) fn make_room(journal: &mut Vec<Entry>) -> Result<(), AskRefused>
+    requires { length journal.old.items ≤ JOURNAL_LIMIT }
+    ensures full { IsErrOf result AskRefused.JournalFull ↔ (length journal.old.items ≡ JOURNAL_LIMIT) }
+    ensures less { OnOk result (length journal.old.items < JOURNAL_LIMIT) }
+    ensures room { OnOk result (vec_len journal.new < vec_capacity journal.new) }
+    ensures items { journal.new.items ≡ journal.old.items }
+{
+    if journal.len() >= JOURNAL_LIMIT {
+        return Err(AskRefused::JournalFull);
+    }
+    if journal.reserve(1).is_err() {
+        return Err(AskRefused::NoMemory);
+    }
+    Ok(())
+}
+
+/// Lets an entry join a journal, which has room for it.
+pub(crate) fn keep(
+    journal: &mut Vec<Entry>,
+    desk: DeskId,
+    asked: Asked,
+    memory: Memory,
+    reply: Reply,
+) -> Receipt
+    requires { vec_len journal.old < vec_capacity journal.old }
+    ensures entry { journal.new.items ≡ journal.old.items ++ record { asker = desk.number; asked = asked; memory = memory } ∷ [] }
+    ensures number { result.number ≡ length journal.new.items }
+    ensures reply { result.reply ≡ reply }
+{
+    journal.push_reserved(Entry {
+        asker: desk.number,
+        asked,
+        memory,
+    });
+    Receipt {
+        number: journal.len() as u64,
+        reply,
+    }
 }

@@ -2,29 +2,30 @@
 
 ghost use Rattle.std.specs.Prelude.{◌≡◌, ℕ, List};
 ghost use Rattle.gr_program.specs.Programs.{Program};
-ghost use Rattle.gr_command.specs.declared.command.Command.{Command};
 ghost use Rattle.gr_command.specs.Replies.{Said};
 ghost use Rattle.gr_laws.specs.Reached.{IsRun};
+ghost use Rattle.gr_session.specs.declared.journal.Asked.{Asked};
 ghost use Rattle.gr_session.specs.declared.journal.Memory.{Memory};
 ghost use Rattle.gr_session.specs.declared.journal.Entry.{Entry};
-ghost use Rattle.gr_session.specs.Journal.{World, first_world, Leads, Lead, Enters};
+ghost use Rattle.gr_session.specs.Journal.{World, first_world};
+ghost use Rattle.gr_session.specs.Entries.{Means, Lead, Enters};
 
-/// A legal journal has one meaning: in a world of a run each entry, by what it keeps of how far memory allowed it, leads to one
+/// A legal journal has one meaning: in a world of a run each entry, by what it keeps of what the rules leave open, leads to one
 /// next world, with one reply; and that is again one of a run: its steps lead from the start of the program to its state. So the
 /// journal fixes its world, and the journal before an entry and after it fix the entry's number and its reply.
 pub fn law_of_journals()
-    ensures next { (p : Program) (w u v : World p) (command : Command) (memory : Memory) (a b : Said)
+    ensures next { (p : Program) (w u v : World p) (asked : Asked) (memory : Memory) (a b : Said)
         → IsRun p w.log w.state
-        → Leads p w command memory u a → Leads p w command memory v b
+        → Means p w asked memory u a → Means p w asked memory v b
         → (u ≡ v) × (a ≡ b) }
-    ensures runs { (p : Program) (w u : World p) (command : Command) (memory : Memory) (a : Said)
-        → IsRun p w.log w.state → Leads p w command memory u a
+    ensures runs { (p : Program) (w u : World p) (asked : Asked) (memory : Memory) (a : Said)
+        → IsRun p w.log w.state → Means p w asked memory u a
         → IsRun p u.log u.state }
     ensures whole { (p : Program) (journal : List Entry) (u v : World p)
         → Lead p (first_world p) journal u → Lead p (first_world p) journal v
         → u ≡ v }
-    ensures receipts { (p : Program) (asker : ℕ) (command : Command) (old new : List Entry) (m n : ℕ) (a b : Said)
-        → Enters p asker command old new m a → Enters p asker command old new n b
+    ensures receipts { (p : Program) (asker : ℕ) (asked : Asked) (old new : List Entry) (m n : ℕ) (a b : Said)
+        → Enters p asker asked old new m a → Enters p asker asked old new n b
         → (m ≡ n) × (a ≡ b) }
     ensures reached { (p : Program) (journal : List Entry) (u : World p)
         → Lead p (first_world p) journal u

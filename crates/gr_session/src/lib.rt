@@ -3,11 +3,13 @@
 
 mod breakpoints;
 mod carry;
+mod committing;
 mod debuggee;
 mod dependence;
 mod granting;
 pub mod journal;
 pub mod laws;
+pub mod leasing;
 pub mod open;
 mod refusing;
 mod rollback;
@@ -18,12 +20,16 @@ mod targets;
 
 pub use gr_command::{Command, Refusal, Reply};
 pub use gr_scan::position::Position;
-pub use journal::{AskRefused, DeskId, EnrolRefused, Entry, Memory, Receipt};
+pub use journal::{AskRefused, Asked, DeskId, EnrolRefused, Entry, Memory, Receipt};
+pub use leasing::{Batch, Gate, Lease, Open, run_batch};
 pub use open::OpenError;
 pub use session::Session;
 
 /// The most entries that a journal keeps.
 pub const JOURNAL_LIMIT: usize = 2_000_000;
+
+/// The most steps of a batch.
+pub const BATCH_LIMIT: usize = 256;
 
 /// The most askers of a session.
 pub const ASKER_LIMIT: u32 = 1_000;

@@ -22,6 +22,7 @@ use gr_step::{Run, StepRefused, Store};
 use std::alloc::Global;
 
 // The goroutine whose turn it is, or else why no more steps are taken: the first reason that holds, in the order of `RunEnd`.
+#[inline(always)]
 fn next_turn(debuggee: &Debuggee, wanted: u64, taken: u64) -> Result<&GoName, RunEnd>
     requires { IsDebuggee debuggee.now }
     ensures turn { (p : Program) → (w : World p) → Stands p w debuggee.now → IfOk result (λ go. HasTurn p w wanted taken go.now) }
@@ -64,6 +65,7 @@ fn usual_event(alloc: Global, store: &Store, go: &GoName) -> Result<Event, NoMem
 
 // Takes the next step by turns with its usual choice, where so many are wanted and so many were taken. Refused, nothing has
 // changed.
+#[inline(never)]
 fn take_choice(
     alloc: Global,
     debuggee: &mut Debuggee,
@@ -86,6 +88,7 @@ fn take_choice(
 }
 
 // The step of a goroutine that has no choice.
+#[inline(always)]
 fn plain_event(alloc: Global, go: &GoName) -> Result<Event, NoMemory>
     ensures { IfOk result (λ event. event ≡ record { go = go.now; choice = choices.Plain }) }
 {
@@ -98,6 +101,7 @@ fn plain_event(alloc: Global, go: &GoName) -> Result<Event, NoMemory>
 
 // Takes the next step by turns, where so many are wanted and so many were taken. Refused, nothing has changed. Most steps leave
 // no choice, so the usual one is found only where a plain step is refused for it.
+#[inline(always)]
 fn take_turn(alloc: Global, debuggee: &mut Debuggee, wanted: u64, taken: u64) -> Result<(), RunEnd>
     requires { IsDebuggee debuggee.old }
     ensures more { OnOk result (¬ (taken ≡ wanted)) }

@@ -1,17 +1,22 @@
 //! Sessions: a program under the debugger, asked of under one journal.
 
-ghost use Rattle.std.specs.Prelude.{◌≡◌, ◌↔◌, ◌+◌, ◌≤◌, [], length, IfOk, OnOk, OnErr, IsErrOf, IsTrue};
+ghost use Rattle.std.specs.Prelude.{◌≡◌, ◌↔◌, ◌+◌, ◌≤◌, [], length, IfOk, IfSome, IfNone, OnOk, OnErr, IsErrOf, IsTrue};
 ghost use Rattle.gr_program.specs.Views.{program_of};
 ghost use Rattle.gr_rules.specs.Limits.{most_steps};
 ghost use Rattle.gr_command.specs.Replies.{said_of};
-ghost use Rattle.gr_session.specs.Journal.{Enters, IsLegal, InItsWorld};
-ghost use Rattle.gr_session.specs.Granting.{IsTurnDue};
+ghost use Rattle.gr_step.specs.Leasing.{loan_of};
+ghost use Rattle.gr_session.specs.Entries.{EntersCommand, EntersBatch, IsLegal, InItsWorld};
+ghost use Rattle.gr_session.specs.Granting.{IsTurnDue, CanLend, IsLoan};
 ghost use Rattle.gr_step.specs.Premises.{IsChecked};
 
 use crate::carry::carry_out;
+use crate::committing::commit;
 use crate::debuggee::Debuggee;
-use crate::granting::{room, turn_due};
-use crate::journal::{AskRefused, DeskId, EnrolRefused, Entry, Receipt};
+use crate::granting::{can_lend, lend, room, turn_due};
+use crate::journal::{
+    AskRefused, Asked, DeskId, EnrolRefused, Entry, Memory, Receipt, keep, make_room,
+};
+use crate::leasing::{Batch, Lease};
 use crate::{ASKER_LIMIT, JOURNAL_LIMIT};
 use gr_base::NoMemory;
 use gr_command::Command;
@@ -31,13 +36,14 @@ impl Model for Session {
     ghost use Rattle.gr_program.specs.contracts.program.Expr as expr;
     ghost use Rattle.gr_program.specs.contracts.program.Stmt as stmt;
     ghost use Rattle.gr_program.specs.contracts.types.Type as types;
+    ghost use Rattle.gr_code.specs.contracts.code.Operand as operands;
     ghost use Rattle.std.specs.Coded.{codes};
     ghost use Rattle.gr_session.specs.Debuggees.{store_in};
     ghost use Rattle.gr_session.specs.Keeps.{Seen, Keeps, program_held};
 
     ghost Value = { Seen };
 
-    ghost coded = { Prim.hlevel (codes, expr.the_row.coded, stmt.the_row.coded, types.the_row.coded) };
+    ghost coded = { Prim.hlevel (codes, expr.the_row.coded, stmt.the_row.coded, types.the_row.coded, operands.the_row.coded) };
 
     ghost view = { λ s. record { program = program_held (store_in s.debuggee); journal = s.journal.items; askers = s.askers } };
 
@@ -93,17 +99,14 @@ impl Session {
         command: Command,
     ) -> Result<Receipt, AskRefused>
         requires { (1 ≤ desk.number) × (desk.number ≤ self.old.askers) }
-        ensures entry { IfOk result (λ receipt. Enters (program_of self.old.program) desk.number command
+        ensures entry { IfOk result (λ receipt. EntersCommand (program_of self.old.program) desk.number command
             self.old.journal self.new.journal receipt.number (said_of receipt.reply)) }
         ensures full { IsErrOf result AskRefused.JournalFull ↔ (length self.old.journal ≡ JOURNAL_LIMIT) }
         ensures err { OnErr result (self.new ≡ self.old) }
         ensures others { (self.new.program ≡ self.old.program) × (self.new.askers ≡ self.old.askers) }
     {
-        if self.journal.len() >= JOURNAL_LIMIT {
-            return Err(AskRefused::JournalFull);
-        }
-        if self.journal.reserve(1).is_err() {
-            return Err(AskRefused::NoMemory);
+        if let Err(why) = make_room(&mut self.journal) {
+            return Err(why);
         }
         match carry_out(alloc, &mut self.debuggee, &command) {
             Err(NoMemory) => {
@@ -111,15 +114,53 @@ impl Session {
                 Err(AskRefused::NoMemory)
             }
             Ok((memory, reply)) => {
-                self.journal.push_reserved(Entry {
-                    asker: desk.number,
-                    command,
-                    memory,
-                });
-                Ok(Receipt {
-                    number: self.journal.len() as u64,
-                    reply,
-                })
+                let asked = Asked::Command(command);
+                Ok(keep(&mut self.journal, desk, asked, memory, reply))
+            }
+        }
+    }
+
+    /// Lends a copy of a goroutine: of those whose next step reaches no further than themselves and is no fault, in the order of
+    /// names, the one at the place, modulo their number. There is none where the grant is 0, the log is full, the program does not
+    /// run, or no goroutine is such.
+    pub fn lease(&self, alloc: Global, place: u32) -> Result<Option<Lease>, NoMemory>
+        ensures place { IfOk result (λ o. IfSome o (λ l. l.place ≡ place)) }
+        ensures lent { IfOk result (λ o. IfSome o (λ l. InItsWorld (program_of self.now.program) self.now.journal
+            (λ w. IsLoan (program_of self.now.program) w place l.copy))) }
+        ensures none { IfOk result (λ o. IfNone o (InItsWorld (program_of self.now.program) self.now.journal
+            (λ w. ¬ CanLend (program_of self.now.program) w))) }
+    {
+        match lend(alloc, &self.debuggee, place)? {
+            Some(copy) => Ok(Some(Lease { copy, place })),
+            None => Ok(None),
+        }
+    }
+
+    /// Commits a batch, which the journal keeps with its reply: its steps join the log if its goroutine is as it was lent, in a run
+    /// of the same program that goes on, and if the grant and the log have room for them. The asker is one that `enrol` of this
+    /// session gave.
+    pub fn commit(
+        &mut self,
+        alloc: Global,
+        desk: DeskId,
+        batch: Batch,
+    ) -> Result<Receipt, AskRefused>
+        requires { (1 ≤ desk.number) × (desk.number ≤ self.old.askers) }
+        ensures entry { IfOk result (λ receipt. EntersBatch (program_of self.old.program) desk.number (loan_of batch)
+            self.old.journal self.new.journal receipt.number (said_of receipt.reply)) }
+        ensures full { IsErrOf result AskRefused.JournalFull ↔ (length self.old.journal ≡ JOURNAL_LIMIT) }
+        ensures err { OnErr result (self.new ≡ self.old) }
+        ensures others { (self.new.program ≡ self.old.program) × (self.new.askers ≡ self.old.askers) }
+    {
+        if let Err(why) = make_room(&mut self.journal) {
+            return Err(why);
+        }
+        let Batch { led } = batch;
+        match commit(alloc, &mut self.debuggee, led) {
+            Err(NoMemory) => Err(AskRefused::NoMemory),
+            Ok((batch, stood, reply)) => {
+                let asked = Asked::Batch(batch, stood);
+                Ok(keep(&mut self.journal, desk, asked, Memory::Enough, reply))
             }
         }
     }
@@ -146,8 +187,16 @@ impl Session {
         room(&self.debuggee)
     }
 
-    /// Whether a worker is to ask for a turn: the program runs, the grant is above 0, the log has room, and some goroutine is
-    /// ready.
+    /// Whether a goroutine can be lent: the grant is above 0, the log has room, and, while the program runs, some goroutine's next
+    /// step reaches no further than itself and is no fault.
+    pub fn can_lend(&self) -> bool
+        ensures { InItsWorld (program_of self.now.program) self.now.journal (λ w. IsTrue result ↔ CanLend (program_of self.now.program) w) }
+    {
+        can_lend(&self.debuggee)
+    }
+
+    /// Whether a worker is to ask for a turn: the program runs, the grant is above 0, the log has room, some goroutine is ready,
+    /// and none can be lent.
     pub fn turn_due(&self) -> bool
         ensures { InItsWorld (program_of self.now.program) self.now.journal (λ w. IsTrue result ↔ IsTurnDue (program_of self.now.program) w) }
     {

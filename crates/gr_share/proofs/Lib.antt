@@ -1,5 +1,6 @@
 pub mod Lines
 pub mod Moves
 pub mod Telling
+pub mod Answering
 pub mod Calling
 pub mod Seats

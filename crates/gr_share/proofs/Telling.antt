@@ -4,11 +4,14 @@ use Rattle.std.specs.Prelude.{All}
 use mathlib.Core.List.{IsPrefix, map-append}
 use Rattle.gr_program.specs.Programs.{Program}
 use Rattle.gr_program.specs.Views.{program_of}
-use Rattle.gr_command.specs.Replies.{said_of}
+use Rattle.gr_command.specs.Replies.{Said, said_of}
 use Rattle.gr_session.specs.declared.journal.Entry.{Entry}
-use Rattle.gr_session.specs.Journal.{Enters, IsAskedBy}
+use Rattle.gr_session.specs.declared.journal.Asked.TheVariants as entries
+use Rattle.gr_session.specs.Entries.{IsAskedBy}
 use Rattle.gr_session.specs.Keeps.{Seen}
-use Rattle.gr_share.specs.Calls.{Asker, IsEntry, IsTied, places}
+use Rattle.gr_share.specs.Calls.{Asker, IsEntry, IsTied, EntersCall, places}
+use Rattle.gr_share.specs.declared.desk.Asked.{Asked as Wanted}
+use Rattle.gr_share.specs.declared.desk.Asked.TheVariants.{Command, Batch}
 use Rattle.gr_share.specs.declared.desk.Call.{Call}
 use Rattle.gr_share.specs.Lines.{Line}
 use Rattle.gr_share.specs.Ties.{asked, older_lines, AskedUpTo, told, calls_of, AllBelow, numbers_of, IsTold, AllTold, Tells}
@@ -103,18 +106,43 @@ tied s log d tells same = let p = program_of s.program in let journal = s.journa
   entries = told_calls p journal d.number d.calls (subst (AllTold p journal) same (told_asked p journal d.number log tells.entries));
 }
 
+-- the journal got one entry of an asker, with this number
+pub record MoreBy (a number : ℕ) (old new : List Entry) : Type 0 where
+  pub entry : Entry
+  pub grows : new ≡ old ++ entry ∷ []
+  pub of_asker : entry.asker ≡ a
+  pub number_is : number ≡ 1 + length old
+
+pub more_by : (p : Program) (a : ℕ) (wanted : Wanted) (old new : List Entry) (number : ℕ) (reply : Said)
+    → EntersCall p a wanted old new number reply → MoreBy a number old new
+more_by p a (Command c) old new number reply e =
+    let entry : Entry = record { asker = a; asked = entries.Command c; memory = e.memory } in record {
+      entry = entry;
+      grows = e.entered;
+      of_asker = refl;
+      number_is = omega (arith, e.number_is, ap length e.entered, length-append old (entry ∷ []));
+    }
+more_by p a (Batch go steps) old new number reply b =
+    let e = b.enters.enters in
+    let entry : Entry = record { asker = a; asked = entries.Batch b.enters.batch b.enters.as_lent; memory = e.memory } in record {
+      entry = entry;
+      grows = e.entered;
+      of_asker = refl;
+      number_is = omega (arith, e.number_is, ap length e.entered, length-append old (entry ∷ []));
+    }
+
 -- an entry more, and a line more
 pub tells_push : (p : Program) (old new : List Entry) (log : List Line) (a : ℕ) (c : Call) → Tells p old log
-    → Enters p a c.asked old new c.receipt.number (said_of c.receipt.reply) → Tells p new (log ++ told a c ∷ [])
+    → EntersCall p a c.asked old new c.receipt.number (said_of c.receipt.reply) → Tells p new (log ++ told a c ∷ [])
 tells_push p old new log a c tells enters =
-    let e : Entry = record { asker = a; command = c.asked; memory = enters.memory } in
-    let number : c.receipt.number ≡ 1 + length old = omega (arith, enters.number_is, ap length enters.entered, length-append old (e ∷ [])) in
-    let more : IsPrefix old new = (e ∷ [], sym enters.entered) in
+    let m = more_by p a c.asked old new c.receipt.number (said_of c.receipt.reply) enters in
+    let more : IsPrefix old new = (m.entry ∷ [], sym m.grows) in
     let own : IsEntry p new a c = record { before = old; after = new; begins = ([], append-nil new); entered = enters } in record {
       numbers = λ b.
           numbers_push b log (told a c)
           ∙ (ap (λ l. l ++ (if a == b then c.receipt.number ∷ [] else [])) (tells.numbers b)
-          ∙ (sym (places_push b 1 old e c.receipt.number number) ∙ ap (places b 1) (sym enters.entered)));
+          ∙ (ap (λ (k : ℕ). places b 1 old ++ (if k == b then c.receipt.number ∷ [] else [])) (sym m.of_asker)
+          ∙ (sym (places_push b 1 old m.entry c.receipt.number m.number_is) ∙ ap (places b 1) (sym m.grows))));
       entries = told_push p new log (told a c) (told_later p old new log more tells.entries) (λ d is. subst (IsEntry p new a) (some_inj is) own);
     }
 

@@ -6,15 +6,19 @@ use mathlib.Core.Option.{none}
 use denote.RattleType.{RattleType}
 use Rattle.gr_program.specs.Programs.{Program}
 use Rattle.gr_program.specs.Views.{program_of}
-use Rattle.gr_command.specs.declared.command.Command.{Command}
 use Rattle.gr_command.specs.declared.command.Command.TheVariants.{Turn}
-use Rattle.gr_command.specs.Replies.{said_of}
+use Rattle.gr_command.specs.Replies.{Said, said_of}
 use Rattle.gr_session.specs.declared.journal.AskRefused.{AskRefused}
 use Rattle.gr_session.specs.declared.journal.Entry.{Entry}
 use Rattle.gr_session.specs.declared.journal.Receipt.{Receipt}
-use Rattle.gr_session.specs.Journal.{Enters}
+use Rattle.gr_session.specs.Entries.{EntersCommand, EntersBatch}
 use Rattle.gr_session.specs.Keeps.{Seen}
+use Rattle.gr_session.specs.Copies.{Loan}
+use Rattle.gr_share.specs.declared.desk.Asked.{Asked as Wanted}
+use Rattle.gr_share.specs.declared.desk.Asked.TheVariants.{Command, Batch}
 use Rattle.gr_share.specs.declared.desk.Call.{Call}
+use Rattle.gr_share.specs.declared.desk.Work.{Work}
+use Rattle.gr_share.specs.declared.desk.Work.TheVariants as found
 
 -- a desk: its number among the askers, and its calls, the oldest first
 pub record Asker : Type 0 where
@@ -31,13 +35,25 @@ abbrev pub places : ℕ → ℕ → List Entry → List ℕ
 places asker first [] = []
 places asker first (e ∷ es) = if e.asker == asker then first ∷ places asker (suc first) es else places asker (suc first) es
 
+-- the journal got so many steps of a goroutine as one entry, whose number and reply these are
+pub record EntersSteps (p : Program) (asker : ℕ) (go : List ℕ) (steps : ℕ) (old new : List Entry) (number : ℕ) (reply : Said) : Type 0 where
+  pub loan : Loan
+  pub name : loan.name ≡ go
+  pub count : loan.steps ≡ steps
+  pub enters : EntersBatch p asker loan old new number reply
+
+-- .. or a command
+abbrev pub EntersCall : Program → ℕ → Wanted → List Entry → List Entry → ℕ → Said → Type 0
+EntersCall p asker (Command command) old new number reply = EntersCommand p asker command old new number reply
+EntersCall p asker (Batch go steps) old new number reply = EntersSteps p asker go steps old new number reply
+
 -- the call is an entry of the journal: it made a beginning of the journal longer by that entry, whose number and reply its
 -- receipt has
 pub record IsEntry (p : Program) (journal : List Entry) (asker : ℕ) (c : Call) : Type 0 where
   pub before : List Entry
   pub after : List Entry
   pub begins : IsPrefix after journal
-  pub entered : Enters p asker c.asked before after c.receipt.number (said_of c.receipt.reply)
+  pub entered : EntersCall p asker c.asked before after c.receipt.number (said_of c.receipt.reply)
 
 -- the asker's entries in the session's journal are its calls, each once, in their order
 pub record IsTied (session : Seen) (asker : Asker) : Type 0 where
@@ -45,25 +61,36 @@ pub record IsTied (session : Seen) (asker : Asker) : Type 0 where
   pub entries : All (IsEntry (program_of session.program) session.journal asker.number) asker.calls
 
 -- the asker with this call more
-abbrev pub with_call : Asker → Command → Receipt → Asker
-with_call a command r = record a { calls = a.calls ++ record { asked = command; receipt = r } ∷ [] }
+abbrev pub with_call : Asker → Wanted → Receipt → Asker
+with_call a wanted r = record a { calls = a.calls ++ record { asked = wanted; receipt = r } ∷ [] }
 
--- the asker has one call more, of this command and with this receipt, whose number is larger than all before
-abbrev pub GainsBy : Asker → Command → Receipt → Asker → Type 0
-GainsBy old command r new = (new ≡ with_call old command r) × All (λ c. c.receipt.number < r.number) old.calls
+-- the asker has one call more, of what it wanted and with this receipt, whose number is larger than all before
+abbrev pub GainsBy : Asker → Wanted → Receipt → Asker → Type 0
+GainsBy old wanted r new = (new ≡ with_call old wanted r) × All (λ c. c.receipt.number < r.number) old.calls
 
--- the asker has one call more, of this command
-abbrev pub Gains : Asker → Command → Asker → Type 0
-Gains old command new = (r : Receipt) × GainsBy old command r new
+-- the asker has one call more, of what it wanted
+abbrev pub Gains : Asker → Wanted → Asker → Type 0
+Gains old wanted new = (r : Receipt) × GainsBy old wanted r new
 
 -- the asker has one call more, whose receipt is shown, or it was refused, and nothing changed
-abbrev pub Asked : Asker → Command → Result (Bor Receipt) AskRefused → Asker → Type 0
-Asked old command result new = IfOk result (λ r. GainsBy old command r.now new) × OnErr result (new ≡ old)
+abbrev pub Asked : Asker → Wanted → Result (Bor Receipt) AskRefused → Asker → Type 0
+Asked old wanted result new = IfOk result (λ r. GainsBy old wanted r.now new) × OnErr result (new ≡ old)
 
 -- when the borrow ends, P holds of what was lent
 abbrev pub EndsAs : (R : RattleType) → MutBor R.Denot → (R.Denot → Type 0) → Fml
 EndsAs R s P = follows_so R R s.ghost_name none (λ _ _. ⊤) P
 
--- the asker has further calls, all of them turns
-abbrev pub HasTurned : Asker → Asker → Type 0
-HasTurned old new = (more : List Call) × (new ≡ record old { calls = old.calls ++ more }) × All (λ c. c.asked ≡ Turn) more
+-- a worker took a turn, or has nothing new
+abbrev pub Looks : Asker → Work → Asker → Type 0
+Looks old found.Turned new = Gains old (Command Turn) new
+Looks old (found.Lends lease limit) new = new ≡ old
+Looks old found.Nothing new = new ≡ old
+
+-- what workers ask: turns, and that batches are committed
+abbrev pub IsWork : Wanted → Type 0
+IsWork (Command command) = command ≡ Turn
+IsWork (Batch go steps) = Unit {0}
+
+-- the asker has further calls, all of them of workers
+abbrev pub HasWorked : Asker → Asker → Type 0
+HasWorked old new = (more : List Call) × (new ≡ record old { calls = old.calls ++ more }) × All (λ c. IsWork c.asked) more

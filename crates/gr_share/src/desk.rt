@@ -3,16 +3,36 @@ ghost use Rattle.std.specs.Prelude.{◌≡◌, ◌++◌, ◌∷◌, [], IfOk, On
 
 use crate::shared::Shared;
 use crate::views::{Pass, Room};
-use gr_session::{AskRefused, Command, Receipt};
+use gr_base::GoName;
+use gr_session::{AskRefused, Batch, Command, Lease, Receipt};
 use std::alloc::Global;
 use std::marker::{Model, PhantomData};
 use std::sync::Wait;
 
+/// What was asked of the session.
+#[derive(Debug, Drop)]
+pub enum Asked {
+    Command(Command),
+    /// That so many steps of a goroutine, which a worker took on a copy, join the log.
+    Batch(GoName, usize),
+}
+
 /// What was asked, and what came of it.
 #[derive(Debug, Drop)]
 pub struct Call {
-    pub asked: Command,
+    pub asked: Asked,
     pub receipt: Receipt,
+}
+
+// What a worker found to do.
+#[derive(Drop)]
+pub enum Work {
+    // It took a turn.
+    Turned,
+    // It was lent a goroutine, to take so many steps at most.
+    Lends(Lease, usize),
+    // The workers are to end, or it was refused.
+    Nothing,
 }
 
 /// An asker of a shared session, with its calls.
@@ -37,10 +57,11 @@ impl<B: Room> Model for Desk<B> {
 }
 
 impl<B: Room> Desk<B> {
-    ghost use Rattle.std.specs.Prelude.{◌≡◌, ◌++◌, ◌∷◌, [], ◌<◌, length, All, IfOk, OnOk, OnErr, IsTrue, IsFalse};
+    ghost use Rattle.std.specs.Prelude.{◌≡◌, ◌++◌, ◌∷◌, [], ◌<◌, length, All, IfOk, OnOk, OnErr};
     ghost use Rattle.std.specs.Borrow.{sem};
+    ghost use Rattle.gr_session.specs.Copies.{loan_of};
     ghost use Rattle.gr_share.specs.contracts.desk.Desk.{the_row};
-    ghost use Rattle.gr_share.specs.Calls.{EndsAs, Asked, Gains};
+    ghost use Rattle.gr_share.specs.Calls.{EndsAs, Asked as AskedBy, Gains, Looks};
 
     // Asks a command, whose receipt is then the last one that is kept.
     pub(crate) fn enter<R: Wait>(
@@ -50,7 +71,7 @@ impl<B: Room> Desk<B> {
         shared: &Shared<B>,
         command: Command,
     ) -> Result<(), AskRefused>
-        ensures call { OnOk result (Gains self.old command self.new) }
+        ensures call { OnOk result (Gains self.old (Asked.Command command) self.new) }
         ensures err { OnErr result (self.new ≡ self.old) }
     {
         if self.calls.reserve(1).is_err() {
@@ -78,20 +99,65 @@ impl<B: Room> Desk<B> {
         }
     }
 
-    // Waits until a turn is due, and asks for it in the same hold of the lock. It tells whether the turn has a receipt: it has
-    // none where the workers are to end, or where it was refused.
-    pub(crate) fn take_turn<R: Wait>(&mut self, rt: &R, alloc: Global, shared: &Shared<B>) -> bool
-        ensures turn { IsTrue result → Gains self.old Command.Turn self.new }
-        ensures none { IsFalse result → self.new ≡ self.old }
+    // Commits a batch, whose receipt is then the last one that is kept.
+    pub(crate) fn commit<R: Wait>(
+        &mut self,
+        rt: &R,
+        alloc: Global,
+        shared: &Shared<B>,
+        batch: Batch,
+    ) -> Result<(), AskRefused>
+        ensures call { OnOk result (Gains self.old (Asked.Batch (loan_of batch).name (loan_of batch).steps) self.new) }
+        ensures err { OnErr result (self.new ≡ self.old) }
     {
         if self.calls.reserve(1).is_err() {
-            return false;
+            return Err(AskRefused::NoMemory);
+        }
+        let Ok(go) = batch.go().copy(alloc) else {
+            return Err(AskRefused::NoMemory);
+        };
+        let asked = shared.lock.lock(rt).commit(
+            rt,
+            alloc,
+            &shared.tie,
+            &mut self.seat,
+            self.number,
+            batch,
+            go,
+        );
+        match asked {
+            Ok(kept) => {
+                self.calls.push_reserved(kept);
+                shared.changed.notify_all();
+                Ok(())
+            }
+            Err(why) => Err(why),
+        }
+    }
+
+    // Waits until there is something to do. In the same hold of the lock it is lent the goroutine at the place, or takes a turn.
+    pub(crate) fn look<R: Wait>(
+        &mut self,
+        rt: &R,
+        alloc: Global,
+        shared: &Shared<B>,
+        place: u32,
+    ) -> Work
+        ensures { Looks self.old result self.new }
+    {
+        if self.calls.reserve(1).is_err() {
+            return Work::Nothing;
         }
         let mut locked = shared
             .changed
             .wait_while(rt, shared.lock.lock(rt), |locked| locked.is_idle());
         if locked.closed {
-            return false;
+            return Work::Nothing;
+        }
+        match locked.lease(alloc, place) {
+            Ok(Some((lease, limit))) => return Work::Lends(lease, limit),
+            Ok(None) => {}
+            Err(_) => return Work::Nothing,
         }
         let asked = locked.ask(
             rt,
@@ -106,14 +172,14 @@ impl<B: Room> Desk<B> {
             Ok(turn) => {
                 self.calls.push_reserved(turn);
                 shared.changed.notify_all();
-                true
+                Work::Turned
             }
-            Err(_) => false,
+            Err(_) => Work::Nothing,
         }
     }
 
     // The last receipt.
-    fn last(&self) -> &Receipt
+    pub(crate) fn last(&self) -> &Receipt
         requires { 0 < length self.now.calls }
         ensures { (before : _) (call : _) → self.now.calls ≡ before ++ call ∷ [] → result.now ≡ call.receipt }
     {
@@ -131,7 +197,7 @@ impl<B: Room> Desk<B> {
         shared: &Shared<B>,
         command: Command,
     ) -> Result<&Receipt, AskRefused>
-        ensures* writes_back { sem 𝓛 (EndsAs (the_row B.row B.Room) self.entry (λ d. Asked self.entry.now command result d)) }
+        ensures* writes_back { sem 𝓛 (EndsAs (the_row B.row B.Room) self.entry (λ d. AskedBy self.entry.now (Asked.Command command) result d)) }
     {
         self.enter(rt, alloc, shared, command)?;
         Ok(self.last())
@@ -168,22 +234,19 @@ impl<B: Room> Model for Worker<B> {
 }
 
 impl<B: Room> Worker<B> {
-    ghost use Rattle.std.specs.Prelude.{◌≡◌, IsTrue, IsFalse};
-    ghost use Rattle.gr_share.specs.Calls.{Gains};
-
-    // Takes a turn, as `Desk::take_turn` does.
-    pub(crate) fn take_turn<R: Wait>(&mut self, rt: &R, alloc: Global, shared: &Shared<B>) -> bool
-        ensures turn { IsTrue result → Gains self.old.seat Command.Turn self.new.seat }
-        ensures none { IsFalse result → self.new ≡ self.old }
-        ensures place { self.new.place ≡ self.old.place }
-    {
-        self.seat.take_turn(rt, alloc, shared)
-    }
+    ghost use Rattle.std.specs.Prelude.{◌≡◌};
 
     /// Its place among the workers, from 1.
     pub fn place(&self) -> u32
         ensures { result ≡ self.now.place }
     {
         self.place
+    }
+
+    /// What it asked, the oldest first.
+    pub fn calls(&self) -> &[Call]
+        ensures { result.now ≡ self.now.seat.calls }
+    {
+        self.seat.calls()
     }
 }

@@ -9,7 +9,7 @@ mod tie;
 mod views;
 mod work;
 
-pub use desk::{Call, Desk, Worker};
+pub use desk::{Asked, Call, Desk, Worker};
 pub use finishing::{Finished, Unfinished, finish};
 pub use shared::{Opened, Shared};
 pub use views::Room;

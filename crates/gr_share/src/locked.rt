@@ -2,14 +2,15 @@
 ghost use Rattle.std.specs.Prelude.{◌≡◌, ◌+◌, ◌<◌, ◌≤◌, ◌++◌, ◌∷◌, [], length, IfOk, OnErr, IsTrue};
 ghost use Rattle.gr_program.specs.Views.{program_of};
 ghost use Rattle.gr_command.specs.Replies.{said_of};
-ghost use Rattle.gr_session.specs.Journal.{Enters};
-ghost use Rattle.gr_share.specs.Calls.{IsTied};
+ghost use Rattle.gr_session.specs.Copies.{loan_of};
+ghost use Rattle.gr_share.specs.Calls.{EntersCall, IsTied};
 ghost use Rattle.gr_share.specs.Ties.{asking, told, numbers_of, AllBelow};
 
-use crate::desk::{Call, Desk};
+use crate::desk::{Asked, Call, Desk};
 use crate::tie::Tie;
 use crate::views::{Pass, Room};
-use gr_session::{AskRefused, Command, DeskId, EnrolRefused, Session};
+use gr_base::{GoName, NoMemory};
+use gr_session::{AskRefused, Batch, Command, DeskId, EnrolRefused, Lease, Session};
 use std::alloc::Global;
 use std::marker::{Model, PhantomData};
 use std::sync::Wait;
@@ -31,6 +32,7 @@ impl<B: Room> Model for Locked<B> {
     ghost use Rattle.gr_program.specs.contracts.program.Expr as expr;
     ghost use Rattle.gr_program.specs.contracts.program.Stmt as stmt;
     ghost use Rattle.gr_program.specs.contracts.types.Type as types;
+    ghost use Rattle.gr_code.specs.contracts.code.Operand as operands;
     ghost use Rattle.std.specs.Coded.{codes};
     ghost use Rattle.gr_program.specs.Views.{program_of};
     ghost use Rattle.gr_share.specs.Seats.{Held};
@@ -38,7 +40,7 @@ impl<B: Room> Model for Locked<B> {
 
     ghost Value = { Held };
 
-    ghost coded = { Prim.hlevel (codes, expr.the_row.coded, stmt.the_row.coded, types.the_row.coded) };
+    ghost coded = { Prim.hlevel (codes, expr.the_row.coded, stmt.the_row.coded, types.the_row.coded, operands.the_row.coded) };
 
     ghost view = { λ s. record { session = s.session; workers = s.workers; closed = s.closed } };
 
@@ -100,9 +102,9 @@ impl<B: Room> Locked<B> {
         requires tie { tie.now.table.shared.table_id ≡ B.table }
         requires seat { (seat.old.table_id ≡ B.table) × (1 ≤ number) × (seat.old.me.0 ≡ asking number seat.old.me.0.calls) }
         ensures table { seat.new.table_id ≡ B.table }
-        ensures call { IfOk result (λ c. (c.asked ≡ command) × (seat.new.me.0 ≡ asking number (seat.old.me.0.calls ++ told number c ∷ []))) }
+        ensures call { IfOk result (λ c. (c.asked ≡ Asked.Command command) × (seat.new.me.0 ≡ asking number (seat.old.me.0.calls ++ told number c ∷ []))) }
         ensures rises { IfOk result (λ c. AllBelow c.receipt.number (numbers_of seat.old.me.0.calls)) }
-        ensures entry { IfOk result (λ c. Enters (program_of self.old.session.program) number command
+        ensures entry { IfOk result (λ c. EntersCall (program_of self.old.session.program) number (Asked.Command command)
             self.old.session.journal self.new.session.journal c.receipt.number (said_of c.receipt.reply)) }
         ensures err { OnErr result ((seat.new.me.0 ≡ seat.old.me.0) × (self.new ≡ self.old)) }
     {
@@ -111,12 +113,65 @@ impl<B: Room> Locked<B> {
             Err(why) => Err(why),
             Ok(receipt) => {
                 let call = Call {
-                    asked: kept,
+                    asked: Asked::Command(kept),
                     receipt,
                 };
                 tie.give(rt, &mut self.keeper, seat, number, &call);
                 Ok(call)
             }
+        }
+    }
+
+    // Commits a batch for an asker, whose seat takes the call. The call keeps a copy of the goroutine's name.
+    pub(crate) fn commit<R: Wait>(
+        &mut self,
+        rt: &R,
+        alloc: Global,
+        tie: &Tie,
+        seat: &mut Pass,
+        number: u32,
+        batch: Batch,
+        go: GoName,
+    ) -> Result<Call, AskRefused>
+        requires kept { go ≡ (loan_of batch).name }
+        requires tie { tie.now.table.shared.table_id ≡ B.table }
+        requires seat { (seat.old.table_id ≡ B.table) × (1 ≤ number) × (seat.old.me.0 ≡ asking number seat.old.me.0.calls) }
+        ensures table { seat.new.table_id ≡ B.table }
+        ensures call { IfOk result (λ c. (c.asked ≡ Asked.Batch (loan_of batch).name (loan_of batch).steps)
+            × (seat.new.me.0 ≡ asking number (seat.old.me.0.calls ++ told number c ∷ []))) }
+        ensures rises { IfOk result (λ c. AllBelow c.receipt.number (numbers_of seat.old.me.0.calls)) }
+        ensures entry { IfOk result (λ c. EntersCall (program_of self.old.session.program) number c.asked
+            self.old.session.journal self.new.session.journal c.receipt.number (said_of c.receipt.reply)) }
+        ensures err { OnErr result ((seat.new.me.0 ≡ seat.old.me.0) × (self.new ≡ self.old)) }
+    {
+        tie.compare(&mut self.keeper, seat);
+        let steps = batch.len();
+        match self.session.commit(alloc, DeskId { number }, batch) {
+            Err(why) => Err(why),
+            Ok(receipt) => {
+                let call = Call {
+                    asked: Asked::Batch(go, steps),
+                    receipt,
+                };
+                tie.give(rt, &mut self.keeper, seat, number, &call);
+                Ok(call)
+            }
+        }
+    }
+
+    // Lends the goroutine at the place among those that can be lent, to take at most as many steps as the grant and the log have
+    // room for.
+    pub(crate) fn lease(
+        &self,
+        alloc: Global,
+        place: u32,
+    ) -> Result<Option<(Lease, usize)>, NoMemory> {
+        match self.session.lease(alloc, place)? {
+            Some(lease) => {
+                let limit = self.session.room().min(self.session.grant() as usize);
+                Ok(Some((lease, limit)))
+            }
+            None => Ok(None),
         }
     }
 
@@ -152,8 +207,8 @@ impl<B: Room> Locked<B> {
         session
     }
 
-    // Whether a worker has to wait: the workers are not to end, and no turn is due.
+    // Whether a worker has to wait: the workers are not to end, no goroutine can be lent, and no turn is due.
     pub(crate) fn is_idle(&self) -> bool {
-        !self.closed && !self.session.turn_due()
+        !self.closed && !self.session.can_lend() && !self.session.turn_due()
     }
 }

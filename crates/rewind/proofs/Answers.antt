@@ -5,7 +5,7 @@ use Rattle.std.specs.declared.result.Result.{Result}
 use Rattle.gr_program.specs.Programs.{Program}
 use Rattle.gr_command.specs.declared.command.Command.{Command}
 use Rattle.gr_session.specs.declared.journal.Entry.{Entry}
-use Rattle.gr_session.specs.Journal.{Enters}
+use Rattle.gr_session.specs.Entries.{EntersCommand}
 use Rattle.std.specs.Io.KnownBytes.{Keeps}
 use Rattle.gr_command.specs.declared.command.Line.{Line}
 use Rattle.gr_command.specs.declared.command.Line.TheVariants as says
@@ -124,7 +124,7 @@ Answered-one {new = new} a h = record { answers = a ∷ []; answered = (new, h, 
 
 -- an entry of a session is numbered by its place
 pub entered : (program : Program) (asker : ℕ) (command : Command) (old new : List Entry) (number : ℕ) (said : Said)
-    → Enters program asker command old new number said → of_session program asker old command (Replied said) new
+    → EntersCommand program asker command old new number said → of_session program asker old command (Replied said) new
 entered program asker command old new number said h =
     record { memory = h.memory; entered = h.entered; number_is = refl; before = h.before; stood = h.stood; after = h.after; meant = h.meant }
 

@@ -8,13 +8,13 @@ use Rattle.gr_program.specs.Programs.{Program}
 use Rattle.gr_session.specs.declared.journal.Entry.{Entry}
 use Rattle.gr_session.specs.declared.open.OpenError.{OpenError}
 use Rattle.gr_session.specs.declared.open.OpenError.TheVariants as opening
-use Rattle.gr_session.specs.Journal.{IsLegal}
+use Rattle.gr_session.specs.Entries.{IsLegal}
 use Rattle.gr_session.specs.Source.{IsProgramOf}
 use Rattle.gr_session.specs.Refused.{NoProgram, SaysWhy}
 use Rattle.rewind.specs.declared.stream.ServeFault.{ServeFault}
 use Rattle.rewind.specs.declared.stream.ServeFault.TheVariants.{Read, Write, Memory}
 use Rattle.rewind.specs.declared.debug.DebugFault.{DebugFault}
-use Rattle.rewind.specs.declared.debug.DebugFault.TheVariants.{Source, Open, Serve}
+use Rattle.rewind.specs.declared.debug.DebugFault.TheVariants.{Source, Open, Serve, Threads}
 use Rattle.rewind.specs.Devices.{Device, Change, Fails}
 use Rattle.rewind.specs.Fault.{Left}
 use Rattle.rewind.specs.Stream.{of_session}
@@ -81,6 +81,7 @@ unserved (Open error) source reader writer h = (h, (Keeps-refl reader.bytes, Kee
 unserved (Serve Read) source reader writer h = absurd h
 unserved (Serve Write) source reader writer h = absurd h
 unserved (Serve Memory) source reader writer h = inl (Keeps-refl reader.bytes, Keeps-refl writer.bytes)
+unserved Threads source reader writer h = absurd h
 
 -- and its fault names no device but the source
 pub source_blamed : (fault : DebugFault) (source : Change) (reader writer : Device) → SourceLeft fault source → BlamesSource fault source
@@ -90,6 +91,7 @@ source_blamed (Open error) source reader writer h b = (b, (refl, refl))
 source_blamed (Serve Read) source reader writer h b = absurd h
 source_blamed (Serve Write) source reader writer h b = absurd h
 source_blamed (Serve Memory) source reader writer h b = (b, (refl, refl))
+source_blamed Threads source reader writer h b = absurd h
 
 -- the journal after lines is legal
 pub legal_served : {program : Program} {lines : List (List ℕ)} {journal : List Entry} {held holds : Option (List ℕ)} → Served (of_session program 1) lines [] journal held holds → IsLegal program 1 journal

@@ -4,7 +4,9 @@ use Rattle.std.proofs.lemmas.List.Elements.{All-push}
 use Rattle.gr_program.specs.Programs.{Program}
 use Rattle.gr_command.specs.declared.command.Command.{Command}
 use Rattle.gr_session.specs.declared.journal.Entry.{Entry}
-use Rattle.gr_session.specs.Journal.{IsAskedBy, IsLegal, Enters, no_entry, one_more, first_world}
+use Rattle.gr_session.specs.declared.journal.Asked.TheVariants as asks
+use Rattle.gr_session.specs.Journal.{first_world}
+use Rattle.gr_session.specs.Entries.{IsAskedBy, IsLegal, EntersCommand, no_entry, one_more}
 use Rattle.gr_command.specs.Replies.{Said}
 use Rattle.rewind.specs.Replies.{Answer, Replied, JournalFull, NoMemory}
 use Rattle.rewind.specs.Stream.{Answered, of_session}
@@ -13,9 +15,9 @@ pub legal_empty : (program : Program) (askers : ℕ) → IsLegal program askers 
 legal_empty program askers = record { asked = λ k d h. absurd (omega (arith, h)); world = first_world program; means = no_entry }
 
 pub legal_entry : (program : Program) (askers asker : ℕ) (command : Command) (old new : List Entry) (number : ℕ) (said : Said)
-    → 1 ≤ asker → asker ≤ askers → IsLegal program askers old → Enters program asker command old new number said → IsLegal program askers new
+    → 1 ≤ asker → asker ≤ askers → IsLegal program askers old → EntersCommand program asker command old new number said → IsLegal program askers new
 legal_entry program askers asker command old new number said low high legal e =
-    let entry : Entry = record { asker = asker; command = command; memory = e.memory } in
+    let entry : Entry = record { asker = asker; asked = asks.Command command; memory = e.memory } in
     rw e.entered (record {
       asked = All-push (IsAskedBy askers) old entry legal.asked (low, high);
       world = e.after;

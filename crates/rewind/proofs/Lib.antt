@@ -4,8 +4,9 @@ pub mod Cuts
 pub mod Answers
 pub mod SoFar
 pub mod Debugging
+pub mod Sharing
 pub mod Legal
 pub mod Asking
 pub mod Growing
 pub mod CommandLines
-pub mod Pages
+pub mod Telling

@@ -5,13 +5,13 @@ use Rattle.gr_scan.specs.declared.scan.TheConstants.{TEXT_LIMIT}
 use Rattle.gr_program.specs.Programs.{Program}
 use Rattle.gr_session.specs.declared.journal.Entry.{Entry}
 use Rattle.gr_session.specs.declared.open.OpenError.{OpenError}
-use Rattle.gr_session.specs.Journal.{IsLegal}
+use Rattle.gr_session.specs.Entries.{IsLegal}
 use Rattle.gr_session.specs.Source.{IsProgramOf}
 use Rattle.gr_session.specs.Refused.{SaysWhy}
 use Rattle.rewind.specs.declared.stream.ServeFault.{ServeFault}
 use Rattle.rewind.specs.declared.stream.ServeFault.TheVariants.{Read, Write, Memory}
 use Rattle.rewind.specs.declared.debug.DebugFault.{DebugFault}
-use Rattle.rewind.specs.declared.debug.DebugFault.TheVariants.{Source, Open, Serve}
+use Rattle.rewind.specs.declared.debug.DebugFault.TheVariants.{Source, Open, Serve, Threads}
 use Rattle.rewind.specs.Stream.{of_session}
 use Rattle.rewind.specs.Served.{ServedAll}
 use Rattle.rewind.specs.Devices.{Change, Fails, NeverFails}
@@ -64,12 +64,14 @@ abbrev pub BlamesSource : DebugFault → (source : Change) → Type 0
 BlamesSource Source source = Fails source
 BlamesSource (Open error) source = NeverFails source
 BlamesSource (Serve fault) source = NeverFails source
+BlamesSource Threads source = NeverFails source
 
 -- the fault names the device that failed, if one did
 abbrev pub BlamesDevice : DebugFault → (source reader writer : Change) → Type 0
 BlamesDevice Source source reader writer = Fails source × (NeverFails reader × NeverFails writer)
 BlamesDevice (Open error) source reader writer = NeverFails source × (NeverFails reader × NeverFails writer)
 BlamesDevice (Serve fault) source reader writer = NeverFails source × Blames fault reader writer
+BlamesDevice Threads source reader writer = NeverFails source × (NeverFails reader × NeverFails writer)
 
 -- why there is no session: the source failed, it was not opened, or memory was wanted
 abbrev pub SourceLeft : DebugFault → Change → Type 0
@@ -78,6 +80,7 @@ SourceLeft (Open error) source = Unopened error source.old.bytes source.new.byte
 SourceLeft (Serve Read) source = ⊥
 SourceLeft (Serve Write) source = ⊥
 SourceLeft (Serve Memory) source = Unit {0}
+SourceLeft Threads source = ⊥
 
 -- what a fault leaves: where there is no session, nothing was done; else the stream was left
 abbrev pub DebugLeft : DebugFault → (source reader writer : Change) → Type 0
@@ -87,3 +90,4 @@ DebugLeft (Open error) source reader writer =
 DebugLeft (Serve Read) source reader writer = Stopped Read source reader writer
 DebugLeft (Serve Write) source reader writer = Stopped Write source reader writer
 DebugLeft (Serve Memory) source reader writer = NothingDone reader writer ⊎ Stopped Memory source reader writer
+DebugLeft Threads source reader writer = ⊥

@@ -7,8 +7,10 @@ pub mod Stream
 pub mod Streams
 pub mod DeskStreams
 pub mod Debug
+pub mod Beside
 pub mod Devices
 pub mod Report
 pub mod CommandLine
 pub mod Terminal
+pub mod Codes
 pub mod Explanations

@@ -14,7 +14,7 @@ use Rattle.gr_session.specs.declared.open.OpenError.TheVariants as opening
 use Rattle.rewind.specs.declared.stream.ServeFault.{ServeFault}
 use Rattle.rewind.specs.declared.stream.ServeFault.TheVariants.{Read, Write, Memory}
 use Rattle.rewind.specs.declared.debug.DebugFault.{DebugFault}
-use Rattle.rewind.specs.declared.debug.DebugFault.TheVariants.{Source, Open, Serve}
+use Rattle.rewind.specs.declared.debug.DebugFault.TheVariants.{Source, Open, Serve, Threads}
 
 -- codes of texts that have no tokens
 abbrev pub scan_code : ScanError → List ℕ
@@ -72,6 +72,7 @@ abbrev pub fault_text : List ℕ → DebugFault → List ℕ
 fault_text file Source = codes "cannot read " ++ file
 fault_text file (Open error) = open_text error
 fault_text file (Serve fault) = serve_text fault
+fault_text file Threads = codes "threads"
 
 -- the code of a source that is refused
 abbrev pub code_of_open : OpenError → Option (List ℕ)
@@ -84,12 +85,13 @@ abbrev pub code_of : DebugFault → Option (List ℕ)
 code_of Source = None
 code_of (Open error) = code_of_open error
 code_of (Serve fault) = None
+code_of Threads = None
 
 -- the line for a fault of a session on this file
 abbrev pub fault_line : List ℕ → DebugFault → List ℕ
 fault_line file fault = codes "rewind: " ++ (fault_text file fault ++ codes "\n")
 
--- 1 where the source is not readable or refused; 3 where reading or writing failed, or memory
+-- 1 where the source is not readable or refused; 3 where reading, writing or threads failed, or memory
 abbrev pub status_of : DebugFault → ℕ
 status_of Source = 1
 status_of (Open (opening.Scan error at)) = 1
@@ -97,6 +99,7 @@ status_of (Open (opening.Parse error at)) = 1
 status_of (Open (opening.Check error at)) = 1
 status_of (Open opening.Memory) = 3
 status_of (Serve fault) = 3
+status_of Threads = 3
 
 -- a text got longer at its end, if at all
 abbrev pub Grows : List ℕ → List ℕ → Type 0

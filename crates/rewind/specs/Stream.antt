@@ -5,12 +5,13 @@ use Rattle.gr_command.specs.declared.command.Command.{Command}
 use Rattle.gr_session.specs.declared.journal.Entry.{Entry}
 use Rattle.gr_session.specs.declared.journal.Receipt.{Receipt}
 use Rattle.gr_session.specs.declared.TheConstants.{JOURNAL_LIMIT}
-use Rattle.gr_session.specs.Journal.{Enters}
+use Rattle.gr_session.specs.Entries.{EntersCommand}
 use Rattle.gr_command.specs.declared.command.Line.{Line}
 use Rattle.gr_command.specs.declared.command.Line.TheVariants as says
 use Rattle.gr_command.specs.Commands.{meaning}
 use Rattle.gr_command.specs.Replies.{said_of}
 use Rattle.gr_share.specs.Calls.{Asker, GainsBy}
+use Rattle.gr_share.specs.declared.desk.Asked.TheVariants as asks
 use Rattle.rewind.specs.Lines.{is_quit}
 use Rattle.rewind.specs.Replies.{Answer, Replied, JournalFull, NoMemory, answer_text}
 
@@ -45,13 +46,13 @@ Gets S = S → Command → Answer → S → Type 0
 
 -- of a session that is asked for one of its askers, by its journal: it has an entry more, with this reply, or is as before
 abbrev pub of_session : Program → ℕ → List Entry → Command → Answer → List Entry → Type 0
-of_session program asker old c (Replied said) new = Enters program asker c old new (length new) said
+of_session program asker old c (Replied said) new = EntersCommand program asker c old new (length new) said
 of_session program asker old c JournalFull new = (length old ≡ JOURNAL_LIMIT) × (new ≡ old)
 of_session program asker old c NoMemory new = (length old ≢ JOURNAL_LIMIT) × (new ≡ old)
 
 -- of a desk of a shared session: it has a call more, with this reply on its receipt, or is as before
 abbrev pub of_desk : Asker → Command → Answer → Asker → Type 0
-of_desk old c (Replied said) new = (r : Receipt) × GainsBy old c r new × (said ≡ said_of r.reply)
+of_desk old c (Replied said) new = (r : Receipt) × GainsBy old (asks.Command c) r new × (said ≡ said_of r.reply)
 of_desk old c JournalFull new = new ≡ old
 of_desk old c NoMemory new = new ≡ old
 

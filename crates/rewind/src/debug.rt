@@ -25,6 +25,9 @@ pub enum DebugFault {
     /// The stream of commands was left, or there was no memory for the source.
     #[error("{0}")]
     Serve(ServeFault),
+    /// The threads of workers were not started, or did not give the session back whole.
+    #[error("the workers' threads failed")]
+    Threads,
 }
 
 // The bytes of the source; of a source that is too long, one byte more than a text may have.
@@ -51,7 +54,10 @@ fn read_source<S: Read>(source: &mut Counted<S>, text: &mut Vec<u8>) -> Result<(
 }
 
 // A session of the source's program.
-fn open_source<S: Read>(alloc: Global, source: &mut Counted<S>) -> Result<Session, DebugFault>
+pub(crate) fn open_source<S: Read>(
+    alloc: Global,
+    source: &mut Counted<S>,
+) -> Result<Session, DebugFault>
     ensures program { IfOk result (λ session.
         Opened (S.remaining (device_of source.old)) (S.remaining (device_of source.new)) (program_of session.program)) }
     ensures empty { IfOk result (λ session. (session.journal ≡ []) × (session.askers ≡ 0)) }

@@ -130,6 +130,7 @@ fn put_fault(text: &mut Vec<u8>, fault: &DebugFault, file: &[u8]) -> Result<(), 
         DebugFault::Serve(ServeFault::Read) => put(text, b"read"),
         DebugFault::Serve(ServeFault::Write) => put(text, b"write"),
         DebugFault::Serve(ServeFault::Memory) => put(text, b"memory"),
+        DebugFault::Threads => put(text, b"threads"),
     }
 }
 
@@ -160,12 +161,12 @@ pub fn refusal_code(fault: &DebugFault) -> Option<&'static [u8]>
 {
     match fault {
         DebugFault::Open(error) => open_code(*error),
-        DebugFault::Source | DebugFault::Serve(_) => None,
+        DebugFault::Source | DebugFault::Serve(_) | DebugFault::Threads => None,
     }
 }
 
-/// The exit status of a session that a fault ended: 1 where the source cannot be read or is refused, 3 where reading
-/// or writing failed, or memory was wanted.
+/// The exit status of a session that a fault ended: 1 where the source cannot be read or is refused, 3 where reading,
+/// writing or threads failed, or memory was wanted.
 pub fn exit_status(fault: &DebugFault) -> u8
     ensures { result ≡ status_of fault.now }
 {
@@ -174,13 +175,14 @@ pub fn exit_status(fault: &DebugFault) -> u8
         DebugFault::Open(OpenError::Memory) => 3,
         DebugFault::Open(_) => 1,
         DebugFault::Serve(_) => 3,
+        DebugFault::Threads => 3,
     }
 }
 
 /// Appends the line that tells a fault to the user, with its newline, and answers the exit status. The line is
 /// `rewind: CODE at LINE:COL` for a source that is refused (without a place for S7, S8, P4 and C11), `rewind:
-/// cannot read FILE`, `rewind: memory`, `rewind: read` or `rewind: write`. Want of memory leaves the text as it was;
-/// `exit_status` takes none.
+/// cannot read FILE`, `rewind: memory`, `rewind: read`, `rewind: write` or `rewind: threads`. Want of memory leaves the
+/// text as it was; `exit_status` takes none.
 #[tactic(auto, using(crate::proofs::Growing::cut_back))]
 pub fn report(fault: &DebugFault, file: &str, text: &mut Vec<u8>) -> Result<u8, NoMemory>
     ensures line { OnOk result (text.new.items ≡ text.old.items ++ fault_line file.now fault.now) }

@@ -47,8 +47,8 @@ Exit status:
   2  the command line is refused: not just one of FILE, '--check' and
      '--explain', workers that are not 0 to 64 or without FILE, a CODE that is
      none, an unknown option, an argument that is not UTF-8
-  3  reading or writing failed, or there is no memory (before the end of the
-     check that is S8, P4 or C11, with status 1)
+  3  reading, writing or starting threads failed, or there is no memory
+     (before the end of the check that is S8, P4 or C11, with status 1)
 
 Example:
   $ printf 'step g0\\nstep g0\\nlog\\nundo\\nquit\\n' | rewind first.go
@@ -72,7 +72,7 @@ FILE, '--check <FILE>' and '--explain <CODE>' exclude each other, and '--workers
 pub(crate) const FILE_HELP: &str = "The source: debugs it by the commands of standard input";
 
 pub(crate) const WORKERS_HELP: &str = "\
-The number of workers that take steps on their own (0 to 64); more than 0 is refused for now, since none can be started yet";
+The number of workers that take steps on their own, as many in all as 'free' grants (0 to 64)";
 
 pub(crate) const CHECK_HELP: &str = "\
 Only tells whether the source is accepted: nothing where it is, else the line of its refusal";
@@ -117,7 +117,7 @@ It knows these:
   Ends of a run: ended, count, stuck, full, break
   Faults of a program: DivideByZero, NegativeShift, SendOnClosed,
     CloseOfClosed, CloseOfNil, BadSize, CallDepth, NameDepth, NameCount
-  Failures of the program itself: read, write, memory
+  Failures of the program itself: read, write, threads, memory
 
 For more information, try '--help'.
 ";

@@ -16,7 +16,7 @@ pub(crate) fn tell_of(rt: &HostRuntime, fault: &DebugFault, file: &str) {
             Some(words) => tell(rt, words),
             None => tell_refusal(rt, fault),
         },
-        DebugFault::Serve(_) => {}
+        DebugFault::Serve(_) | DebugFault::Threads => {}
     }
 }
 

@@ -2,7 +2,7 @@
 //! only tells whether it is accepted, and `rewind --explain CODE` tells what a code means.
 //!
 //! Exit status: 0 at `quit` or at the end of the commands; 1 where FILE cannot be read or is no program, with one line on
-//! standard error; 2 where the command line is refused; 3 where reading or writing failed, or memory was wanted.
+//! standard error; 2 where the command line is refused; 3 where reading, writing or threads failed, or memory was wanted.
 #![tactic(auto)]
 
 mod files;
@@ -18,18 +18,15 @@ use rewind::settings::Settings;
 use rewind::stream::ServeFault;
 use rewind::terminal::{Explained, Prompted};
 use rewind::words::{NOT_TEXT, STRANGE_CODE};
+use rewind::workers::debug_beside;
 use std::fs::File;
-use std::io::{BufReader, ErrorKind as IoErrorKind, IsTerminal, Write};
+use std::io::{BufReader, ErrorKind as IoErrorKind, IsTerminal, Read, Write};
 use std::process::ExitCode;
+use std::sync::Wait;
+use std::thread::Threads;
 use std::{env, io};
 
 const MEMORY: DebugFault = DebugFault::Serve(ServeFault::Memory);
-
-// Sessions beside workers are not served yet.
-const NO_WORKERS: &str = "error: no workers can be started yet: leave '--workers' out
-
-For more information, try '--help'.
-";
 
 // Whether a person reads what is told.
 fn is_at_terminal(rt: &HostRuntime) -> bool {
@@ -63,8 +60,29 @@ fn refuse_with(rt: &HostRuntime, words: &str) -> ExitCode {
     ExitCode::from(2)
 }
 
+// Serves a session over a source, beside so many workers.
+fn debug_with<T: Threads + Wait + Sync, S: Read, R: Read, W: Write>(
+    rt: &HostRuntime,
+    threads: &T,
+    workers: u32,
+    source: &mut Counted<S>,
+    reader: &mut Counted<R>,
+    writer: &mut Counted<W>,
+) -> Result<(), DebugFault> {
+    if workers == 0 {
+        debug(rt.alloc(), source, reader, writer)
+    } else {
+        debug_beside(threads, rt.alloc(), workers, source, reader, writer)
+    }
+}
+
 // Debugs the program in a file, with a prompt and plain words at a terminal.
-fn debug_file(rt: &HostRuntime, file: &str) -> io::Result<ExitCode> {
+fn debug_file<T: Threads + Wait + Sync>(
+    rt: &HostRuntime,
+    threads: &T,
+    file: &str,
+    workers: u32,
+) -> io::Result<ExitCode> {
     let Ok(opened) = File::open(rt, file) else {
         return Ok(fail(rt, &DebugFault::Source, file));
     };
@@ -73,11 +91,11 @@ fn debug_file(rt: &HostRuntime, file: &str) -> io::Result<ExitCode> {
     let debugged = if is_at_terminal(rt) {
         let mut reader = Counted::new(Prompted::new(reader, rt.stderr()));
         let mut writer = Counted::new(Explained::new(rt.stdout(), rt.stderr()));
-        debug(rt.alloc(), &mut source, &mut reader, &mut writer)
+        debug_with(rt, threads, workers, &mut source, &mut reader, &mut writer)
     } else {
         let mut reader = Counted::new(reader);
         let mut writer = Counted::new(rt.stdout());
-        debug(rt.alloc(), &mut source, &mut reader, &mut writer)
+        debug_with(rt, threads, workers, &mut source, &mut reader, &mut writer)
     };
     match debugged {
         Ok(()) => Ok(ExitCode::from(0)),
@@ -108,7 +126,8 @@ fn explain_code(rt: &HostRuntime, code: &str) -> ExitCode {
     }
 }
 
-fn run(rt: &HostRuntime) -> io::Result<ExitCode> {
+// The runtime has threads in `main` alone, so it comes twice.
+fn run<T: Threads + Wait + Sync>(rt: &HostRuntime, threads: &T) -> io::Result<ExitCode> {
     let words: Vec<String> = match env::args(rt) {
         Ok(words) => words.collect(rt.alloc())?,
         Err(error) if error.kind() == IoErrorKind::InvalidData => {
@@ -121,8 +140,7 @@ fn run(rt: &HostRuntime) -> io::Result<ExitCode> {
         texts.push(word.as_str())?;
     }
     match settings(rt.alloc(), texts.as_slice()) {
-        Ok(Settings::Debug { file, workers: 0 }) => debug_file(rt, file),
-        Ok(Settings::Debug { .. }) => Ok(refuse_with(rt, NO_WORKERS)),
+        Ok(Settings::Debug { file, workers }) => debug_file(rt, threads, file, workers),
         Ok(Settings::Check { file }) => check_file(rt, file),
         Ok(Settings::Explain { code }) => Ok(explain_code(rt, code)),
         Err(error) => Ok(refuse(rt, &error)),
@@ -130,7 +148,7 @@ fn run(rt: &HostRuntime) -> io::Result<ExitCode> {
 }
 
 fn main(rt: HostRuntime) -> ExitCode {
-    match run(&rt) {
+    match run(&rt, &rt) {
         Ok(code) => code,
         // No call of `run` passes on another error than want of memory.
         Err(_) => fail(&rt, &MEMORY, ""),

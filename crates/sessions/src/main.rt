@@ -1,5 +1,6 @@
 //! Runs the example sessions of the folder that it is run in: of each NAME.go the commands NAME.script, none where there is
-//! no such file, and the output NAME.expect, which ends in the line of the fault where there is one. Where there is a file
+//! no such file, and the output NAME.expect, which ends in the line of the fault where there is one; it comes once from a session
+//! of its own, and once from a desk of a shared session. Where there is a file
 //! NAME.queries, the steps that the session keeps are also taken once more in fresh sessions: by NAME.again in the order of
 //! the log, by NAME.other and NAME.another in orders that respect dependence. The queries have to be answered alike. It prints
 //! `NAME: differs` for each that is not as expected, and at the end how many are.
@@ -10,14 +11,36 @@
 mod replay;
 mod session;
 
-use gr_base::NoMemory;
 use replay::is_replayed;
-use session::output;
+use session::{output, output_of_desk};
 use std::process::ExitCode;
+use std::sync::Wait;
+use std::thread::Threads;
 use std::{fs, io};
 
+// Whether a session and a desk both give this output.
+fn both_give<T: Threads + Wait + Sync>(
+    rt: &HostRuntime,
+    threads: &T,
+    file: &str,
+    source: &[u8],
+    script: &[u8],
+    expected: &[u8],
+) -> bool {
+    let alone = output(rt.alloc(), file, source, script);
+    let shared = output_of_desk(threads, rt.alloc(), file, source, script);
+    match (alone, shared) {
+        (Ok(alone), Ok(shared)) => alone.as_slice() == expected && shared.as_slice() == expected,
+        _ => false,
+    }
+}
+
 // Whether the session of this name is as expected.
-fn is_expected(rt: &HostRuntime, name: &str) -> io::Result<bool> {
+fn is_expected<T: Threads + Wait + Sync>(
+    rt: &HostRuntime,
+    threads: &T,
+    name: &str,
+) -> io::Result<bool> {
     let file = format!(in rt.alloc(); "{name}.go")?;
     let source = fs::read(rt, file.as_str())?;
     let script = match fs::read(rt, format!(in rt.alloc(); "{name}.script")?.as_str()) {
@@ -25,17 +48,17 @@ fn is_expected(rt: &HostRuntime, name: &str) -> io::Result<bool> {
         Err(_) => Vec::new(rt.alloc()),
     };
     let expected = fs::read(rt, format!(in rt.alloc(); "{name}.expect")?.as_str())?;
-    match output(
-        rt.alloc(),
+    if !both_give(
+        rt,
+        threads,
         file.as_str(),
         source.as_slice(),
         script.as_slice(),
+        expected.as_slice(),
     ) {
-        Ok(text) if text.as_slice() == expected.as_slice() => {
-            is_replayed(rt, name, source.as_slice(), script.as_slice())
-        }
-        Ok(_) | Err(NoMemory) => Ok(false),
+        return Ok(false);
     }
+    is_replayed(rt, name, source.as_slice(), script.as_slice())
 }
 
 // The names of the sessions, in order.
@@ -54,7 +77,7 @@ fn main(rt: HostRuntime) -> io::Result<ExitCode> {
     let mut expected = 0u64;
     let mut status = 0;
     for name in &sessions(&rt)? {
-        if is_expected(&rt, name.as_str())? {
+        if is_expected(&rt, &rt, name.as_str())? {
             expected = expected.saturating_add(1);
         } else {
             println!(rt; "{name}: differs")?;

@@ -1,4 +1,5 @@
 use Rattle.std.proofs.Common.{ap, ◌∙◌, List, ◌++◌, ◌∷◌, [], subst}
+use Rattle.gr_share.specs.declared.desk.Asked.TheVariants.{Command}
 use Rattle.gr_share.specs.declared.desk.Call.{Call}
 use Rattle.gr_share.specs.declared.views.View.{View}
 use Rattle.gr_share.specs.Ties.{calls_of, numbers_of, AllBelow}
@@ -13,6 +14,6 @@ returns-in-Ok-asked-clause-call g c =
     let r = call.receipt in
     let before : AllBelow r.number (numbers_of (calls_of c.self.inside.number calls)) =
     subst (λ (v : View). AllBelow r.number (numbers_of v.calls)) c.self.invariant.2 c.in-Ok-asked.ensures.rises in
-    gains c.args.self.now c.self.inside.number calls c.push_reserved.new.self.items c.args.command call.asked r c.self.view_is
+    gains c.args.self.now c.self.inside.number calls c.push_reserved.new.self.items (Command c.args.command) call.asked r c.self.view_is
     (c.push_reserved.ensures.items ∙ ap (λ (l : List Call). l ++ call ∷ []) c.reserve.ensures.items)
     c.in-Ok-asked.ensures.call.0 (before_calls c.self.inside.number r.number calls before)

@@ -1,19 +1,20 @@
 use Rattle.std.proofs.Common.{ap, ◌∙◌, List, ◌++◌, ◌∷◌, [], subst}
-use Rattle.gr_share.specs.declared.desk.Call.{Call}
 use Rattle.gr_command.specs.declared.command.Command.TheVariants.{Turn}
+use Rattle.gr_share.specs.declared.desk.Asked.TheVariants.{Command}
+use Rattle.gr_share.specs.declared.desk.Call.{Call}
 use Rattle.gr_share.specs.declared.views.View.{View}
 use Rattle.gr_share.specs.Ties.{calls_of, numbers_of, AllBelow}
 use Rattle.gr_share.proofs.Telling.{before_calls}
 use Rattle.gr_share.proofs.Calling.{gains}
-use Rattle.gr_share.proofs.desk.Desk.take_turn.Goals as goal
+use Rattle.gr_share.proofs.desk.Desk.look.Goals as goal
 
-pub returns-in-Ok-clause-turn : goal.returns-in-Ok-clause-turn
-returns-in-Ok-clause-turn g c t =
+pub returns-in-Ok : goal.returns-in-Ok
+returns-in-Ok g c =
     let calls = c.self.inside.calls.items in
     let call = c.in-Ok.turn in
     let r = call.receipt in
     let before : AllBelow r.number (numbers_of (calls_of c.self.inside.number calls)) =
     subst (λ (v : View). AllBelow r.number (numbers_of v.calls)) c.self.invariant.2 c.in-Ok.ensures.rises in
-    gains c.args.self.now c.self.inside.number calls c.push_reserved.new.self.items Turn call.asked r c.self.view_is
+    gains c.args.self.now c.self.inside.number calls c.push_reserved.new.self.items (Command Turn) call.asked r c.self.view_is
     (c.push_reserved.ensures.items ∙ ap (λ (l : List Call). l ++ call ∷ []) c.reserve.ensures.items)
     c.in-Ok.ensures.call.0 (before_calls c.self.inside.number r.number calls before)

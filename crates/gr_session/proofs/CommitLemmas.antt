@@ -1,0 +1,113 @@
+-- What the steps of a batch come to.
+use Rattle.std.proofs.Common.{◌≡◌, ℕ, zero, suc, ◌+◌, ◌-◌, ◌<◌, ◌≤◌, Bool, true, false, List, [], ◌∷◌, ◌++◌, length, refl, sym, ap, subst, ◌∙◌, arith}
+use Rattle.std.proofs.lemmas.List.{append-nil}
+use Rattle.gr_base.specs.declared.events.Event.{Event}
+use Rattle.gr_program.specs.Programs.{Program}
+use Rattle.gr_rules.specs.Limits.{most_steps}
+use Rattle.gr_rules.specs.States.{State}
+use Rattle.gr_laws.specs.Reached.{Logged}
+use Rattle.gr_command.specs.declared.refusal.Refusal.TheVariants.{LogFull}
+use Rattle.gr_command.specs.Replies.{Said, Committed, Stale, No}
+use Rattle.gr_step.specs.declared.leasing.Batch.{Batch}
+use Rattle.gr_step.specs.Leasing.{Loan, loan_kept, IsAsLentIn}
+use Rattle.gr_step.specs.Stores.{program_at, contents_at}
+use Rattle.gr_rollback.specs.Leasing.{JoinAll, TakesAll, own_events}
+use Rattle.gr_rollback.specs.Machines as rollback
+use Rattle.gr_session.specs.declared.debuggee.Debuggee.{Debuggee}
+use Rattle.gr_session.specs.Journal.{World, past_of, course_of, again_past}
+use Rattle.gr_session.specs.declared.journal.Asked.TheVariants as asks
+use Rattle.gr_session.specs.declared.journal.Memory.TheVariants.{Enough}
+use Rattle.gr_session.specs.Entries.{Means, by_batch}
+use Rattle.gr_session.specs.Batches.{Commits, with_steps, all_join, has_no_room_for_all, has_changed, passes_grant}
+use Rattle.gr_session.specs.Debuggees.{HasLines, store_in, Stands}
+use Rattle.gr_session.specs.Carried.{CommitsTo}
+use Rattle.gr_session.proofs.GrantLemmas.{contains_here, lent_here, not_lent_here}
+
+-- what comes of a loan comes of the batch that is kept of it
+pub means_batch : (p : Program) (w u : World p) (batch : Batch) (loan : Loan) (stood : Bool) (reply : Said) → loan_kept batch ≡ loan
+    → Commits p w loan stood u reply → Means p w (asks.Batch batch stood) Enough u reply
+means_batch p w u batch loan stood reply is commits = by_batch (subst (λ l. Commits p w l stood u reply) (sym is) commits)
+
+-- after a step nothing may be taken again
+none_again : (taken : ℕ) (again : List Event) → 0 < taken → again_past taken again ≡ []
+none_again zero again some = absurd (omega (arith, some))
+none_again (suc taken) again some = refl
+
+above : {steps wanted : ℕ} → steps ≡ wanted → (steps ≡ 0 → ⊥) → 0 < wanted
+above same some = omega (arith, same, some)
+
+kept_within : (limit kept more : ℕ) → more ≡ 0 → kept ≤ limit → kept + more ≤ limit
+kept_within limit kept more none short = omega (arith, none, short)
+
+passes : (limit rest kept steps wanted : ℕ) → rest + kept ≡ limit → rest < steps → steps ≡ wanted → limit < kept + wanted
+passes limit rest kept steps wanted all less same = omega (arith, all, less, same)
+
+-- what the log has room for
+pub fits_all : (limit rest kept counted steps wanted : ℕ) → rest + kept ≡ limit → counted ≡ kept → steps ≤ rest → steps ≡ wanted → counted + wanted ≤ limit
+fits_all limit rest kept counted steps wanted all count few same = omega (arith, all, count, few, same)
+
+-- the log is within its limit
+pub kept_short : (limit rest kept : ℕ) → rest + kept ≡ limit → kept ≤ limit
+kept_short limit rest kept all = omega (arith, all)
+
+module _ (p : Program) (w : World p) (d : Debuggee) (s : Stands p w d) (b : Loan) where
+  -- its goroutine is no longer as it was lent
+  pub stale_where_changed : (IsAsLentIn b (program_at (store_in d)) (contents_at (store_in d)) → ⊥) → CommitsTo p w b false Stale d
+  stale_where_changed other = record {
+    world = w;
+    commits = has_changed (contents_at (store_in d)) (contains_here p w d s) (not_lent_here p w d s b other);
+    stands = s;
+  }
+
+  -- .. or the steps are too many
+  pub stale_past_grant : (steps : ℕ) → steps ≡ b.steps → d.grant < steps → CommitsTo p w b true Stale d
+  stale_past_grant steps same more = record {
+    world = w;
+    commits = passes_grant (let grant = s.grant in omega (arith, same, more, grant));
+    stands = s;
+  }
+
+  module _ (lent : IsAsLentIn b (program_at (store_in d)) (contents_at (store_in d))) (steps : ℕ) (same : steps ≡ b.steps) (few : steps ≤ d.grant) where
+    few_granted : b.steps ≤ w.grant
+    few_granted = let grant = s.grant in omega (arith, same, few, grant)
+
+    -- the log has no room for them
+    pub full_for_all : (rest : ℕ) → rest + length w.log ≡ most_steps → rest < steps → CommitsTo p w b true (No LogFull) d
+    full_for_all rest all less = record {
+      world = w;
+      commits = has_no_room_for_all (contents_at (store_in d)) (contains_here p w d s) (lent_here p w d s b lent) few_granted
+          (passes most_steps rest (length w.log) steps b.steps all less same);
+      stands = s;
+    }
+
+    -- they join it
+    module _ (new : Debuggee) (grant : new.grant ≡ d.grant - steps) (lines : HasLines w.lines new.lines) where
+      joined : (more : List (Logged p)) (t : State) → JoinAll p (past_of p w) b.name b.steps more t
+          → rollback.Stands p (record { past = record { log = w.log ++ more; state = t }; again = again_past b.steps w.again }) new.machine
+          → CommitsTo p w b true (Committed b.steps) new
+      joined more t join machine = record {
+        world = with_steps p w b more t;
+        commits = all_join (contents_at (store_in d)) more (contains_here p w d s) (lent_here p w d s b lent) few_granted join;
+        stands = record { machine = machine; lines = lines; grant = let was = s.grant in grant ∙ ap (λ g. g - steps) was ∙ ap (λ n. w.grant - n) same };
+      }
+
+      pub some_join : (steps ≡ 0 → ⊥) → TakesAll p (course_of p w) b.name b.steps new.machine → CommitsTo p w b true (Committed steps) new
+      some_join some takes =
+          subst (λ n. CommitsTo p w b true (Committed n) new) (sym same)
+          (joined takes.steps takes.state takes.join
+          (subst (λ again. rollback.Stands p (record { past = record { log = w.log ++ takes.steps; state = takes.state }; again = again }) new.machine)
+          (sym (none_again b.steps w.again (above same some))) takes.stands))
+
+      -- .. also where there is none
+      pub none_joins : steps ≡ 0 → length w.log ≤ most_steps → rollback.Stands p (course_of p w) new.machine → CommitsTo p w b true (Committed 0) new
+      none_joins none short machine =
+          let zero_steps : b.steps ≡ 0 = sym same ∙ none in
+          subst (λ n. CommitsTo p w b true (Committed n) new) zero_steps
+          (joined [] w.state
+          (record {
+            events = ap (own_events b.name) (sym zero_steps);
+            leads = refl;
+            room = kept_within most_steps (length w.log) b.steps zero_steps short;
+          })
+          (subst (λ (x : List (Logged p) × List Event). rollback.Stands p (record { past = record { log = x.0; state = w.state }; again = x.1 }) new.machine)
+          (λ i. (sym (append-nil w.log) i, ap (λ n. again_past n w.again) (sym zero_steps) i)) machine))

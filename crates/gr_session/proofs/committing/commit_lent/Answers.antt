@@ -1,0 +1,39 @@
+use Rattle.std.proofs.Common.{◌≡◌, ◌≤◌, ◌<◌, length, refl, sym, ap, ◌∙◌, arith}
+use Rattle.gr_depend.specs.Logs.{records_of}
+use Rattle.gr_rollback.specs.declared.TheConstants.{LOG_LIMIT}
+use Rattle.gr_rules.specs.Limits.{most_steps}
+use Rattle.gr_step.specs.Leasing.{loan_of}
+use Rattle.gr_session.specs.Debuggees.{log_in}
+use Rattle.gr_session.specs.Journal.{course_of}
+use Rattle.gr_session.proofs.CommitLemmas.{stale_past_grant, full_for_all, some_join, none_joins, fits_all, kept_short}
+use Rattle.gr_session.proofs.DebuggeeLemmas.{log_length}
+use Rattle.gr_session.proofs.committing.commit_lent.Goals as goal
+
+pub returns-then-steps-debuggee-clause-commits : goal.returns-then-steps-debuggee-clause-commits
+returns-then-steps-debuggee-clause-commits c = λ p w s.
+    stale_past_grant p w c.args.debuggee.now s (loan_of c.args.lease.now) c.len-steps.result c.len-steps.ensures (omega arith)
+
+pub returns-then-steps-room-clause-commits : goal.returns-then-steps-room-clause-commits
+returns-then-steps-room-clause-commits c = λ p w s.
+    full_for_all p w c.args.debuggee.now s (loan_of c.args.lease.now) c.requires.lent c.len-steps.result c.len-steps.ensures (omega arith)
+    c.room.result (c.room.ensures p w s) (omega arith)
+
+pub returns-then-steps-eq0-clause-commits : goal.returns-then-steps-eq0-clause-commits
+returns-then-steps-eq0-clause-commits c = λ p w s.
+    none_joins p w c.args.debuggee.now s (loan_of c.args.lease.now) c.requires.lent c.len-steps.result c.len-steps.ensures (omega arith)
+    c.args.debuggee.now (omega arith) s.lines (omega arith) (kept_short most_steps c.room.result (length w.log) (c.room.ensures p w s)) s.machine
+
+pub keep_all-requires-clause-room : goal.keep_all-requires-clause-room
+keep_all-requires-clause-room c =
+    let d = c.args.debuggee.now in
+    let x = c.requires.debuggee in
+    fits_all LOG_LIMIT c.room.result (length x.world.log) (length (records_of (log_in d))) c.len-steps.result (loan_of c.args.lease.now).steps
+    (c.room.ensures _ x.world x.stands) (log_length _ x.world d x.stands) (omega arith) c.len-steps.ensures
+
+pub returns-in-Ok-clause-commits : goal.returns-in-Ok-clause-commits
+returns-in-Ok-clause-commits c = λ p w s.
+    some_join p w c.args.debuggee.now s (loan_of c.args.lease.now) c.requires.lent c.len-steps.result c.len-steps.ensures (omega arith)
+    _ refl s.lines c.if-steps-eq0.false (c.in-Ok.ensures.kept p (course_of p w) s.machine)
+
+pub returns-in-Err-clause-commits : goal.returns-in-Err-clause-commits
+returns-in-Err-clause-commits c = λ p w s. record { machine = c.in-Err.ensures.kept p (course_of p w) s.machine; lines = s.lines; grant = s.grant }

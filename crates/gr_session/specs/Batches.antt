@@ -1,0 +1,33 @@
+-- What comes of a batch: of steps that a goroutine took by itself on a copy of it, and that are to join the log.
+use Rattle.std.specs.Prelude.{◌≡◌, ◌+◌, ◌-◌, ◌<◌, ◌≤◌, Bool, true, false, List, ◌++◌, length}
+use Rattle.gr_program.specs.Programs.{Program}
+use Rattle.gr_rules.specs.Limits.{most_steps}
+use Rattle.gr_rules.specs.States.{State}
+use Rattle.gr_laws.specs.Reached.{Logged}
+use Rattle.gr_contents.specs.Contents.{Contents}
+use Rattle.gr_command.specs.declared.refusal.Refusal.TheVariants.{LogFull}
+use Rattle.gr_command.specs.Replies.{Said, Committed, Stale, No}
+use Rattle.gr_step.specs.Leasing.{Loan, IsAsLentIn}
+use Rattle.gr_rollback.specs.Leasing.{Contains, JoinAll}
+use Rattle.gr_session.specs.Journal.{World, past_of, moved, again_past}
+
+-- the world after the steps of a loan, which the grant no longer has
+abbrev pub with_steps : (p : Program) → World p → Loan → List (Logged p) → State → World p
+with_steps p w b steps t =
+    record (moved p w (record { log = w.log ++ steps; state = t }) (again_past b.steps w.again)) { grant = w.grant - b.steps }
+
+-- What comes of the steps of a loan in a world, and whether the goroutine stood as it was lent, in a run of the same program that
+-- goes on. The rules do not see how a goroutine stands in code, and so its content is that of a store to which the steps lead.
+pub data Commits (p : Program) (w : World p) (b : Loan) : Bool → World p → Said → Type 0 where
+  -- it did: the steps join the log, each where the ones before it lead
+  all_join : {t : State} (s : Contents) (steps : List (Logged p))
+      → Contains p (past_of p w) s → IsAsLentIn b p s → b.steps ≤ w.grant → JoinAll p (past_of p w) b.name b.steps steps t
+      → Commits p w b true (with_steps p w b steps t) (Committed b.steps)
+  -- .. unless the log has no room for all of them
+  has_no_room_for_all : (s : Contents)
+      → Contains p (past_of p w) s → IsAsLentIn b p s → b.steps ≤ w.grant → most_steps < length w.log + b.steps
+      → Commits p w b true w (No LogFull)
+  -- it did not
+  has_changed : (s : Contents) → Contains p (past_of p w) s → ¬ IsAsLentIn b p s → Commits p w b false w Stale
+  -- the steps are more than the workers may take
+  passes_grant : {stood : Bool} → w.grant < b.steps → Commits p w b stood w Stale

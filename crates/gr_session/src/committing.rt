@@ -1,0 +1,66 @@
+//! Batches that are committed: the steps of a goroutine on its copy become steps of the program.
+
+ghost use Rattle.std.specs.Prelude.{◌≡◌};
+ghost use Rattle.gr_program.specs.Programs.{Program};
+ghost use Rattle.gr_step.specs.Stores.{SameListing};
+ghost use Rattle.gr_step.specs.Leasing.{IsLease, IsAsLent, loan_of};
+ghost use Rattle.gr_session.specs.Journal.{World};
+ghost use Rattle.gr_session.specs.Debuggees.{Stands, IsDebuggee, store_in};
+ghost use Rattle.gr_session.specs.Carried.{CommitsLent, CommitsBatch};
+
+use crate::debuggee::Debuggee;
+use crate::granting::room;
+use gr_base::NoMemory;
+use gr_command::{Refusal, Reply};
+use gr_step::{Batch, Lease};
+use std::alloc::Global;
+
+/// What the steps of a lease come to, whose goroutine is as it was lent: they join the log if the grant and the log have room for
+/// them. An error means that a growth was refused; nothing has changed then.
+fn commit_lent(alloc: Global, debuggee: &mut Debuggee, lease: &mut Lease) -> Result<Reply, NoMemory>
+    requires debuggee { IsDebuggee debuggee.old }
+    requires lease { IsLease lease.old }
+    requires lent { IsAsLent lease.old (store_in debuggee.old) }
+    ensures commits { (p : Program) → (w : World p) → Stands p w debuggee.old → CommitsLent p w (loan_of lease.old) result debuggee.new }
+    ensures loan { loan_of lease.new ≡ loan_of lease.old }
+    ensures listing { SameListing (store_in debuggee.old) (store_in debuggee.new) }
+{
+    let steps = lease.len();
+    if steps > debuggee.grant as usize {
+        return Ok(Reply::Stale);
+    }
+    if steps > room(debuggee) {
+        return Ok(Reply::Refused(Refusal::LogFull));
+    }
+    if steps == 0 {
+        return Ok(Reply::Committed(0));
+    }
+    match debuggee.machine.keep_all(alloc, lease) {
+        Ok(()) => {
+            debuggee.grant -= steps as u32;
+            Ok(Reply::Committed(steps as u32))
+        }
+        Err(NoMemory) => Err(NoMemory),
+    }
+}
+
+/// Lets the steps of a batch join the log, if its goroutine is as it was lent, in a run of the same program that goes on, and if
+/// the grant and the log have room for them. It tells whether the goroutine was so. An error means that a growth was refused;
+/// nothing has changed then.
+pub(crate) fn commit(
+    alloc: Global,
+    debuggee: &mut Debuggee,
+    lease: Lease,
+) -> Result<(Batch, bool, Reply), NoMemory>
+    requires debuggee { IsDebuggee debuggee.old }
+    requires lease { IsLease lease }
+    ensures commits { (p : Program) → (w : World p) → Stands p w debuggee.old → CommitsBatch p w (loan_of lease) result debuggee.new }
+    ensures listing { SameListing (store_in debuggee.old) (store_in debuggee.new) }
+{
+    let mut lease = lease;
+    if !debuggee.machine.has_as_lent(&lease) {
+        return Ok((lease.into_batch(), false, Reply::Stale));
+    }
+    let reply = commit_lent(alloc, debuggee, &mut lease)?;
+    Ok((lease.into_batch(), true, reply))
+}

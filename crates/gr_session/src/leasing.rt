@@ -1,0 +1,146 @@
+//! Goroutines that are lent to workers, and the steps that they take on the copy, without a session.
+
+ghost use Rattle.std.specs.Prelude.{IfOk};
+ghost use Rattle.gr_session.specs.Copies.{IsBatch};
+
+use crate::BATCH_LIMIT;
+use crate::journal::Receipt;
+use gr_base::{GoName, NoMemory};
+use gr_step::Lease as Copied;
+use std::alloc::Global;
+use std::marker::Model;
+
+/// What a worker is told of its batches. It is called without a session.
+pub trait Gate {
+    /// After each step of a batch.
+    fn in_batch(&self, worker: u32);
+
+    /// Before a batch is committed.
+    fn before_commit(&self, worker: u32);
+
+    /// After it was committed.
+    fn after_commit(&self, worker: u32, receipt: &Receipt);
+}
+
+/// A gate that does nothing.
+pub struct Open;
+
+impl Gate for Open {
+    fn in_batch(&self, _worker: u32) {}
+
+    fn before_commit(&self, _worker: u32) {}
+
+    fn after_commit(&self, _worker: u32, _receipt: &Receipt) {}
+}
+
+/// A copy of a goroutine that a session lends, with no step yet.
+#[derive(Drop)]
+pub struct Lease {
+    pub(crate) copy: Copied,
+    /// The place at which it was lent.
+    pub(crate) place: u32,
+}
+
+impl Model for Lease {
+    ghost use Rattle.std.specs.Prelude.{◌≡◌};
+    ghost use Rattle.gr_program.specs.contracts.program.Expr as expr;
+    ghost use Rattle.gr_program.specs.contracts.program.Stmt as stmt;
+    ghost use Rattle.gr_program.specs.contracts.types.Type as types;
+    ghost use Rattle.gr_code.specs.contracts.code.Operand as operands;
+    ghost use Rattle.std.specs.Coded.{codes};
+    ghost use Rattle.gr_step.specs.Leasing.{IsLease, loan_of};
+    ghost use Rattle.gr_session.specs.Copies.{Lent};
+
+    ghost Value = { Lent };
+
+    ghost coded = { Prim.hlevel (codes, expr.the_row.coded, stmt.the_row.coded, types.the_row.coded, operands.the_row.coded) };
+
+    ghost view = { λ l. record { copy = l.copy; place = l.place } };
+
+    ghost invariant = { λ l. IsLease l.copy × ((loan_of l.copy).steps ≡ 0) };
+}
+
+/// Steps that a goroutine took on a copy.
+#[derive(Drop)]
+pub struct Batch {
+    pub(crate) led: Copied,
+}
+
+impl Model for Batch {
+    ghost use Rattle.gr_program.specs.contracts.program.Expr as expr;
+    ghost use Rattle.gr_program.specs.contracts.program.Stmt as stmt;
+    ghost use Rattle.gr_program.specs.contracts.types.Type as types;
+    ghost use Rattle.gr_code.specs.contracts.code.Operand as operands;
+    ghost use Rattle.std.specs.Coded.{codes};
+    ghost use Rattle.gr_step.specs.declared.leasing.Lease.{Lease};
+    ghost use Rattle.gr_step.specs.Leasing.{IsLease};
+
+    ghost Value = { Lease };
+
+    ghost coded = { Prim.hlevel (codes, expr.the_row.coded, stmt.the_row.coded, types.the_row.coded, operands.the_row.coded) };
+
+    ghost view = { λ b. b.led };
+
+    ghost invariant = { λ b. IsLease b.led };
+}
+
+impl Lease {
+    ghost use Rattle.std.specs.Prelude.{◌≡◌};
+    ghost use Rattle.gr_step.specs.Leasing.{loan_of};
+
+    /// The name of its goroutine.
+    pub fn go(&self) -> &GoName
+        ensures { result.now ≡ (loan_of self.now.copy).name }
+    {
+        self.copy.go()
+    }
+
+    /// The place at which it was lent.
+    pub fn place(&self) -> u32
+        ensures { result ≡ self.now.place }
+    {
+        self.place
+    }
+}
+
+impl Batch {
+    ghost use Rattle.std.specs.Prelude.{◌≡◌};
+    ghost use Rattle.gr_step.specs.Leasing.{loan_of};
+
+    /// The name of its goroutine.
+    pub fn go(&self) -> &GoName
+        ensures { result.now ≡ (loan_of self.now).name }
+    {
+        self.led.go()
+    }
+
+    /// How many steps it has.
+    pub fn len(&self) -> usize
+        ensures { result ≡ (loan_of self.now).steps }
+    {
+        self.led.len()
+    }
+}
+
+/// Takes steps of the goroutine on its copy, none of which reaches further than the goroutine or is a fault: up to the limit, of
+/// which 0 counts as 1 and more than 256 as 256, or until no such step is next. It has no session. The gate is called after each
+/// step. Refused, the lease is gone.
+pub fn run_batch<G: Gate>(
+    alloc: Global,
+    lease: Lease,
+    limit: usize,
+    gate: &G,
+) -> Result<Batch, NoMemory>
+    ensures { IfOk result (IsBatch limit lease.copy) }
+{
+    let Lease { copy, place } = lease;
+    let mut copy = copy;
+    let most = limit.min(BATCH_LIMIT).max(1);
+    while copy.len() < most {
+        if !copy.step(alloc)? {
+            return Ok(Batch { led: copy });
+        }
+        gate.in_batch(place);
+    }
+    Ok(Batch { led: copy })
+}

@@ -1,0 +1,83 @@
+-- From the stream of a desk to the end of its session.
+use Rattle.std.proofs.Common.{◌≡◌, [], ◌∷◌, refl, sym, subst, ap, inl, inr, Ok, Err}
+use Rattle.std.specs.Prelude.{IfErr, OnOk}
+use Rattle.std.specs.Io.KnownBytes.{Keeps}
+use Rattle.std.specs.declared.result.Result.{Result}
+use Rattle.gr_program.specs.Programs.{Program}
+use Rattle.gr_share.specs.Calls.{Asker}
+use Rattle.rewind.specs.declared.stream.ServeFault.{ServeFault}
+use Rattle.rewind.specs.declared.stream.ServeFault.TheVariants.{Read, Write, Memory}
+use Rattle.rewind.specs.declared.debug.DebugFault.{DebugFault}
+use Rattle.rewind.specs.declared.debug.DebugFault.TheVariants.{Source, Open, Serve, Threads}
+use Rattle.rewind.specs.Devices.{Device, Change, NeverFails}
+use Rattle.rewind.specs.Debug.{Opened, SourceLeft, BlamesDevice}
+use Rattle.rewind.specs.Beside.{ServedBeside, LeftBeside, Settled, StreamLeft, BlamesStream, Streamed, EndedWith, BesideEnds, DebuggedBeside, BesideLeft, IsStill}
+use Rattle.rewind.proofs.Known.{Keeps-refl}
+
+abbrev still : Device → Change
+still device = record { old = device; new = device }
+
+-- where memory or threads were wanted before the stream, nothing was done
+pub no_memory : (reader writer : Device) → StreamLeft (Serve Memory) (still reader) (still writer) × BlamesStream (Serve Memory) (still reader) (still writer)
+no_memory reader writer = (inl (Keeps-refl reader.bytes, Keeps-refl writer.bytes), (refl, refl))
+
+still_keeps : (device : Change) → IsStill device → Keeps device.old.bytes device.new.bytes
+still_keeps device e = subst (λ d. Keeps device.old.bytes d.bytes) (sym e) (Keeps-refl device.old.bytes)
+
+pub no_threads : (reader writer : Change) → IsStill reader → IsStill writer → StreamLeft Threads reader writer × BlamesStream Threads reader writer
+no_threads reader writer r w = (inl (still_keeps reader r, still_keeps writer w), (ap (λ (d : Device). d.failures) r, ap (λ (d : Device). d.failures) w))
+
+-- the stream's fault is the session's
+left_beside : (fault : ServeFault) (reader writer : Change) → LeftBeside fault reader writer → StreamLeft (Serve fault) reader writer
+left_beside Read reader writer h = h
+left_beside Write reader writer h = h
+left_beside Memory reader writer h = inr h
+
+pub ends : {A E : Type 0} (program : Program) (served : Result E ServeFault) (result : Result A DebugFault) (old desk : Asker) (reader writer : Change)
+    → old.calls ≡ [] → Streamed old desk served reader writer → EndedWith served (Settled program (desk ∷ [])) result → BesideEnds program result reader writer
+ends program (Ok v) (Ok u) old desk reader writer fresh stream told =
+    (record { stream = record { old = old; fresh = fresh; desk = desk; served = stream.0 }; settled = told.0 }, stream.1)
+ends program (Ok v) (Err fault) old desk reader writer fresh stream told =
+    subst (λ f. StreamLeft f reader writer × BlamesStream f reader writer) (sym told.1)
+    (inr (record { old = old; fresh = fresh; desk = desk; served = stream.0 }), stream.1)
+ends program (Err why) (Ok u) old desk reader writer fresh stream told = absurd told.1
+ends program (Err why) (Err fault) old desk reader writer fresh stream told =
+    subst (λ f. StreamLeft f reader writer × BlamesStream f reader writer) (sym told.0)
+    (left_beside why reader writer (record { old = old; fresh = fresh; desk = desk; left = stream.0 }), stream.1)
+
+-- and so is that of the source
+pub served : {A : Type 0} (program : Program) (result : Result A DebugFault) (source reader writer : Change)
+    → Opened source.old.bytes source.new.bytes program → BesideEnds program result reader writer → OnOk result (DebuggedBeside source reader writer)
+served program (Ok v) source reader writer opened h = record { program = program; opened = opened; settled = h.0 }
+served program (Err fault) source reader writer opened h = tt
+
+stream_left : (fault : DebugFault) (source reader writer : Change) → StreamLeft fault reader writer → BesideLeft fault source reader writer
+stream_left Source source reader writer h = absurd h
+stream_left (Open error) source reader writer h = absurd h
+stream_left (Serve fault) source reader writer h = h
+stream_left Threads source reader writer h = h
+
+stream_blamed : (fault : DebugFault) (source reader writer : Change) → NeverFails source → BlamesStream fault reader writer → BlamesDevice fault source reader writer
+stream_blamed Source source reader writer n b = absurd b
+stream_blamed (Open error) source reader writer n b = absurd b
+stream_blamed (Serve fault) source reader writer n b = (n, b)
+stream_blamed Threads source reader writer n b = (n, b)
+
+pub left : {A : Type 0} (program : Program) (result : Result A DebugFault) (source reader writer : Change)
+    → BesideEnds program result reader writer → IfErr result (λ fault. BesideLeft fault source reader writer)
+left program (Ok v) source reader writer h = tt
+left program (Err fault) source reader writer h = stream_left fault source reader writer h.0
+
+pub blamed : {A : Type 0} (program : Program) (result : Result A DebugFault) (source reader writer : Change)
+    → NeverFails source → BesideEnds program result reader writer → IfErr result (λ fault. BlamesDevice fault source reader writer)
+blamed program (Ok v) source reader writer never h = tt
+blamed program (Err fault) source reader writer never h = stream_blamed fault source reader writer never h.1
+
+-- without a session nothing was done
+pub unshared : (fault : DebugFault) (source : Change) (reader writer : Device) → SourceLeft fault source → BesideLeft fault source (still reader) (still writer)
+unshared Source source reader writer h = (Keeps-refl reader.bytes, Keeps-refl writer.bytes)
+unshared (Open error) source reader writer h = (h, (Keeps-refl reader.bytes, Keeps-refl writer.bytes))
+unshared (Serve Read) source reader writer h = absurd h
+unshared (Serve Write) source reader writer h = absurd h
+unshared (Serve Memory) source reader writer h = inl (Keeps-refl reader.bytes, Keeps-refl writer.bytes)
+unshared Threads source reader writer h = absurd h

@@ -1,0 +1,17 @@
+use Rattle.std.proofs.Common.{◌≡◌, subst}
+use Rattle.gr_program.specs.Views.{program_of}
+use Rattle.rewind.specs.Devices.{change, known}
+use Rattle.rewind.specs.Beside.{BesideEnds}
+use Rattle.rewind.proofs.Debugging.{source_blamed}
+use Rattle.rewind.proofs.Sharing.{unshared, served, left, blamed}
+use Rattle.rewind.proofs.workers.debug_beside.Goals as goal
+
+pub returns-in-Err-clause-err : goal.returns-in-Err-clause-err
+returns-in-Err-clause-err g c =
+    unshared c.in-Err.fault (change g.S.Read.remaining c.args.source.now c.open_source.new.source)
+    (known g.R.Read.remaining c.args.reader.now) (known g.W.Write.contents c.args.writer.now) c.in-Err.ensures.err
+
+pub returns-in-Err-clause-blames : goal.returns-in-Err-clause-blames
+returns-in-Err-clause-blames g c =
+    source_blamed c.in-Err.fault (change g.S.Read.remaining c.args.source.now c.open_source.new.source)
+    (known g.R.Read.remaining c.args.reader.now) (known g.W.Write.contents c.args.writer.now) c.in-Err.ensures.err c.in-Err.ensures.source

@@ -1,0 +1,94 @@
+-- A session beside workers, from its source to its last reply.
+use Rattle.std.specs.Prelude.{◌≡◌, List, [], ◌∷◌, ◌⊎◌, All, Option, Some, None, Result, Ok, Err, OnOk, IfErr}
+use Rattle.gr_program.specs.Programs.{Program}
+use Rattle.gr_program.specs.Views.{program_of}
+use Rattle.gr_session.specs.Entries.{IsLegal}
+use Rattle.gr_session.specs.Keeps.{Seen}
+use Rattle.gr_share.specs.Calls.{Asker, IsTied}
+use Rattle.rewind.specs.declared.stream.ServeFault.{ServeFault}
+use Rattle.rewind.specs.declared.stream.ServeFault.TheVariants.{Read, Write, Memory}
+use Rattle.rewind.specs.declared.debug.DebugFault.{DebugFault}
+use Rattle.rewind.specs.declared.debug.DebugFault.TheVariants.{Source, Open, Serve, Threads}
+use Rattle.rewind.specs.Devices.{Change, NeverFails}
+use Rattle.rewind.specs.Fault.{Blames}
+use Rattle.rewind.specs.Debug.{Opened, Unopened, NothingDone}
+use Rattle.rewind.specs.DeskStreams.{Serves, Leaves}
+
+-- the lines were served by a desk without calls before
+pub record ServedBeside (reader writer : Change) : Type 0 where
+  pub old : Asker
+  pub fresh : old.calls ≡ []
+  pub desk : Asker
+  pub served : Serves old desk reader writer
+
+-- such a stream was left
+pub record LeftBeside (fault : ServeFault) (reader writer : Change) : Type 0 where
+  pub old : Asker
+  pub fresh : old.calls ≡ []
+  pub desk : Asker
+  pub left : Leaves fault old desk reader writer
+
+-- each desk's calls are its entries in the legal journal of a session of this program
+pub record Settled (program : Program) (desks : List Asker) : Type 0 where
+  pub session : Seen
+  pub program_is : program_of session.program ≡ program
+  pub legal : IsLegal program session.askers session.journal
+  pub tied : All (λ desk. IsTied session desk) desks
+
+-- the lines were served by a desk, whose calls are its entries in such a journal
+pub record SettledBeside (program : Program) (reader writer : Change) : Type 0 where
+  pub stream : ServedBeside reader writer
+  pub settled : Settled program (stream.desk ∷ [])
+
+-- what a fault leaves of such a stream, where there is a session
+abbrev pub StreamLeft : DebugFault → (reader writer : Change) → Type 0
+StreamLeft Source reader writer = ⊥
+StreamLeft (Open error) reader writer = ⊥
+StreamLeft (Serve Read) reader writer = LeftBeside Read reader writer
+StreamLeft (Serve Write) reader writer = LeftBeside Write reader writer
+StreamLeft (Serve Memory) reader writer = NothingDone reader writer ⊎ LeftBeside Memory reader writer
+StreamLeft Threads reader writer = NothingDone reader writer ⊎ ServedBeside reader writer
+
+-- its fault names the device that failed, if one did
+abbrev pub BlamesStream : DebugFault → (reader writer : Change) → Type 0
+BlamesStream Source reader writer = ⊥
+BlamesStream (Open error) reader writer = ⊥
+BlamesStream (Serve fault) reader writer = Blames fault reader writer
+BlamesStream Threads reader writer = NeverFails reader × NeverFails writer
+
+-- how a stream of a desk ended
+abbrev pub Streamed : {A : Type 0} → (old new : Asker) → Result A ServeFault → (reader writer : Change) → Type 0
+Streamed old new (Ok v) reader writer = Serves old new reader writer × (NeverFails reader × NeverFails writer)
+Streamed old new (Err fault) reader writer = Leaves fault old new reader writer × Blames fault reader writer
+
+-- the device is as it was
+abbrev pub IsStill : Change → Type 0
+IsStill device = device.new ≡ device.old
+
+-- how a stream ended, if it was begun
+abbrev pub StreamedIf : {A : Type 0} → (old new : Asker) → Option (Result A ServeFault) → (reader writer : Change) → Type 0
+StreamedIf old new (Some served) reader writer = Streamed old new served reader writer
+StreamedIf old new None reader writer = IsStill reader × IsStill writer
+
+-- what is told of a stream and of the end of the sharing
+abbrev pub EndedWith : {A E : Type 0} → Result E ServeFault → (settled : Type 0) → Result A DebugFault → Type 0
+EndedWith (Err fault) settled result = IfErr result (λ told. told ≡ Serve fault) × OnOk result ⊥
+EndedWith (Ok v) settled result = OnOk result settled × IfErr result (λ told. told ≡ Threads)
+
+-- how a session beside workers ended
+abbrev pub BesideEnds : {A : Type 0} → Program → Result A DebugFault → (reader writer : Change) → Type 0
+BesideEnds program (Ok v) reader writer = SettledBeside program reader writer × (NeverFails reader × NeverFails writer)
+BesideEnds program (Err fault) reader writer = StreamLeft fault reader writer × BlamesStream fault reader writer
+
+-- the lines were served beside workers, by a session of the source's program
+pub record DebuggedBeside (source reader writer : Change) : Type 0 where
+  pub program : Program
+  pub opened : Opened source.old.bytes source.new.bytes program
+  pub settled : SettledBeside program reader writer
+
+-- what a fault leaves: where there is no session, nothing was done
+abbrev pub BesideLeft : DebugFault → (source reader writer : Change) → Type 0
+BesideLeft Source source reader writer = NothingDone reader writer
+BesideLeft (Open error) source reader writer = Unopened error source.old.bytes source.new.bytes × NothingDone reader writer
+BesideLeft (Serve fault) source reader writer = StreamLeft (Serve fault) reader writer
+BesideLeft Threads source reader writer = StreamLeft Threads reader writer

@@ -1,0 +1,326 @@
+//! A session beside workers, from its source to its last reply.
+ghost use Rattle.std.specs.Prelude.{◌≡◌, ◌<◌, ◌≤◌, [], ◌∷◌, ◌++◌, OnOk, IfOk, IfErr, IfSome, IfNone, IsTrue, vec_len, vec_capacity};
+ghost use Rattle.gr_program.specs.Views.{program_of};
+ghost use Rattle.rewind.specs.Devices.{change};
+ghost use Rattle.rewind.specs.Debug.{BlamesDevice};
+ghost use Rattle.rewind.specs.Beside.{Settled, Streamed, EndedWith, BesideEnds, DebuggedBeside, BesideLeft, StreamedIf, IsStill};
+
+use crate::counted::Counted;
+use crate::debug::{DebugFault, open_source};
+use crate::desk::serve_desk;
+use crate::stream::ServeFault;
+use gr_base::NoMemory;
+use gr_session::Open;
+use gr_share::{Desk, Opened, Room, Shared, Worker, finish, worker};
+use std::alloc::Global;
+use std::io::{Read, Write};
+use std::marker::Brand;
+use std::sync::Wait;
+use std::thread::Threads;
+use std::{mem, thread};
+
+const MEMORY: DebugFault = DebugFault::Serve(ServeFault::Memory);
+
+// What is done beside the workers, where they have started. Of a reference that a closure holds nothing is known once it was
+// called, so the closure holds a task, and gives back what came of it.
+trait Task {
+    type Output;
+
+    ghost gives: { Self → Self.Output → Type 0 };
+
+    fn run(self, started: bool) -> Self::Output
+        ensures { gives self result };
+}
+
+// A desk, with the devices of its stream.
+#[derive(Drop)]
+struct Stream<'a, 'r, 'w, B: Room, T, R, W> {
+    rt: &'a T,
+    alloc: Global,
+    shared: &'a Shared<B>,
+    desk: Desk<B>,
+    reader: &'r mut Counted<R>,
+    writer: &'w mut Counted<W>,
+}
+
+impl<'a, 'r, 'w, B: Room, T: Wait, R: Read, W: Write> Task for Stream<'a, 'r, 'w, B, T, R, W> {
+    ghost use Rattle.std.specs.Prelude.{◌≡◌};
+    ghost use Rattle.rewind.specs.Devices.{change};
+    ghost use Rattle.rewind.specs.Beside.{StreamedIf};
+
+    type Output = (
+        Desk<B>,
+        &'r mut Counted<R>,
+        &'w mut Counted<W>,
+        Option<Result<(), ServeFault>>,
+    );
+
+    ghost gives = { λ s r. (r.1.ghost_name ≡ s.reader.ghost_name) × (r.2.ghost_name ≡ s.writer.ghost_name)
+        × StreamedIf s.desk r.0 r.3 (change R.remaining s.reader.now r.1.now) (change W.contents s.writer.now r.2.now) };
+
+    fn run(
+        self,
+        started: bool,
+    ) -> (
+        Desk<B>,
+        &'r mut Counted<R>,
+        &'w mut Counted<W>,
+        Option<Result<(), ServeFault>>,
+    ) {
+        let Stream {
+            rt,
+            alloc,
+            shared,
+            mut desk,
+            reader,
+            writer,
+        } = self;
+        let served = serve_if(rt, alloc, shared, started, &mut desk, reader, writer);
+        (desk, reader, writer, served)
+    }
+}
+
+// Serves a desk, if the workers have started.
+fn serve_if<B: Room, T: Wait, R: Read, W: Write>(
+    rt: &T,
+    alloc: Global,
+    shared: &Shared<B>,
+    started: bool,
+    desk: &mut Desk<B>,
+    reader: &mut Counted<R>,
+    writer: &mut Counted<W>,
+) -> Option<Result<(), ServeFault>>
+    ensures { StreamedIf desk.old desk.new result
+        (change R.remaining reader.old reader.new) (change W.contents writer.old writer.new) }
+{
+    if started {
+        Some(serve(rt, alloc, shared, desk, reader, writer))
+    } else {
+        None
+    }
+}
+
+// Serves a desk, in one clause.
+fn serve<B: Room, T: Wait, R: Read, W: Write>(
+    rt: &T,
+    alloc: Global,
+    shared: &Shared<B>,
+    desk: &mut Desk<B>,
+    reader: &mut Counted<R>,
+    writer: &mut Counted<W>,
+) -> Result<(), ServeFault>
+    ensures { Streamed desk.old desk.new result
+        (change R.remaining reader.old reader.new) (change W.contents writer.old writer.new) }
+{
+    match serve_desk(rt, alloc, shared, desk, reader, writer) {
+        Ok(()) => Ok(()),
+        Err(fault) => Err(fault),
+    }
+}
+
+// Ties a reference that came back, for the borrow checker, to the one that was lent.
+fn take_back<T>(lent: &mut T)
+    ensures { lent.new ≡ lent.old }
+{}
+
+// Seats for so many workers.
+fn seats<B: Room, T: Wait>(
+    rt: &T,
+    alloc: Global,
+    shared: &Shared<B>,
+    count: u32,
+) -> Result<Vec<Worker<B>>, NoMemory> {
+    let mut workers = Vec::new(alloc);
+    for _ in 0..count {
+        let Ok(seat) = shared.worker_seat(rt, alloc) else {
+            return Err(NoMemory);
+        };
+        workers.push(seat)?;
+    }
+    Ok(workers)
+}
+
+// Does the task while the workers work, each on a thread of its own, then tells them to end and waits for them. The task is told
+// whether all of them could be started.
+#[tactic(auto, using(gr_session::proofs::Crossing::session_send))]
+fn beside<B: Room + Send + Sync, T: Threads + Wait + Sync, J: Task + Drop>(
+    rt: &T,
+    alloc: Global,
+    shared: &Shared<B>,
+    workers: &mut [Worker<B>],
+    task: J,
+) -> J::Output
+    ensures { J.gives task result }
+{
+    thread::scope(
+        thread::scope_env(),
+        rt,
+        move |scope| -> J::Output
+            ensures { J.gives task result }
+        {
+            let mut started = true;
+            for me in workers.iter_mut() {
+                if scope
+                    .spawn(move || worker(rt, alloc, shared, me, &Open, u64::MAX))
+                    .is_err()
+                {
+                    started = false;
+                }
+            }
+            let done = task.run(started);
+            shared.close(rt);
+            done
+        },
+    )
+}
+
+// Serves a desk beside the workers. Where a thread could not be started, nothing was read or written.
+fn serve_among<B: Room + Send + Sync, T: Threads + Wait + Sync, R: Read, W: Write>(
+    rt: &T,
+    alloc: Global,
+    shared: &Shared<B>,
+    workers: &mut [Worker<B>],
+    desk: Desk<B>,
+    reader: &mut Counted<R>,
+    writer: &mut Counted<W>,
+) -> Option<(Desk<B>, Result<(), ServeFault>)>
+    ensures served { IfSome result (λ r. Streamed desk r.0 r.1
+        (change R.remaining reader.old reader.new) (change W.contents writer.old writer.new)) }
+    ensures none { IfNone result (IsStill (change R.remaining reader.old reader.new) × IsStill (change W.contents writer.old writer.new)) }
+{
+    let stream = Stream {
+        rt,
+        alloc,
+        shared,
+        desk,
+        reader,
+        writer,
+    };
+    let (desk, reader, writer, served) = beside(rt, alloc, shared, workers, stream);
+    take_back(reader);
+    take_back(writer);
+    match served {
+        Some(served) => Some((desk, served)),
+        None => None,
+    }
+}
+
+// A list with room for one desk.
+fn room_for_desk<B: Room>(alloc: Global) -> Result<Vec<Desk<B>>, NoMemory>
+    ensures empty { IfOk result (λ desks. (desks.items ≡ []) × (vec_len desks ≡ 0)) }
+    ensures room { IfOk result (λ desks. 1 ≤ vec_capacity desks) }
+{
+    let mut desks = Vec::new(alloc);
+    match desks.reserve(1) {
+        Ok(()) => Ok(desks),
+        Err(_) => Err(NoMemory),
+    }
+}
+
+// Ends the sharing. Whether all seats were there: then each desk's entries are its calls. The session's memory is not given back:
+// this is the last thing that a program does.
+fn settle<B: Room>(shared: Shared<B>, desks: Vec<Desk<B>>, workers: Vec<Worker<B>>) -> bool
+    ensures { IsTrue result → Settled B.program desks.items }
+{
+    match finish(shared, desks, workers) {
+        Ok(finished) => {
+            let _ = finished.session.journal();
+            mem::forget(finished);
+            true
+        }
+        Err(unfinished) => {
+            mem::forget(unfinished);
+            false
+        }
+    }
+}
+
+// Ends the sharing once a stream was served.
+fn ended<B: Room>(
+    shared: Shared<B>,
+    desks: Vec<Desk<B>>,
+    workers: Vec<Worker<B>>,
+    served: Result<(), ServeFault>,
+) -> Result<(), DebugFault>
+    ensures { EndedWith served (Settled B.program desks.items) result }
+{
+    let whole = settle(shared, desks, workers);
+    match served {
+        Err(fault) => Err(DebugFault::Serve(fault)),
+        Ok(()) => {
+            if whole {
+                Ok(())
+            } else {
+                Err(DebugFault::Threads)
+            }
+        }
+    }
+}
+
+// Serves one desk of the session, beside so many workers. In the end the workers are told to end and waited for, and the session
+// is shared no more.
+fn serve_beside<B: Room + Send + Sync, T: Threads + Wait + Sync, R: Read, W: Write>(
+    rt: &T,
+    alloc: Global,
+    opened: Opened,
+    count: u32,
+    reader: &mut Counted<R>,
+    writer: &mut Counted<W>,
+) -> Result<(), DebugFault>
+    requires table { opened.table ≡ B.table }
+    requires session { (program_of opened.session.program ≡ B.program) × (opened.session.askers ≡ B.first) }
+    ensures { BesideEnds B.program result
+        (change R.remaining reader.old reader.new) (change W.contents writer.old writer.new) }
+{
+    let shared = Shared::<B>::new(opened);
+    let Ok(desk) = shared.desk(rt, alloc) else {
+        return Err(MEMORY);
+    };
+    let Ok(mut desks) = room_for_desk(alloc) else {
+        return Err(MEMORY);
+    };
+    let Ok(mut workers) = seats(rt, alloc, &shared, count) else {
+        return Err(MEMORY);
+    };
+    let among = workers.as_mut_slice();
+    match serve_among(rt, alloc, &shared, among, desk, reader, writer) {
+        Some((desk, served)) => {
+            desks.push_reserved(desk);
+            ended(shared, desks, workers, served)
+        }
+        None => Err(DebugFault::Threads),
+    }
+}
+
+/// Reads the source, opens a session of its program, and serves one desk of it as `debug` serves a session, beside so many
+/// workers on threads of their own, which take the steps that `free` grants. In the end the workers are told to end and waited
+/// for, and the session is shared no more.
+///
+/// The answers are those of a legal journal of the source's program, in which the desk's entries are its commands, in their order.
+///
+/// After `Threads` a thread could not be started, and no command was read, or seats were missing in the end, and all lines were
+/// served. After the other faults what holds after those of `debug` holds.
+pub fn debug_beside<S: Read, R: Read, W: Write, T: Threads + Wait + Sync>(
+    rt: &T,
+    alloc: Global,
+    workers: u32,
+    source: &mut Counted<S>,
+    reader: &mut Counted<R>,
+    writer: &mut Counted<W>,
+) -> Result<(), DebugFault>
+    ensures ok { OnOk result (DebuggedBeside (change S.remaining source.old source.new)
+        (change R.remaining reader.old reader.new) (change W.contents writer.old writer.new)) }
+    ensures err { IfErr result (λ fault. BesideLeft fault (change S.remaining source.old source.new)
+        (change R.remaining reader.old reader.new) (change W.contents writer.old writer.new)) }
+    ensures blames { IfErr result (λ fault. BlamesDevice fault (change S.remaining source.old source.new)
+        (change R.remaining reader.old reader.new) (change W.contents writer.old writer.new)) }
+{
+    let session = match open_source(alloc, source) {
+        Ok(session) => session,
+        Err(fault) => return Err(fault),
+    };
+    let Ok(opened) = Opened::new(alloc, session) else {
+        return Err(MEMORY);
+    };
+    serve_beside::<Brand, T, R, W>(rt, alloc, opened, workers, reader, writer)
+}
