@@ -4,6 +4,8 @@
 #[cfg(test)]
 mod base;
 #[cfg(test)]
+mod batching;
+#[cfg(test)]
 mod channels;
 #[cfg(test)]
 mod debugger;
@@ -11,5 +13,7 @@ mod debugger;
 mod pool;
 #[cfg(test)]
 mod scan;
+#[cfg(test)]
+mod sharing;
 #[cfg(test)]
 mod syntax;
