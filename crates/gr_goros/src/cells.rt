@@ -60,7 +60,7 @@ fn note(
 
 /// Puts what a cell held back into it, if there is one with the number.
 #[inline(always)]
-fn put(cells: &mut Vec<Option<Value>>, slot: usize, held: Option<Value>)
+pub(crate) fn put(cells: &mut Vec<Option<Value>>, slot: usize, held: Option<Value>)
     ensures { cells.new.items ≡ slice_set cells.old.items slot held }
 {
     if slot < cells.len() {
