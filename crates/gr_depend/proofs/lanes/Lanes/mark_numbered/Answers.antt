@@ -1,13 +1,12 @@
-use Rattle.gr_depend.specs.Keys.{seen}
 use Rattle.gr_depend.proofs.WalkLemmas.{numbered_ascends, numbered_in_reach}
-use Rattle.gr_depend.proofs.lanes.Lanes.mark_object.Goals as goal
+use Rattle.gr_depend.proofs.lanes.Lanes.mark_numbered.Goals as goal
 
 pub mark_list-requires-clause-ascending : goal.mark_list-requires-clause-ascending
 mark_list-requires-clause-ascending c =
-    numbered_ascends c.args.self.now c.args.origin c.args.all (seen c.args.object.now) c.in-Some.number c.in-Some.touches.now c.in-Some.ensures.some
+    numbered_ascends c.args.self.now c.args.origin c.args.all c.requires.numbered.0 c.args.number c.args.touches.now c.requires.numbered.1
     c.args.walked.now c.args.marks.now c.args.marks.now c.requires.reach.ascending
 
 pub mark_list-requires-clause-reach : goal.mark_list-requires-clause-reach
 mark_list-requires-clause-reach c =
-    numbered_in_reach c.args.self.now c.args.origin c.args.all (seen c.args.object.now) c.in-Some.number c.in-Some.touches.now c.in-Some.ensures.some
+    numbered_in_reach c.args.self.now c.args.origin c.args.all c.requires.numbered.0 c.args.number c.args.touches.now c.requires.numbered.1
     c.args.walked.now c.args.marks.now c.args.marks.now _ c.requires.reach.reach
