@@ -44,12 +44,18 @@ bin/front_bench: FORCE
 	mkdir -p bin
 	cp crates/front_bench/out/front_bench bin/front_bench
 
-# The time of a step in a small and in a large program, of changes of a channel at a small and a large capacity, and of
-# scanning, parsing and checking small and large sources.
+bin/racing: FORCE
+	cd crates/racing && rt run >/dev/null
+	mkdir -p bin
+	cp crates/racing/out/racing bin/racing
+
+# The time of a step in a small and in a large program, of rollback, of steps that workers take, of changes of a channel at a small
+# and a large capacity, and of scanning, parsing and checking small and large sources.
 bench: bin/rewind bin/channel_bench bin/front_bench
 	bench/steps.py bin/rewind
 	bench/core.py bin/rewind
 	bench/rollback.py bin/rewind
+	bench/workers.py bin/rewind
 	bench/channels.py bin/channel_bench
 	bench/front.py bin/front_bench
 
@@ -58,9 +64,9 @@ bench: bin/rewind bin/channel_bench bin/front_bench
 replay: bin/rewind
 	bench/replay.py bin/rewind
 
-# Hostile use: broken and huge sources, hostile commands, devices that fail, each growth refused in turn, and the limits. Needs a C
-# compiler, `cc`.
-hostile: bin/rewind
+# Hostile use: broken and huge sources, hostile commands, devices that fail, each growth refused in turn, the limits, and callers that
+# race. Needs a C compiler, `cc`.
+hostile: bin/rewind bin/racing
 	hostile/all.sh bin/rewind
 
 # The gate in a fresh clone of what is committed, with the processor minutes of each crate (bin/gate.md, bin/gate.log).

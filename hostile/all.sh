@@ -1,5 +1,5 @@
 #!/usr/bin/env bash
-# Runs all of hostile/, each with its counts, and fails where one of them does.
+# Runs all of hostile/, each with its counts, and fails where one of them does. Callers race by bin/racing.
 #
 #     hostile/all.sh [PROGRAM [JOBS]]      (bin/rewind, all processors)
 set -u
@@ -9,5 +9,8 @@ jobs=${2:-$(nproc)}
 status=0
 for part in limits commands devices growth texts; do
   python3 "$here/$part.py" "$program" --jobs "$jobs" || status=1
+done
+for seed in 1 2 3 4 5 6 7 8; do
+  (cd "$here/../crates/racing/data" && "$here/../bin/racing" 1000 "$seed" *.go) || status=1
 done
 exit "$status"

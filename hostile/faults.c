@@ -21,6 +21,7 @@
 #include <errno.h>
 #include <stdio.h>
 #include <stdlib.h>
+#include <sys/syscall.h>
 #include <unistd.h>
 
 static long setting(const char *device, const char *what) {
@@ -64,10 +65,21 @@ void *realloc(void *old, size_t size) {
     return is_refused() ? NULL : real(old, size);
 }
 
+/* At the end, which is that of `main` or a call of `_exit`. */
 __attribute__((destructor)) static void tell(void) {
+    static int told;
     char text[64];
-    if (setting("REFUSE", "COUNT") >= 0 && write(2, text, snprintf(text, sizeof text, "growths %ld\n", growths)) < 0)
+    if (told || setting("REFUSE", "COUNT") < 0)
+        return;
+    told = 1;
+    if (write(2, text, snprintf(text, sizeof text, "growths %ld\n", growths)) < 0)
         _exit(4);
+}
+
+void _exit(int status) {
+    tell();
+    syscall(SYS_exit_group, status);
+    __builtin_unreachable();
 }
 
 /* Reads. */

@@ -1,7 +1,8 @@
 -- Lists of touches by the number and by the object.
-use Rattle.std.proofs.Common.{◌≡◌, ◌<◌, ◌^◌, ℕ, zero, suc, Bool, true, false, cond, if◌then◌else◌, List, [], ◌∷◌, length, map, filter, slice_get, slice_index_or, Option, Some, None, refl, sym, ap, subst, ◌∙◌, ◌+◌, add-one, inl, inr, arith}
-use Rattle.std.specs.Option.{unwrap_or}
+use Rattle.std.proofs.Common.{◌≡◌, ◌<◌, ℕ, zero, suc, Bool, true, false, cond, if◌then◌else◌, List, [], ◌∷◌, length, map, filter, slice_get, slice_index_or, Option, Some, None, refl, sym, ap, subst, ◌∙◌, ◌+◌, inl, inr, arith}
+use Rattle.std.specs.Option.{option_map_or, unwrap_or}
 use Rattle.std.specs.Prelude.{Result, Ok, Err, IfSome, IfNone, OnOk, OnErr}
+use Rattle.std.specs.Borrow.{Bor}
 use Rattle.std.specs.List.{position, IsDistinct}
 use Rattle.std.specs.Map.{lookup}
 use Rattle.std.proofs.lemmas.Bool.{cases_Bool}
@@ -97,14 +98,20 @@ no_key_at [] i k none some = cc
 no_key_at (e ∷ es) zero k none some = cc
 no_key_at (e ∷ es) (suc i) k none some = no_key_at es i k none some
 
--- the list with a number is the value of the entry before it
-pub list_there : {X : Type 0} (es : List (Key × X)) (i : ℕ) (k : Key) (v none : X) → slice_get es i ≡ Some (k, v) → v ≡ slice_index_or (map (λ e. e.1) es) i none
-list_there [] i k v none h = cc
-list_there (e ∷ es) zero k v none h = ap (λ p. p.1) (some_inj (sym h))
-list_there (e ∷ es) (suc i) k v none h = list_there es i k v none h
+-- the list of a lane, by its number, and that of Run
+abbrev by_value : Lanes → Option LaneSeen → List Touch
+by_value l o = option_map_or (λ k. k.0) o l.run.items
 
-pub numbered_there : (l : Lanes) (i : ℕ) (k : Key) (v : LaneSeen) → slice_get l.map.entries i ≡ Some (k, v) → v.0 ≡ list_numbered l (i + 1)
-numbered_there l i k v h = rw add-one (ap (λ k. k.0) (list_there l.map.entries i k v nothing h))
+pub numbered_there : (l : Lanes) (i : ℕ) (k : Key) (v : LaneSeen) → slice_get l.map.entries i ≡ Some (k, v) → v.0 ≡ list_numbered l i
+numbered_there l i k v h = sym (ap (by_value l) (value_at l.map.entries i k v h))
+
+none_there : {X : Type 0} (es : List (Key × X)) (i : ℕ) → slice_get es i ≡ None → slice_get (map (λ e. e.1) es) i ≡ None
+none_there [] i h = refl
+none_there (e ∷ es) zero h = absurd (let f : Some e ≡ None = h in cc)
+none_there (e ∷ es) (suc i) h = none_there es i h
+
+pub run_is_last : (l : Lanes) (i : ℕ) → slice_get l.map.entries i ≡ None → list_numbered l i ≡ l.run.items
+run_is_last l i h = ap (by_value l) (none_there l.map.entries i h)
 
 -- no entry has a key that no number has
 pub nowhere : {X : Type 0} (es : List (Key × X)) (k : Key) → ((i : ℕ) → i < length es → slice_get (map (λ e. e.0) es) i ≡ Some k → ⊥) → lookup (same_key k) es ≡ None
@@ -181,34 +188,38 @@ seen_other (refs.Head c) h = refl
 seen_other (refs.Slot c i) h = refl
 
 -- the list of an object that is not Run, by the number of its lane
-pub list_by_number : (l : Lanes) (o : Object) → same objects.Run o ≡ false → (i : ℕ) → slice_get (keys l.map) i ≡ Some (key_of o) → list_numbered l (i + 1) ≡ list_of l o
-list_by_number l o other i at = rw (add-one, other) (ap (λ k. k.0) (index_or (values l.map) i (get same_key l.map (key_of o)) nothing (named l.map l.unique i (key_of o) at)))
-  where
-    index_or : {X : Type 0} (xs : List X) (i : ℕ) (r : Option X) (none : X) → slice_get xs i ≡ r → slice_index_or xs i none ≡ unwrap_or r none
-    index_or [] i r none h = ap (λ x. unwrap_or x none) h
-    index_or (x ∷ xs) zero r none h = ap (λ x. unwrap_or x none) h
-    index_or (x ∷ xs) (suc i) r none h = index_or xs i r none h
+pub list_by_number : (l : Lanes) (o : Object) → same objects.Run o ≡ false → (i : ℕ) → slice_get (keys l.map) i ≡ Some (key_of o) → list_numbered l i ≡ list_of l o
+list_by_number l o other i at =
+    let own = entry_at l.map.entries i (key_of o) at in
+    let value : slice_get (values l.map) i ≡ Some own.0 = value_at l.map.entries i (key_of o) own.0 own.1 in
+    rw other (ap (by_value l) value ∙ ap (λ x. (unwrap_or x nothing).0) (sym value ∙ named l.map l.unique i (key_of o) at))
 
 pub within_keys : (ks : List Key) (i : ℕ) (k : Key) → slice_get ks i ≡ Some k → i < length ks
 within_keys [] i k h = cc
 within_keys (x ∷ xs) zero k h = omega arith
 within_keys (x ∷ xs) (suc i) k h = let rest = within_keys xs i k h in omega (arith, rest)
 
-pub small_number : {X : Type 0} (es : List (Key × X)) (i : ℕ) (k : Key) (n : ℕ) → slice_get (map (λ e. e.0) es) i ≡ Some k → n ≡ length es → n < 2 ^ 63 → i + 1 < 2 ^ 64
-small_number es i k n at is small =
-    let within = within_keys (map (λ e. e.0) es) i k at in
-    let same = length-map es (λ e. e.0) in
-    omega (arith, within, same)
-
 pub all_wanted : (ts : List Touch) → wanted true ts ≡ ts
 all_wanted [] = refl
 all_wanted (t ∷ ts) = ap (λ r. t ∷ r) (all_wanted ts)
 
+none_behind : {X : Type 0} (es : List (Key × X)) (n : ℕ) → n ≡ length es → slice_get es n ≡ None
+none_behind [] n is = refl
+none_behind (e ∷ es) zero is = absurd (omega (arith, is))
+none_behind (e ∷ es) (suc n) is = none_behind es n (omega (arith, is))
+
+-- the number of the list of Run
+pub run_at : (l : Lanes) (n : ℕ) → n ≡ length l.map.entries → (n < length (keys l.map) + 1) × (list_numbered l n ≡ l.run.items)
+run_at l n is = (
+  let same = length-map l.map.entries (λ e. e.0) in omega (arith, is, same),
+  run_is_last l n (none_behind l.map.entries n is),
+)
+
 -- Run has a number, and all its touches
-pub whole_run_numbered : (l : Lanes) (o : Object) (all : Bool) (ts : List Touch) → o ≡ objects.Run → ts ≡ l.run.items → IsNumbered l o all 0 ts
-whole_run_numbered l o all ts run is = subst (λ q. IsNumbered l q all 0 ts) (sym run) record {
-  below = omega arith;
-  list = refl;
+pub whole_run_numbered : (l : Lanes) (o : Object) (all : Bool) (n : ℕ) (ts : List Touch) → o ≡ objects.Run → n ≡ length l.map.entries → ts ≡ l.run.items → IsNumbered l o all n ts
+whole_run_numbered l o all n ts run last is = subst (λ q. IsNumbered l q all n ts) (sym run) record {
+  below = (run_at l n last).0;
+  list = (run_at l n last).1;
   part = true;
   is_part = is ∙ sym (all_wanted l.run.items);
   touches = ap (wanted all) is;
@@ -216,7 +227,7 @@ whole_run_numbered l o all ts run is = subst (λ q. IsNumbered l q all 0 ts) (sy
 
 -- a lane has a number, and all its touches
 pub other_numbered : (l : Lanes) (o : Object) (all : Bool) → same objects.Run o ≡ false → (i : ℕ) → slice_get (keys l.map) i ≡ Some (key_of o)
-    → (ts : List Touch) → ts ≡ list_numbered l (i + 1) → IsNumbered l o all (i + 1) ts
+    → (ts : List Touch) → ts ≡ list_numbered l i → IsNumbered l o all i ts
 other_numbered l o all other i at ts is = record {
   below = let within = within_keys (keys l.map) i (key_of o) at in omega (arith, within);
   list = list_by_number l o other i at;
@@ -225,11 +236,20 @@ other_numbered l o all other i at ts is = record {
   touches = ap (wanted all) (is ∙ list_by_number l o other i at);
 }
 
+-- a lane's touches serve whichever are wanted
+abbrev pub if_numbered : Lanes → Object → Bool → Option (ℕ × Bor (List Touch)) → Type 0
+if_numbered l o all r = IfSome r (λ list. IsNumbered l o all list.0 list.1.now)
+
+pub if_wanted : (l : Lanes) (o : Object) (all : Bool) (r : Option (ℕ × Bor (List Touch))) → IfSome r (λ list. (b : Bool) → IsNumbered l o b list.0 list.1.now)
+    → if_numbered l o all r
+if_wanted l o all (Some list) some = some all
+if_wanted l o all None some = tt
+
 -- the touches that wrote Run are those that are wanted where writes are
-pub run_numbered : (l : Lanes) (o : Object) (ts : List Touch) → o ≡ objects.Run → ts ≡ l.stops.items → IsNumbered l o false 0 ts
-run_numbered l o ts run is = subst (λ q. IsNumbered l q false 0 ts) (sym run) record {
-  below = omega arith;
-  list = refl;
+pub run_numbered : (l : Lanes) (o : Object) (n : ℕ) (ts : List Touch) → o ≡ objects.Run → n ≡ length l.map.entries → ts ≡ l.stops.items → IsNumbered l o false n ts
+run_numbered l o n ts run last is = subst (λ q. IsNumbered l q false n ts) (sym run) record {
+  below = (run_at l n last).0;
+  list = (run_at l n last).1;
   part = false;
   is_part = is ∙ l.writers;
   touches = ap (wanted false) (is ∙ l.writers) ∙ once_more (λ t. t.writes) l.run.items;

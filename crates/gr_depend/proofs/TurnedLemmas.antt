@@ -21,7 +21,7 @@ use Rattle.gr_depend.specs.Lists.{list_of, list_numbered}
 use Rattle.gr_depend.specs.Touches.{is_among, touch_at, touches_in}
 use Rattle.gr_depend.specs.Turned.{place_at, AreTurned, TouchesTurnedFrom}
 use Rattle.gr_depend.proofs.KeyLemmas.{key_is, key_back}
-use Rattle.gr_depend.proofs.LaneLemmas.{list_by_number, within_keys}
+use Rattle.gr_depend.proofs.LaneLemmas.{list_by_number, run_at, within_keys}
 
 -- an object that the two steps touched, and that one of them wrote
 pub record IsShared (x y : Record) (o : Object) : Type 0 where
@@ -87,10 +87,10 @@ key_there (e ∷ es) k = elim (cases_Bool (same_key k e.0)) [
 -- a list that has a touch has a number
 number_of : (l : Lanes) (o : Object) (t : Touch) → In t (list_of l o) → (n : ℕ) × (n < length (keys l.map) + 1) × (list_numbered l n ≡ list_of l o)
 number_of l o t h = elim (cases_Bool (same objects.Run o)) [
-  | inl run ↦ (0, omega arith, rw run refl)
+  | inl run ↦ let last = run_at l (length l.map.entries) refl in (length l.map.entries, last.0, rw run last.1)
   | inr other ↦ elim (key_there l.map.entries (key_of o)) [
     | inl none ↦ absurd (rw (other, none) at h)
-    | inr w ↦ let below = within_keys (keys l.map) w.0 (key_of o) w.1 in (w.0 + 1, omega (arith, below), list_by_number l o other w.0 w.1)
+    | inr w ↦ let below = within_keys (keys l.map) w.0 (key_of o) w.1 in (w.0, omega (arith, below), list_by_number l o other w.0 w.1)
   ]
 ]
 

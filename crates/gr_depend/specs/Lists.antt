@@ -1,6 +1,6 @@
 -- The lists of touches that are kept for the objects.
-use Rattle.std.specs.Prelude.{◌≡◌, ◌<◌, ◌+◌, length, ◌++◌, ℕ, zero, suc, Bool, if◌then◌else◌, List, [], ◌∷◌, slice_index_or}
-use Rattle.std.specs.Option.{unwrap_or}
+use Rattle.std.specs.Prelude.{◌≡◌, ◌<◌, ◌+◌, length, ◌++◌, ℕ, Bool, if◌then◌else◌, List, [], ◌∷◌, slice_get}
+use Rattle.std.specs.Option.{option_map_or, unwrap_or}
 use Rattle.indexmap.specs.IndexMap.{get, values, keys}
 use Rattle.gr_base.specs.declared.objects.Object.{Object}
 use Rattle.gr_base.specs.declared.objects.Object.TheVariants as objects
@@ -23,10 +23,9 @@ nothing = ([], 0)
 abbrev pub list_of : Lanes → Object → List Touch
 list_of l o = if same objects.Run o then l.run.items else (unwrap_or (get same_key l.map (key_of o)) nothing).0
 
--- the list with a number: that of Run, and then those of the other objects
+-- the list with a number: those of the other objects, and behind them that of Run
 abbrev pub list_numbered : Lanes → ℕ → List Touch
-list_numbered l zero = l.run.items
-list_numbered l (suc i) = (slice_index_or (values l.map) i nothing).0
+list_numbered l i = option_map_or (λ k. k.0) (slice_get (values l.map) i) l.run.items
 
 -- all lists are as they were
 abbrev pub KeepsLists : Lanes → Lanes → Type 0

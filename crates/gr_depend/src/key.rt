@@ -5,6 +5,7 @@ ghost use Rattle.gr_rules.specs.States.{same};
 ghost use Rattle.gr_depend.specs.Keys.{key_of, object_of, seen};
 ghost use Rattle.gr_base.specs.declared.objects.Object.TheVariants.{Go};
 
+use crate::guesses::Guesses;
 use gr_base::{ChName, GoName, NoMemory, Object};
 use std::alloc::Global;
 
@@ -52,6 +53,66 @@ impl ObjectRef<'_> {
             }
             _ => false,
         }
+    }
+}
+
+/// What names an object.
+pub(crate) trait Named {
+    ghost use Rattle.gr_base.specs.declared.objects.Object.{Object};
+
+    ghost object: { Self → Object };
+
+    /// Whether this is its key.
+    fn has_key(&self, key: &Key) -> bool
+        ensures { result ≡ same (object_of key.now) (object self.now) };
+
+    /// A guess of the number of its lane.
+    fn guess(&self, guesses: &Guesses) -> usize;
+
+    /// The object, by this name.
+    fn as_ref(&self) -> ObjectRef<'_>
+        ensures { seen result ≡ object self.now };
+}
+
+impl Named for GoName {
+    ghost use Rattle.gr_base.specs.declared.objects.Object.TheVariants.{Go};
+
+    ghost object = { Go };
+
+    #[inline(always)]
+    fn has_key(&self, key: &Key) -> bool {
+        key.is_of_go(self)
+    }
+
+    #[inline(always)]
+    fn guess(&self, guesses: &Guesses) -> usize {
+        guesses.of_go(self)
+    }
+
+    #[inline(always)]
+    fn as_ref(&self) -> ObjectRef<'_> {
+        ObjectRef::Go(self)
+    }
+}
+
+impl Named for ObjectRef<'_> {
+    ghost use Rattle.gr_depend.specs.Keys.{seen};
+
+    ghost object = { seen };
+
+    #[inline(always)]
+    fn has_key(&self, key: &Key) -> bool {
+        key.is_of(self)
+    }
+
+    #[inline(always)]
+    fn guess(&self, guesses: &Guesses) -> usize {
+        guesses.of(self)
+    }
+
+    #[inline(always)]
+    fn as_ref(&self) -> ObjectRef<'_> {
+        *self
     }
 }
 

@@ -1,16 +1,16 @@
 //! The touches of each object.
 
-ghost use Rattle.std.specs.Prelude.{◌≡◌, ◌+◌, [], ◌∷◌, ◌++◌, OnOk, OnErr, IfSome, IfNone, IfOk, IsOk, IsTrue, IsFalse, Some, None, is_some, true, false, ◌↔◌, cond, position, slice_get, length, filter, ◌<◌, ◌≤◌};
+ghost use Rattle.std.specs.Prelude.{◌≡◌, ◌+◌, [], ◌∷◌, OnOk, OnErr, IfSome, IfNone, IsOk, IsTrue, Some, None, true, false, Bool, ◌↔◌, cond, position, slice_get, length, filter, ◌<◌};
 ghost use Rattle.std.proofs.Props.{props};
 ghost use Rattle.gr_rules.specs.States.{same};
 ghost use Rattle.gr_depend.specs.Keys.{same_key, key_of, seen};
 ghost use Rattle.indexmap.specs.IndexMap.{IsUnique, keys, get};
 
 use crate::guesses::Guesses;
-use crate::key::{Key, ObjectRef};
+use crate::key::{Key, Named, ObjectRef};
 use crate::lane::Lane;
 use crate::touch::Touch;
-use gr_base::{GoName, NoMemory};
+use gr_base::NoMemory;
 use indexmap::IndexMap;
 use std::alloc::Global;
 use std::cell::Cell;
@@ -52,55 +52,18 @@ impl Lanes {
         }
     }
 
-    /// The number of the lane of an object, if it has one.
-    #[inline(always)]
-    fn number(&self, object: &ObjectRef<'_>) -> Option<usize>
-        ensures named { IfSome result (λ i. slice_get (keys self.now.map) i ≡ Some (key_of (seen object.now))) }
-        ensures absent { IfNone result (get same_key self.now.map (key_of (seen object.now)) ≡ None) }
-    {
-        match object {
-            ObjectRef::Go(go) => self.number_of_go(go),
-            _ => self.guessed(object),
-        }
-    }
-
-    /// The number of the lane of a goroutine, if it has one.
-    #[inline(always)]
-    fn number_of_go(&self, go: &GoName) -> Option<usize>
-        ensures named { IfSome result (λ i. slice_get (keys self.now.map) i ≡ Some (key_of (objects.Go go.now))) }
-        ensures absent { IfNone result (get same_key self.now.map (key_of (objects.Go go.now)) ≡ None) }
-    {
-        let guess = self.guesses.of_go(go);
-        if self.is_go_at(go, guess) {
-            self.last.set(guess);
-            return Some(guess);
-        }
-        self.look_further(&ObjectRef::Go(go))
-    }
-
-    /// Whether the lane with a number is that of a goroutine.
-    #[inline(always)]
-    fn is_go_at(&self, go: &GoName, number: usize) -> bool
-        ensures { IsTrue result ↔ (slice_get (keys self.now.map) number ≡ Some (key_of (objects.Go go.now))) }
-    {
-        match self.map.get_index(number) {
-            Some((key, _)) => key.is_of_go(go),
-            None => false,
-        }
-    }
-
     /// The number of the lane of an object, if it has one, by the guess for objects like this.
     #[inline(always)]
-    fn guessed(&self, object: &ObjectRef<'_>) -> Option<usize>
-        ensures named { IfSome result (λ i. slice_get (keys self.now.map) i ≡ Some (key_of (seen object.now))) }
-        ensures absent { IfNone result (get same_key self.now.map (key_of (seen object.now)) ≡ None) }
+    fn number<N: Named>(&self, object: &N) -> Option<usize>
+        ensures named { IfSome result (λ i. slice_get (keys self.now.map) i ≡ Some (key_of (N.object object.now))) }
+        ensures absent { IfNone result (get same_key self.now.map (key_of (N.object object.now)) ≡ None) }
     {
-        let guess = self.guesses.of(object);
+        let guess = object.guess(&self.guesses);
         if self.is_at(object, guess) {
             self.last.set(guess);
             return Some(guess);
         }
-        self.look_further(object)
+        self.look_further(&object.as_ref())
     }
 
     /// The number of the lane of an object, by a second guess: the lane that came last after the one that was asked for before.
@@ -124,11 +87,11 @@ impl Lanes {
 
     /// Whether the lane with a number is that of an object.
     #[inline(always)]
-    fn is_at(&self, object: &ObjectRef<'_>, number: usize) -> bool
-        ensures { IsTrue result ↔ (slice_get (keys self.now.map) number ≡ Some (key_of (seen object.now))) }
+    fn is_at<N: Named>(&self, object: &N, number: usize) -> bool
+        ensures { IsTrue result ↔ (slice_get (keys self.now.map) number ≡ Some (key_of (N.object object.now))) }
     {
         match self.map.get_index(number) {
-            Some((key, _)) => key.is_of(object),
+            Some((key, _)) => object.has_key(key),
             None => false,
         }
     }
@@ -184,24 +147,10 @@ impl Lanes {
     pub(crate) fn list(&self, object: &ObjectRef<'_>) -> &[Touch]
         ensures { result.now ≡ list_of self.now (seen object.now) }
     {
-        match object {
-            ObjectRef::Run => self.run.as_slice(),
-            _ => match self.number(object) {
-                Some(number) => self.lane(number),
-                None => &[],
-            },
+        match self.numbered(object, true) {
+            Some((_, touches)) => touches,
+            None => &[],
         }
-    }
-
-    /// The touches in the list with a number.
-    pub(crate) fn list_with(&self, number: usize) -> &[Touch]
-        requires { number < length (keys self.now.map) + 1 }
-        ensures { result.now ≡ list_numbered self.now number }
-    {
-        if number == 0 {
-            return self.run.as_slice();
-        }
-        self.lane(number - 1)
     }
 
     /// How many lists there are, that of `Run` included.
@@ -211,6 +160,17 @@ impl Lanes {
         self.map.len() + 1
     }
 
+    /// The touches in the list with a number: that of a lane, and behind the lanes that of `Run`.
+    #[inline]
+    pub(crate) fn list_with(&self, number: usize) -> &[Touch]
+        ensures { result.now ≡ list_numbered self.now number }
+    {
+        match self.map.get_index(number) {
+            Some((_, lane)) => lane.as_slice(),
+            None => self.run.as_slice(),
+        }
+    }
+
     /// The number of the list of an object, and touches among which are those of the list that are wanted: all of them, or
     /// those that wrote.
     pub(crate) fn numbered(&self, object: &ObjectRef<'_>, all: bool) -> Option<(usize, &[Touch])>
@@ -218,54 +178,29 @@ impl Lanes {
         ensures none { IfNone result (list_of self.now (seen object.now) ≡ []) }
     {
         match object {
-            ObjectRef::Run if all => Some((0, self.run.as_slice())),
-            ObjectRef::Run => Some((0, self.stops.as_slice())),
-            _ => self.numbered_other(object, all),
+            ObjectRef::Run if all => Some((self.map.len(), self.run.as_slice())),
+            ObjectRef::Run => Some(self.stops()),
+            _ => self.numbered_lane(object),
         }
+    }
+
+    /// The same of `Run`, of whose touches those are wanted that wrote it.
+    #[inline]
+    pub(crate) fn stops(&self) -> (usize, &[Touch])
+        ensures { IsNumbered self.now objects.Run false result.0 result.1.now }
+    {
+        (self.map.len(), self.stops.as_slice())
     }
 
     /// The same of an object that is not `Run`.
     #[inline]
-    fn numbered_other(&self, object: &ObjectRef<'_>, all: bool) -> Option<(usize, &[Touch])>
-        requires { same objects.Run (seen object.now) ≡ false }
-        ensures some { IfSome result (λ list. IsNumbered self.now (seen object.now) all list.0 list.1.now) }
-        ensures none { IfNone result (list_of self.now (seen object.now) ≡ []) }
+    pub(crate) fn numbered_lane<N: Named>(&self, object: &N) -> Option<(usize, &[Touch])>
+        requires { same objects.Run (N.object object.now) ≡ false }
+        ensures some { IfSome result (λ list. (all : Bool) → IsNumbered self.now (N.object object.now) all list.0 list.1.now) }
+        ensures none { IfNone result (list_of self.now (N.object object.now) ≡ []) }
     {
         let number = self.number(object)?;
-        // This bounds the number of lanes, so that one can be added to a number below it.
-        let _count = self.map.len();
-        let touches = self.lane(number);
-        Some((number + 1, touches))
-    }
-
-    /// The same of a goroutine, of whose touches all are wanted.
-    #[inline]
-    pub(crate) fn numbered_go(&self, go: &GoName) -> Option<(usize, &[Touch])>
-        ensures some { IfSome result (λ list. IsNumbered self.now (objects.Go go.now) true list.0 list.1.now) }
-        ensures none { IfNone result (list_of self.now (objects.Go go.now) ≡ []) }
-    {
-        let number = self.number_of_go(go)?;
-        // This bounds the number of lanes, so that one can be added to a number below it.
-        let _count = self.map.len();
-        let touches = self.lane(number);
-        Some((number + 1, touches))
-    }
-
-    /// The touches in the lane with a number.
-    fn lane(&self, number: usize) -> &[Touch]
-        requires { number < length (keys self.now.map) }
-        ensures { result.now ≡ list_numbered self.now (number + 1) }
-    {
-        let (_, lane) = self.map.get_index(number).unwrap();
-        lane.as_slice()
-    }
-
-    /// The touches of `Run` that wrote it: those of its list that are wanted where writes are.
-    #[inline]
-    pub(crate) fn stops(&self) -> &[Touch]
-        ensures { IsNumbered self.now objects.Run false 0 result.now }
-    {
-        self.stops.as_slice()
+        Some((number, self.list_with(number)))
     }
 
     /// Adds a touch to the list of an object. Refused, all lists are as before.
@@ -277,7 +212,7 @@ impl Lanes {
     {
         match object {
             ObjectRef::Run => self.add_to_run(touch),
-            _ => self.add_to_other(object, touch),
+            _ => self.add_to_lane(object, touch),
         }
     }
 
@@ -299,34 +234,16 @@ impl Lanes {
 
     /// Adds a touch to the list of an object that is not `Run`.
     #[inline(always)]
-    pub(crate) fn add_to_other(
-        &mut self,
-        object: &ObjectRef<'_>,
-        touch: Touch,
-    ) -> Result<(), NoMemory>
-        requires { same objects.Run (seen object.now) ≡ false }
-        ensures ok { OnOk result (Adds (seen object.now) touch self.old self.new) }
+    pub(crate) fn add_to_lane<N: Named>(&mut self, object: &N, touch: Touch) -> Result<(), NoMemory>
+        requires { same objects.Run (N.object object.now) ≡ false }
+        ensures ok { OnOk result (Adds (N.object object.now) touch self.old self.new) }
         ensures err { OnErr result (KeepsLists self.old self.new) }
-        ensures succeeds { FitsFor (seen object.now ∷ []) touch self.old → IsOk result }
+        ensures succeeds { FitsFor (N.object object.now ∷ []) touch self.old → IsOk result }
         ensures room { KeepsRoom self.old self.new }
     {
         match self.number(object) {
             Some(number) => self.map.get_index_mut(number).unwrap().push(touch),
-            None => self.add_lane(object, touch),
-        }
-    }
-
-    /// Adds a touch to the list of a goroutine.
-    #[inline(always)]
-    pub(crate) fn add_to_go(&mut self, go: &GoName, touch: Touch) -> Result<(), NoMemory>
-        ensures ok { OnOk result (Adds (objects.Go go.now) touch self.old self.new) }
-        ensures err { OnErr result (KeepsLists self.old self.new) }
-        ensures succeeds { FitsFor (objects.Go go.now ∷ []) touch self.old → IsOk result }
-        ensures room { KeepsRoom self.old self.new }
-    {
-        match self.number_of_go(go) {
-            Some(number) => self.map.get_index_mut(number).unwrap().push(touch),
-            None => self.add_lane(&ObjectRef::Go(go), touch),
+            None => self.add_lane(&object.as_ref(), touch),
         }
     }
 
@@ -363,7 +280,7 @@ impl Lanes {
     {
         match object {
             ObjectRef::Run => self.take_from_run(),
-            _ => self.take_from_other(object),
+            _ => self.take_from_lane(object),
         }
     }
 
@@ -382,23 +299,12 @@ impl Lanes {
 
     /// The same of an object that is not `Run`.
     #[inline]
-    fn take_from_other(&mut self, object: &ObjectRef<'_>)
-        requires { same objects.Run (seen object.now) ≡ false }
-        ensures lists { TakesBack (seen object.now) self.old self.new }
+    pub(crate) fn take_from_lane<N: Named>(&mut self, object: &N)
+        requires { same objects.Run (N.object object.now) ≡ false }
+        ensures lists { TakesBack (N.object object.now) self.old self.new }
         ensures room { KeepsRoom self.old self.new }
     {
         if let Some(number) = self.number(object) {
-            self.map.get_index_mut(number).unwrap().pop();
-        }
-    }
-
-    /// The same of a goroutine.
-    #[inline]
-    pub(crate) fn take_from_go(&mut self, go: &GoName)
-        ensures lists { TakesBack (objects.Go go.now) self.old self.new }
-        ensures room { KeepsRoom self.old self.new }
-    {
-        if let Some(number) = self.number_of_go(go) {
             self.map.get_index_mut(number).unwrap().pop();
         }
     }

@@ -89,12 +89,12 @@ impl Log {
         if let Err(error) = reserved {
             return Err((step, NoMemory::from(error)));
         }
-        let noted = self.lanes.note(self.records.len() as u64, &step);
-        if let Err(error) = noted {
-            return Err((step, error));
-        }
+        let place = self.records.len();
         self.records.push_reserved(step);
-        Ok(())
+        match self.lanes.note(place as u64, &self.records[place]) {
+            Ok(()) => Ok(()),
+            Err(error) => Err((self.records.pop().unwrap(), error)),
+        }
     }
 
     /// Takes the last step out, if there is one. It takes no memory.

@@ -57,7 +57,7 @@ impl Lanes {
             writes: true,
         };
         self.add_to_run(read)?;
-        let noted = self.add_to_go(&step.id.go, written);
+        let noted = self.add_to_lane(&step.id.go, written);
         if let Err(error) = noted {
             self.take_from_run();
             return Err(error);
@@ -119,10 +119,10 @@ impl Lanes {
         ensures succeeds { FitsFor (objects.Go go.now ∷ writes_in beyond.now) touch self.old → IsOk result }
         ensures room { KeepsRoom self.old self.new }
     {
-        self.add_to_go(go, touch)?;
+        self.add_to_lane(go, touch)?;
         let noted = self.note_met(beyond, touch);
         if let Err(error) = noted {
-            self.take_from_go(go);
+            self.take_from_lane(go);
             return Err(error);
         }
         Ok(())
@@ -162,10 +162,10 @@ impl Lanes {
         ensures succeeds { FitsFor (objects.Go go.now ∷ others.now) touch self.old → IsOk result }
         ensures room { KeepsRoom self.old self.new }
     {
-        self.add_to_go(go, touch)?;
+        self.add_to_lane(go, touch)?;
         let noted = self.note_all(others, touch);
         if let Err(error) = noted {
-            self.take_from_go(go);
+            self.take_from_lane(go);
             return Err(error);
         }
         Ok(())
@@ -218,7 +218,7 @@ impl Lanes {
     {
         match parts {
             Parts::Nothing => Ok(()),
-            Parts::Gate => self.add_to_other(&ObjectRef::Gate(channel), touch),
+            Parts::Gate => self.add_to_lane(&ObjectRef::Gate(channel), touch),
             Parts::Entrance => self.note_end(&ObjectRef::Tail(channel), channel, slot, touch),
             Parts::Exit => self.note_end(&ObjectRef::Head(channel), channel, slot, touch),
             Parts::GateAndExit => self.note_gate_and_exit(channel, slot, touch),
@@ -241,11 +241,11 @@ impl Lanes {
         ensures succeeds { FitsFor (seen end.now ∷ slot_before channel.now slot []) touch self.old → IsOk result }
         ensures room { KeepsRoom self.old self.new }
     {
-        self.add_to_other(end, touch)?;
+        self.add_to_lane(end, touch)?;
         let Some(place) = slot else {
             return Ok(());
         };
-        let added = self.add_to_other(&ObjectRef::Slot(channel, place), touch);
+        let added = self.add_to_lane(&ObjectRef::Slot(channel, place), touch);
         if let Err(error) = added {
             self.take_back(end);
             return Err(error);
@@ -267,7 +267,7 @@ impl Lanes {
         ensures room { KeepsRoom self.old self.new }
     {
         let gate = ObjectRef::Gate(channel);
-        self.add_to_other(&gate, touch)?;
+        self.add_to_lane(&gate, touch)?;
         let noted = self.note_end(&ObjectRef::Head(channel), channel, slot, touch);
         if let Err(error) = noted {
             self.take_back(&gate);
@@ -311,7 +311,7 @@ impl Lanes {
         ensures lists { (before : Object → List Touch) (place : ℕ) → ((q : Object) → list_of self.old q ≡ before q ++ kept_for q place step.now) → (q : Object) → list_of self.new q ≡ before q }
         ensures room { KeepsRoom self.old self.new }
     {
-        self.take_from_go(&step.id.go);
+        self.take_from_lane(&step.id.go);
         self.take_from_run();
     }
 

@@ -2,6 +2,7 @@
 
 ghost use Rattle.std.specs.Prelude.{◌≡◌, ◌+◌, length, true, false, None};
 ghost use Rattle.indexmap.specs.IndexMap.{keys};
+ghost use Rattle.gr_base.specs.declared.objects.Object.{Object};
 ghost use Rattle.gr_base.specs.declared.objects.Object.TheVariants.{Run, Go};
 ghost use Rattle.gr_depend.specs.Keys.{seen};
 ghost use Rattle.gr_depend.specs.Marks.{hits, Marks};
@@ -11,11 +12,12 @@ use crate::key::ObjectRef;
 use crate::lanes::Lanes;
 use crate::marks::{Origin, mark_list};
 use crate::objects::{Objects, reads, writes};
+use crate::touch::Touch;
 use gr_base::{GoName, Object};
 use gr_step::Record;
 
 impl Lanes {
-    ghost use Rattle.gr_depend.specs.Lists.{list_of};
+    ghost use Rattle.gr_depend.specs.Lists.{list_of, IsNumbered};
     ghost use Rattle.gr_depend.specs.Walks.{AreInReach, AreWalked, hits_any, meets_step};
 
     /// Sets the marks of the steps on one side of a place that wrote what this step read, or touched what it wrote.
@@ -74,12 +76,8 @@ impl Lanes {
         ensures marks { Marks origin (hits false (list_of self.now Run)) marks.old marks.new }
         ensures walked { AreWalked self.now origin false walked.new marks.new }
     {
-        let touches = self.stops();
-        if walked[0] {
-            return;
-        }
-        walked[0] = true;
-        mark_list(marks, origin, touches, false);
+        let (number, touches) = self.stops();
+        self.mark_numbered(origin, number, touches, false, walked, marks);
     }
 
     /// Sets the marks of the touches of a goroutine.
@@ -91,14 +89,35 @@ impl Lanes {
         ensures marks { Marks origin (hits true (list_of self.now (Go go.now))) marks.old marks.new }
         ensures walked { AreWalked self.now origin true walked.new marks.new }
     {
-        let Some((number, touches)) = self.numbered_go(go) else {
-            return;
-        };
+        if let Some((number, touches)) = self.numbered_lane(go) {
+            self.mark_numbered(origin, number, touches, true, walked, marks);
+        }
+    }
+
+    /// Sets the marks of those touches in a list that are wanted, of all of them or of those that wrote, which are among these
+    /// touches. A list is walked once.
+    #[inline]
+    fn mark_numbered(
+        &self,
+        origin: Origin,
+        number: usize,
+        touches: &[Touch],
+        all: bool,
+        walked: &mut [bool],
+        marks: &mut [bool],
+    )
+        requires numbered { (o : Object) × IsNumbered self.now o all number touches.now }
+        requires reach { AreInReach self.now origin (length marks.old) }
+        requires count { length walked.old ≡ length (keys self.now.map) + 1 }
+        requires walked { AreWalked self.now origin all walked.old marks.old }
+        ensures marks { (o : Object) → IsNumbered self.now o all number touches.now → Marks origin (hits all (list_of self.now o)) marks.old marks.new }
+        ensures walked { AreWalked self.now origin all walked.new marks.new }
+    {
         if walked[number] {
             return;
         }
         walked[number] = true;
-        mark_list(marks, origin, touches, true);
+        mark_list(marks, origin, touches, all);
     }
 
     /// The same of a step that reached further.
@@ -119,15 +138,15 @@ impl Lanes {
         ensures read_walked { AreWalked self.now origin false read.new marks.new }
         ensures written_walked { AreWalked self.now origin true written.new marks.new }
     {
-        self.mark_each(origin, reads(step), false, read, marks);
-        self.mark_each(origin, writes(step), true, written, marks);
+        self.mark_each(origin, &mut reads(step), false, read, marks);
+        self.mark_each(origin, &mut writes(step), true, written, marks);
     }
 
     /// Sets the marks of touches of these objects.
     fn mark_each(
         &self,
         origin: Origin,
-        objects: Objects<'_>,
+        objects: &mut Objects<'_>,
         all: bool,
         walked: &mut [bool],
         marks: &mut [bool],
@@ -135,14 +154,14 @@ impl Lanes {
         requires reach { AreInReach self.now origin (length marks.old) }
         requires count { length walked.old ≡ length (keys self.now.map) + 1 }
         requires walked { AreWalked self.now origin all walked.old marks.old }
-        ensures marks { Marks origin (hits_any self.now all (seen_in objects.entry)) marks.old marks.new }
+        ensures marks { Marks origin (hits_any self.now all (seen_in objects.old)) marks.old marks.new }
         ensures walked { AreWalked self.now origin all walked.new marks.new }
     {
-        let Some((first, rest)) = objects.split_first() else {
+        let Some(first) = objects.next() else {
             return self.mark_all(origin, objects.others, all, walked, marks);
         };
         self.mark_object(origin, &first, all, walked, marks);
-        self.mark_each(origin, rest, all, walked, marks);
+        self.mark_each(origin, objects, all, walked, marks);
     }
 
     /// The same for a slice.
@@ -166,7 +185,7 @@ impl Lanes {
         }
     }
 
-    /// Sets the marks of touches of an object, of all of them or of those that wrote. A list is walked once.
+    /// Sets the marks of touches of an object, of all of them or of those that wrote.
     fn mark_object(
         &self,
         origin: Origin,
@@ -181,13 +200,8 @@ impl Lanes {
         ensures marks { Marks origin (hits all (list_of self.now (seen object.now))) marks.old marks.new }
         ensures walked { AreWalked self.now origin all walked.new marks.new }
     {
-        let Some((number, touches)) = self.numbered(object, all) else {
-            return;
-        };
-        if walked[number] {
-            return;
+        if let Some((number, touches)) = self.numbered(object, all) {
+            self.mark_numbered(origin, number, touches, all, walked, marks);
         }
-        walked[number] = true;
-        mark_list(marks, origin, touches, all);
     }
 }

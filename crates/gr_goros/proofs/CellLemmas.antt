@@ -1,5 +1,5 @@
 -- Cells that are written to and put back.
-use Rattle.std.proofs.Common.{◌≡◌, ℕ, ℤ, zero, suc, List, [], ◌∷◌, ◌++◌, ◌+◌, ◌<◌, length, drop, Option, Some, None, refl, sym, ap, ◌∙◌, arith, length-drop, get_or}
+use Rattle.std.proofs.Common.{◌≡◌, ℕ, ℤ, zero, suc, Bool, List, [], ◌∷◌, ◌++◌, ◌+◌, ◌<◌, length, drop, Option, Some, None, refl, sym, ap, ap₂, ◌∙◌, arith, length-drop, get_or}
 use Rattle.std.specs.Prelude.{slice_set, slice_get, slice_index_or}
 use Rattle.gr_base.specs.declared.values.Value.{Value}
 use Rattle.gr_base.specs.declared.values.Value.TheVariants as values
@@ -29,6 +29,35 @@ number_back (Some x ∷ cells) zero v n h = cc
 number_back (None ∷ cells) zero v n h = cc
 number_back (x ∷ cells) (suc k) v n h = ap (λ l. x ∷ l) (number_back cells k v n h)
 
+-- .. that held a truth value
+truth_back : (cells : Variables) (k : ℕ) (v : Option Value) (b : Bool) → held (slice_get cells k) ≡ gives (values.Bool b)
+    → slice_set (slice_set cells k v) k (Some (values.Bool b)) ≡ cells
+truth_back [] k v b h = refl
+truth_back (Some x ∷ cells) zero v b h = cc
+truth_back (None ∷ cells) zero v b h = cc
+truth_back (x ∷ cells) (suc k) v b h = ap (λ l. x ∷ l) (truth_back cells k v b h)
+
+number_here : (x : Option Value) (n : ℤ) → held (Some x) ≡ gives (values.Int n) → Some (values.Int n) ≡ x
+number_here (Some x) n h = cc
+number_here None n h = cc
+
+truth_here : (x : Option Value) (b : Bool) → held (Some x) ≡ gives (values.Bool b) → Some (values.Bool b) ≡ x
+truth_here (Some x) b h = cc
+truth_here None b h = cc
+
+not_both : (o : Outcome Value) (n : ℤ) (b : Bool) → o ≡ gives (values.Int n) → o ≡ gives (values.Bool b) → ⊥
+not_both o n b h i = absurd (let no : gives (values.Int n) ≡ gives (values.Bool b) = sym h ∙ i in cc)
+
+-- two cells are put back, of which one held a number and the other a truth value
+pub two_back : (cells : Variables) (k j : ℕ) (v w : Option Value) (n : ℤ) (b : Bool)
+    → held (slice_get cells k) ≡ gives (values.Int n) → held (slice_get cells j) ≡ gives (values.Bool b)
+    → slice_set (slice_set (slice_set (slice_set cells k v) j w) j (Some (values.Bool b))) k (Some (values.Int n)) ≡ cells
+two_back [] k j v w n b h i = refl
+two_back (x ∷ cells) zero zero v w n b h i = absurd (not_both (held (Some x)) n b h i)
+two_back (x ∷ cells) zero (suc j) v w n b h i = ap₂ (λ x l. x ∷ l) (number_here x n h) (truth_back cells j w b i)
+two_back (x ∷ cells) (suc k) zero v w n b h i = ap₂ (λ x l. x ∷ l) (truth_here x b i) (number_back cells k v n h)
+two_back (x ∷ cells) (suc k) (suc j) v w n b h i = ap (λ l. x ∷ l) (two_back cells k j v w n b h i)
+
 -- values that can be assigned are there
 none_left : (ts : List (Option ℕ)) (cells : Variables) → 0 < length ts → assigned ts [] cells ≡ wrong
 none_left [] cells h = absurd (omega (arith, h))
@@ -51,7 +80,7 @@ drop_first (x ∷ ts) (suc i) t h e =
     let one : suc i + 1 ≡ suc (i + 1) = omega arith in rw one (drop_first ts i t (omega (arith, h)) e)
 
 -- one value is assigned, and then the others
-one_assigned : (k : ℕ) (ts : List (Option ℕ)) (v : Value) (vs : List Value) (cells : Variables)
+pub one_assigned : (k : ℕ) (ts : List (Option ℕ)) (v : Value) (vs : List Value) (cells : Variables)
     → ¬ (assigned (Some k ∷ ts) (v ∷ vs) cells ≡ wrong)
     → assigned (Some k ∷ ts) (v ∷ vs) cells ≡ assigned ts vs (slice_set cells k (Some v))
 one_assigned k ts v vs cells h =

@@ -1,5 +1,6 @@
 mod AloneLemmas
 mod AlikeLemmas
+mod CallLemmas
 mod CellLemmas
 mod CodeLemmas
 mod NeedLemmas

@@ -8,7 +8,7 @@ use Rattle.gr_rules.specs.Operators.{operate}
 use Rattle.gr_rules.specs.Operands.{Operands}
 use Rattle.gr_rules.specs.Evaluation.{Variables, held, evaluate_all}
 use Rattle.gr_rules.specs.Frames.{written}
-use Rattle.gr_rules.specs.Deeds.{Prints, Enters, Leaves, as_truth, as_channel, only, texts, spaced}
+use Rattle.gr_rules.specs.Deeds.{Prints, Leaves, as_truth, as_channel, only, texts, spaced}
 use Rattle.gr_rules.specs.Points.{Piece}
 use Rattle.gr_base.specs.declared.names.ChName.{ChName}
 use Rattle.gr_code.specs.Instructions.{Action}
@@ -60,7 +60,6 @@ performed f action es = evaluate_all f.cells es >>= acted f action
 abbrev pub TaskIs : Task → Outcome frames.Task → CodeFrame → CodeFrame → Type 0
 TaskIs (tasks.Steps u) o old new = (o ≡ gives (Steps new)) × (frame_before u new ≡ old)
 TaskIs (tasks.Prints line) o old new = (o ≡ gives (Wants (Prints line.items))) × (new ≡ old)
-TaskIs (tasks.Enters f vs) o old new = (o ≡ gives (Wants (Enters f vs.items))) × (new ≡ old)
 TaskIs (tasks.Leaves v) o old new = (o ≡ gives (Wants (Leaves v))) × (new ≡ old)
 
 -- .. or a fault, or there was no memory, and the frame is as it was

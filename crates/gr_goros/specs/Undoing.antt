@@ -28,6 +28,7 @@ restored (former.Bool k b) cells = slice_set cells k (Some (values.Bool b))
 restored (former.Unit k) cells = slice_set cells k (Some values.Unit)
 restored (former.Nil k) cells = slice_set cells k (Some (values.Chan None))
 restored (former.Channel k name) cells = slice_set cells k (Some (values.Chan (Some name)))
+restored (former.IntAndBool b k n j) cells = slice_set (slice_set cells j (Some (values.Bool b))) k (Some (values.Int n))
 restored (former.Each ws) cells = each_restored ws.items cells
 
 -- where a frame stands

@@ -9,9 +9,9 @@ ghost use Rattle.gr_code.specs.Goroutines.{task_of};
 ghost use Rattle.gr_goros.specs.Alone.{stays, stays_alone};
 ghost use Rattle.gr_goros.specs.Tasks.{performed, updated};
 
+use crate::calling::MOST_FRAMES;
 use crate::frame::Frame;
 use crate::goroutine::Goroutine;
-use crate::steps::MOST_FRAMES;
 use gr_code::code::{Action, Ask, Code, Instruction, Operand};
 use gr_eval::{any_faults, faults, update_faults};
 use gr_tree::BinaryOp;

@@ -1,7 +1,7 @@
 //! The cells of a frame: how they are written to, and put back.
 
-ghost use Rattle.std.specs.Prelude.{◌≡◌, ◌+◌, ◌<◌, ◌≤◌, IfOk, OnErr, replicate, slice_get, slice_set, vec_len, vec_capacity};
-ghost use Rattle.gr_base.specs.declared.values.Value.TheVariants.{Int};
+ghost use Rattle.std.specs.Prelude.{◌≡◌, ◌+◌, ◌<◌, ◌≤◌, IfOk, IfSome, OnErr, replicate, slice_get, slice_set, vec_len, vec_capacity};
+ghost use Rattle.gr_base.specs.declared.values.Value.TheVariants.{Int, Bool};
 ghost use Rattle.gr_rules.specs.Outcomes.{gives, wrong};
 ghost use Rattle.gr_rules.specs.Evaluation.{Variables, held};
 ghost use Rattle.gr_rules.specs.Frames.{assigned};
@@ -60,7 +60,7 @@ fn note(
 
 /// Puts what a cell held back into it, if there is one with the number.
 #[inline(always)]
-fn put(cells: &mut Vec<Option<Value>>, slot: usize, held: Option<Value>)
+pub(crate) fn put(cells: &mut Vec<Option<Value>>, slot: usize, held: Option<Value>)
     ensures { cells.new.items ≡ slice_set cells.old.items slot held }
 {
     if slot < cells.len() {
@@ -101,6 +101,10 @@ pub(crate) fn put_back(cells: &mut Vec<Option<Value>>, former: Former)
         Former::Unit(slot) => put(cells, slot, Some(Value::Unit)),
         Former::Nil(slot) => put(cells, slot, Some(Value::Chan(None))),
         Former::Channel(slot, name) => put(cells, slot, Some(Value::Chan(Some(name)))),
+        Former::IntAndBool(b, slot, n, other) => {
+            put(cells, other, Some(Value::Bool(b)));
+            put(cells, slot, Some(Value::Int(n)));
+        }
         Former::Each(written) => put_each(cells, written),
     }
 }
@@ -131,21 +135,43 @@ pub(crate) fn assign(
     Ok(written)
 }
 
+/// The number and the truth value that two cells hold, if they do.
+#[inline]
+fn number_and_truth(cells: &[Option<Value>], first: usize, second: usize) -> Option<(i64, bool)>
+    ensures number { IfSome result (λ r. held (slice_get cells.now first) ≡ gives (Int r.0)) }
+    ensures truth { IfSome result (λ r. held (slice_get cells.now second) ≡ gives (Bool r.1)) }
+{
+    let n = match cells.get(first) {
+        Some(Some(Value::Int(n))) => *n,
+        _ => return None,
+    };
+    match cells.get(second) {
+        Some(Some(Value::Bool(b))) => Some((n, *b)),
+        _ => None,
+    }
+}
+
 /// Writes to two cells, one after the other, and answers what they held. Refused, nothing has changed.
+#[tactic(auto, using(crate::proofs::CellLemmas::two_back))]
 pub(crate) fn write_two(
     alloc: Global,
     cells: &mut Vec<Option<Value>>,
     first: (usize, Value),
     second: (usize, Value),
-) -> Result<Vec<(usize, Option<Value>)>, NoMemory>
+) -> Result<Former, NoMemory>
     ensures after { IfOk result (λ _. cells.new.items ≡ slice_set (slice_set cells.old.items first.0 (Some first.1)) second.0 (Some second.1)) }
-    ensures back { IfOk result (λ written. each_restored written.items cells.new.items ≡ cells.old.items) }
+    ensures back { IfOk result (λ former. restored former cells.new.items ≡ cells.old.items) }
     ensures err { OnErr result (cells.new.items ≡ cells.old.items) }
 {
+    if let Some((n, truth)) = number_and_truth(cells, first.0, second.0) {
+        put(cells, first.0, Some(first.1));
+        put(cells, second.0, Some(second.1));
+        return Ok(Former::IntAndBool(truth, first.0, n, second.0));
+    }
     let mut written = Vec::with_capacity(alloc, 2)?;
     note(cells, &mut written, first.0, first.1);
     note(cells, &mut written, second.0, second.1);
-    Ok(written)
+    Ok(Former::Each(written))
 }
 
 /// So many cells without a value.

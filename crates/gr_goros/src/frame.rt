@@ -46,6 +46,18 @@ impl Frame {
         }
     }
 
+    /// The function with a number before its first instruction, with these cells.
+    #[inline]
+    pub(crate) fn begin(function: u32, cells: Vec<Option<Value>>) -> Frame
+        ensures { result ≡ record { function = function; number = 0; cells = cells.items } }
+    {
+        Frame {
+            function,
+            number: 0,
+            cells,
+        }
+    }
+
     /// The function before its first instruction, its parameters having these values.
     pub(crate) fn enter(
         alloc: Global,
@@ -62,11 +74,7 @@ impl Frame {
         let function_code = code_of(code, function);
         let mut cells = cells::empty(alloc, function_code.cells)?;
         cells::fill(&mut cells, &function_code.parameters, values);
-        Ok(Frame {
-            function: counted,
-            number: 0,
-            cells,
-        })
+        Ok(Frame::begin(counted, cells))
     }
 
     /// The same once more.
@@ -227,17 +235,14 @@ impl Frame {
             return Ok(self.go_on(on));
         };
         let (value, sent) = got;
-        let written = cells::write_two(
+        let cells = cells::write_two(
             alloc,
             &mut self.cells,
             (value_slot, value),
             (sent_slot, Value::Bool(sent)),
         )?;
         let number = mem::replace(&mut self.number, on);
-        Ok(FrameUndo {
-            number,
-            cells: Former::Each(written),
-        })
+        Ok(FrameUndo { number, cells })
     }
 
     /// Goes on after it printed, closed or started something.

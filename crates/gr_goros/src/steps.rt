@@ -4,10 +4,11 @@ ghost use Rattle.std.specs.Prelude.{◌≡◌, ◌+◌, ◌<◌, ◌≤◌, ◌^
 ghost use Rattle.gr_base.specs.declared.kinds.Kind.TheVariants as kinds;
 ghost use Rattle.gr_rules.specs.Outcomes.{wrong};
 ghost use Rattle.gr_code.specs.CodeViews.{program_code_of};
-ghost use Rattle.gr_code.specs.Goroutines.{enters, faulted, leaves, local, printing, task_of, is_local as is_local_now};
-ghost use Rattle.gr_goros.specs.Undoing.{IsLive, Undoes};
+ghost use Rattle.gr_code.specs.Goroutines.{faulted, leaves, local, printing, task_of, is_local as is_local_now};
+ghost use Rattle.gr_goros.specs.Undoing.{Undoes};
 ghost use Rattle.gr_goros.specs.Tasks.{IsStep};
 
+use crate::calling::call_in;
 use crate::frame::Frame;
 use crate::goroutine::Goroutine;
 use crate::needs::asks_nothing;
@@ -18,9 +19,6 @@ use gr_code::code::Code;
 use gr_eval::Stop;
 use std::alloc::Global;
 use std::mem;
-
-/// How many frames a goroutine may have.
-pub(crate) const MOST_FRAMES: usize = 1000;
 
 impl Goroutine {
     /// Whether the next instruction asks for nothing beyond the goroutine: its step is local, unless it is a call that is too
@@ -55,6 +53,7 @@ impl Goroutine {
 impl Goroutine {
     /// Takes the next step, of whatever kind. Refused, nothing has changed.
     #[inline(never)]
+    #[tactic(auto, using(crate::proofs::CallLemmas::local_is))]
     fn take_task(&mut self, alloc: Global, code: &Code) -> Result<(Kind, GoUndo), NoMemory>
         requires right { ¬ (local (program_code_of code.now) self.old.content ≡ wrong) }
         requires here { is_local_now (program_code_of code.now) self.old.content ≡ true }
@@ -64,6 +63,9 @@ impl Goroutine {
         ensures err_room { OnErr result (self.old.room ≤ self.new.room) }
     {
         let instruction = self.top.instruction(code);
+        if let Some((function, operands)) = call_in(instruction) {
+            return self.call(alloc, code, function, operands);
+        }
         let has_caller = !self.below.is_empty();
         match self.top.task(alloc, instruction, has_caller) {
             Ok(Task::Steps(undo)) => {
@@ -71,7 +73,6 @@ impl Goroutine {
                 Ok((Kind::Pure, GoUndo::Went(self.top.kept_function(), undo)))
             }
             Ok(Task::Prints(line)) => self.print(code, line),
-            Ok(Task::Enters(function, arguments)) => self.enter(alloc, code, function, arguments),
             Ok(Task::Leaves(value)) => self.leave(alloc, code, value),
             Err(Stop::Fault(fault)) => Ok(self.stop(fault)),
             Err(Stop::NoMemory) => Err(NoMemory),
@@ -79,7 +80,7 @@ impl Goroutine {
     }
 
     /// A fault.
-    fn stop(&mut self, fault: Fault) -> (Kind, GoUndo)
+    pub(crate) fn stop(&mut self, fault: Fault) -> (Kind, GoUndo)
         requires { self.old.content.steps + 1 < 2 ^ 64 }
         ensures kind { result.0 ≡ kinds.Fault fault }
         ensures after { self.new.content ≡ faulted self.old.content }
@@ -102,34 +103,6 @@ impl Goroutine {
         let spot = self.top.complete(self.top.instruction(code));
         self.steps += 1;
         Ok((Kind::Pure, GoUndo::Printed(spot)))
-    }
-
-    /// Calls a function. Refused, nothing has changed.
-    fn enter(
-        &mut self,
-        alloc: Global,
-        code: &Code,
-        function: usize,
-        arguments: Vec<Value>,
-    ) -> Result<(Kind, GoUndo), NoMemory>
-        requires right { ¬ (enters (program_code_of code.now) self.old.content function arguments.items self.old.content.frames ≡ wrong) }
-        requires live { IsLive self.old.content }
-        requires counted { self.old.content.steps + 1 < 2 ^ 64 }
-        ensures step { IfOk result (λ r.
-            IsStep r (enters (program_code_of code.now) self.old.content function arguments.items self.old.content.frames) self.old self.new) }
-        ensures err { OnErr result (self.new.content ≡ self.old.content) }
-        ensures err_room { OnErr result (self.old.room ≤ self.new.room) }
-    {
-        if self.below.len() >= MOST_FRAMES - 1 {
-            return Ok(self.stop(Fault::CallDepth));
-        }
-        let frame = Frame::enter(alloc, code, function, arguments)?;
-        self.below.reserve(1)?;
-        let caller = mem::replace(&mut self.top, frame);
-        let spot = caller.spot();
-        self.below.push_reserved(caller);
-        self.steps += 1;
-        Ok((Kind::Call, GoUndo::Entered(spot)))
     }
 
     /// Returns a value to the caller. Refused, nothing has changed.

@@ -1,22 +1,22 @@
 //! What a step of a frame comes to that asks for nothing beyond its goroutine.
 
-ghost use Rattle.std.specs.Prelude.{◌≡◌, true, IfOk, IfErr, slice_get};
+ghost use Rattle.std.specs.Prelude.{◌≡◌, true, false, IfOk, IfErr, slice_get};
 ghost use Rattle.gr_rules.specs.Outcomes.{gives, wrong};
 ghost use Rattle.gr_rules.specs.Evaluation as rules;
 ghost use Rattle.gr_rules.specs.Deeds as deeds;
-ghost use Rattle.gr_rules.specs.Parts.{Calls};
 ghost use Rattle.gr_code.specs.Instructions.{Assigns, Decide, GoesOn, Returns};
 ghost use Rattle.gr_code.specs.CodeFrames as frames;
 ghost use Rattle.gr_code.specs.CodeViews.{action_of, instruction_of, operand_of, operands_of, pieces_of};
 ghost use Rattle.gr_eval.specs.Stops.{Stops};
 ghost use Rattle.gr_code.specs.Goroutines.{is_local_action, is_local_instruction};
+ghost use Rattle.gr_goros.specs.Calls.{is_calling};
 ghost use Rattle.gr_goros.specs.Tasks.{Does, only_of, performed, printed, ranged, stored, tested, updated};
 ghost use Rattle.gr_goros.specs.Undoing.{frame_before};
 
 use crate::frame::Frame;
 use crate::undo::FrameUndo;
 use gr_base::{NoMemory, Value};
-use gr_code::code::{Action, Ask, Instruction, Operand, Piece};
+use gr_code::code::{Action, Instruction, Operand, Piece};
 use gr_eval::{
     Scalar, Stop, as_truth, evaluate, evaluate_all, number_in, number_of, of_numbers, on_ints,
     operate, printed_line, settles,
@@ -31,8 +31,6 @@ pub(crate) enum Task {
     Steps(FrameUndo),
     /// It prints a line.
     Prints(Vec<u8>),
-    /// It calls the function with a number.
-    Enters(usize, Vec<Value>),
     /// It returns a value.
     Leaves(Value),
 }
@@ -67,7 +65,7 @@ pub(crate) fn only(
 }
 
 impl Frame {
-    /// What its instruction comes to, which asks for nothing beyond the goroutine. Where that is a step of the frame, the
+    /// What its instruction comes to, which is no call and asks for nothing beyond the goroutine. Where that is a step of the frame, the
     /// frame went on; else it is as it was. Errors: the fault of an operand, and want of memory.
     #[inline]
     pub(crate) fn task(
@@ -78,16 +76,10 @@ impl Frame {
     ) -> Result<Task, Stop>
         requires right { ¬ (frames.task self.old (instruction_of instruction.now) ≡ wrong) }
         requires local { is_local_instruction has_caller (instruction_of instruction.now) ≡ true }
+        requires no_call { is_calling (instruction_of instruction.now) ≡ false }
         ensures { Does result (frames.task self.old (instruction_of instruction.now)) self.old self.new }
     {
         match instruction {
-            Instruction::Part {
-                ask: Ask::Call {
-                    function,
-                    arguments,
-                },
-                ..
-            } => self.call(alloc, *function, arguments),
             Instruction::Decide {
                 op,
                 left,
@@ -100,14 +92,6 @@ impl Frame {
             }
             _ => unreachable!(),
         }
-    }
-
-    /// .. of a call.
-    fn call(&self, alloc: Global, function: usize, arguments: &[Operand]) -> Result<Task, Stop>
-        requires { ¬ (frames.asked_in self.now.cells (Calls function (operands_of arguments.now)) ≡ wrong) }
-        ensures { Does result (frames.asked_in self.now.cells (Calls function (operands_of arguments.now))) self.now self.now }
-    {
-        Ok(Task::Enters(function, evaluate_all(alloc, self.cells(), arguments)?))
     }
 
     /// .. of the left operand of `&&` or `||`.

@@ -23,6 +23,9 @@ pub enum Former {
     /// A channel that is nil.
     Nil(usize),
     Channel(usize, ChName),
+    /// Two cells, of which the first held a number and the second a truth value, as an earlier receive leaves them. The truth value
+    /// stands before the rest, where it takes no room.
+    IntAndBool(bool, usize, i64, usize),
     /// Each cell that was written to, in the order of the writes, with what was in it before.
     Each(Vec<(usize, Option<Value>)>),
 }

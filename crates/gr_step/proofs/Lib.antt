@@ -51,6 +51,7 @@ mod MakeSteps
 mod Meeting
 mod OfferLemmas
 mod PossibleLemmas
+mod PickLemmas
 mod UsualLemmas
 mod Results
 mod SelectLists

@@ -268,7 +268,7 @@ module _ (p : Program) (e : Event) (number : ℕ) (o : Objects) (a : Acting p e 
           ∙ arms_tell f here.0 here.1 arms selects_here (are_channels o) (ap (λ c. list_all (arm_given c) arms) (sym are) ∙ all)
 
 -- the arm of code with a number
-arms_at : (arms : List code_arm.Arm) (i : ℕ) → slice_get (arms_of arms) i ≡ option_map arm_of (slice_get arms i)
+pub arms_at : (arms : List code_arm.Arm) (i : ℕ) → slice_get (arms_of arms) i ≡ option_map arm_of (slice_get arms i)
 arms_at [] i = refl
 arms_at (a ∷ arms) zero = refl
 arms_at (a ∷ arms) (suc i) = arms_at arms i

@@ -17,6 +17,7 @@ pub mod Preparing
 pub mod Stepping
 pub mod Stores
 pub mod Possible
+pub mod Picks
 pub mod Unstepping
 pub mod Kept
 pub mod Conflicts

@@ -43,7 +43,7 @@ fn is_channel(cells: &[Option<Value>], operand: &Operand) -> bool
 }
 
 /// The channel that the operand is, where it lies, unless it is nil.
-fn channel_at<'a>(cells: &'a [Option<Value>], operand: &Operand) -> Option<&'a ChName>
+pub(crate) fn channel_at<'a>(cells: &'a [Option<Value>], operand: &Operand) -> Option<&'a ChName>
     ensures { option_copied result ≡ channel_given (one_channel cells.now (operand_of operand.now)) }
 {
     match operand {
@@ -85,7 +85,7 @@ pub(crate) fn have_channels(cells: &[Option<Value>], arms: &[Arm]) -> bool
 }
 
 /// The clause with a number, counted from 0.
-fn arm_with(arms: &[Arm], number: usize) -> Option<&Arm>
+pub(crate) fn arm_with(arms: &[Arm], number: usize) -> Option<&Arm>
     ensures { option_copied result ≡ slice_get arms.now number }
 {
     arms.get(number)

@@ -18,6 +18,7 @@ mod local;
 mod making;
 pub mod objects;
 mod partners;
+mod picking;
 mod queues;
 mod receiving;
 pub mod record;

@@ -117,6 +117,9 @@ impl Objects {
         if !self.allows(listing, event, number) {
             return Err(StepRefused::NoChoice);
         }
+        if let Some(picked) = self.picked(listing, event, number)? {
+            return Ok(self.receive_picked(listing, event, number, picked)?);
+        }
         let Some(goroutine) = self.goroutines.get(number) else {
             unreachable!()
         };

@@ -33,8 +33,8 @@ impl Read for Broken<'_> {
 
 // Takes as many bytes as there is room, and then fails.
 #[derive(Drop)]
-struct Full {
-    room: usize,
+pub(crate) struct Full {
+    pub(crate) room: usize,
 }
 
 impl Write for Full {
@@ -112,39 +112,48 @@ fn serves_a_session(rt: HostRuntime) -> Result<(), Fail> {
     Ok(())
 }
 
+// Serves a session that just opened, and says what came of it, and how many entries the journal has.
+fn serve_new<R: Read, W: Write>(
+    alloc: Global,
+    reader: &mut Counted<R>,
+    writer: &mut Counted<W>,
+) -> Option<(Result<(), ServeFault>, usize)> {
+    let mut session = Session::open(alloc, b"package main; func main() {}").ok()?;
+    let desk = session.enrol().ok()?;
+    let served = serve(alloc, &mut session, desk, reader, writer);
+    Some((served, session.journal().len()))
+}
+
 #[test]
 fn names_the_device_that_failed(rt: HostRuntime) -> Result<(), Fail> {
-    let opened = Session::open(rt.alloc(), b"package main; func main() {}");
-    let mut session = opened.ok().ok_or("no session")?;
-    let desk = session.enrol().ok().ok_or("no desk")?;
     let mut reader = Counted::new(Broken {
         bytes: b"step g0\nun",
     });
     let mut writer = Counted::new(Vec::new(rt.alloc()));
-    let served = serve(rt.alloc(), &mut session, desk, &mut reader, &mut writer);
-    assert!(rt; matches!(served, Err(ServeFault::Read)));
+    let served = serve_new(rt.alloc(), &mut reader, &mut writer);
+    assert!(rt; matches!(served, Some((Err(ServeFault::Read), 1))));
     assert_eq!(rt; reader.failures(), 1);
     assert_eq!(rt; writer.failures(), 0);
     assert_eq!(rt;
         writer.into_inner().as_slice(),
         b"ok g0#1 exit\n".as_slice()
     );
-    assert_eq!(rt; session.journal().len(), 1);
-    let mut rest = Counted::new(b"undo".as_slice());
-    let mut full = Counted::new(Full { room: 3 });
-    let served = serve(rt.alloc(), &mut session, desk, &mut rest, &mut full);
-    assert!(rt; matches!(served, Err(ServeFault::Write)));
-    assert_eq!(rt; rest.failures(), 0);
-    assert_eq!(rt; full.failures(), 1);
-    assert_eq!(rt; session.journal().len(), 2);
+    Ok(())
+}
+
+#[test]
+fn names_the_writer_that_failed(rt: HostRuntime) -> Result<(), Fail> {
+    let mut reader = Counted::new(b"undo".as_slice());
+    let mut writer = Counted::new(Full { room: 3 });
+    let served = serve_new(rt.alloc(), &mut reader, &mut writer);
+    assert!(rt; matches!(served, Some((Err(ServeFault::Write), 1))));
+    assert_eq!(rt; reader.failures(), 0);
+    assert_eq!(rt; writer.failures(), 1);
     Ok(())
 }
 
 #[test]
 fn tries_again_where_it_is_interrupted(rt: HostRuntime) -> Result<(), Fail> {
-    let opened = Session::open(rt.alloc(), b"package main; func main() {}");
-    let mut session = opened.ok().ok_or("no session")?;
-    let desk = session.enrol().ok().ok_or("no desk")?;
     let mut reader = Counted::new(UneasyReader {
         bytes: b"step g0\nquit\n",
         kind: ErrorKind::Interrupted,
@@ -155,8 +164,8 @@ fn tries_again_where_it_is_interrupted(rt: HostRuntime) -> Result<(), Fail> {
         kind: ErrorKind::Interrupted,
         failed: false,
     });
-    let served = serve(rt.alloc(), &mut session, desk, &mut reader, &mut writer);
-    assert!(rt; served.is_ok());
+    let served = serve_new(rt.alloc(), &mut reader, &mut writer);
+    assert!(rt; matches!(served, Some((Ok(()), 1))));
     assert_eq!(rt; reader.failures(), 0);
     assert_eq!(rt; writer.failures(), 0);
     assert_eq!(rt; writer.into_inner().taken, b"ok g0#1 exit\nok\n".len());
@@ -165,9 +174,6 @@ fn tries_again_where_it_is_interrupted(rt: HostRuntime) -> Result<(), Fail> {
 
 #[test]
 fn tries_no_other_failure_again(rt: HostRuntime) -> Result<(), Fail> {
-    let opened = Session::open(rt.alloc(), b"package main; func main() {}");
-    let mut session = opened.ok().ok_or("no session")?;
-    let desk = session.enrol().ok().ok_or("no desk")?;
     let mut reader = Counted::new(UneasyReader {
         bytes: b"quit\n",
         kind: ErrorKind::TimedOut,
@@ -178,13 +184,12 @@ fn tries_no_other_failure_again(rt: HostRuntime) -> Result<(), Fail> {
         kind: ErrorKind::TimedOut,
         failed: false,
     });
-    let served = serve(rt.alloc(), &mut session, desk, &mut reader, &mut writer);
-    assert!(rt; matches!(served, Err(ServeFault::Read)));
+    let served = serve_new(rt.alloc(), &mut reader, &mut writer);
+    assert!(rt; matches!(served, Some((Err(ServeFault::Read), 0))));
     assert_eq!(rt; reader.into_inner().bytes.len(), 5);
     let mut rest = Counted::new(b"quit\n".as_slice());
-    let desk = session.enrol().ok().ok_or("no second desk")?;
-    let served = serve(rt.alloc(), &mut session, desk, &mut rest, &mut writer);
-    assert!(rt; matches!(served, Err(ServeFault::Write)));
+    let served = serve_new(rt.alloc(), &mut rest, &mut writer);
+    assert!(rt; matches!(served, Some((Err(ServeFault::Write), 0))));
     assert_eq!(rt; writer.failures(), 1);
     assert_eq!(rt; writer.into_inner().taken, 0);
     Ok(())

@@ -13,7 +13,7 @@ returns-clause-ok c q =
     let step = c.args.step.now in
     let first = one_for q (record { place = c.args.place; writes = false }) Run in
     let second = one_for q (record { place = c.args.place; writes = true }) (Go step.id.go) in
-    one_added (Go step.id.go) c.add_to_run.new.self c.add_to_go-noted.new.self (record { place = c.args.place; writes = true }) c.in_default.ensures.ok q
+    one_added (Go step.id.go) c.add_to_run.new.self c.add_to_lane-noted.new.self (record { place = c.args.place; writes = true }) c.in_default.ensures.ok q
     ∙ ap (λ l. l ++ second) (one_added Run old c.add_to_run.new.self (record { place = c.args.place; writes = false }) c.in_ok-add_to_run.ensures.ok q)
     ∙ append_assoc (list_of old q) first second
     ∙ ap (λ l. list_of old q ++ l) (sym (kept_alone q c.args.place step c.requires))
@@ -33,7 +33,7 @@ returns-in_err-add_to_run-clause-succeeds c fits =
 pub returns-in-Err-clause-err : goal.returns-in-Err-clause-err
 returns-in-Err-clause-err c =
     let read : Touch = record { place = c.args.place; writes = false } in
-    one_taken Run c.add_to_go-noted.new.self c.take_from_run.new.self c.take_from_run.ensures.lists read (list_of c.args.self.now)
+    one_taken Run c.add_to_lane-noted.new.self c.take_from_run.new.self c.take_from_run.ensures.lists read (list_of c.args.self.now)
     (λ q. c.in-Err.ensures.err q ∙ one_added Run c.args.self.now c.add_to_run.new.self read c.in_ok-add_to_run.ensures.ok q)
 
 pub returns-in-Err-clause-succeeds : goal.returns-in-Err-clause-succeeds

@@ -11,9 +11,9 @@ returns-then-not-allows-clause-why c =
 pub next_need-requires-clause-right : goal.next_need-requires-clause-right
 next_need-requires-clause-right c =
     found_right (program_in c.args.listing.now) c.args.event.now c.args.number c.args.self.now c.requires.acting _
-    c.in-Some.goroutine.now (ap program_code_of c.deref.ensures ∙ c.requires.coded) (sym c.in-Some.ensures.value)
+    c.in-Some-get.goroutine.now (ap program_code_of c.deref.ensures ∙ c.requires.coded) (sym c.in-Some-get.ensures.value)
 
 pub next_need-requires-clause-sends : goal.next_need-requires-clause-sends
 next_need-requires-clause-sends c =
     found_sends (program_in c.args.listing.now) c.args.event.now c.args.number c.args.self.now c.requires.acting _
-    c.in-Some.goroutine.now (ap program_code_of c.deref.ensures ∙ c.requires.coded) (sym c.in-Some.ensures.value)
+    c.in-Some-get.goroutine.now (ap program_code_of c.deref.ensures ∙ c.requires.coded) (sym c.in-Some-get.ensures.value)

@@ -1,0 +1,48 @@
+//! Commands that are drawn at random.
+ghost use Rattle.std.specs.Prelude.{◌<◌};
+
+use gr_base::{GoName, StepId};
+use gr_command::{Command, Target};
+use rand_core::utils::NextWord;
+use rand_pcg::Pcg32;
+use std::alloc::Global;
+
+// A number below the limit.
+fn below(chance: &mut Pcg32, limit: u32) -> u32
+    requires { 0 < limit }
+    ensures { result < limit }
+{
+    chance.next_word() % limit
+}
+
+// The goroutine of `main`, or one of the first few that another one started.
+fn goroutine(alloc: Global, chance: &mut Pcg32) -> Option<GoName> {
+    let mut name = GoName::main(alloc).ok()?;
+    for _ in 0..below(chance, 3) {
+        name = name.child(alloc, 1 + below(chance, 4)).ok()?;
+    }
+    Some(name)
+}
+
+fn step(alloc: Global, chance: &mut Pcg32) -> Option<StepId> {
+    let go = goroutine(alloc, chance)?;
+    let n = 1 + below(chance, 400) as u64;
+    Some(StepId { go, n })
+}
+
+/// A command that changes a session; `None` where memory was wanted.
+pub fn draw(alloc: Global, chance: &mut Pcg32) -> Option<Command> {
+    match below(chance, 20) {
+        0 | 1 => Some(Command::Undo),
+        2 => Some(Command::Redo),
+        3 => Some(Command::Back(Target::Step(step(alloc, chance)?))),
+        4 | 5 => Some(Command::Run {
+            count: 1 + below(chance, 12),
+        }),
+        6..=8 => Some(Command::Free(below(chance, 60))),
+        _ => Some(Command::Step {
+            go: goroutine(alloc, chance)?,
+            case: None,
+        }),
+    }
+}

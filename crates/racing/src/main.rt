@@ -1,0 +1,106 @@
+//! Desks and workers that race: `racing COMMANDS SEED FILE..`. Of each Go file a session is opened, which four desks and two
+//! workers share, each on a thread of its own. Each desk asks so many commands of those that change a session, drawn at random.
+//! When all have ended, the steps that are kept are taken once more in a fresh session. Both sessions have to tell the same of
+//! each goroutine, of what it printed and of each channel.
+//!
+//! It writes a line for each file that is as it should be, and what came of the race on standard error.
+//!
+//! Exit status: 0; 1 where a session differs, memory was wanted, or the words are not these.
+#![tactic(auto)]
+
+mod chance;
+mod race;
+mod replay;
+
+use gr_session::Session;
+use gr_share::Opened;
+use race::{Load, Raced, race_all};
+use replay::replay;
+use std::alloc::Global;
+use std::marker::Brand;
+use std::process::ExitCode;
+use std::sync::Wait;
+use std::thread::Threads;
+use std::{env, fs, io};
+
+/// What came of a race, where the session that was shared and a fresh one tell the same.
+#[derive(Clone, Copy)]
+struct Course {
+    /// How many commands got an entry.
+    asked: usize,
+    /// How many entries are batches and turns of workers.
+    worked: usize,
+    /// How many steps were kept in the end.
+    kept: usize,
+    /// How many goroutines they started, with `g0`.
+    goroutines: usize,
+}
+
+// Races over a source. `None` where something is not as it should be.
+fn course_of<T: Threads + Wait + Sync>(
+    rt: &T,
+    alloc: Global,
+    source: &[u8],
+    load: Load,
+) -> Option<Course> {
+    let session = Session::open(alloc, source).ok()?;
+    let opened = Opened::new(alloc, session).ok()?;
+    let Raced {
+        session,
+        asked,
+        worked,
+    } = race_all::<Brand, T>(rt, alloc, opened, load)?;
+    let (kept, goroutines) = replay(alloc, source, session)?;
+    Some(Course {
+        asked,
+        worked,
+        kept,
+        goroutines,
+    })
+}
+
+// Races over a file, and tells of it. Whether it is as it should be.
+fn tell<T: Threads + Wait + Sync>(
+    rt: &HostRuntime,
+    threads: &T,
+    file: &str,
+    load: Load,
+) -> io::Result<bool> {
+    let source = fs::read(rt, file)?;
+    let Some(course) = course_of(threads, rt.alloc(), source.as_slice(), load) else {
+        println!(rt; "{file}: differs")?;
+        return Ok(false);
+    };
+    let Course {
+        asked,
+        worked,
+        kept,
+        goroutines,
+    } = course;
+    eprintln!(rt;
+        "{file}: {asked} commands, {worked} batches and turns; {kept} steps kept, {goroutines} goroutines"
+    )?;
+    println!(rt; "{file}: alike")?;
+    Ok(true)
+}
+
+fn run<T: Threads + Wait + Sync>(rt: &HostRuntime, threads: &T) -> io::Result<ExitCode> {
+    let words: Vec<String> = env::args(rt)?.collect(rt.alloc())?;
+    let [_, commands, seed, files @ ..] = words.as_slice() else {
+        return Ok(ExitCode::from(1));
+    };
+    let (Ok(commands), Ok(seed)) = (commands.parse::<u32>(), seed.parse::<u64>()) else {
+        return Ok(ExitCode::from(1));
+    };
+    let mut status = 0;
+    for file in files {
+        if !tell(rt, threads, file.as_str(), Load { commands, seed })? {
+            status = 1;
+        }
+    }
+    Ok(ExitCode::from(status))
+}
+
+fn main(rt: HostRuntime) -> io::Result<ExitCode> {
+    run(&rt, &rt)
+}
