@@ -40,7 +40,7 @@ use Rattle.gr_kept.proofs.RecordLemmas.{goes}
 use Rattle.type_safety.proofs.CodeOfPrograms.{checked_fits}
 use Rattle.gr_depend.specs.Given.{given_at, given_there, given_from, stood, gave, any_called, gave_to, last_given}
 use Rattle.gr_depend.specs.Histories.{is_fault}
-use Rattle.gr_depend.proofs.SpotLemmas.{IsAt, Stood}
+use Rattle.gr_depend.proofs.SpotLemmas.{Stood}
 use Rattle.gr_depend.proofs.SpotLemmas as spots
 use Rattle.gr_depend.proofs.KindLemmas.{is_up, given_alike}
 use Rattle.gr_depend.proofs.HistoryLemmas.{name_is}

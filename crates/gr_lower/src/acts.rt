@@ -372,7 +372,7 @@ pub fn lower_act(
 pub fn lower_opening(
     alloc: Global,
     out: &mut Vec<Instruction>,
-    opening: &Option<Opening>,
+    opening: &Option<Box<Opening>>,
     first: usize,
     on: usize,
     ways: &Ways,

@@ -46,7 +46,7 @@ fn perform_tested(
 pub fn head_if(
     alloc: Global,
     out: &mut Vec<Instruction>,
-    init: &Option<Opening>,
+    init: &Option<Box<Opening>>,
     condition: &Expr,
     sides: (usize, usize),
     first: usize,
@@ -70,7 +70,7 @@ pub fn head_if(
 pub fn head_for(
     alloc: Global,
     out: &mut Vec<Instruction>,
-    init: &Option<Opening>,
+    init: &Option<Box<Opening>>,
     condition: &Option<Expr>,
     sizes: (usize, usize),
     first: usize,

@@ -23,7 +23,7 @@ fn mark(lines: &mut Vec<usize>, many: usize, line: usize) -> Result<(), NoMemory
     Ok(())
 }
 
-fn mark_opening(lines: &mut Vec<usize>, opening: &Option<Opening>) -> Result<(), NoMemory>
+fn mark_opening(lines: &mut Vec<usize>, opening: &Option<Box<Opening>>) -> Result<(), NoMemory>
     ensures { OnOk result (lines.new.items ≡ lines.old.items ++ opening_lines (optional opening_of opening.now)) }
 {
     match opening {

@@ -84,7 +84,7 @@ pub fn size_of_act(act: &Act) -> Result<usize, NoMemory>
 }
 
 /// .. and the statement in a heading.
-pub fn size_of_opening(opening: &Option<Opening>) -> Result<usize, NoMemory>
+pub fn size_of_opening(opening: &Option<Box<Opening>>) -> Result<usize, NoMemory>
     ensures { IfOk result (λ n. n ≡ opening_size (optional opening_of opening.now)) }
 {
     match opening {

@@ -1,6 +1,6 @@
 -- The lists in the program's trees.
 use Rattle.std.proofs.Common.{◌≡◌, ℕ, ap, refl, ◌∙◌, Global}
-use Rattle.std.specs.Prelude.{Vec, Option}
+use Rattle.std.specs.Prelude.{Vec, Option, Box}
 use Rattle.std.proofs.Math.Path.{fun_ext}
 use Rattle.gr_tree.specs.Statements.{optional}
 use Rattle.gr_scan.specs.declared.token.Place.{Place}
@@ -36,11 +36,11 @@ held v = stmt_list (hidden-the_row-Stmt-0 v) ∙ ap stmts_of (rows.items_hidden-
 pub block_is : (v : Vec rows.Stmt Global) → stmt_of (stmts.Block v) ≡ pure.Block (stmts_of v.items)
 block_is v = ap pure.Block (held v)
 
-pub if_is : (place : Place) (init : Option Opening) (condition : Expr) (v w : Vec rows.Stmt Global) → stmt_of (stmts.If place init condition v w) ≡ pure.If place (optional opening_of init) (expr_of condition) (stmts_of v.items) (stmts_of w.items)
+pub if_is : (place : Place) (init : Option (Box Opening Global)) (condition : Expr) (v w : Vec rows.Stmt Global) → stmt_of (stmts.If place init condition v w) ≡ pure.If place (optional opening_of init) (expr_of condition) (stmts_of v.items) (stmts_of w.items)
 if_is place init condition v w =
     ap (λ ss. pure.If place (optional opening_of init) (expr_of condition) ss (row_stmts (hidden-the_row-Stmt-0 w))) (held v) ∙ ap (pure.If place (optional opening_of init) (expr_of condition) (stmts_of v.items)) (held w)
 
-pub for_is : (place : Place) (init : Option Opening) (condition : Option Expr) (post : Option Opening) (v : Vec rows.Stmt Global) → stmt_of (stmts.For place init condition post v) ≡ pure.For place (optional opening_of init) (optional expr_of condition) (optional opening_of post) (stmts_of v.items)
+pub for_is : (place : Place) (init : Option (Box Opening Global)) (condition : Option Expr) (post : Option (Box Opening Global)) (v : Vec rows.Stmt Global) → stmt_of (stmts.For place init condition post v) ≡ pure.For place (optional opening_of init) (optional expr_of condition) (optional opening_of post) (stmts_of v.items)
 for_is place init condition post v = ap (pure.For place (optional opening_of init) (optional expr_of condition) (optional opening_of post)) (held v)
 
 pub range_is : (place : Place) (target : Option ℕ) (channel : Expr) (v : Vec rows.Stmt Global) → stmt_of (stmts.Range place target channel v) ≡ pure.Range place target (expr_of channel) (stmts_of v.items)

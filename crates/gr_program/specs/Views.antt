@@ -1,5 +1,6 @@
 -- Checked programs of the code, without where they lie in memory.
-use Rattle.std.specs.Prelude.{List, [], ◌∷◌}
+use Rattle.std.specs.Prelude.{List, [], ◌∷◌, Box}
+use Rattle.std.proofs.Common.{Global}
 use Rattle.gr_tree.specs.Statements.{optional}
 use Rattle.gr_program.specs.declared.program.Expr as code_expr
 use Rattle.gr_program.specs.declared.program.Expr.TheVariants as exprs
@@ -61,8 +62,8 @@ act_of (acts.Return value) = pure.Return (optional expr_of value)
 act_of (acts.Break depth) = pure.Break depth
 act_of (acts.Continue depth) = pure.Continue depth
 
-abbrev pub opening_of : code_opening.Opening → Opening
-opening_of o = pure.Opens o.place (act_of o.act)
+abbrev pub opening_of : Box code_opening.Opening Global → Opening
+opening_of o = pure.Opens o.value.place (act_of o.value.act)
 
 abbrev mutual
   pub stmt_of : rows.Stmt → Stmt

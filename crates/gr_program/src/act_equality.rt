@@ -133,7 +133,7 @@ pub fn is_same_act(a: &Act, b: &Act) -> bool
 }
 
 /// Whether two statements of headings are the same, where there may be none.
-pub fn is_same_opening(a: &Option<Opening>, b: &Option<Opening>) -> bool
+pub fn is_same_opening(a: &Option<Box<Opening>>, b: &Option<Box<Opening>>) -> bool
     ensures { result ≡ option_eq spec.same_opening (optional opening_of a.now) (optional opening_of b.now) }
 {
     match (a, b) {

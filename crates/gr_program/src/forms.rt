@@ -30,7 +30,7 @@ pub fn block(body: Vec<Stmt>) -> Stmt
 
 pub fn conditional(
     place: Place,
-    init: Option<Opening>,
+    init: Option<Box<Opening>>,
     condition: Expr,
     body: Vec<Stmt>,
     otherwise: Vec<Stmt>,
@@ -48,9 +48,9 @@ pub fn conditional(
 
 pub fn repeated(
     place: Place,
-    init: Option<Opening>,
+    init: Option<Box<Opening>>,
     condition: Option<Expr>,
-    post: Option<Opening>,
+    post: Option<Box<Opening>>,
     body: Vec<Stmt>,
 ) -> Stmt
     ensures { stmt_of result ≡ pure.For place (optional opening_of init) (optional expr_of condition) (optional opening_of post) (stmts_of body.items) }

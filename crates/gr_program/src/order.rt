@@ -19,7 +19,7 @@ fn next_start(last: usize, place: Place) -> Option<usize>
     }
 }
 
-fn after_opening(last: usize, opening: &Option<Opening>) -> Option<usize>
+fn after_opening(last: usize, opening: &Option<Box<Opening>>) -> Option<usize>
     ensures { result ≡ spec.after_opening (optional opening_of opening.now) last }
 {
     match opening {

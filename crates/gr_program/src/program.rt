@@ -90,7 +90,7 @@ pub enum Act {
     Continue(usize),
 }
 
-/// A statement in the heading of an if or a for.
+/// A statement in the heading of an if or a for. It lies on the heap, so that other statements take no room for it.
 #[derive(Debug, Drop)]
 pub struct Opening {
     /// Where its first token stands.
@@ -110,16 +110,16 @@ pub enum Stmt {
     Block(Vec<Stmt>),
     If {
         place: Place,
-        init: Option<Opening>,
+        init: Option<Box<Opening>>,
         condition: Expr,
         body: Vec<Stmt>,
         otherwise: Vec<Stmt>,
     },
     For {
         place: Place,
-        init: Option<Opening>,
+        init: Option<Box<Opening>>,
         condition: Option<Expr>,
-        post: Option<Opening>,
+        post: Option<Box<Opening>>,
         body: Vec<Stmt>,
     },
     /// A loop over the values that a channel gives.

@@ -18,7 +18,7 @@ use Rattle.gr_rules.specs.Steps.{machine}
 use Rattle.gr_laws.specs.Reached.{Logged}
 use Rattle.gr_code.specs.Goroutines.{CodeGoroutine}
 use Rattle.gr_contents.specs.Contents.{Contents, with_goroutine}
-use Rattle.gr_contents.proofs.NameLemmas.{go_is, go_self}
+use Rattle.gr_contents.proofs.NameLemmas.{go_is}
 use Rattle.gr_kept.proofs.RecordLemmas.{no_object_twice}
 use Rattle.gr_lower.specs.Lowered.{lowered}
 use Rattle.gr_step.specs.declared.leasing.Lease.{Lease}
@@ -26,7 +26,7 @@ use Rattle.gr_step.specs.declared.record.Record.{Record}
 use Rattle.gr_step.specs.declared.store.Store.{Store}
 use Rattle.gr_step.specs.Conflicts.{touched_by}
 use Rattle.gr_step.specs.Kept.{Kept, one_more}
-use Rattle.gr_step.specs.Leasing.{AreRecords, no_record, one_more_record, Walk, IsOwnRecord, IsLease, IsAsLent, loan_of, name_lent, goroutine_lent, goroutine_led_to, records_led}
+use Rattle.gr_step.specs.Leasing.{AreRecords, no_record, one_more_record, Walk, IsLease, IsAsLent, loan_of, name_lent, goroutine_lent, goroutine_led_to, records_led}
 use Rattle.gr_step.specs.Leasing as leases
 use Rattle.gr_step.specs.Listings.{state_in}
 use Rattle.gr_step.specs.Premises.{Running}

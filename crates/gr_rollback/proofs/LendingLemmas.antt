@@ -1,6 +1,6 @@
 -- Of the goroutines that are ready, those whose next step is local.
-use Rattle.std.proofs.Common.{◌≡◌, ◌+◌, ◌-◌, ◌<◌, ◌≤◌, ◌%◌, ◌↔◌, ℕ, zero, suc, arith, Bool, true, false, cond, ◌&&◌, ◌||◌, List, [], ◌∷◌, length, drop, filter, get_or, All, Option, Some, None, refl, sym, ap, subst, ◌∙◌}
-use Rattle.std.specs.Prelude.{slice_get, slice_index_or, option_map, Result, Ok, Err, IfOk, IfSome, IfNone}
+use Rattle.std.proofs.Common.{◌≡◌, ◌+◌, ◌-◌, ◌<◌, ◌≤◌, ◌%◌, ℕ, zero, suc, arith, Bool, true, false, cond, ◌&&◌, ◌||◌, List, [], ◌∷◌, length, drop, filter, get_or, All, Option, Some, None, refl, sym, ap, subst, ◌∙◌}
+use Rattle.std.specs.Prelude.{slice_get, option_map, Result, Ok, Err, IfOk, IfSome, IfNone}
 use Rattle.std.specs.List.{AllPairs, AllByRecursion}
 use Rattle.std.specs.declared.cmp.Ordering.TheVariants.{Less}
 use Rattle.std.proofs.lemmas.List.{drop_more, drop_all}
@@ -12,7 +12,7 @@ use Rattle.gr_program.specs.Programs.{Program}
 use Rattle.gr_rules.specs.Frames.{Frame}
 use Rattle.gr_rules.specs.Goroutines.{Status, ready, waiting, finished}
 use Rattle.gr_rules.specs.LocalSteps.{is_local_at, is_local_in}
-use Rattle.gr_rules.specs.States.{State, Run, live, ended, faulted, same_go}
+use Rattle.gr_rules.specs.States.{Run, live, ended, faulted, same_go}
 use Rattle.gr_laws.proofs.CellLemmas.{go_self, go_is}
 use Rattle.gr_code.specs.CodeFrames.{CodeFrame}
 use Rattle.gr_code.specs.Goroutines.{CodeGoroutine}
@@ -26,7 +26,7 @@ use Rattle.gr_rollback.specs.declared.machine.Machine.{Machine}
 use Rattle.gr_rollback.specs.Leasing.{GoAlone, IsLentAt, SomeGoesAlone}
 use Rattle.gr_rollback.specs.Machines.{Stands, store_of}
 use Rattle.gr_rollback.specs.Pasts.{World}
-use Rattle.gr_rollback.specs.Readiness.{IsReadyIn, HasReady}
+use Rattle.gr_rollback.specs.Readiness.{IsReadyIn}
 
 -- a list without those that fail a test
 module _ {A : Type 0} where

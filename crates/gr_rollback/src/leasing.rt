@@ -5,8 +5,8 @@ ghost use Rattle.gr_causal.specs.Sequences.{Distinct};
 ghost use Rattle.gr_pool.specs.Goroutines.{IsInOrder};
 ghost use Rattle.gr_program.specs.Programs.{Program as ProgramSeen};
 ghost use Rattle.gr_step.specs.Conflicts.{touched_by};
-ghost use Rattle.gr_step.specs.Leasing.{IsLease, IsAsLent, goes_alone, loan_of};
-ghost use Rattle.gr_step.specs.Stores.{IsRun, SameListing, state_at, taken_at};
+ghost use Rattle.gr_step.specs.Leasing.{IsLease, IsAsLent, goes_alone, loan_of, program_lent};
+ghost use Rattle.gr_step.specs.Stores.{IsRun, SameListing, program_at, state_at, taken_at};
 ghost use Rattle.gr_depend.specs.Logs.{records_of};
 
 use crate::LOG_LIMIT;
@@ -162,8 +162,16 @@ impl Machine {
         }
     }
 
-    /// Whether the goroutine of a lease is as it was lent, in a run of the same program that goes on. It takes no memory.
+    /// Whether a lease is of the same program. It compares all of it, and takes no memory.
+    pub fn has_program_of(&self, lease: &Lease) -> bool
+        ensures { IsTrue result ↔ (program_lent lease.now ≡ program_at (store_of self.now)) }
+    {
+        self.course.store.has_program_of(lease)
+    }
+
+    /// Whether the goroutine of a lease of the same program is as it was lent, in a run that goes on. It takes no memory.
     pub fn has_as_lent(&self, lease: &Lease) -> bool
+        requires { program_lent lease.now ≡ program_at (store_of self.now) }
         ensures { IsTrue result ↔ IsAsLent lease.now (store_of self.now) }
     {
         self.course.store.has_as_lent(lease)

@@ -1,5 +1,5 @@
 -- Steps of a goroutine on its copy.
-use Rattle.std.proofs.Common.{◌≡◌, ◌+◌, ◌<◌, ◌≤◌, ℕ, ap, subst, ◌∙◌, arith}
+use Rattle.std.proofs.Common.{◌≡◌, ◌<◌, ◌≤◌, ℕ, ap, subst, ◌∙◌, arith}
 use Rattle.gr_program.specs.Programs.{Program}
 use Rattle.gr_code.specs.Goroutines.{CodeGoroutine}
 use Rattle.gr_step.specs.declared.leasing.Lease.{Lease}

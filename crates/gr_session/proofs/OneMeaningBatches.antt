@@ -1,8 +1,8 @@
 -- What an entry keeps of a batch fixes the next world and the reply, and the next world is one of a run.
-use Rattle.std.proofs.Common.{◌≡◌, Bool, true, false, List, ◌++◌, refl, sym, ◌∙◌, ap₂, arith}
+use Rattle.std.proofs.Common.{◌≡◌, Bool, refl, sym, ◌∙◌, ap₂, arith}
 use Rattle.gr_causal.proofs.PathLemmas.{log_join}
 use Rattle.gr_program.specs.Programs.{Program}
-use Rattle.gr_rules.specs.States.{State, start}
+use Rattle.gr_rules.specs.States.{start}
 use Rattle.gr_rules.specs.Steps.{machine}
 use Rattle.gr_laws.specs.Reached.{IsRun}
 use Rattle.gr_command.specs.Replies.{Said}

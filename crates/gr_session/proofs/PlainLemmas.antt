@@ -14,7 +14,7 @@ use Rattle.gr_rules.specs.Goroutines.{Status, ready, waiting, finished, Goroutin
 use Rattle.gr_rules.specs.Outcomes.{Outcome, gives, faults, wrong}
 use Rattle.gr_rules.specs.States.{Run, live, ended, faulted, State}
 use Rattle.gr_rules.specs.Steps.{act_by, act_in, if_ready, if_known, if_live, refusal}
-use Rattle.gr_rules.specs.Tells.{may, how_many_clauses, ready_clauses, usual_choice}
+use Rattle.gr_rules.specs.Tells.{may, how_many_clauses, usual_choice}
 use Rattle.gr_laws.specs.Reached.{Logged}
 use Rattle.gr_rollback.specs.Pasts.{Past}
 use Rattle.gr_rollback.specs.Steps.{Joins}

@@ -2,8 +2,8 @@
 
 ghost use Rattle.std.specs.Prelude.{◌≡◌};
 ghost use Rattle.gr_program.specs.Programs.{Program};
-ghost use Rattle.gr_step.specs.Stores.{SameListing};
-ghost use Rattle.gr_step.specs.Leasing.{IsLease, IsAsLent, loan_of};
+ghost use Rattle.gr_step.specs.Stores.{SameListing, program_at};
+ghost use Rattle.gr_step.specs.Leasing.{IsLease, IsAsLent, loan_of, program_lent};
 ghost use Rattle.gr_session.specs.Journal.{World};
 ghost use Rattle.gr_session.specs.Debuggees.{Stands, IsDebuggee, store_in};
 ghost use Rattle.gr_session.specs.Carried.{CommitsLent, CommitsBatch};
@@ -44,9 +44,29 @@ fn commit_lent(alloc: Global, debuggee: &mut Debuggee, lease: &mut Lease) -> Res
     }
 }
 
-/// Lets the steps of a batch join the log, if its goroutine is as it was lent, in a run of the same program that goes on, and if
-/// the grant and the log have room for them. It tells whether the goroutine was so. An error means that a growth was refused;
-/// nothing has changed then.
+/// Lets the steps of a batch of the same program join the log, if its goroutine is as it was lent, in a run that goes on, and if the
+/// grant and the log have room for them. It tells whether the goroutine was so. An error means that a growth was refused; nothing
+/// has changed then.
+pub(crate) fn commit_own(
+    alloc: Global,
+    debuggee: &mut Debuggee,
+    lease: Lease,
+) -> Result<(Batch, bool, Reply), NoMemory>
+    requires debuggee { IsDebuggee debuggee.old }
+    requires lease { IsLease lease }
+    requires own { program_lent lease ≡ program_at (store_in debuggee.old) }
+    ensures commits { (p : Program) → (w : World p) → Stands p w debuggee.old → CommitsBatch p w (loan_of lease) result debuggee.new }
+    ensures listing { SameListing (store_in debuggee.old) (store_in debuggee.new) }
+{
+    let mut lease = lease;
+    if !debuggee.machine.has_as_lent(&lease) {
+        return Ok((lease.into_batch(), false, Reply::Stale));
+    }
+    let reply = commit_lent(alloc, debuggee, &mut lease)?;
+    Ok((lease.into_batch(), true, reply))
+}
+
+/// .. of any batch, whose program is compared with the one that runs.
 pub(crate) fn commit(
     alloc: Global,
     debuggee: &mut Debuggee,
@@ -57,10 +77,8 @@ pub(crate) fn commit(
     ensures commits { (p : Program) → (w : World p) → Stands p w debuggee.old → CommitsBatch p w (loan_of lease) result debuggee.new }
     ensures listing { SameListing (store_in debuggee.old) (store_in debuggee.new) }
 {
-    let mut lease = lease;
-    if !debuggee.machine.has_as_lent(&lease) {
+    if !debuggee.machine.has_program_of(&lease) {
         return Ok((lease.into_batch(), false, Reply::Stale));
     }
-    let reply = commit_lent(alloc, debuggee, &mut lease)?;
-    Ok((lease.into_batch(), true, reply))
+    commit_own(alloc, debuggee, lease)
 }

@@ -10,7 +10,7 @@ ghost use Rattle.gr_session.specs.Granting.{IsTurnDue, CanLend, IsLoan};
 ghost use Rattle.gr_step.specs.Premises.{IsChecked};
 
 use crate::carry::carry_out;
-use crate::committing::commit;
+use crate::committing::{commit, commit_own};
 use crate::debuggee::Debuggee;
 use crate::granting::{can_lend, lend, room, turn_due};
 use crate::journal::{
@@ -157,6 +157,34 @@ impl Session {
         }
         let Batch { led } = batch;
         match commit(alloc, &mut self.debuggee, led) {
+            Err(NoMemory) => Err(AskRefused::NoMemory),
+            Ok((batch, stood, reply)) => {
+                let asked = Asked::Batch(batch, stood);
+                Ok(keep(&mut self.journal, desk, asked, Memory::Enough, reply))
+            }
+        }
+    }
+
+    /// The same of a batch whose program is known to be that of the session, and is not compared with it.
+    pub fn commit_own(
+        &mut self,
+        alloc: Global,
+        desk: DeskId,
+        batch: Batch,
+    ) -> Result<Receipt, AskRefused>
+        requires asker { (1 ≤ desk.number) × (desk.number ≤ self.old.askers) }
+        requires own { (loan_of batch).program ≡ program_of self.old.program }
+        ensures entry { IfOk result (λ receipt. EntersBatch (program_of self.old.program) desk.number (loan_of batch)
+            self.old.journal self.new.journal receipt.number (said_of receipt.reply)) }
+        ensures full { IsErrOf result AskRefused.JournalFull ↔ (length self.old.journal ≡ JOURNAL_LIMIT) }
+        ensures err { OnErr result (self.new ≡ self.old) }
+        ensures others { (self.new.program ≡ self.old.program) × (self.new.askers ≡ self.old.askers) }
+    {
+        if let Err(why) = make_room(&mut self.journal) {
+            return Err(why);
+        }
+        let Batch { led } = batch;
+        match commit_own(alloc, &mut self.debuggee, led) {
             Err(NoMemory) => Err(AskRefused::NoMemory),
             Ok((batch, stood, reply)) => {
                 let asked = Asked::Batch(batch, stood);

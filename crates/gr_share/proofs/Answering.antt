@@ -1,5 +1,5 @@
 -- What stands under the lock after an entry more.
-use Rattle.std.proofs.Common.{◌≡◌, ℕ, ◌+◌, ◌<◌, ◌≤◌, List, [], ◌∷◌, ◌++◌, length, ap, sym, subst, ◌∙◌, arith}
+use Rattle.std.proofs.Common.{◌≡◌, ℕ, ◌+◌, List, [], ◌∷◌, ◌++◌, ap, sym, subst, arith}
 use mathlib.Core.List.{IsPrefix}
 use Rattle.gr_program.specs.Programs.{Program}
 use Rattle.gr_program.specs.Views.{program_of}
@@ -9,8 +9,7 @@ use Rattle.gr_session.specs.Keeps.{Seen}
 use Rattle.gr_share.specs.Lines.{Line}
 use Rattle.gr_share.specs.Calls.{EntersCall}
 use Rattle.gr_share.specs.declared.desk.Call.{Call}
-use Rattle.gr_share.specs.declared.views.View.{View}
-use Rattle.gr_share.specs.Ties.{asked, asking, keeping, told, Tells, AllBelow, numbers_of}
+use Rattle.gr_share.specs.Ties.{asked, told, Tells, AllBelow, numbers_of}
 use Rattle.gr_share.proofs.Telling.{tells_push, more_by, before_next}
 
 module _ (s : Seen) (a : ℕ) (call : Call) (log : List Line) (tells : Tells (program_of s.program) s.journal log) where

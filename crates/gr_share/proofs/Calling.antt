@@ -1,10 +1,10 @@
 -- One call more.
-use Rattle.std.proofs.Common.{◌≡◌, ℕ, ◌<◌, List, [], ◌∷◌, ◌++◌, All, refl, subst, ap, ◌∙◌, append-nil, append_assoc, sym, arith}
+use Rattle.std.proofs.Common.{◌≡◌, ℕ, ◌<◌, List, [], ◌∷◌, ◌++◌, All, subst, ap, ◌∙◌, append-nil, append_assoc, sym, arith}
 use Rattle.std.proofs.lemmas.List.Elements.{All-push, All-append}
 use Rattle.gr_session.specs.declared.journal.Receipt.{Receipt}
 use Rattle.gr_share.specs.declared.desk.Asked.{Asked as Wanted}
 use Rattle.gr_share.specs.declared.desk.Call.{Call}
-use Rattle.gr_share.specs.Calls.{Asker, Gains, IsWork, HasWorked, with_call}
+use Rattle.gr_share.specs.Calls.{Asker, Gains, IsWork, HasWorked}
 
 pub gains : (old : Asker) (number : ℕ) (before after : List Call) (wanted kept : Wanted) (r : Receipt) → record { number = number; calls = before } ≡ old
     → after ≡ before ++ record { asked = kept; receipt = r } ∷ [] → kept ≡ wanted → All (λ (c : Call). c.receipt.number < r.number) before

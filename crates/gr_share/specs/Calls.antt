@@ -13,7 +13,7 @@ use Rattle.gr_session.specs.declared.journal.Entry.{Entry}
 use Rattle.gr_session.specs.declared.journal.Receipt.{Receipt}
 use Rattle.gr_session.specs.Entries.{EntersCommand, EntersBatch}
 use Rattle.gr_session.specs.Keeps.{Seen}
-use Rattle.gr_session.specs.Copies.{Loan}
+use Rattle.gr_session.specs.Copies.{Loan, loan_of}
 use Rattle.gr_share.specs.declared.desk.Asked.{Asked as Wanted}
 use Rattle.gr_share.specs.declared.desk.Asked.TheVariants.{Command, Batch}
 use Rattle.gr_share.specs.declared.desk.Call.{Call}
@@ -85,6 +85,12 @@ abbrev pub Looks : Asker → Work → Asker → Type 0
 Looks old found.Turned new = Gains old (Command Turn) new
 Looks old (found.Lends lease limit) new = new ≡ old
 Looks old found.Nothing new = new ≡ old
+
+-- what is lent is of this program
+abbrev pub LendsOf : Program → Work → Type 0
+LendsOf p (found.Lends lease limit) = (loan_of lease.copy).program ≡ p
+LendsOf p found.Turned = Unit {0}
+LendsOf p found.Nothing = Unit {0}
 
 -- what workers ask: turns, and that batches are committed
 abbrev pub IsWork : Wanted → Type 0

@@ -61,7 +61,7 @@ impl<B: Room> Desk<B> {
     ghost use Rattle.std.specs.Borrow.{sem};
     ghost use Rattle.gr_session.specs.Copies.{loan_of};
     ghost use Rattle.gr_share.specs.contracts.desk.Desk.{the_row};
-    ghost use Rattle.gr_share.specs.Calls.{EndsAs, Asked as AskedBy, Gains, Looks};
+    ghost use Rattle.gr_share.specs.Calls.{EndsAs, Asked as AskedBy, Gains, Looks, LendsOf};
 
     // Asks a command, whose receipt is then the last one that is kept.
     pub(crate) fn enter<R: Wait>(
@@ -107,6 +107,7 @@ impl<B: Room> Desk<B> {
         shared: &Shared<B>,
         batch: Batch,
     ) -> Result<(), AskRefused>
+        requires own { (loan_of batch).program ≡ B.program }
         ensures call { OnOk result (Gains self.old (Asked.Batch (loan_of batch).name (loan_of batch).steps) self.new) }
         ensures err { OnErr result (self.new ≡ self.old) }
     {
@@ -143,7 +144,8 @@ impl<B: Room> Desk<B> {
         shared: &Shared<B>,
         place: u32,
     ) -> Work
-        ensures { Looks self.old result self.new }
+        ensures looks { Looks self.old result self.new }
+        ensures own { LendsOf B.program result }
     {
         if self.calls.reserve(1).is_err() {
             return Work::Nothing;

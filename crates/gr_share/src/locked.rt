@@ -1,5 +1,5 @@
 //! What lies under the lock.
-ghost use Rattle.std.specs.Prelude.{◌≡◌, ◌+◌, ◌<◌, ◌≤◌, ◌++◌, ◌∷◌, [], length, IfOk, OnErr, IsTrue};
+ghost use Rattle.std.specs.Prelude.{◌≡◌, ◌+◌, ◌<◌, ◌≤◌, ◌++◌, ◌∷◌, [], length, IfOk, IfSome, OnErr, IsTrue};
 ghost use Rattle.gr_program.specs.Views.{program_of};
 ghost use Rattle.gr_command.specs.Replies.{said_of};
 ghost use Rattle.gr_session.specs.Copies.{loan_of};
@@ -134,6 +134,7 @@ impl<B: Room> Locked<B> {
         go: GoName,
     ) -> Result<Call, AskRefused>
         requires kept { go ≡ (loan_of batch).name }
+        requires own { (loan_of batch).program ≡ B.program }
         requires tie { tie.now.table.shared.table_id ≡ B.table }
         requires seat { (seat.old.table_id ≡ B.table) × (1 ≤ number) × (seat.old.me.0 ≡ asking number seat.old.me.0.calls) }
         ensures table { seat.new.table_id ≡ B.table }
@@ -146,7 +147,7 @@ impl<B: Room> Locked<B> {
     {
         tie.compare(&mut self.keeper, seat);
         let steps = batch.len();
-        match self.session.commit(alloc, DeskId { number }, batch) {
+        match self.session.commit_own(alloc, DeskId { number }, batch) {
             Err(why) => Err(why),
             Ok(receipt) => {
                 let call = Call {
@@ -165,7 +166,9 @@ impl<B: Room> Locked<B> {
         &self,
         alloc: Global,
         place: u32,
-    ) -> Result<Option<(Lease, usize)>, NoMemory> {
+    ) -> Result<Option<(Lease, usize)>, NoMemory>
+        ensures own { IfOk result (λ o. IfSome o (λ l. (loan_of l.0.copy).program ≡ B.program)) }
+    {
         match self.session.lease(alloc, place)? {
             Some(lease) => {
                 let limit = self.session.room().min(self.session.grant() as usize);

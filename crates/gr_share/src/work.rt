@@ -11,6 +11,7 @@ use std::sync::Wait;
 
 impl<B: Room> Worker<B> {
     ghost use Rattle.std.specs.Prelude.{◌≡◌};
+    ghost use Rattle.gr_session.specs.Copies.{loan_of};
     ghost use Rattle.gr_share.specs.Calls.{HasWorked};
 
     // Takes steps on the copy, without the lock, and commits them. It tells whether it may go on.
@@ -23,6 +24,7 @@ impl<B: Room> Worker<B> {
         lease: Lease,
         limit: usize,
     ) -> bool
+        requires own { (loan_of lease.copy).program ≡ B.program }
         ensures works { HasWorked self.old.seat self.new.seat }
         ensures place { self.new.place ≡ self.old.place }
     {

@@ -1,18 +1,17 @@
 -- What arrives at goroutines with their numbers, said of their names.
-use Rattle.std.proofs.Common.{◌≡◌, ◌≤◌, ℕ, Bool, true, false, if◌then◌else◌, List, Option, Some, None, refl, sym, ap, subst, ◌∙◌, inl, inr, zero-le}
+use Rattle.std.proofs.Common.{◌≡◌, ◌≤◌, ℕ, Bool, true, false, if◌then◌else◌, List, Option, Some, None, refl, sym, ap, subst, ◌∙◌, zero-le}
 use Rattle.std.specs.Prelude.{option_map, slice_get}
-use Rattle.gr_rules.specs.Outcomes.{gives, wrong}
-use Rattle.gr_rules.specs.States.{same_go, updated}
+use Rattle.gr_rules.specs.States.{same_go}
 use Rattle.gr_code.specs.CodeFrames.{ProgramCode}
 use Rattle.gr_code.specs.Goroutines.{CodeGoroutine, Arrival}
 use Rattle.gr_contents.proofs.NameLemmas.{go_is, go_self}
-use Rattle.gr_goros.specs.Undoing.{Fits, need, undone, Undoes}
+use Rattle.gr_goros.specs.Undoing.{Fits, need, undone}
 use Rattle.gr_goros.specs.Views.{Seen}
 use Rattle.gr_goros.specs.declared.undo.GoUndo.{GoUndo}
-use Rattle.gr_tables.specs.NamedGoroutines.{At, CanArrive, Arrives, ChangesBy, KeepsContents, TakenBack, goroutines_of, name_at, seen_at, seen_of}
+use Rattle.gr_tables.specs.NamedGoroutines.{At, Arrives, ChangesBy, KeepsContents, TakenBack, goroutines_of, name_at, seen_at, seen_of}
 use Rattle.gr_tables.specs.declared.goroutines.Goroutines.{Goroutines}
 use Rattle.gr_tables.proofs.ByNumber.{seen_named}
-use Rattle.gr_step.specs.Passing.{CanArriveAt, ArrivesAt, BothArrive}
+use Rattle.gr_step.specs.Passing.{ArrivesAt}
 use Rattle.gr_step.proofs.ObjectLemmas.{change_was, change_is}
 use Rattle.gr_step.proofs.PassingLemmas.{needs_no_frame}
 

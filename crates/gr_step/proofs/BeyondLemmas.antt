@@ -1,5 +1,5 @@
 -- What a step reached beyond its goroutine, taken back.
-use Rattle.std.proofs.Common.{◌≡◌, ℕ, Bool, true, false, if◌then◌else◌, List, ◌∷◌, Option, Some, None, Global, refl, sym, ap, subst, ◌∙◌}
+use Rattle.std.proofs.Common.{◌≡◌, ℕ, Bool, true, false, if◌then◌else◌, List, ◌∷◌, Some, None, Global, refl, sym, ap, subst, ◌∙◌}
 use Rattle.std.specs.Prelude.{Box}
 use Rattle.gr_base.specs.declared.names.ChName.{ChName}
 use Rattle.gr_rules.specs.States as rules

@@ -1,8 +1,6 @@
 -- The step of a close, from what it leaves.
-use Rattle.std.proofs.Common.{◌≡◌, ℕ, ◌+◌, ◌≤◌, Bool, true, false, not, ◌||◌, if◌then◌else◌, List, [], ◌∷◌, ◌++◌, map, length, Option, Some, None, option_map, refl, sym, ap, subst, ◌∙◌, inl, inr, zero-le}
-use Rattle.std.specs.Prelude.{option_copied}
-use Rattle.std.specs.List.{list_any, list_all, flat_map}
-use Rattle.std.proofs.lemmas.List.Folds.{list_any-append}
+use Rattle.std.proofs.Common.{◌≡◌, ℕ, ◌+◌, ◌≤◌, true, false, not, ◌||◌, if◌then◌else◌, List, [], ◌∷◌, ◌++◌, map, Option, Some, None, option_map, refl, sym, ap, subst, ◌∙◌, inl, inr, zero-le}
+use Rattle.std.specs.List.{list_any, list_all}
 use Rattle.std.proofs.lemmas.Bool.{cases_Bool, and_parts, and_from}
 use Rattle.gr_base.specs.declared.names.ChName.{ChName}
 use Rattle.gr_base.specs.declared.events.Event.{Event}
@@ -13,22 +11,22 @@ use Rattle.gr_base.specs.declared.objects.Object.{Object}
 use Rattle.gr_base.specs.declared.objects.Object.TheVariants.{Run, Go, Gate}
 use Rattle.gr_channels.specs.Channels as channels
 use Rattle.gr_channels.specs.Channels.{Content}
-use Rattle.gr_channels.specs.Objects.{GateContent, gate_of}
+use Rattle.gr_channels.specs.Objects.{gate_of}
 use Rattle.gr_program.specs.Programs.{Program}
 use Rattle.gr_rules.specs.Operators.{same_channel}
 use Rattle.gr_rules.specs.Outcomes.{Outcome, gives, faults, wrong, ◌>>=◌}
-use Rattle.gr_rules.specs.Attempts.{Report, closes}
+use Rattle.gr_rules.specs.Attempts.{closes}
 use Rattle.gr_rules.specs.Actors.{Actor, channels_but, fault}
 use Rattle.gr_rules.specs.Communications.{once, close_open}
 use Rattle.gr_rules.specs.Deeds.{Closes}
-use Rattle.gr_rules.specs.Goroutines.{Status, ready, waiting}
+use Rattle.gr_rules.specs.Goroutines.{ready, waiting}
 use Rattle.gr_rules.specs.States.{same, same_go, updated}
-use Rattle.gr_rules.specs.Steps.{attempt, steps_of}
-use Rattle.gr_rules.specs.Touches.{Touches, table, touches, woken, waits_at, senders_at, receivers_at}
+use Rattle.gr_rules.specs.Steps.{attempt}
+use Rattle.gr_rules.specs.Touches.{Touches, table, touches, woken, senders_at, receivers_at}
 use Rattle.gr_laws.specs.Touched.{each_once}
 use Rattle.gr_code.specs.CodeFrames.{CodeFrame, ProgramCode, Wants}
 use Rattle.gr_code.specs.Goroutines.{CodeGoroutine, Arrival, Completion, arrived, frames_past, with_frames, task_of}
-use Rattle.gr_contents.specs.Contents.{Contents, goroutine_of, with_goroutine}
+use Rattle.gr_contents.specs.Contents.{Contents, with_goroutine}
 use Rattle.gr_contents.specs.CodeSteps.{code_report}
 use Rattle.gr_contents.specs.Closing.{waiting_on, shut}
 use Rattle.gr_contents.specs.Looks.{actor_of}
@@ -39,11 +37,10 @@ use Rattle.gr_contents.proofs.TaskLemmas.{rule_is_sound}
 use Rattle.gr_contents.specs.Meetings.{closed_in, with_woken, all_waits_in}
 use Rattle.gr_contents.specs.Partners.{is_waiting, all_made}
 use Rattle.gr_contents.specs.Performing.{StepsTo}
-use Rattle.gr_contents.specs.Standing.{AllStand, ContentsStand}
+use Rattle.gr_contents.specs.Standing.{ContentsStand}
 use Rattle.gr_contents.proofs.CodeStepLemmas.{close_of_code, close_finds_waiters}
-use Rattle.gr_contents.proofs.NameLemmas.{go_is, go_self}
+use Rattle.gr_contents.proofs.NameLemmas.{go_is}
 use Rattle.gr_contents.proofs.StandingLemmas.{arrival_keeps_standing, change_keeps_standing, waking_keeps_standing, same_goroutines_stand}
-use Rattle.gr_goros.specs.Undoing.{undone, Fits, need}
 use Rattle.gr_goros.specs.Views.{Seen, is_finished}
 use Rattle.gr_goros.specs.declared.undo.GoUndo.{GoUndo}
 use Rattle.gr_lower.specs.Lowered.{lowered, meaning}
@@ -59,19 +56,19 @@ use Rattle.gr_step.specs.Listings.{frame_in, state_in}
 use Rattle.gr_step.specs.Objects.{contents_in, run_of}
 use Rattle.gr_step.specs.Passing.{ArrivesAt}
 use Rattle.gr_step.specs.Premises.{Acting, OfGoroutine}
-use Rattle.gr_step.specs.Records.{HasRoom, channels_changed}
+use Rattle.gr_step.specs.Records.{HasRoom}
 use Rattle.gr_step.specs.Taking.{Takes}
 use Rattle.gr_step.specs.Within.{IsAmong}
-use Rattle.gr_step.specs.Wakes.{waits_known, all_waits_known, without_each, is_live_there, with_each_woken, LeadsOver, written_by_close, left_by_close, Closing}
+use Rattle.gr_step.specs.Wakes.{all_waits_known, without_each, is_live_there, with_each_woken, written_by_close, left_by_close, Closing}
 use Rattle.gr_step.proofs.ArrivedLemmas.{can_arrive}
 use Rattle.gr_step.proofs.FaultSteps.{fault_takes, task_faults}
 use Rattle.gr_step.proofs.InsideLemmas.{Inside, met_among, go_of_name, gate_of_name, gates_named, gates_inside, more_before, more_after}
 use Rattle.gr_step.proofs.ChoosingLemmas.{are_channels}
 use Rattle.gr_step.proofs.ObjectLemmas.{change_was, change_is}
-use Rattle.gr_step.proofs.PassingLemmas.{GoesOver, one_first, prints_nothing, needs_no_frame}
+use Rattle.gr_step.proofs.PassingLemmas.{one_first, prints_nothing, needs_no_frame}
 use Rattle.gr_step.proofs.RunningLemmas.{ActsHere, acts_here, code_fits, never_unsound}
 use Rattle.gr_step.proofs.ShutLemmas.{closed_is, not_among, all_known_in_state, all_live, woken_at_once}
-use Rattle.gr_step.proofs.TakingLemmas.{Reaches, takes, counted}
+use Rattle.gr_step.proofs.TakingLemmas.{takes, counted}
 
 some_is : {X : Type 0} {x y : X} → Some x ≡ Some y → x ≡ y
 some_is {X} {x} h = ap (λ o. elim o [ Some z ↦ z | None ↦ x ]) h

@@ -1,6 +1,6 @@
 -- The steps that count the items and the places of a channel.
-use Rattle.std.proofs.Common.{◌≡◌, ◌<◌, ◌+◌, ◌^◌, ℕ, pos, Bool, true, false, if◌then◌else◌, List, [], ◌∷◌, length, Option, Some, None, refl, sym, ap}
-use Rattle.std.proofs.Common.{subst, ◌∙◌, arith}
+use Rattle.std.proofs.Common.{◌≡◌, ◌+◌, ℕ, pos, false, if◌then◌else◌, List, [], ◌∷◌, length, Option, Some, None, refl, sym, ap}
+use Rattle.std.proofs.Common.{◌∙◌, arith}
 use Rattle.std.specs.Prelude.{option_map}
 use Rattle.gr_base.specs.declared.names.ChName.{ChName}
 use Rattle.gr_base.specs.declared.events.Choice.TheVariants.{Plain}
@@ -13,7 +13,7 @@ use Rattle.gr_channels.specs.Channels.{Content}
 use Rattle.gr_program.specs.Programs.{Program}
 use Rattle.gr_rules.specs.Actors.{Actor, given, does, onward}
 use Rattle.gr_rules.specs.Attempts as rules
-use Rattle.gr_rules.specs.Deeds.{TakesLen, TakesCap, resumed}
+use Rattle.gr_rules.specs.Deeds.{TakesLen, TakesCap}
 use Rattle.gr_rules.specs.Frames.{Frame}
 use Rattle.gr_rules.specs.Outcomes.{Outcome, gives, wrong}
 use Rattle.gr_rules.specs.States.{live}

@@ -1,5 +1,5 @@
 -- The goroutine that acts goes past its communication, alone or with one that waits.
-use Rattle.std.proofs.Common.{◌≡◌, ◌≤◌, ℕ, Bool, true, false, List, [], ◌∷◌, ◌++◌, map, Option, Some, None, refl, sym, ap, subst, ◌∙◌, zero-le}
+use Rattle.std.proofs.Common.{◌≡◌, ◌≤◌, ℕ, Bool, true, false, List, [], ◌∷◌, ◌++◌, map, Option, Some, refl, sym, ap, subst, ◌∙◌, zero-le}
 use Rattle.std.specs.Prelude.{option_map}
 use Rattle.gr_base.specs.declared.names.ChName.{ChName}
 use Rattle.gr_base.specs.declared.values.Value.{Value}
@@ -10,13 +10,13 @@ use Rattle.gr_base.specs.declared.objects.Object.TheVariants as objects
 use Rattle.gr_channels.specs.declared.changes.ChanUndo.{ChanUndo}
 use Rattle.gr_channels.specs.Channels.{Seen}
 use Rattle.gr_program.specs.Programs.{Program}
-use Rattle.gr_rules.specs.Outcomes.{Outcome, gives, wrong}
+use Rattle.gr_rules.specs.Outcomes.{wrong}
 use Rattle.gr_rules.specs.Deeds.{past}
-use Rattle.gr_rules.specs.Goroutines.{Wait, Status, ready, waiting}
+use Rattle.gr_rules.specs.Goroutines.{Status, ready, waiting}
 use Rattle.gr_rules.specs.States.{same_go}
 use Rattle.gr_rules.specs.Attempts.{Operation}
 use Rattle.gr_rules.specs.Actors.{channels_but}
-use Rattle.gr_code.specs.CodeFrames.{CodeFrame, ProgramCode}
+use Rattle.gr_code.specs.CodeFrames.{ProgramCode}
 use Rattle.gr_code.specs.Goroutines.{CodeGoroutine, Arrival, Passes, IsMet}
 use Rattle.gr_code.specs.Programs.{IsClause}
 use Rattle.gr_contents.specs.Contents.{Contents}
@@ -27,7 +27,7 @@ use Rattle.gr_contents.proofs.NameLemmas.{go_is, go_other}
 use Rattle.gr_lower.specs.Lowered.{lowered, meaning}
 use Rattle.gr_goros.specs.declared.undo.GoUndo.{GoUndo}
 use Rattle.gr_goros.specs.Undoing.{need}
-use Rattle.gr_tables.specs.NamedChannels.{seen_of, contents_of, rooms_of, ChansFit, GoesBack, Follows, HasRooms, TookBack}
+use Rattle.gr_tables.specs.NamedChannels.{seen_of, contents_of, rooms_of, ChansFit, GoesBack, HasRooms, TookBack}
 use Rattle.gr_tables.specs.NamedGoroutines.{At, goroutines_of, go_rooms_of}
 use Rattle.gr_tables.specs.declared.channels.Channels.{Channels}
 use Rattle.gr_tables.proofs.Joining.{changes_join, changes_go_back}
@@ -38,8 +38,8 @@ use Rattle.gr_step.specs.declared.record.Change.{Change}
 use Rattle.gr_step.specs.Listings.{frame_in}
 use Rattle.gr_step.specs.Objects.{contents_in, run_of}
 use Rattle.gr_step.specs.Premises.{Acting, OfGoroutine}
-use Rattle.gr_step.specs.Records.{HasRoom, channels_changed}
-use Rattle.gr_step.specs.Passing.{CanArriveAt, ArrivesAt, Tells}
+use Rattle.gr_step.specs.Records.{HasRoom}
+use Rattle.gr_step.specs.Passing.{CanArriveAt}
 use Rattle.gr_step.specs.Preparing.{WaitsFor, IsPrepared, CanPass, IsPass, CanExchange, IsExchange}
 use Rattle.gr_step.proofs.MetLemmas.{some_is}
 use Rattle.gr_step.proofs.PassingLemmas.{needs_no_frame}

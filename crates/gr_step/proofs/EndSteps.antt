@@ -1,20 +1,17 @@
 -- The step of a goroutine that is done.
-use Rattle.std.proofs.Common.{◌≡◌, ◌<◌, ◌+◌, ◌^◌, arith, ℕ, Bool, true, false, if◌then◌else◌, List, [], ◌∷◌, Option, Some, None, refl, sym, ap, ◌∙◌}
+use Rattle.std.proofs.Common.{◌≡◌, ◌<◌, ◌+◌, ◌^◌, arith, ℕ, true, if◌then◌else◌, List, [], ◌∷◌, None, refl, sym, ap, ◌∙◌}
 use Rattle.std.specs.Prelude.{option_map}
 use Rattle.gr_base.specs.declared.events.Choice.TheVariants.{Plain}
 use Rattle.gr_base.specs.declared.events.Event.{Event}
 use Rattle.gr_base.specs.declared.kinds.Kind.TheVariants as kinds
 use Rattle.gr_base.specs.declared.objects.Object.TheVariants as objects
-use Rattle.gr_base.specs.declared.values.Value.{Value}
 use Rattle.gr_program.specs.Programs.{Program}
-use Rattle.gr_rules.specs.Deeds.{Leaves}
-use Rattle.gr_rules.specs.Outcomes.{gives}
 use Rattle.gr_rules.specs.States.{live, ended}
 use Rattle.gr_rules.specs.Steps.{attempt}
 use Rattle.gr_rules.specs.Touches.{Touches, touches, row}
 use Rattle.gr_laws.specs.Touched.{each_once}
-use Rattle.gr_code.specs.CodeFrames.{CodeFrame, Wants}
-use Rattle.gr_code.specs.Goroutines.{CodeGoroutine, finished, task_of}
+use Rattle.gr_code.specs.CodeFrames.{CodeFrame}
+use Rattle.gr_code.specs.Goroutines.{finished}
 use Rattle.gr_goros.specs.Undoing.{need}
 use Rattle.gr_goros.specs.Views.{CanHalt}
 use Rattle.gr_goros.specs.declared.arrivals.Halt.TheVariants.{Finished}
@@ -25,7 +22,7 @@ use Rattle.gr_tables.specs.NamedChannels.{contents_of}
 use Rattle.gr_tables.specs.NamedGoroutines.{At, CanEnd, seen_at}
 use Rattle.gr_tables.specs.declared.goroutines.Goroutines.{Goroutines}
 use Rattle.gr_contents.specs.CodeSteps.{code_report}
-use Rattle.gr_contents.specs.Contents.{Contents, goroutine_of, with_goroutine}
+use Rattle.gr_contents.specs.Contents.{goroutine_of}
 use Rattle.gr_contents.proofs.CodeStepLemmas.{finish_of_code, exit_of_code}
 use Rattle.gr_lower.specs.Lowered.{lowered, meaning}
 use Rattle.gr_step.specs.declared.objects.Objects.{Objects}
@@ -39,7 +36,7 @@ use Rattle.gr_step.specs.Taking.{Takes}
 use Rattle.gr_step.proofs.AloneSteps.{alone_takes}
 use Rattle.gr_step.proofs.FrameNeeds.{need_none_done}
 use Rattle.gr_step.proofs.ChoosingLemmas.{are_channels}
-use Rattle.gr_step.proofs.OwnSteps.{after_own, own_takes, count_is}
+use Rattle.gr_step.proofs.OwnSteps.{own_takes, count_is}
 use Rattle.gr_step.proofs.PlacedLemmas.{Placed, placed, at_number, own_room}
 use Rattle.gr_step.proofs.PrintedLemmas.{not_printed}
 use Rattle.gr_step.proofs.Reaching.{told}

@@ -1,5 +1,5 @@
 -- A fault stops the program: its step, from the change that tells of it.
-use Rattle.std.proofs.Common.{◌≡◌, ◌+◌, ℕ, Bool, true, false, if◌then◌else◌, List, [], ◌∷◌, Option, Some, None, refl, sym, ap, subst, ◌∙◌}
+use Rattle.std.proofs.Common.{◌≡◌, ◌+◌, ℕ, true, false, if◌then◌else◌, List, [], ◌∷◌, Option, None, refl, sym, ap, subst, ◌∙◌}
 use Rattle.std.specs.Prelude.{option_map, map}
 use Rattle.std.specs.List.{flat_map}
 use Rattle.gr_base.specs.declared.events.Choice.{Choice}
@@ -11,19 +11,16 @@ use Rattle.gr_base.specs.declared.objects.Object.{Object}
 use Rattle.gr_base.specs.declared.objects.Object.TheVariants as objects
 use Rattle.gr_program.specs.Programs.{Program}
 use Rattle.gr_rules.specs.Outcomes.{Outcome, gives, faults, wrong}
-use Rattle.gr_rules.specs.Deeds.{Deed, Moves, Prints, Enters, Leaves, Starts, Makes, TakesLen, TakesCap, Closes, Communicates, Chooses, Communication}
-use Rattle.gr_rules.specs.Frames.{Frame}
-use Rattle.gr_rules.specs.Goroutines.{Goroutine}
+use Rattle.gr_rules.specs.Deeds.{Moves, Prints, Enters, Leaves, Starts, Makes, TakesLen, TakesCap, Closes, Communicates, Chooses, Communication}
 use Rattle.gr_rules.specs.Attempts.{Attempt}
 use Rattle.gr_rules.specs.Attempts as rules
 use Rattle.gr_rules.specs.States.{live, faulted as run_faulted}
 use Rattle.gr_rules.specs.Steps.{attempt, act_by}
-use Rattle.gr_rules.specs.Touches.{Touches, touches, row, without_channel, side, looked_at, clauses_in, clauses_by}
+use Rattle.gr_rules.specs.Touches.{Touches, touches, row, side, looked_at, clauses_in, clauses_by}
 use Rattle.gr_laws.specs.Touched.{each_once}
 use Rattle.gr_code.specs.CodeFrames.{CodeFrame, Task, Steps, Wants}
 use Rattle.gr_code.specs.Goroutines.{CodeGoroutine, faulted, task_of}
-use Rattle.gr_code.specs.Programs.{deed_meant, frame_of}
-use Rattle.gr_goros.specs.Undoing.{undone, Fits}
+use Rattle.gr_code.specs.Programs.{deed_meant}
 use Rattle.gr_contents.specs.Contents.{Contents, goroutine_of}
 use Rattle.gr_contents.specs.CodeFaults.{FaultsAt}
 use Rattle.gr_contents.specs.CodeSteps.{code_report}
@@ -47,7 +44,7 @@ use Rattle.gr_step.proofs.ChoosingLemmas.{are_channels}
 use Rattle.gr_step.proofs.OwnSteps.{after_own, own_takes, count_is}
 use Rattle.gr_step.proofs.PrintedLemmas.{not_printed}
 use Rattle.gr_step.proofs.RunningLemmas.{acts_here}
-use Rattle.gr_step.proofs.Reaching.{Told, told}
+use Rattle.gr_step.proofs.Reaching.{told}
 
 -- the row of a fault
 abbrev pub FaultRow : Program → Event → Contents → CodeGoroutine → Fault → Option rules.Operation → List Object → Type 0

@@ -1,5 +1,5 @@
 -- A value is handed to the first goroutine that waits to receive it.
-use Rattle.std.proofs.Common.{◌≡◌, ℕ, ◌<◌, Bool, true, false, List, [], ◌∷◌, ◌++◌, map, length, Option, Some, None, refl, sym, ap, subst, ◌∙◌, inl, inr}
+use Rattle.std.proofs.Common.{◌≡◌, ℕ, true, false, List, [], ◌∷◌, map, Option, Some, None, refl, sym, ap, subst, ◌∙◌, inl}
 use Rattle.gr_base.specs.declared.names.ChName.{ChName}
 use Rattle.gr_base.specs.declared.values.Value.{Value}
 use Rattle.gr_base.specs.declared.events.Event.{Event}
@@ -17,13 +17,12 @@ use Rattle.gr_rules.specs.Goroutines.{ToReceive}
 use Rattle.gr_rules.specs.Operators.{same_channel}
 use Rattle.gr_rules.specs.States.{updated}
 use Rattle.gr_rules.specs.Attempts.{Attempt, sends_on}
-use Rattle.gr_rules.specs.Actors.{Actor, channels_but}
+use Rattle.gr_rules.specs.Actors.{channels_but}
 use Rattle.gr_rules.specs.Communications.{send}
 use Rattle.gr_code.specs.Goroutines.{Passes, IsMet}
-use Rattle.gr_contents.specs.Contents.{Contents}
 use Rattle.gr_contents.specs.Looks.{actor_of}
 use Rattle.gr_contents.proofs.SendLemmas.{sending_meets}
-use Rattle.gr_lower.specs.Lowered.{lowered, meaning}
+use Rattle.gr_lower.specs.Lowered.{lowered}
 use Rattle.gr_tables.specs.NamedChannels.{At, contents_of, seen_of, GoesBack, OfferAt, is_at_gate, withdrawn}
 use Rattle.gr_tables.specs.declared.channels.Channels.{Channels}
 use Rattle.gr_step.specs.declared.objects.Objects.{Objects}
@@ -40,7 +39,7 @@ use Rattle.gr_step.proofs.OfferLemmas.{was_seen, of_it, first_in, after_handed}
 use Rattle.gr_code.specs.CodeFrames.{ProgramCode}
 use Rattle.std.specs.Prelude.{slice_get}
 use Rattle.gr_step.proofs.RunningLemmas.{acts_here}
-use Rattle.gr_step.proofs.Waiters.{HasItsClause, waits_at_clause, receiver_waits}
+use Rattle.gr_step.proofs.Waiters.{waits_at_clause, receiver_waits}
 use Rattle.gr_step.proofs.InsideLemmas.{gate_first, gate_is_among, met_inside}
 use Rattle.gr_step.proofs.ChoosingLemmas.{are_channels}
 use Rattle.gr_step.proofs.Encounters.{HasClauseAt, CanMeet, can_meet, can_exchange, exchanged, all_go_back, exchange_room}

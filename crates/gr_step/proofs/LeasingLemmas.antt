@@ -3,12 +3,11 @@ use Rattle.std.proofs.Common.{◌≡◌, ℕ, ◌+◌, ◌++◌, Bool, true, fal
 use Rattle.std.proofs.lemmas.Bool.{cases_Bool}
 use Rattle.gr_base.specs.declared.events.Choice.TheVariants.{Plain}
 use Rattle.gr_base.specs.declared.events.Event.{Event}
-use Rattle.gr_base.specs.declared.kinds.Kind.{Kind}
 use Rattle.gr_base.specs.declared.names.StepId.{StepId}
 use Rattle.gr_program.specs.Programs.{Program}
 use Rattle.gr_program.specs.Views.{program_of}
 use Rattle.gr_rules.specs.Goroutines.{ready}
-use Rattle.gr_rules.specs.Outcomes.{gives, wrong}
+use Rattle.gr_rules.specs.Outcomes.{wrong}
 use Rattle.gr_rules.specs.States.{live, same_go, updated}
 use Rattle.gr_rules.specs.Steps.{attempt, count}
 use Rattle.gr_code.specs.CodeViews.{program_code_of}

@@ -17,10 +17,8 @@ use Rattle.gr_code.specs.Instructions.{Instruction}
 use Rattle.gr_code.specs.CodeFrames.{ProgramCode, CodeFrame, Task, Steps, Wants, entered, after_in, resumed_in}
 use Rattle.gr_code.specs.Goroutines.{CodeGoroutine, instruction_in, is_deepest, faulted, with_frames, local, local_by, local_task, leaves, prints}
 use Rattle.gr_code.specs.Goroutines.{task_of}
-use Rattle.gr_code.specs.Programs.{ProgramFits}
 use Rattle.gr_contents.specs.Contents.{Contents, with_goroutine}
 use Rattle.gr_contents.specs.Local.{printed_by, after_local}
-use Rattle.gr_contents.specs.Standing.{AllStand}
 use Rattle.gr_contents.specs.Tasks.{Acts, chooses}
 use Rattle.gr_contents.proofs.LocalLemmas.{local_here}
 use Rattle.gr_contents.proofs.TaskLemmas.{instruction, at_it, task_is}

@@ -1,5 +1,5 @@
 -- A local step is taken, by its goroutine before and after it.
-use Rattle.std.proofs.Common.{◌≡◌, ◌≤◌, ◌<◌, ◌+◌, ◌^◌, ℕ, true, false, List, [], ◌∷◌, ◌++◌, Option, Some, None, refl, sym, ap, subst, ◌∙◌, arith}
+use Rattle.std.proofs.Common.{◌≡◌, ◌≤◌, ◌<◌, ◌+◌, ◌^◌, ℕ, true, List, [], ◌∷◌, Option, Some, None, refl, sym, ap, subst, ◌∙◌, arith}
 use Rattle.std.specs.Prelude.{is_some}
 use Rattle.gr_base.specs.declared.events.Choice.TheVariants.{Plain}
 use Rattle.gr_base.specs.declared.events.Event.{Event}
@@ -11,15 +11,15 @@ use Rattle.gr_program.specs.Programs.{Program}
 use Rattle.gr_rules.specs.Outcomes.{gives, wrong}
 use Rattle.gr_rules.specs.States.{faulted as run_faulted}
 use Rattle.gr_rules.specs.Steps.{attempt}
-use Rattle.gr_code.specs.CodeFrames.{CodeFrame, ProgramCode}
+use Rattle.gr_code.specs.CodeFrames.{ProgramCode}
 use Rattle.gr_code.specs.Goroutines.{CodeGoroutine, faulted, is_local, local, task_of}
 use Rattle.gr_goros.specs.Tasks.{IsStep}
 use Rattle.gr_goros.specs.Undoing.{undone, Fits, need}
 use Rattle.gr_goros.specs.declared.undo.GoUndo.{GoUndo}
 use Rattle.gr_tables.specs.NamedChannels.{contents_of}
-use Rattle.gr_tables.specs.NamedGoroutines.{At, ChangesBy, StepsAlone, TakenBack, goroutines_of, seen_at}
+use Rattle.gr_tables.specs.NamedGoroutines.{At, ChangesBy, StepsAlone, TakenBack, seen_at}
 use Rattle.gr_tables.specs.declared.goroutines.Goroutines.{Goroutines}
-use Rattle.gr_contents.specs.Contents.{Contents, goroutine_of, with_goroutine}
+use Rattle.gr_contents.specs.Contents.{goroutine_of}
 use Rattle.gr_contents.specs.Local.{after_local, local_report, printed_by}
 use Rattle.gr_contents.specs.Performing.{StepsTo}
 use Rattle.gr_contents.proofs.LocalLemmas.{local_step_is_a_step}

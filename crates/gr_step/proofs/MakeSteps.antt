@@ -1,5 +1,5 @@
 -- The step that makes a channel.
-use Rattle.std.proofs.Common.{◌≡◌, ◌≤◌, ◌<◌, ◌+◌, ◌^◌, ℕ, ℤ, pos, negsuc, Bool, true, false, if◌then◌else◌, List, [], ◌∷◌, ◌++◌, Option, Some, None, Global}
+use Rattle.std.proofs.Common.{◌≡◌, ◌≤◌, ◌<◌, ◌+◌, ◌^◌, ℕ, ℤ, pos, negsuc, Bool, true, false, if◌then◌else◌, [], ◌∷◌, ◌++◌, Option, Some, None, Global}
 use Rattle.std.proofs.Common.{refl, sym, ap, subst, ◌∙◌, arith}
 use Rattle.std.specs.Prelude.{option_map, Box}
 use Rattle.gr_base.specs.declared.names.ChName.{ChName}
@@ -10,19 +10,19 @@ use Rattle.gr_base.specs.declared.kinds.Kind.TheVariants as kinds
 use Rattle.gr_base.specs.declared.objects.Object.TheVariants as objects
 use Rattle.gr_base.specs.declared.values.Value.TheVariants.{Chan}
 use Rattle.gr_channels.specs.Channels.{Content, IsChannel}
-use Rattle.gr_channels.specs.Objects.{GateContent, gate_of}
+use Rattle.gr_channels.specs.Objects.{gate_of}
 use Rattle.gr_program.specs.Programs.{Program}
 use Rattle.gr_rules.specs.Deeds.{Makes}
 use Rattle.gr_rules.specs.Limits.{most_places, greatest_count}
 use Rattle.gr_rules.specs.Operators.{same_channel}
-use Rattle.gr_rules.specs.Outcomes.{gives, wrong}
+use Rattle.gr_rules.specs.Outcomes.{gives}
 use Rattle.gr_rules.specs.States.{live, updated}
 use Rattle.gr_rules.specs.Steps.{attempt}
 use Rattle.gr_rules.specs.Touches.{Touches, touches, row}
 use Rattle.gr_laws.specs.Soundness as laws
 use Rattle.gr_laws.specs.Touched.{each_once}
 use Rattle.gr_code.specs.CodeFrames.{Wants}
-use Rattle.gr_code.specs.Goroutines.{CodeGoroutine, Channel, arrived, task_of}
+use Rattle.gr_code.specs.Goroutines.{CodeGoroutine, Channel, task_of}
 use Rattle.gr_goros.specs.declared.undo.GoUndo.{GoUndo}
 use Rattle.gr_tables.specs.NamedChannels.{contents_of, fresh, chan_back, ChansFit}
 use Rattle.gr_tables.specs.NamedGoroutines.{At, CanArrive, seen_at}
@@ -45,7 +45,7 @@ use Rattle.gr_step.specs.Listings.{frame_in, state_in}
 use Rattle.gr_step.specs.Objects.{contents_in, run_of}
 use Rattle.gr_step.specs.Premises.{Acting}
 use Rattle.gr_step.specs.Parts.{reads_in}
-use Rattle.gr_step.specs.Records.{operation_of, beyond, stops, go_back, goroutines_changed, channels_changed, begun_by, made_by, is_go, is_channel, writes_of, reads_of}
+use Rattle.gr_step.specs.Records.{operation_of, beyond, stops, go_back, goroutines_changed, channels_changed, made_by, is_go, is_channel, writes_of, reads_of}
 use Rattle.gr_step.specs.Records.{taken_back, GoesFit, NeedNoFrame, CanGoBack}
 use Rattle.gr_step.specs.Within.{IsAmong, EachIsAmong, PartsAreAmong, IsUnused, ChangesWithin}
 use Rattle.gr_step.specs.Taking.{Takes}

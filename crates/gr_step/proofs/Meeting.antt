@@ -1,5 +1,5 @@
 -- The first goroutine that waits to send is met by one that receives.
-use Rattle.std.proofs.Common.{◌≡◌, ◌+◌, ℕ, Bool, true, false, List, [], ◌∷◌, ◌++◌, map, Option, Some, None, refl, sym, ap, subst, ◌∙◌, inl, inr}
+use Rattle.std.proofs.Common.{◌≡◌, ◌+◌, ℕ, Bool, true, List, [], ◌∷◌, ◌++◌, map, Option, Some, None, refl, sym, ap, subst, ◌∙◌, inl}
 use Rattle.std.specs.Prelude.{slice_get}
 use Rattle.std.specs.Option.{option_map_or}
 use Rattle.gr_base.specs.declared.names.ChName.{ChName}
@@ -12,7 +12,7 @@ use Rattle.gr_causal.specs.Sequences.{In}
 use Rattle.gr_channels.specs.declared.waiter.Waiter.{Waiter}
 use Rattle.gr_channels.specs.declared.changes.ChanUndo.{ChanUndo}
 use Rattle.gr_channels.specs.declared.changes.Taken.TheVariants as taken
-use Rattle.gr_channels.specs.Channels.{Content, Seen, IsChannel}
+use Rattle.gr_channels.specs.Channels.{Seen, IsChannel}
 use Rattle.gr_channels.specs.Objects.{has_any}
 use Rattle.gr_program.specs.Programs.{Program}
 use Rattle.gr_rules.specs.Goroutines.{ToSend}
@@ -24,7 +24,6 @@ use Rattle.gr_rules.specs.Deeds.{past}
 use Rattle.gr_rules.specs.Touches.{slot_numbered}
 use Rattle.gr_code.specs.CodeFrames.{ProgramCode}
 use Rattle.gr_code.specs.Goroutines.{Passes, IsMet}
-use Rattle.gr_contents.specs.Contents.{Contents}
 use Rattle.gr_contents.specs.Looks.{actor_of}
 use Rattle.gr_contents.specs.Partners.{Meets}
 use Rattle.gr_contents.proofs.ReceiveLemmas.{receiving_finds_mover, receiving_finds_sender}
@@ -44,7 +43,7 @@ use Rattle.gr_step.specs.Communicating.{TrialIsSound}
 use Rattle.gr_step.specs.Preparing.{IsPrepared, CanExchange, IsExchange}
 use Rattle.gr_step.proofs.RunningLemmas.{acts_here}
 use Rattle.gr_step.proofs.OfferLemmas.{was_seen, of_it, first_in, has_first, after_moved, after_met}
-use Rattle.gr_step.proofs.Waiters.{HasItsClause, waits_at_clause, sender_waits}
+use Rattle.gr_step.proofs.Waiters.{waits_at_clause, sender_waits}
 use Rattle.gr_step.proofs.InsideLemmas.{gate_first, gate_is_among, moved_among, met_inside, has_capacity}
 use Rattle.gr_step.proofs.ChoosingLemmas.{are_channels}
 use Rattle.gr_step.proofs.Encounters.{HasClauseAt, CanMeet, can_meet, can_exchange, exchanged, all_go_back, exchange_room}

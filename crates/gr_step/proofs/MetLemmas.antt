@@ -1,22 +1,18 @@
 -- The goroutine that acts, and one that it meets, after they went past their communication.
-use Rattle.std.proofs.Common.{◌≡◌, ℕ, ◌+◌, Bool, true, false, ◌||◌, if◌then◌else◌, List, [], ◌∷◌, length, Option, Some, None, refl, sym, ap, subst, ◌∙◌}
-use Rattle.std.specs.Prelude.{option_map}
+use Rattle.std.proofs.Common.{◌≡◌, ℕ, Bool, false, if◌then◌else◌, List, ◌∷◌, length, Option, Some, None, sym, ap, ◌∙◌}
 use Rattle.gr_base.specs.declared.names.ChName.{ChName}
 use Rattle.gr_base.specs.declared.values.Value.{Value}
 use Rattle.gr_base.specs.declared.events.Event.{Event}
 use Rattle.gr_channels.specs.Channels.{Content}
 use Rattle.gr_program.specs.Programs.{Program}
 use Rattle.gr_rules.specs.Operators.{same_channel}
-use Rattle.gr_rules.specs.Outcomes.{Outcome, gives, wrong}
-use Rattle.gr_rules.specs.Frames.{Frame}
 use Rattle.gr_rules.specs.Deeds.{past}
-use Rattle.gr_rules.specs.Goroutines.{Wait}
 use Rattle.gr_rules.specs.States.{same_go, updated}
-use Rattle.gr_rules.specs.Actors.{Actor, onward}
+use Rattle.gr_rules.specs.Actors.{onward}
 use Rattle.gr_code.specs.CodeFrames.{CodeFrame}
 use Rattle.gr_code.specs.Goroutines.{CodeGoroutine, Arrival, Passes, IsMet, arrived}
 use Rattle.gr_code.specs.Programs.{IsClause}
-use Rattle.gr_contents.specs.Contents.{Contents, goroutine_of, with_goroutine, with_channel}
+use Rattle.gr_contents.specs.Contents.{Contents, goroutine_of, with_goroutine}
 use Rattle.gr_contents.specs.Looks.{actor_of}
 use Rattle.gr_contents.specs.Arriving.{IsIn, GoesOn}
 use Rattle.gr_contents.specs.Partners.{Meets}
@@ -27,7 +23,7 @@ use Rattle.gr_contents.proofs.StandingLemmas.{arrival_keeps_standing, change_kee
 use Rattle.gr_lower.specs.Lowered.{lowered, meaning}
 use Rattle.gr_goros.specs.declared.undo.GoUndo.{GoUndo}
 use Rattle.gr_tables.specs.NamedChannels.{withdrawn}
-use Rattle.gr_step.specs.Listings.{frame_in, state_in}
+use Rattle.gr_step.specs.Listings.{frame_in}
 use Rattle.gr_step.specs.Premises.{Running}
 use Rattle.gr_step.specs.Passing.{ArrivesAt}
 use Rattle.gr_step.specs.Preparing.{AreToLeave}

@@ -1,12 +1,9 @@
 -- A goroutine that changes in its place, said of what a store contains.
-use Rattle.std.proofs.Common.{◌≡◌, ℕ, Bool, true, false, cond, if◌then◌else◌, List, [], ◌∷◌, Option, Some, None, refl, sym, ap, subst, ◌∙◌}
+use Rattle.std.proofs.Common.{◌≡◌, ℕ, Bool, true, false, if◌then◌else◌, List, Option, Some, None, refl, sym, ap, ◌∙◌}
 use Rattle.std.specs.Prelude.{option_map}
 use Rattle.gr_rules.specs.States.{same_go, updated}
-use Rattle.gr_code.specs.Goroutines.{CodeGoroutine}
 use Rattle.gr_goros.specs.Views.{Seen}
-use Rattle.gr_goros.specs.Undoing.{Undoes}
-use Rattle.gr_goros.specs.declared.undo.GoUndo.{GoUndo}
-use Rattle.gr_tables.specs.NamedGoroutines.{goroutines_of, name_at, seen_at, seen_of, Sets, Changes}
+use Rattle.gr_tables.specs.NamedGoroutines.{goroutines_of, name_at, seen_of, Sets, Changes}
 use Rattle.gr_tables.specs.declared.goroutines.Goroutines.{Goroutines}
 use Rattle.gr_tables.proofs.ByNumber.{seen_named}
 

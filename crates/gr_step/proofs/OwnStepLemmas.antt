@@ -1,10 +1,10 @@
 -- Whether the next step of a goroutine of the store is local, as the rules say it.
-use Rattle.std.proofs.Common.{◌≡◌, ◌∙◌, ℕ, Bool, true, false, not, List, [], ◌∷◌, map, length, nat_le, Option, Some, None, refl, sym, ap}
+use Rattle.std.proofs.Common.{◌≡◌, ◌∙◌, ℕ, Bool, false, not, List, [], ◌∷◌, map, length, nat_le, Option, Some, None, refl, sym, ap}
 use Rattle.std.specs.Prelude.{option_map}
 use Rattle.gr_base.specs.declared.events.Choice.TheVariants.{Plain}
 use Rattle.gr_program.specs.Programs.{Program}
 use Rattle.gr_rules.specs.Deeds.{Moves, Prints, Enters, Leaves, Starts, Makes, TakesLen, TakesCap, Closes, Communicates, Chooses}
-use Rattle.gr_rules.specs.Goroutines.{Status, ready, waiting, finished}
+use Rattle.gr_rules.specs.Goroutines.{Status, ready}
 use Rattle.gr_rules.specs.Goroutines as rules
 use Rattle.gr_rules.specs.Limits.{most_frames}
 use Rattle.gr_rules.specs.LocalSteps.{stays_within_by, is_local_at, is_local_in, is_local}
@@ -12,12 +12,12 @@ use Rattle.gr_rules.specs.Outcomes.{Outcome, gives, faults, wrong}
 use Rattle.gr_rules.specs.States.{live, ended, faulted}
 use Rattle.gr_rules.specs.States as states
 use Rattle.gr_code.specs.CodeFrames.{CodeFrame, Task, Steps, Wants}
-use Rattle.gr_code.specs.Goroutines.{CodeGoroutine, has_caller, is_deepest, task_of}
+use Rattle.gr_code.specs.Goroutines.{CodeGoroutine, is_deepest, task_of}
 use Rattle.gr_code.specs.Programs.{deed_meant}
 use Rattle.gr_contents.specs.Contents.{Contents, goroutine_of}
 use Rattle.gr_contents.proofs.LocalLemmas.{map_length}
 use Rattle.gr_contents.proofs.TaskLemmas.{deed_is}
-use Rattle.gr_goros.specs.Alone.{stays, stays_in, stays_alone}
+use Rattle.gr_goros.specs.Alone.{stays_in, stays_alone}
 use Rattle.gr_goros.specs.Views.{status_of}
 use Rattle.gr_goros.specs.declared.wait.Status as seen
 use Rattle.gr_goros.specs.declared.wait.Status.TheVariants as statuses

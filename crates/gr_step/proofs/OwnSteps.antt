@@ -4,8 +4,6 @@ use Rattle.std.specs.Prelude.{option_map, is_some}
 use Rattle.std.specs.Cmp.Lexicographic.{same_text}
 use Rattle.std.proofs.lemmas.Cmp.{nat_list_eq_equiv}
 use Rattle.gr_base.specs.declared.events.Event.{Event}
-use Rattle.gr_base.specs.declared.kinds.Kind.{Kind}
-use Rattle.gr_base.specs.declared.objects.Object.{Object}
 use Rattle.gr_base.specs.declared.objects.Object.TheVariants.{Gate, Go}
 use Rattle.gr_program.specs.Programs.{Program}
 use Rattle.gr_rules.specs.Attempts.{Attempt, Report, kind_of}
@@ -14,7 +12,7 @@ use Rattle.gr_rules.specs.Steps.{count, steps_of}
 use Rattle.gr_rules.specs.Touches.{table}
 use Rattle.gr_laws.specs.Touched.{each_once}
 use Rattle.gr_code.specs.Goroutines.{CodeGoroutine}
-use Rattle.gr_goros.specs.Undoing.{undone, Fits, need}
+use Rattle.gr_goros.specs.Undoing.{undone, Fits}
 use Rattle.gr_goros.specs.declared.undo.GoUndo.{GoUndo}
 use Rattle.gr_tables.specs.NamedChannels.{chan_back, ChansFit}
 use Rattle.gr_contents.specs.Contents.{Contents, goroutine_of, with_goroutine}
@@ -25,7 +23,7 @@ use Rattle.gr_contents.proofs.StandingLemmas.{change_keeps_standing}
 use Rattle.gr_lower.specs.Lowered.{lowered, meaning}
 use Rattle.gr_step.specs.declared.record.Change.{Change}
 use Rattle.gr_step.specs.Listings.{frame_in, state_in}
-use Rattle.gr_step.specs.Records.{beyond, operation_in, is_printed, stops, writes_of, reads_of, goroutines_changed, channels_changed, begun_by}
+use Rattle.gr_step.specs.Records.{operation_in, is_printed, stops, writes_of, reads_of, goroutines_changed, channels_changed, begun_by}
 use Rattle.gr_step.specs.Records.{made_by}
 use Rattle.gr_step.specs.Records.{go_back, go_undone, GoesFit, is_go, is_channel, taken_back, FramesStay, CanGoBack}
 use Rattle.gr_step.specs.Within.{EachIsAmong, PartsAreAmong, ChangesWithin}

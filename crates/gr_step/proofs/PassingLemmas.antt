@@ -1,12 +1,11 @@
 -- Goroutines that go on with what arrives, and taking that back.
-use Rattle.std.proofs.Common.{◌≡◌, ℕ, suc, ◌+◌, ◌<◌, Bool, true, false, cond, if◌then◌else◌, List, [], ◌∷◌, length, Option, Some, None, refl, sym, ap, subst, ◌∙◌, arith, inl, inr, add-one}
-use Rattle.std.proofs.lemmas.Bool.{cases_Bool}
+use Rattle.std.proofs.Common.{◌≡◌, ℕ, Bool, true, false, if◌then◌else◌, List, [], ◌∷◌, length, Option, Some, refl, sym, ap, subst, ◌∙◌, arith}
 use Rattle.gr_rules.specs.Outcomes.{Outcome, gives, faults, wrong, ◌>>=◌}
-use Rattle.gr_rules.specs.States.{same_go, updated}
+use Rattle.gr_rules.specs.States.{same_go}
 use Rattle.gr_code.specs.CodeFrames.{ProgramCode, CodeFrame}
 use Rattle.gr_code.specs.Goroutines.{CodeGoroutine, Arrival, Value, Channel, Completion, Child, Passes, IsMet, instruction_in, past_arrival, frames_past, with_arrival, arrived}
 use Rattle.gr_contents.proofs.NameLemmas.{go_is, go_self}
-use Rattle.gr_goros.specs.Undoing.{undone, Fits, need, on_innermost, frame_before}
+use Rattle.gr_goros.specs.Undoing.{undone, need, on_innermost, frame_before}
 use Rattle.gr_goros.specs.declared.undo.GoUndo.{GoUndo}
 use Rattle.gr_goros.specs.declared.undo.GoUndo.TheVariants as undos
 use Rattle.gr_step.specs.Records.{is_printed, go_undone, go_back, GoFitsAt, GoesFit, NeedNoFrame}

@@ -1,5 +1,5 @@
 -- A goroutine that changed in its place, by its name.
-use Rattle.std.proofs.Common.{◌≡◌, ◌≤◌, ◌<◌, ◌+◌, ◌^◌, ℕ, Bool, true, false, List, [], ◌∷◌, Option, Some, None, refl, slice_get, sym, ap, subst, ◌∙◌}
+use Rattle.std.proofs.Common.{◌≡◌, ◌≤◌, ◌<◌, ◌+◌, ◌^◌, ℕ, Bool, true, false, List, [], Option, Some, None, refl, slice_get, sym, ap, subst, ◌∙◌}
 use Rattle.std.proofs.Common.{if◌then◌else◌, arith}
 use Rattle.std.specs.Prelude.{option_map}
 use Rattle.std.specs.Cmp.Lexicographic.{same_text}
@@ -21,7 +21,6 @@ use Rattle.gr_tables.proofs.ByNumber.{seen_named}
 use Rattle.gr_step.specs.declared.objects.Objects.{Objects}
 use Rattle.gr_step.specs.declared.record.Change.{Change}
 use Rattle.gr_step.specs.Records.{channels_changed, HasRoom}
-use Rattle.gr_step.specs.Objects.{contents_in}
 use Rattle.gr_step.specs.Premises.{Acting}
 use Rattle.gr_step.proofs.ObjectLemmas.{change_was, change_is}
 use Rattle.gr_step.proofs.OwnSteps.{same_name}

@@ -1,5 +1,5 @@
 -- A goroutine that comes to stand in one queue after the other.
-use Rattle.std.proofs.Common.{◌≡◌, ℕ, ◌+◌, ◌-◌, ◌<◌, ◌≤◌, Bool, true, false, ◌&&◌, ◌||◌, if◌then◌else◌, List, [], ◌∷◌, ◌++◌, length, map, drop, get_or, drop-cons}
+use Rattle.std.proofs.Common.{◌≡◌, ℕ, ◌+◌, ◌-◌, ◌<◌, ◌≤◌, Bool, true, false, ◌||◌, if◌then◌else◌, List, [], ◌∷◌, ◌++◌, length, map, drop, get_or, drop-cons}
 use Rattle.std.proofs.Common.{drop_of_length-le, add-one, zero, suc, refl, ap, sym, ◌∙◌, subst, arith, append-nil, append_assoc, Option, Some, None, option_map, inl, inr}
 use Rattle.std.specs.Prelude.{is_some}
 use Rattle.std.specs.Option.{option_to_list}

@@ -1,5 +1,5 @@
 -- What a change tells that reaches no other goroutine and no channel.
-use Rattle.std.proofs.Common.{◌≡◌, ℕ, Bool, true, false, if◌then◌else◌, List, [], ◌∷◌, Option, Some, None, Global, refl, sym, ap, subst, ◌∙◌}
+use Rattle.std.proofs.Common.{◌≡◌, ℕ, Bool, false, if◌then◌else◌, List, [], ◌∷◌, Option, Some, None, Global, refl, sym, ap, subst, ◌∙◌}
 use Rattle.std.specs.Prelude.{option_map, Box}
 use Rattle.gr_base.specs.declared.kinds.Kind.{Kind}
 use Rattle.gr_base.specs.declared.objects.Object.{Object}

@@ -1,5 +1,5 @@
 -- The steps of a receive, from what was done to goroutines and to the channel.
-use Rattle.std.proofs.Common.{◌≡◌, ℕ, ◌+◌, ◌<◌, Bool, true, false, List, [], ◌∷◌, ◌++◌, map, length, Option, Some, None, refl, sym, ap, subst, ◌∙◌, arith, inl, inr}
+use Rattle.std.proofs.Common.{◌≡◌, ℕ, ◌+◌, true, false, List, [], ◌∷◌, ◌++◌, map, length, Option, Some, None, refl, sym, ap, subst, ◌∙◌, arith, inl, inr}
 use Rattle.std.specs.Prelude.{take, ◌⊎◌}
 use Rattle.gr_base.specs.declared.names.ChName.{ChName}
 use Rattle.gr_base.specs.declared.values.Value.{Value}
@@ -10,15 +10,13 @@ use Rattle.gr_base.specs.declared.objects.Object.TheVariants as objects
 use Rattle.gr_channels.specs.declared.waiter.Waiter.{Waiter}
 use Rattle.gr_channels.specs.declared.changes.ChanUndo.{ChanUndo}
 use Rattle.gr_channels.specs.Channels.{Content, IsChannel, tail_of}
-use Rattle.gr_channels.specs.Objects.{GateContent, gate_of}
 use Rattle.gr_program.specs.Programs.{Program}
 use Rattle.gr_rules.specs.Operators.{same_channel}
 use Rattle.gr_rules.specs.States.{same_go, updated}
 use Rattle.gr_rules.specs.Attempts.{Attempt, Report, kind_of, receives_from}
 use Rattle.gr_rules.specs.Actors.{Actor, channels_but}
 use Rattle.gr_rules.specs.Communications.{receive}
-use Rattle.gr_rules.specs.Touches.{slot_numbered, woken, senders_at, taken, receive_side}
-use Rattle.gr_laws.specs.Soundness.{SoundChannel}
+use Rattle.gr_rules.specs.Touches.{slot_numbered, woken, senders_at, taken}
 use Rattle.gr_laws.specs.Touched.{each_once}
 use Rattle.gr_code.specs.CodeFrames.{CodeFrame}
 use Rattle.gr_code.specs.Goroutines.{CodeGoroutine, Passes, IsMet}
@@ -26,11 +24,11 @@ use Rattle.gr_code.specs.Programs.{IsClause}
 use Rattle.gr_contents.specs.Contents.{Contents, with_goroutine, with_channel}
 use Rattle.gr_contents.specs.Looks.{actor_of}
 use Rattle.gr_contents.specs.Partners.{Meets}
-use Rattle.gr_contents.specs.Meetings.{thinned, moved_up, met_in}
+use Rattle.gr_contents.specs.Meetings.{moved_up, met_in}
 use Rattle.gr_contents.specs.Performing.{reported, StepsTo}
 use Rattle.gr_contents.proofs.ReceiveLemmas.{receiving_takes, receiving_moves, receiving_meets, receiving_ends}
 use Rattle.gr_contents.proofs.MeetingLemmas.{leaving_senders_is_thin}
-use Rattle.gr_lower.specs.Lowered.{lowered, meaning}
+use Rattle.gr_lower.specs.Lowered.{lowered}
 use Rattle.gr_goros.specs.declared.undo.GoUndo.{GoUndo}
 use Rattle.gr_tables.specs.NamedChannels.{chan_back, ChansFit, withdrawn}
 use Rattle.gr_step.specs.declared.record.Change.{Change}
@@ -43,7 +41,7 @@ use Rattle.gr_step.proofs.AloneLemmas.{WaitsNoMore, moved_alone, sender_alone}
 use Rattle.gr_step.proofs.RunningLemmas.{channels_sound}
 use Rattle.gr_step.proofs.InsideLemmas.{Inside}
 use Rattle.gr_step.proofs.PassingLemmas.{GoesOver, no_change, one_first, prints_nothing}
-use Rattle.gr_step.proofs.TakingLemmas.{Reaches, takes, counted}
+use Rattle.gr_step.proofs.TakingLemmas.{takes, counted}
 use Rattle.gr_step.proofs.TouchLemmas.{woken_one, first_sender, all_senders, head_slot, read_of_take, read_of_move, read_of_meet, read_of_end}
 use Rattle.gr_step.proofs.MetLemmas.{goes_on, one_stands, partner_is, two_stand, both_met}
 use Rattle.gr_step.proofs.Waiters.{HasItsClause}

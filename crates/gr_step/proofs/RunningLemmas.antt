@@ -1,11 +1,10 @@
 -- What follows where a run of a checked program leads to what a store contains.
-use Rattle.std.proofs.Common.{◌≡◌, ℕ, List, [], ◌∷◌, Option, Some, refl, sym, ap, ◌∙◌}
+use Rattle.std.proofs.Common.{◌≡◌, ℕ, List, [], ◌∷◌, Some, refl, ap}
 use Rattle.std.specs.Prelude.{map, option_map}
 use Rattle.gr_base.specs.declared.events.Event.{Event}
 use Rattle.gr_program.specs.Programs.{Program}
 use Rattle.gr_rules.specs.Attempts.{unsound}
 use Rattle.gr_rules.specs.Steps.{attempt}
-use Rattle.gr_rules.specs.Goroutines.{Status}
 use Rattle.gr_laws.specs.Soundness as laws
 use Rattle.gr_laws.proofs.RuleSound.{reached_sound}
 use Rattle.gr_laws.proofs.RuleWaits.{reached_waits}

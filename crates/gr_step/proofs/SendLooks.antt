@@ -6,20 +6,18 @@ use Rattle.gr_base.specs.declared.events.Event.{Event}
 use Rattle.gr_base.specs.declared.kinds.Fault.TheVariants.{SendOnClosed}
 use Rattle.gr_base.specs.declared.objects.Object.{Object}
 use Rattle.gr_base.specs.declared.objects.Object.TheVariants as objects
-use Rattle.gr_channels.specs.Channels.{Content, Seen, IsChannel}
+use Rattle.gr_channels.specs.Channels.{Seen}
 use Rattle.gr_program.specs.Programs.{Program}
-use Rattle.gr_rules.specs.Attempts.{Attempt, sends_on}
-use Rattle.gr_rules.specs.States.{faulted as run_faulted}
+use Rattle.gr_rules.specs.Attempts.{Attempt}
 use Rattle.gr_rules.specs.Communications.{send}
 use Rattle.gr_code.specs.CodeFrames.{CodeFrame}
 use Rattle.gr_code.specs.Goroutines.{CodeGoroutine, faulted}
 use Rattle.gr_contents.specs.Contents.{Contents}
 use Rattle.gr_contents.specs.Looks.{Ends, actor_of}
-use Rattle.gr_contents.specs.Presence.{Sound}
 use Rattle.gr_contents.proofs.PresenceLemmas.{gate_is_there}
 use Rattle.gr_contents.proofs.SendLemmas.{sending_faults, sending_cannot}
-use Rattle.gr_tables.specs.NamedChannels.{contents_of, seen_of}
-use Rattle.gr_tables.specs.NamedGoroutines.{At, IsCounted, goroutines_of, seen_at}
+use Rattle.gr_tables.specs.NamedChannels.{seen_of}
+use Rattle.gr_tables.specs.NamedGoroutines.{At, IsCounted, seen_at}
 use Rattle.gr_step.specs.declared.objects.Objects.{Objects}
 use Rattle.gr_step.specs.declared.record.Operation.TheVariants.{SendsOn}
 use Rattle.gr_step.specs.declared.record.Change.{Change}

@@ -1,5 +1,5 @@
 -- The steps of a send, from what was done to goroutines and to the channel.
-use Rattle.std.proofs.Common.{◌≡◌, ℕ, ◌+◌, ◌<◌, Bool, true, false, List, [], ◌∷◌, ◌++◌, map, length, Option, Some, None, refl, sym, ap, subst, ◌∙◌}
+use Rattle.std.proofs.Common.{◌≡◌, ℕ, ◌+◌, ◌<◌, true, false, List, [], ◌∷◌, ◌++◌, map, length, Option, Some, None, refl, sym, ap, subst, ◌∙◌}
 use Rattle.std.specs.Prelude.{take}
 use Rattle.gr_base.specs.declared.names.ChName.{ChName}
 use Rattle.gr_base.specs.declared.values.Value.{Value}
@@ -15,7 +15,7 @@ use Rattle.gr_rules.specs.States.{same_go, updated}
 use Rattle.gr_rules.specs.Attempts.{Attempt, Report, kind_of, sends_on}
 use Rattle.gr_rules.specs.Actors.{Actor, channels_but}
 use Rattle.gr_rules.specs.Communications.{send}
-use Rattle.gr_rules.specs.Touches.{table, slot_numbered, woken, receivers_at}
+use Rattle.gr_rules.specs.Touches.{slot_numbered, woken, receivers_at}
 use Rattle.gr_laws.specs.Touched.{each_once}
 use Rattle.gr_code.specs.CodeFrames.{CodeFrame}
 use Rattle.gr_code.specs.Goroutines.{CodeGoroutine, Passes, IsMet}
@@ -23,11 +23,11 @@ use Rattle.gr_code.specs.Programs.{IsClause}
 use Rattle.gr_contents.specs.Contents.{Contents, with_goroutine, with_channel}
 use Rattle.gr_contents.specs.Looks.{actor_of}
 use Rattle.gr_contents.specs.Partners.{Meets}
-use Rattle.gr_contents.specs.Meetings.{thinned, met_in}
+use Rattle.gr_contents.specs.Meetings.{met_in}
 use Rattle.gr_contents.specs.Performing.{reported, StepsTo}
 use Rattle.gr_contents.proofs.SendLemmas.{sending_hands, sending_buffers}
 use Rattle.gr_contents.proofs.MeetingLemmas.{leaving_receivers_is_thin}
-use Rattle.gr_lower.specs.Lowered.{lowered, meaning}
+use Rattle.gr_lower.specs.Lowered.{lowered}
 use Rattle.gr_goros.specs.declared.undo.GoUndo.{GoUndo}
 use Rattle.gr_tables.specs.NamedChannels.{chan_back, ChansFit, withdrawn}
 use Rattle.gr_step.specs.declared.record.Change.{Change}
@@ -38,8 +38,8 @@ use Rattle.gr_step.specs.Passing.{ArrivesAt, Tells}
 use Rattle.gr_step.specs.Preparing.{AreToLeave}
 use Rattle.gr_step.proofs.AloneLemmas.{receiver_alone}
 use Rattle.gr_step.proofs.InsideLemmas.{Inside}
-use Rattle.gr_step.proofs.PassingLemmas.{GoesOver, no_change, one_first, prints_nothing}
-use Rattle.gr_step.proofs.TakingLemmas.{Reaches, takes, counted}
+use Rattle.gr_step.proofs.PassingLemmas.{no_change, one_first, prints_nothing}
+use Rattle.gr_step.proofs.TakingLemmas.{takes, counted}
 use Rattle.gr_step.proofs.TouchLemmas.{woken_one, first_receiver, tail_slot, read_of_hand, read_of_buffer}
 use Rattle.gr_step.proofs.MetLemmas.{goes_on, one_stands, partner_is, two_stand, both_met}
 use Rattle.gr_step.proofs.Waiters.{HasItsClause}

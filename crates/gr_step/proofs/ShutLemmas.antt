@@ -1,14 +1,13 @@
 -- What a store contains after a channel was closed, on which goroutines waited.
-use Rattle.std.proofs.Common.{◌≡◌, ℕ, fold, Bool, true, false, not, ◌||◌, ◌&&◌, if◌then◌else◌, List, [], ◌∷◌, ◌++◌, map, Option, Some, None, option_map, refl, sym, ap, subst, ◌∙◌, inl, inr}
-use Rattle.std.specs.List.{list_any, list_all, flat_map, cons_option, filter}
+use Rattle.std.proofs.Common.{◌≡◌, ℕ, fold, Bool, true, false, not, ◌||◌, ◌&&◌, if◌then◌else◌, List, [], ◌∷◌, ◌++◌, Option, Some, None, option_map, refl, sym, ap, subst, ◌∙◌, inl, inr}
+use Rattle.std.specs.List.{list_any, list_all, flat_map, cons_option}
 use Rattle.std.proofs.lemmas.List.Folds.{list_any-append}
 use Rattle.std.proofs.lemmas.Bool.{cases_Bool, and_parts, and_from, or_parts, or_from}
 use Rattle.gr_base.specs.declared.names.ChName.{ChName}
-use Rattle.gr_base.specs.declared.values.Value.{Value}
 use Rattle.gr_causal.specs.Sequences.{In}
 use Rattle.gr_channels.specs.declared.waiter.Waiter.{Waiter}
 use Rattle.gr_channels.specs.Channels.{Content}
-use Rattle.gr_channels.specs.Objects.{GateContent, gate_of}
+use Rattle.gr_channels.specs.Objects.{gate_of}
 use Rattle.gr_channels.specs.Queues.{is_of, others}
 use Rattle.gr_program.specs.Programs.{Program}
 use Rattle.gr_rules.specs.Actors.{channels_but, without}
@@ -19,17 +18,17 @@ use Rattle.gr_rules.specs.Touches.{waits_at}
 use Rattle.gr_code.specs.Goroutines.{CodeGoroutine}
 use Rattle.gr_goros.specs.Views.{is_finished}
 use Rattle.gr_laws.specs.Soundness.{Stands}
-use Rattle.gr_contents.specs.Contents.{Contents, goroutine_of, with_channel, with_goroutine}
-use Rattle.gr_contents.specs.Gates.{with_gate, with_gates, withdrawing}
+use Rattle.gr_contents.specs.Contents.{Contents, goroutine_of, with_goroutine}
+use Rattle.gr_contents.specs.Gates.{with_gate}
 use Rattle.gr_contents.specs.Meetings.{thinned, woken, with_woken, all_waits_in, closed_in}
 use Rattle.gr_contents.specs.Closing.{shut}
 use Rattle.gr_contents.specs.Partners.{is_waiting, known_as, waiters_in}
-use Rattle.gr_contents.proofs.NameLemmas.{go_is, go_self, channel_is, channel_self}
+use Rattle.gr_contents.proofs.NameLemmas.{go_is, channel_self}
 use Rattle.gr_contents.proofs.MeetingLemmas.{named, nobody_leaves}
 use Rattle.gr_contents.proofs.OrderLemmas.{waking_in_turn}
 use Rattle.gr_step.specs.Listings.{frame_in, state_in}
 use Rattle.gr_step.specs.Premises.{Running}
-use Rattle.gr_step.specs.Wakes.{waits_known, all_waits_known, without_one, without_each, is_live_there, with_one_woken, with_each_woken}
+use Rattle.gr_step.specs.Wakes.{waits_known, all_waits_known, without_one, without_each, is_live_there, with_each_woken}
 use Rattle.gr_step.proofs.RunningLemmas.{waits_sound}
 
 -- what goroutines wait for, as the rules, and as a store, know it

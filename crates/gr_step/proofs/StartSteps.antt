@@ -17,13 +17,12 @@ use Rattle.gr_rules.specs.States.{live, same_go, updated}
 use Rattle.gr_rules.specs.Steps.{attempt}
 use Rattle.gr_rules.specs.Touches.{Touches, touches, row}
 use Rattle.gr_laws.specs.Touched.{each_once}
-use Rattle.gr_code.specs.CodeFrames.{CodeFrame, Wants, entered}
+use Rattle.gr_code.specs.CodeFrames.{Wants, entered}
 use Rattle.gr_code.specs.Goroutines.{CodeGoroutine, CanCount, Child, started, arrived, task_of}
-use Rattle.gr_goros.specs.Undoing.{undone, Fits}
 use Rattle.gr_goros.specs.Views.{Seen, IsStarted}
 use Rattle.gr_goros.specs.declared.undo.GoUndo.{GoUndo}
 use Rattle.gr_tables.specs.NamedChannels.{contents_of, chan_back, ChansFit}
-use Rattle.gr_tables.specs.NamedGoroutines.{At, CanArrive, ChangesBy, Arrives, Sets, KeepsContents, goroutines_of, names_of, name_at, seen_at}
+use Rattle.gr_tables.specs.NamedGoroutines.{At, CanArrive, ChangesBy, Arrives, Sets, goroutines_of, names_of, name_at, seen_at}
 use Rattle.gr_tables.specs.NamedGoroutines.{seen_of}
 use Rattle.gr_tables.specs.declared.goroutines.Goroutines.{Goroutines}
 use Rattle.gr_contents.specs.CodeSteps.{code_report, next_child}
@@ -43,7 +42,7 @@ use Rattle.gr_step.specs.Listings.{frame_in, state_in}
 use Rattle.gr_step.specs.Objects.{contents_in, run_of}
 use Rattle.gr_step.specs.Premises.{Acting}
 use Rattle.gr_step.specs.Parts.{reads_in}
-use Rattle.gr_step.specs.Records.{operation_of, beyond, stops, go_undone, go_back, goroutines_changed, channels_changed, begun_by, made_by, is_go, writes_of, reads_of}
+use Rattle.gr_step.specs.Records.{operation_of, beyond, stops, go_back, goroutines_changed, channels_changed, is_go, writes_of, reads_of}
 use Rattle.gr_step.specs.Records.{is_channel, taken_back, GoFitsAt, GoesFit, NeedNoFrame, CanGoBack}
 use Rattle.gr_step.specs.Within.{IsAmong, EachIsAmong, PartsAreAmong, ChangesWithin}
 use Rattle.gr_step.specs.Taking.{Takes}

@@ -1,5 +1,5 @@
 -- A receive that meets nobody: of the front item, and of a closed channel.
-use Rattle.std.proofs.Common.{◌≡◌, ◌+◌, ◌≤◌, ℕ, true, false, List, [], ◌∷◌, Option, Some, None, refl, sym, ap, subst, ◌∙◌}
+use Rattle.std.proofs.Common.{◌≡◌, ℕ, true, false, List, [], ◌∷◌, Option, Some, None, sym, ap, subst, ◌∙◌}
 use Rattle.std.specs.Option.{option_map_or}
 use Rattle.gr_base.specs.declared.names.ChName.{ChName}
 use Rattle.gr_base.specs.declared.values.Value.{Value}
@@ -19,13 +19,12 @@ use Rattle.gr_rules.specs.Communications.{receive}
 use Rattle.gr_rules.specs.Touches.{slot_numbered}
 use Rattle.gr_code.specs.CodeFrames.{ProgramCode}
 use Rattle.gr_code.specs.Goroutines.{Passes}
-use Rattle.gr_contents.specs.Contents.{Contents}
 use Rattle.gr_contents.specs.Looks.{Ends, actor_of}
 use Rattle.gr_contents.proofs.PresenceLemmas.{gate_is_there}
 use Rattle.gr_contents.proofs.ReceiveLemmas.{receiving_goes_on, receiving_ends_well, receiving_cannot}
 use Rattle.gr_lower.specs.Lowered.{lowered}
 use Rattle.gr_channels.specs.declared.changes.ChanUndo.TheVariants.{Took}
-use Rattle.gr_tables.specs.NamedChannels.{At, contents_of, rooms_of, seen_of, GoesBack, TakeAt}
+use Rattle.gr_tables.specs.NamedChannels.{At, contents_of, seen_of, GoesBack, TakeAt}
 use Rattle.gr_tables.specs.declared.channels.Channels.{Channels}
 use Rattle.gr_tables.proofs.Withdrawals.{none_after}
 use Rattle.gr_step.specs.declared.objects.Objects.{Objects}

@@ -1,14 +1,13 @@
 -- A step that reached beyond its goroutine, put together from what it did to goroutines and to channels.
-use Rattle.std.proofs.Common.{◌≡◌, ℕ, ◌+◌, false, if◌then◌else◌, List, [], ◌∷◌, ◌++◌, Option, Some, None, refl, sym, ap, subst, ◌∙◌}
+use Rattle.std.proofs.Common.{◌≡◌, ℕ, ◌+◌, false, if◌then◌else◌, List, ◌∷◌, ◌++◌, Option, Some, None, sym, ap, subst, ◌∙◌}
 use Rattle.std.specs.Prelude.{is_some, option_map}
 use Rattle.gr_base.specs.declared.names.ChName.{ChName}
-use Rattle.gr_base.specs.declared.kinds.Kind.{Kind}
 use Rattle.gr_base.specs.declared.events.Event.{Event}
 use Rattle.gr_base.specs.declared.objects.Object.{Object}
 use Rattle.gr_base.specs.declared.objects.Object.TheVariants as objects
 use Rattle.gr_channels.specs.declared.changes.ChanUndo.{ChanUndo}
 use Rattle.gr_program.specs.Programs.{Program}
-use Rattle.gr_rules.specs.Attempts.{Attempt, Report, Operation, kind_of}
+use Rattle.gr_rules.specs.Attempts.{Attempt, Report, kind_of}
 use Rattle.gr_rules.specs.States.{live}
 use Rattle.gr_rules.specs.Steps.{count, steps_of}
 use Rattle.gr_rules.specs.Touches.{table}
@@ -22,7 +21,7 @@ use Rattle.gr_lower.specs.Lowered.{lowered, meaning}
 use Rattle.gr_tables.specs.NamedChannels.{chan_back, ChansFit}
 use Rattle.gr_step.specs.declared.record.Change.{Change}
 use Rattle.gr_step.specs.Listings.{frame_in, state_in}
-use Rattle.gr_step.specs.Records.{is_printed, reads_of, is_go, is_channel, go_back, GoesFit, goroutines_changed, channels_changed, begun_by, made_by, taken_back, CanGoBack}
+use Rattle.gr_step.specs.Records.{is_printed, reads_of, is_go, is_channel, go_back, GoesFit, goroutines_changed, channels_changed, taken_back, CanGoBack}
 use Rattle.gr_step.specs.Within.{EachIsAmong, PartsAreAmong, ChangesWithin}
 use Rattle.gr_step.specs.Taking.{Takes}
 use Rattle.gr_step.specs.Passing.{Tells}

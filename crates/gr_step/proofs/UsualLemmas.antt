@@ -1,12 +1,12 @@
 -- The choice that is taken where none is asked for, by the arms of the instruction at which a goroutine stands.
-use Rattle.std.proofs.Common.{◌≡◌, ℕ, ◌+◌, Bool, true, false, if◌then◌else◌, List, [], ◌∷◌, Option, Some, None, refl, sym, ap, ap₂, subst, ◌∙◌}
+use Rattle.std.proofs.Common.{◌≡◌, ℕ, ◌+◌, Bool, true, false, if◌then◌else◌, List, ◌∷◌, Option, Some, None, refl, sym, ap, subst, ◌∙◌}
 use Rattle.std.specs.Prelude.{is_some, slice_get}
 use Rattle.std.specs.List.{list_any, list_all}
 use Rattle.gr_base.specs.declared.events.Choice.{Choice}
 use Rattle.gr_base.specs.declared.events.Choice.TheVariants.{Pick, Default, Park}
 use Rattle.gr_program.specs.Programs.{Program}
 use Rattle.gr_rules.specs.Deeds.{Communication, Chooses}
-use Rattle.gr_rules.specs.Outcomes.{Outcome, gives, ◌>>=◌}
+use Rattle.gr_rules.specs.Outcomes.{gives, ◌>>=◌}
 use Rattle.gr_rules.specs.Evaluation.{Variables}
 use Rattle.gr_rules.specs.Selects.{default_from}
 use Rattle.gr_rules.specs.Tells.{usual_choice}
@@ -20,7 +20,7 @@ use Rattle.gr_goros.specs.Needs.{SelectsIn}
 use Rattle.gr_lower.specs.Lowered.{lowered}
 use Rattle.gr_step.specs.Choices.{IsAtSelect, HasNoChoice, ready_from, choice_without, first_of}
 use Rattle.gr_step.specs.Listings.{state_in}
-use Rattle.gr_step.specs.Possible.{arm_given, arm_goes, goes_by, is_default, first_going, usual_of}
+use Rattle.gr_step.specs.Possible.{arm_given, goes_by, is_default, first_going, usual_of}
 use Rattle.gr_step.specs.Premises.{Running}
 use Rattle.gr_step.proofs.MayLemmas.{usual_is}
 use Rattle.gr_step.proofs.NoChoiceLemmas.{none_other}

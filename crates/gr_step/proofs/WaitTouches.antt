@@ -1,5 +1,5 @@
 -- What the step of a goroutine that comes to wait touches, as the table has it.
-use Rattle.std.proofs.Common.{◌≡◌, ℕ, zero, suc, ◌+◌, Bool, true, false, ◌&&◌, ◌||◌, List, [], ◌∷◌, ◌++◌, map, Option, Some, None, option_map, refl, sym, ap, ◌∙◌, append-nil}
+use Rattle.std.proofs.Common.{◌≡◌, ℕ, zero, suc, ◌+◌, Bool, true, false, List, [], ◌∷◌, ◌++◌, map, Option, Some, None, option_map, refl, sym, ap, ◌∙◌}
 use Rattle.std.specs.List.{list_any, list_all, flat_map}
 use Rattle.std.proofs.lemmas.Bool.{and_from}
 use Rattle.std.proofs.lemmas.List.Folds.{list_all-append}
@@ -9,7 +9,6 @@ use Rattle.gr_base.specs.declared.events.Event.{Event}
 use Rattle.gr_base.specs.declared.kinds.Kind.TheVariants.{SendWait, RecvWait, SelectWait}
 use Rattle.gr_base.specs.declared.objects.Object.{Object}
 use Rattle.gr_base.specs.declared.objects.Object.TheVariants.{Run, Go, Gate, Tail, Head, Slot}
-use Rattle.gr_channels.specs.Channels.{Content}
 use Rattle.gr_program.specs.Programs.{Program}
 use Rattle.gr_rules.specs.Outcomes.{gives}
 use Rattle.gr_rules.specs.Frames.{Frame}
@@ -24,10 +23,9 @@ use Rattle.gr_laws.specs.Touched.{each_once}
 use Rattle.gr_code.specs.CodeFrames.{CodeFrame, Wants}
 use Rattle.gr_code.specs.Goroutines.{CodeGoroutine, task_of}
 use Rattle.gr_code.specs.Programs.{deed_meant}
-use Rattle.gr_contents.specs.Contents.{Contents, goroutine_of, state_of}
+use Rattle.gr_contents.specs.Contents.{Contents, state_of}
 use Rattle.gr_contents.specs.Looks.{actor_of}
 use Rattle.gr_contents.specs.Performing.{reported}
-use Rattle.gr_contents.specs.Standing.{AllStand}
 use Rattle.gr_contents.proofs.TaskLemmas.{deed_is}
 use Rattle.gr_lower.specs.Lowered.{lowered, meaning}
 use Rattle.gr_step.specs.Listings.{frame_in, state_in}

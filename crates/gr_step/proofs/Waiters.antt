@@ -1,15 +1,13 @@
 -- A goroutine in a queue waits there, at its operation or at a clause of its select, and can be met.
-use Rattle.std.proofs.Common.{◌≡◌, ℕ, ◌+◌, ◌<◌, Bool, List, [], ◌∷◌, ◌++◌, map, Option, Some, None, refl, sym, ap, subst, ◌∙◌, arith, inl, inr, add-one}
+use Rattle.std.proofs.Common.{◌≡◌, ℕ, ◌+◌, ◌<◌, Bool, List, [], ◌∷◌, ◌++◌, map, Option, Some, None, refl, sym, ap, subst, ◌∙◌, arith, inl, inr}
 use Rattle.std.specs.Prelude.{◌⊎◌, option_map}
 use Rattle.gr_base.specs.declared.names.ChName.{ChName}
 use Rattle.gr_base.specs.declared.values.Value.{Value}
 use Rattle.gr_causal.specs.Sequences.{In}
 use Rattle.gr_channels.specs.declared.waiter.Waiter.{Waiter}
 use Rattle.gr_channels.specs.Channels.{Content}
-use Rattle.gr_channels.specs.Objects.{gate_of}
 use Rattle.gr_program.specs.Programs.{Program}
 use Rattle.gr_rules.specs.Outcomes.{Outcome, gives, faults, wrong}
-use Rattle.gr_rules.specs.Frames.{Frame}
 use Rattle.gr_rules.specs.Deeds.{Communication, Sending, Receiving, Otherwise}
 use Rattle.gr_rules.specs.Goroutines.{Wait, ToSend, ToReceive, Status, waiting}
 use Rattle.gr_rules.specs.Communications.{waits_for, all_waits}
@@ -17,9 +15,9 @@ use Rattle.gr_rules.specs.Selects.{numbered}
 use Rattle.gr_rules.specs.Touches.{waits_at}
 use Rattle.gr_code.specs.Instructions.{Instruction}
 use Rattle.gr_code.specs.Code.{HasClause, IfGiven}
-use Rattle.gr_code.specs.CodeFrames.{CodeFrame, ProgramCode, instruction_at}
+use Rattle.gr_code.specs.CodeFrames.{CodeFrame, ProgramCode}
 use Rattle.gr_code.specs.Goroutines.{CodeGoroutine, instruction_in, arrived, IsMet}
-use Rattle.gr_code.specs.Programs.{IsClause, Stands}
+use Rattle.gr_code.specs.Programs.{IsClause}
 use Rattle.gr_code.proofs.Choices.{has_clause}
 use Rattle.gr_contents.specs.Contents.{Contents, goroutine_of}
 use Rattle.gr_contents.specs.Arriving.{HasClauseHere, IsIn}
@@ -29,7 +27,7 @@ use Rattle.gr_contents.proofs.ArrivingLemmas.{here, at_here}
 use Rattle.gr_contents.proofs.StartingLemmas.{meeting_arrives, meeting_can_arrive}
 use Rattle.gr_lower.specs.Lowered.{lowered, meaning}
 use Rattle.type_safety.specs.Standing.{StandsAt, at_operation, at_select, StandsAs, waits}
-use Rattle.gr_step.specs.Listings.{frame_in, state_in}
+use Rattle.gr_step.specs.Listings.{frame_in}
 use Rattle.gr_step.specs.Premises.{Running}
 use Rattle.gr_step.proofs.RunningLemmas.{code_fits, waits_sound, stands_as}
 

@@ -1,5 +1,5 @@
 -- The step of a goroutine that comes to wait, from what it leaves.
-use Rattle.std.proofs.Common.{◌≡◌, ℕ, ◌+◌, ◌≤◌, ◌<◌, ◌^◌, Bool, true, false, ◌&&◌, ◌||◌, if◌then◌else◌, List, [], ◌∷◌, ◌++◌, length, map, Option, Some, None, option_map, refl, sym, ap, subst, ◌∙◌, append-nil, append_assoc, inl, inr, arith}
+use Rattle.std.proofs.Common.{◌≡◌, ℕ, ◌+◌, ◌<◌, ◌^◌, Bool, true, false, ◌||◌, if◌then◌else◌, List, [], ◌∷◌, ◌++◌, length, Option, Some, None, option_map, refl, sym, ap, subst, ◌∙◌, append_assoc, inl, inr}
 use Rattle.std.specs.Prelude.{is_some}
 use Rattle.std.specs.List.{list_any, list_all, flat_map}
 use Rattle.std.proofs.lemmas.List.Folds.{list_any-append}
@@ -16,7 +16,7 @@ use Rattle.gr_program.specs.Programs.{Program}
 use Rattle.gr_rules.specs.Outcomes.{gives, faults, wrong}
 use Rattle.gr_rules.specs.Operators.{same_channel}
 use Rattle.gr_rules.specs.Deeds.{Communication, Sending, Receiving, Otherwise, Chooses}
-use Rattle.gr_rules.specs.Goroutines.{Wait, channel_of, ready}
+use Rattle.gr_rules.specs.Goroutines.{Wait, channel_of}
 use Rattle.gr_rules.specs.Actors.{Actor, channels_but}
 use Rattle.gr_rules.specs.Communications.{waits_for, all_waits, wait}
 use Rattle.gr_rules.specs.States.{live}
@@ -30,10 +30,6 @@ use Rattle.gr_code.specs.Goroutines.{CodeGoroutine, parked, task_of}
 use Rattle.gr_goros.specs.Views.{Seen, communication_of, communications_of}
 use Rattle.gr_goros.specs.declared.needs.Clause.{Clause}
 use Rattle.gr_rules.specs.Selects.{numbered}
-use Rattle.gr_goros.specs.Undoing.{undone, Fits, need, Undoes, on_innermost, frame_before}
-use Rattle.gr_goros.specs.declared.undo.GoUndo.{GoUndo}
-use Rattle.gr_goros.specs.declared.undo.GoUndo.TheVariants as undos
-use Rattle.gr_tables.proofs.ByNumber.{seen_named}
 use Rattle.std.proofs.lemmas.List.{map-append}
 use Rattle.gr_contents.specs.Contents.{Contents, goroutine_of, state_of, with_goroutine}
 use Rattle.gr_contents.specs.Looks.{actor_of}
@@ -42,26 +38,26 @@ use Rattle.gr_contents.specs.Waiting.{parked_for, parked_in}
 use Rattle.gr_contents.specs.Performing.{reported, StepsTo}
 use Rattle.gr_contents.specs.Presence.{Sound}
 use Rattle.gr_contents.specs.Standing.{AllStand, ContentsStand}
-use Rattle.gr_contents.proofs.NameLemmas.{channel_is, channel_self, go_is, go_self}
+use Rattle.gr_contents.proofs.NameLemmas.{channel_is, channel_self}
 use Rattle.gr_contents.proofs.MeetingLemmas.{named}
 use Rattle.gr_contents.proofs.StandingLemmas.{change_keeps_standing, same_goroutines_stand}
 use Rattle.gr_contents.proofs.WaitLemmas.{waiting_parks, waiting_is_made}
 use Rattle.gr_lower.specs.Lowered.{lowered, meaning}
-use Rattle.gr_tables.specs.NamedGoroutines.{seen_at, goroutines_of, go_rooms_of, Changes, ChangesBy, ComesTo, At, CanPark}
+use Rattle.gr_tables.specs.NamedGoroutines.{seen_at, goroutines_of, At, CanPark}
 use Rattle.gr_tables.specs.NamedChannels.{contents_of, chan_back}
 use Rattle.gr_step.specs.declared.objects.Objects.{Objects}
 use Rattle.gr_step.specs.declared.record.Change.{Change}
 use Rattle.gr_step.specs.declared.record.Operation.{Operation}
 use Rattle.gr_step.specs.Listings.{frame_in, state_in}
 use Rattle.gr_step.specs.Objects.{run_of, contents_in}
-use Rattle.gr_step.specs.Records.{operation_of, HasRoom, go_back, GoesFit, NeedNoFrame, FramesStay, CanGoBack, taken_back, is_go, is_channel, goroutines_changed, channels_changed, writes_of, reads_of}
+use Rattle.gr_step.specs.Records.{operation_of, HasRoom, go_back, GoesFit, NeedNoFrame, CanGoBack, taken_back, is_go, is_channel, goroutines_changed, channels_changed, writes_of, reads_of}
 use Rattle.gr_step.specs.Premises.{Acting, OfGoroutine, OfActor}
 use Rattle.gr_step.specs.Within.{IsAmong, EachIsAmong, ChangesWithin}
 use Rattle.gr_step.specs.Taking.{Takes}
 use Rattle.gr_step.specs.Parks.{pending_of, channels_awaited, with_channels, queued_for, queued, AreMade, gates_of, Parks}
 use Rattle.gr_step.proofs.InsideLemmas.{own_is_written, gate_of_name, named_in, gates_named, gates_inside, more_before}
 use Rattle.gr_step.proofs.ChoosingLemmas.{are_channels}
-use Rattle.gr_step.proofs.RunningLemmas.{acts_here, code_fits}
+use Rattle.gr_step.proofs.RunningLemmas.{acts_here}
 use Rattle.gr_step.proofs.OwnChanges.{some_is, own_was, own_is, own_back, own_fits, own_room, no_frame, frames_stay, acting_at}
 use Rattle.gr_step.proofs.WaitTouches.{send_row, receive_row, select_row, side_once, sides_once}
 use Rattle.gr_step.proofs.PrintedLemmas.{not_printed}

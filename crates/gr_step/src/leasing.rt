@@ -130,8 +130,22 @@ impl Lease {
     }
 }
 
+/// The same name, whose counts no other name shares. Whoever takes steps on a copy shares them with a record of each, and how many
+/// names share them is counted in memory that other threads then do not write.
+fn own_name(alloc: Global, go: &GoName) -> Result<GoName, NoMemory>
+    ensures { IfOk result (λ name. name ≡ go.now) }
+{
+    let mut name = GoName::main(alloc)?;
+    let mut left = go.counts();
+    while let [count, rest @ ..] = left {
+        name = name.child(alloc, *count)?;
+        left = rest;
+    }
+    Ok(name)
+}
+
 impl Store {
-    ghost use Rattle.gr_step.specs.Stores.{IsRun, SameListing, contents_at, state_at, taken_at};
+    ghost use Rattle.gr_step.specs.Stores.{IsRun, SameListing, contents_at, program_at, state_at, taken_at};
 
     /// Whether the program runs and the next step of a goroutine is local. It takes no memory.
     pub fn has_own_step(&self, go: &GoName) -> bool
@@ -171,7 +185,7 @@ impl Store {
         };
         let batch = Batch {
             listing,
-            go: go.copy(alloc)?,
+            go: own_name(alloc, go)?,
             lent: goroutine.copy(alloc)?,
             len: 0,
         };
@@ -182,8 +196,16 @@ impl Store {
         }))
     }
 
-    /// Whether the goroutine of a lease is as it was lent, in a run of the same program that goes on.
+    /// Whether a lease is of the same program. It compares all of it.
+    pub fn has_program_of(&self, lease: &Lease) -> bool
+        ensures { IsTrue result ↔ (program_lent lease.now ≡ program_at self.now) }
+    {
+        *self.listing.program == *lease.batch.listing.program
+    }
+
+    /// Whether the goroutine of a lease of the same program is as it was lent, in a run that goes on.
     pub fn has_as_lent(&self, lease: &Lease) -> bool
+        requires { program_lent lease.now ≡ program_at self.now }
         ensures { IsTrue result ↔ IsAsLent lease.now self.now }
     {
         let Run::Live = self.objects.run else {
@@ -193,7 +215,6 @@ impl Store {
             return false;
         };
         goroutine.is_like(&lease.batch.lent)
-            && *self.listing.program == *lease.batch.listing.program
     }
 
     /// Gives a goroutine that is as it was lent the content after the steps of its lease, which gets the old one. It takes no memory.

@@ -29,16 +29,16 @@ use std::alloc::Global;
 /// What stands between `if` and its block.
 #[derive(Drop)]
 pub struct IfParts {
-    pub init: Option<Opening>,
+    pub init: Option<Box<Opening>>,
     pub condition: checked::Expr,
 }
 
 /// What stands between `for` and its block, unless it is a range.
 #[derive(Drop)]
 pub struct LoopParts {
-    pub init: Option<Opening>,
+    pub init: Option<Box<Opening>>,
     pub condition: Option<checked::Expr>,
-    pub post: Option<Opening>,
+    pub post: Option<Box<Opening>>,
 }
 
 /// What stands between `for` and its block in a loop over the values that a channel gives.
@@ -69,7 +69,7 @@ fn opening(
     functions: &Functions,
     scope: &mut Scope,
     header: &Option<Box<Header>>,
-) -> Result<Option<Opening>, CheckError>
+) -> Result<Option<Box<Opening>>, CheckError>
     ensures { Settles (λ o. (optional opening_of o, scope_of scope.new)) result (spec.opening_in (functions_of functions.now) (scope_of scope.old) (optional heading_of header.now)) }
 {
     let Some(header) = header else {
@@ -77,7 +77,7 @@ fn opening(
     };
     let act = header_act(alloc, functions, scope, header)?;
     let place = header.place;
-    Ok(Some(Opening { place, act }))
+    Ok(Some(Box::new(alloc, Opening { place, act })?))
 }
 
 // The post statement of a for, which may not be a definition.
@@ -87,7 +87,7 @@ fn post_statement(
     functions: &Functions,
     scope: &mut Scope,
     header: &Option<Box<Header>>,
-) -> Result<Option<Opening>, CheckError>
+) -> Result<Option<Box<Opening>>, CheckError>
     ensures { Settles (λ o. (optional opening_of o, scope_of scope.new)) result (spec.post_in (functions_of functions.now) (scope_of scope.old) (optional heading_of header.now)) }
 {
     if let Some(post) = header {

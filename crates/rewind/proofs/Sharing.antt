@@ -11,7 +11,7 @@ use Rattle.rewind.specs.declared.debug.DebugFault.{DebugFault}
 use Rattle.rewind.specs.declared.debug.DebugFault.TheVariants.{Source, Open, Serve, Threads}
 use Rattle.rewind.specs.Devices.{Device, Change, NeverFails}
 use Rattle.rewind.specs.Debug.{Opened, SourceLeft, BlamesDevice}
-use Rattle.rewind.specs.Beside.{ServedBeside, LeftBeside, Settled, StreamLeft, BlamesStream, Streamed, EndedWith, BesideEnds, DebuggedBeside, BesideLeft, IsStill}
+use Rattle.rewind.specs.Beside.{LeftBeside, Settled, StreamLeft, BlamesStream, Streamed, EndedWith, BesideEnds, DebuggedBeside, BesideLeft, IsStill}
 use Rattle.rewind.proofs.Known.{Keeps-refl}
 
 abbrev still : Device → Change

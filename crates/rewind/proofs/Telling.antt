@@ -1,5 +1,5 @@
 -- Pages that tell of codes.
-use Rattle.std.proofs.Common.{◌≡◌, ℕ, List, [], ◌∷◌, ◌++◌, true, false, refl, ap, ap₂, ◌∙◌, true≢false, sym, rules, length, arith, ◌≤◌}
+use Rattle.std.proofs.Common.{◌≡◌, ℕ, List, [], ◌∷◌, true, false, refl, ap, ap₂, true≢false, sym, rules, length, arith, ◌≤◌}
 use Rattle.std.specs.Prelude.{nat_eq, if◌then◌else◌, Bool, ◌&&◌, slice_index_or}
 use Rattle.std.specs.List.{list_all}
 use Rattle.std.specs.Cmp.Lexicographic.{pointwise}

@@ -1,4 +1,4 @@
-use Rattle.std.proofs.Common.{ℕ, ◌-◌}
+use Rattle.std.proofs.Common.{◌-◌}
 use Rattle.gr_session.specs.Copies.{loan_of}
 use Rattle.gr_session.proofs.CopyLemmas.{OnTheWay}
 use Rattle.gr_session.proofs.leasing.run_batch.Given as goal

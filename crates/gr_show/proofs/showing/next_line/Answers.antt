@@ -1,5 +1,4 @@
-use Rattle.std.proofs.Common.{◌≡◌, Some, ◌∙◌, sym, ap, refl, rules}
-use Rattle.std.specs.Prelude.{option_map, option_copied}
+use Rattle.std.proofs.Common.{◌≡◌, Some, ◌∙◌, rules}
 use Rattle.gr_code.specs.CodeViews.{program_code_of}
 use Rattle.gr_step.specs.Stores.{program_at, contents_at}
 use Rattle.gr_show.proofs.FramesShown.{has_line, next_line_is}

@@ -1,4 +1,4 @@
-use Rattle.std.proofs.Common.{sym, ap, ◌∙◌}
+use Rattle.std.proofs.Common.{ap, ◌∙◌}
 use Rattle.std.specs.Prelude.{option_map}
 use Rattle.gr_code.specs.CodeViews.{arm_of}
 use Rattle.gr_step.proofs.PickLemmas.{arm_counted}

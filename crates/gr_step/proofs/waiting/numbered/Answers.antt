@@ -1,6 +1,5 @@
-use Rattle.std.proofs.Common.{refl, ap, sym, ◌∙◌, arith, length}
-use Rattle.gr_step.proofs.WaitingLemmas.{numbered_next, parks_takes}
-use Rattle.gr_step.proofs.WaitTouches.{send_row}
+use Rattle.std.proofs.Common.{ap, arith, length}
+use Rattle.gr_step.proofs.WaitingLemmas.{numbered_next}
 use Rattle.gr_step.proofs.waiting.numbered.Goals as goal
 
 pub loop-clause-preserved : goal.loop-clause-preserved

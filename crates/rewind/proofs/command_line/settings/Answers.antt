@@ -1,4 +1,4 @@
-use Rattle.std.proofs.Common.{◌≡◌, ap, sym, ◌∙◌, option_map, None, Some}
+use Rattle.std.proofs.Common.{ap, sym, ◌∙◌, option_map}
 use Rattle.std.proofs.lemmas.Result.{err_from_is_err_and}
 use Rattle.clap.specs.Words.{found_of}
 use Rattle.rewind.specs.CommandLine.{asked_of}

@@ -1,9 +1,6 @@
-use Rattle.std.proofs.Common.{◌≡◌, subst}
-use Rattle.gr_program.specs.Views.{program_of}
 use Rattle.rewind.specs.Devices.{change, known}
-use Rattle.rewind.specs.Beside.{BesideEnds}
 use Rattle.rewind.proofs.Debugging.{source_blamed}
-use Rattle.rewind.proofs.Sharing.{unshared, served, left, blamed}
+use Rattle.rewind.proofs.Sharing.{unshared}
 use Rattle.rewind.proofs.workers.debug_beside.Goals as goal
 
 pub returns-in-Err-clause-err : goal.returns-in-Err-clause-err

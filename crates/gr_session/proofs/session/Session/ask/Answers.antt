@@ -1,4 +1,4 @@
-use Rattle.std.proofs.Common.{◌≡◌, ◌<◌, ◌≤◌, length, refl, rules}
+use Rattle.std.proofs.Common.{◌<◌, ◌≤◌, length, refl, rules}
 use Rattle.gr_session.specs.declared.TheConstants.{JOURNAL_LIMIT}
 use Rattle.gr_session.specs.Entries.{by_command}
 use Rattle.gr_session.proofs.JournalLemmas.{keeps_entry, keeps_still}

@@ -8,8 +8,8 @@ use Rattle.gr_share.proofs.Telling.{before_calls}
 use Rattle.gr_share.proofs.Calling.{gains}
 use Rattle.gr_share.proofs.desk.Desk.look.Goals as goal
 
-pub returns-in-Ok : goal.returns-in-Ok
-returns-in-Ok g c =
+pub returns-in-Ok-clause-looks : goal.returns-in-Ok-clause-looks
+returns-in-Ok-clause-looks g c =
     let calls = c.self.inside.calls.items in
     let call = c.in-Ok.turn in
     let r = call.receipt in

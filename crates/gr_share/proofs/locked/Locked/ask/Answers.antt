@@ -1,4 +1,4 @@
-use Rattle.std.proofs.Common.{◌≡◌, List, [], ◌∷◌, ◌++◌, ap, sym, subst, ◌∙◌, arith}
+use Rattle.std.proofs.Common.{◌≡◌, [], ◌∷◌, ◌++◌, ap, sym, subst, ◌∙◌, arith}
 use mathlib.Core.List.{IsPrefix}
 use Rattle.gr_program.specs.declared.program.Program.{Program}
 use Rattle.gr_program.specs.Views.{program_of}
@@ -7,7 +7,6 @@ use Rattle.gr_command.specs.Replies.{said_of}
 use Rattle.gr_share.specs.Lines.{Line}
 use Rattle.gr_session.specs.Entries.{EntersCommand}
 use Rattle.gr_share.specs.Calls.{EntersCall}
-use Rattle.gr_share.specs.declared.desk.Asked.{Asked}
 use Rattle.gr_share.specs.declared.desk.Asked.TheVariants.{Command}
 use Rattle.gr_share.specs.declared.desk.Call.{Call}
 use Rattle.gr_share.specs.declared.views.View.{View}

@@ -1,4 +1,4 @@
-use Rattle.std.proofs.Common.{◌≡◌, List, [], ◌∷◌, ◌++◌, ap, sym, subst, ◌∙◌, arith}
+use Rattle.std.proofs.Common.{◌≡◌, [], ◌∷◌, ◌++◌, ap, sym, subst, ◌∙◌, arith}
 use mathlib.Core.List.{IsPrefix}
 use Rattle.gr_program.specs.declared.program.Program.{Program}
 use Rattle.gr_program.specs.Views.{program_of}
@@ -6,7 +6,6 @@ use Rattle.gr_command.specs.Replies.{said_of}
 use Rattle.gr_share.specs.Lines.{Line}
 use Rattle.gr_session.specs.Copies.{loan_of}
 use Rattle.gr_share.specs.Calls.{EntersCall}
-use Rattle.gr_share.specs.declared.desk.Asked.{Asked}
 use Rattle.gr_share.specs.declared.desk.Asked.TheVariants.{Batch}
 use Rattle.gr_share.specs.declared.desk.Call.{Call}
 use Rattle.gr_share.specs.declared.views.View.{View}
@@ -18,7 +17,7 @@ pub invariant_of-self-in-Ok : goal.invariant_of-self-in-Ok
 invariant_of-self-in-Ok g c =
     let i = c.self.invariant in
     let s = c.self.inside.session in
-    let t = c.commit.new.self in
+    let t = c.commit_own.new.self in
     let log = c.self.inside.keeper.me.0.log in
     let r = c.in-Ok.receipt in
     let call : Call = record { asked = Batch c.args.go c.len-steps.result; receipt = r } in
@@ -40,7 +39,7 @@ invariant_of-self-in-Ok g c =
 pub returns-in-Ok-clause-rises : goal.returns-in-Ok-clause-rises
 returns-in-Ok-clause-rises g c =
     let s = c.self.inside.session in
-    let t = c.commit.new.self in
+    let t = c.commit_own.new.self in
     let r = c.in-Ok.receipt in
     let call : Call = record { asked = Batch c.args.go c.len-steps.result; receipt = r } in
     let calls = c.args.seat.now.me.0.calls in

@@ -1,4 +1,4 @@
-use Rattle.std.proofs.Common.{◌≡◌, sym, subst, ◌∙◌}
+use Rattle.std.proofs.Common.{◌≡◌, sym, subst}
 use Rattle.gr_rules.specs.Outcomes.{wrong}
 use Rattle.gr_code.specs.CodeViews.{program_code_of}
 use Rattle.gr_code.specs.Goroutines.{CodeGoroutine, arrived, CanCount}

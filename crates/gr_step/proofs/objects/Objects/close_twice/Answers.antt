@@ -2,11 +2,9 @@ use Rattle.std.proofs.Common.{◌≡◌, ℕ, List, [], ◌∷◌, Some, subst}
 use Rattle.std.proofs.lemmas.Result.{IfOk-weaker}
 use Rattle.gr_base.specs.declared.kinds.Fault.TheVariants.{CloseOfClosed}
 use Rattle.gr_base.specs.declared.names.ChName.{ChName}
-use Rattle.gr_base.specs.declared.objects.Object.{Object}
 use Rattle.gr_base.specs.declared.objects.Object.TheVariants.{Gate}
 use Rattle.gr_code.specs.Goroutines.{CodeGoroutine}
 use Rattle.gr_tables.specs.NamedGoroutines.{name_at}
-use Rattle.gr_step.specs.declared.record.Change.{Change}
 use Rattle.gr_step.specs.declared.record.Operation.TheVariants.{Closes}
 use Rattle.gr_step.specs.Beyonds.{Stops}
 use Rattle.gr_step.specs.Objects.{contents_in}

@@ -1,5 +1,5 @@
-use Rattle.std.proofs.Common.{◌≡◌, ◌∙◌, ◌∷◌, [], ◌++◌, map, true, Some, None, sym, ap, subst}
-use Rattle.gr_base.specs.declared.objects.Object.TheVariants.{Go, Gate, Head, Tail}
+use Rattle.std.proofs.Common.{◌∙◌, ◌∷◌, [], ◌++◌, map, true, Some, None, ap}
+use Rattle.gr_base.specs.declared.objects.Object.TheVariants.{Go, Gate, Head}
 use Rattle.gr_rules.specs.Attempts.{receives_from}
 use Rattle.gr_rules.specs.Actors.{channels_but}
 use Rattle.gr_rules.specs.Touches.{slot_numbered}

@@ -1,7 +1,7 @@
-use Rattle.std.proofs.Common.{◌≡◌, ◌∙◌, sym, ap, subst}
+use Rattle.std.proofs.Common.{◌≡◌}
 use Rattle.gr_code.specs.CodeViews.{program_code_of}
 use Rattle.gr_rules.specs.Outcomes.{wrong}
-use Rattle.gr_code.specs.Goroutines.{CodeGoroutine, arrived, CanCount}
+use Rattle.gr_code.specs.Goroutines.{arrived, CanCount}
 use Rattle.gr_goros.specs.Views.{arrival_of}
 use Rattle.gr_step.proofs.ArriveLemmas.{at_number, arrives_at}
 use Rattle.gr_step.proofs.objects.Objects.pass.Goals as goal

@@ -1,4 +1,4 @@
-use Rattle.std.proofs.Common.{Some, refl, sym, ap, subst, ◌∙◌}
+use Rattle.std.proofs.Common.{Some, refl}
 use Rattle.gr_step.specs.declared.record.Change.{Change}
 use Rattle.gr_step.proofs.BeyondLemmas.{taken}
 use Rattle.gr_step.proofs.objects.Objects.take_beyond_back.Goals as goal

@@ -7,7 +7,6 @@ use Rattle.gr_rules.specs.Tells.{usual_choice}
 use Rattle.gr_lower.specs.Lowered.{lowered}
 use Rattle.gr_step.specs.Listings.{program_in, state_in}
 use Rattle.gr_step.specs.Objects.{contents_in}
-use Rattle.gr_step.specs.Choices.{HasManyClauses}
 use Rattle.gr_step.specs.Possible.{usual_of}
 use Rattle.gr_step.proofs.ChoosingLemmas.{are_channels, task_there}
 use Rattle.gr_step.proofs.NoChoiceLemmas.{plain_choice}

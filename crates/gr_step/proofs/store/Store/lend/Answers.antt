@@ -15,12 +15,12 @@ returns-clause-lease c =
     (record {
       batch = record {
         listing = record { program = c.in_ok-clone.field-0; code = c.in_ok-clone-2.field-0 };
-        go = c.in_ok-copy.field-0;
-        lent = c.in_ok-copy-2.field-0;
+        go = c.in_ok-own_name.field-0;
+        lent = c.in_ok-copy.field-0;
         len = 0;
       };
-      reached = c.in_ok-copy-3.field-0;
+      reached = c.in_ok-copy-2.field-0;
       records = c.new.result;
     })
-    c.args.go.now g c.requires (are_channels s.objects) c.in_ok-clone.ensures.cases c.in_ok-clone-2.ensures.cases c.in_ok-copy.ensures
-    c.in_ok-copy-2.ensures c.in_ok-copy-3.ensures c.new.ensures.items refl (ap run_of c.in-Live.is) there (sym c.status.ensures ∙ ap status_of c.in-Ready.is)
+    c.args.go.now g c.requires (are_channels s.objects) c.in_ok-clone.ensures.cases c.in_ok-clone-2.ensures.cases c.in_ok-own_name.ensures
+    c.in_ok-copy.ensures c.in_ok-copy-2.ensures c.new.ensures.items refl (ap run_of c.in-Live.is) there (sym c.status.ensures ∙ ap status_of c.in-Ready.is)

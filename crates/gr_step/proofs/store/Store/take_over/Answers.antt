@@ -1,6 +1,5 @@
 use Rattle.std.proofs.Common.{◌≡◌, ◌<◌, ◌∙◌, length, Some, None, refl, sym, ap, subst}
 use Rattle.std.specs.Prelude.{option_map}
-use Rattle.gr_code.specs.Goroutines.{CodeGoroutine}
 use Rattle.gr_contents.specs.Contents.{with_goroutine}
 use Rattle.gr_goros.specs.Views.{Seen}
 use Rattle.gr_tables.specs.NamedGoroutines.{goroutines_of}

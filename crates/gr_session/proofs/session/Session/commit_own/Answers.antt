@@ -1,0 +1,40 @@
+use Rattle.std.proofs.Common.{◌<◌, ◌≤◌, length, refl, ap, ◌∙◌, rules}
+use Rattle.gr_step.specs.Leasing.{loan_of}
+use Rattle.gr_session.specs.declared.TheConstants.{JOURNAL_LIMIT}
+use Rattle.gr_session.specs.declared.journal.Memory.TheVariants.{Enough}
+use Rattle.gr_session.proofs.CommitLemmas.{means_batch}
+use Rattle.gr_session.proofs.JournalLemmas.{keeps_entry, keeps_still}
+use Rattle.gr_session.proofs.session.Session.commit_own.Goals as goal
+
+pub invariant_of-self-in-Err-commit_own : goal.invariant_of-self-in-Err-commit_own
+invariant_of-self-in-Err-commit_own c =
+    rw c.make_room.ensures.items
+    (keeps_still c.self.inside.debuggee c.commit_own.new.debuggee _ _ c.self.invariant (c.in-Err-commit_own.ensures.commits _ c.self.invariant.world c.self.invariant.stands))
+
+pub invariant_of-self-in-Ok : goal.invariant_of-self-in-Ok
+invariant_of-self-in-Ok c =
+    let asker : (1 ≤ c.args.desk.number) × (c.args.desk.number ≤ c.self.inside.askers) = search rules in
+    let room : length c.self.inside.journal.items < JOURNAL_LIMIT = search rules in
+    let answer = c.in-Ok.ensures.commits _ c.self.invariant.world c.self.invariant.stands in
+    rw (c.keep.ensures.entry, c.make_room.ensures.items)
+    (keeps_entry c.self.inside.debuggee c.commit_own.new.debuggee _ _ _ _ c.self.invariant asker.0 asker.1 room
+    answer.1.world (means_batch _ c.self.invariant.world answer.1.world c.in-Ok.batch _ c.in-Ok.stood _ answer.0 answer.1.commits) answer.1.stands)
+
+pub returns-in-Ok-clause-entry : goal.returns-in-Ok-clause-entry
+returns-in-Ok-clause-entry c =
+    let answer = c.in-Ok.ensures.commits _ c.self.invariant.world c.self.invariant.stands in
+    rw (← c.self.view_is, c.keep.ensures.reply, c.keep.ensures.number, c.keep.ensures.entry, c.make_room.ensures.items)
+    (record {
+      batch = c.in-Ok.batch;
+      is_loan = answer.0 ∙ ap loan_of c.batch.view_is;
+      as_lent = c.in-Ok.stood;
+      enters = record {
+        memory = Enough;
+        entered = refl;
+        number_is = refl;
+        before = c.self.invariant.world;
+        stood = c.self.invariant.means;
+        after = answer.1.world;
+        meant = means_batch _ c.self.invariant.world answer.1.world c.in-Ok.batch _ c.in-Ok.stood _ answer.0 answer.1.commits;
+      };
+    })
