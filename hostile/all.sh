@@ -10,7 +10,5 @@ status=0
 for part in limits commands devices growth texts; do
   python3 "$here/$part.py" "$program" --jobs "$jobs" || status=1
 done
-for seed in 1 2 3 4 5 6 7 8; do
-  (cd "$here/../crates/racing/data" && "$here/../bin/racing" 1000 "$seed" *.go) || status=1
-done
+(cd "$here/../crates/racing/data" && "$here/../bin/racing" 4 2 1000 8 *.go && "$here/../bin/racing" 2 4 1000 100 *.go) || status=1
 exit "$status"

@@ -1,9 +1,9 @@
-//! Desks and workers that race: `racing COMMANDS SEED FILE..`. Of each Go file a session is opened, which four desks and two
-//! workers share, each on a thread of its own. Each desk asks so many commands of those that change a session, drawn at random.
-//! When all have ended, the steps that are kept are taken once more in a fresh session. Both sessions have to tell the same of
-//! each goroutine, of what it printed and of each channel.
+//! Desks and workers that race: `racing DESKS WORKERS COMMANDS RACES FILE..`. In each race over a Go file a session is opened,
+//! which so many desks and workers share, each on a thread of its own. Each desk asks so many commands of those that change a
+//! session, drawn at random. When all have ended, the steps that are kept are taken once more in a fresh session. Both sessions
+//! have to tell the same of each goroutine, of what it printed and of each channel.
 //!
-//! It writes a line for each file that is as it should be, and what came of the race on standard error.
+//! For each file it writes how many races ended so, and what came of each race on standard error.
 //!
 //! Exit status: 0; 1 where a session differs, memory was wanted, or the words are not these.
 #![tactic(auto)]
@@ -60,15 +60,16 @@ fn course_of<T: Threads + Wait + Sync>(
 }
 
 // Races over a file, and tells of it. Whether it is as it should be.
-fn tell<T: Threads + Wait + Sync>(
+fn is_alike<T: Threads + Wait + Sync>(
     rt: &HostRuntime,
     threads: &T,
     file: &str,
+    source: &[u8],
     load: Load,
 ) -> io::Result<bool> {
-    let source = fs::read(rt, file)?;
-    let Some(course) = course_of(threads, rt.alloc(), source.as_slice(), load) else {
-        println!(rt; "{file}: differs")?;
+    let seed = load.seed;
+    let Some(course) = course_of(threads, rt.alloc(), source, load) else {
+        eprintln!(rt; "{file}: race {seed} differs")?;
         return Ok(false);
     };
     let Course {
@@ -80,21 +81,59 @@ fn tell<T: Threads + Wait + Sync>(
     eprintln!(rt;
         "{file}: {asked} commands, {worked} batches and turns; {kept} steps kept, {goroutines} goroutines"
     )?;
-    println!(rt; "{file}: alike")?;
     Ok(true)
+}
+
+// Has callers race over a file so often, and tells how often it was as it should be. Whether it always was.
+fn tell<T: Threads + Wait + Sync>(
+    rt: &HostRuntime,
+    threads: &T,
+    file: &str,
+    races: u32,
+    load: Load,
+) -> io::Result<bool> {
+    let source = fs::read(rt, file)?;
+    let mut alike = 0u32;
+    for race in 0..races {
+        let load = Load {
+            seed: race as u64,
+            ..load
+        };
+        if is_alike(rt, threads, file, source.as_slice(), load)? {
+            alike = alike.saturating_add(1);
+        }
+    }
+    println!(rt; "{file}: {alike} of {races} alike")?;
+    Ok(alike == races)
+}
+
+// How many races there are over each file, and the load of the first.
+fn settings(desks: &str, workers: &str, commands: &str, races: &str) -> Option<(u32, Load)> {
+    let load = Load {
+        desks: desks.parse().ok()?,
+        workers: workers.parse().ok()?,
+        commands: commands.parse().ok()?,
+        seed: 0,
+    };
+    Some((races.parse().ok()?, load))
 }
 
 fn run<T: Threads + Wait + Sync>(rt: &HostRuntime, threads: &T) -> io::Result<ExitCode> {
     let words: Vec<String> = env::args(rt)?.collect(rt.alloc())?;
-    let [_, commands, seed, files @ ..] = words.as_slice() else {
+    let [_, desks, workers, commands, races, files @ ..] = words.as_slice() else {
         return Ok(ExitCode::from(1));
     };
-    let (Ok(commands), Ok(seed)) = (commands.parse::<u32>(), seed.parse::<u64>()) else {
+    let Some((races, load)) = settings(
+        desks.as_str(),
+        workers.as_str(),
+        commands.as_str(),
+        races.as_str(),
+    ) else {
         return Ok(ExitCode::from(1));
     };
     let mut status = 0;
     for file in files {
-        if !tell(rt, threads, file.as_str(), Load { commands, seed })? {
+        if !tell(rt, threads, file.as_str(), races, load)? {
             status = 1;
         }
     }

@@ -12,13 +12,11 @@ use std::sync::atomic::{AtomicU64, Ordering};
 use std::thread;
 use std::thread::Threads;
 
-const DESKS: u64 = 4;
-
-const WORKERS: u64 = 2;
-
-/// What each desk asks: so many commands, drawn by this seed and the desk's number.
+/// Who calls, and what each desk asks: so many commands, drawn by this seed and the desk's number.
 #[derive(Clone, Copy)]
 pub struct Load {
+    pub desks: u32,
+    pub workers: u32,
     pub commands: u32,
     pub seed: u64,
 }
@@ -70,7 +68,8 @@ fn call<B: Room, T: Wait>(
     match caller {
         Caller::Asks(desk, load) => {
             ask_all(rt, alloc, shared, desk, *load);
-            if done.fetch_add(1, Ordering::SeqCst) >= DESKS - 1 {
+            let before = done.fetch_add(1, Ordering::SeqCst);
+            if before.saturating_add(1) >= load.desks as u64 {
                 shared.close(rt);
             }
         }
@@ -104,6 +103,20 @@ fn call_at_once<B: Room + Send + Sync, T: Threads + Wait + Sync>(
     })
 }
 
+fn desks<B: Room, T: Wait>(
+    rt: &T,
+    alloc: Global,
+    shared: &Shared<B>,
+    load: Load,
+) -> Option<Vec<Caller<B>>> {
+    let mut all = Vec::new(alloc);
+    for _ in 0..load.desks {
+        let desk = shared.desk(rt, alloc).ok()?;
+        all.push(Caller::Asks(desk, load)).ok()?;
+    }
+    Some(all)
+}
+
 // The desks, and the workers.
 fn callers<B: Room, T: Wait>(
     rt: &T,
@@ -111,12 +124,8 @@ fn callers<B: Room, T: Wait>(
     shared: &Shared<B>,
     load: Load,
 ) -> Option<Vec<Caller<B>>> {
-    let mut all = Vec::new(alloc);
-    for _ in 0..DESKS {
-        let desk = shared.desk(rt, alloc).ok()?;
-        all.push(Caller::Asks(desk, load)).ok()?;
-    }
-    for _ in 0..WORKERS {
+    let mut all = desks(rt, alloc, shared, load)?;
+    for _ in 0..load.workers {
         let me = shared.worker_seat(rt, alloc).ok()?;
         all.push(Caller::Works(me)).ok()?;
     }
