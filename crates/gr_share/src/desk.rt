@@ -80,7 +80,7 @@ impl<B: Room> Desk<B> {
         let Ok(kept) = command.copy(alloc) else {
             return Err(AskRefused::NoMemory);
         };
-        let asked = shared.lock.lock(rt).ask(
+        let asked = shared.hold(rt).ask(
             rt,
             alloc,
             &shared.tie,
@@ -117,7 +117,7 @@ impl<B: Room> Desk<B> {
         let Ok(go) = batch.go().copy(alloc) else {
             return Err(AskRefused::NoMemory);
         };
-        let asked = shared.lock.lock(rt).commit(
+        let asked = shared.hold(rt).commit(
             rt,
             alloc,
             &shared.tie,
@@ -152,7 +152,7 @@ impl<B: Room> Desk<B> {
         }
         let mut locked = shared
             .changed
-            .wait_while(rt, shared.lock.lock(rt), |locked| locked.is_idle());
+            .wait_while(rt, shared.hold(rt), |locked| locked.is_idle());
         if locked.closed {
             return Work::Nothing;
         }

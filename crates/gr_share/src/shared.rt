@@ -10,7 +10,12 @@ use gr_base::NoMemory;
 use gr_session::{EnrolRefused, Session};
 use std::alloc::Global;
 use std::marker::{Model, PhantomData};
-use std::sync::{Condvar, Mutex, Wait};
+use std::sync::{Condvar, Mutex, MutexGuard, Wait};
+use std::thread::yield_now;
+
+// How often a thread gives way to others before it sleeps until the lock is free. A batch joins the log within some 20
+// microseconds, and a thread that sleeps wakes later than that.
+const TURNS: u32 = 200;
 
 /// A session with the table that is to tie its askers' calls to its journal. The table has no name yet.
 #[derive(Drop)]
@@ -100,11 +105,22 @@ impl<B: Room> Shared<B> {
         }
     }
 
+    // Waits for the lock.
+    pub(crate) fn hold<R: Wait>(&self, rt: &R) -> MutexGuard<'_, Locked<B>> {
+        for _ in 0..TURNS {
+            if let Some(locked) = self.lock.try_lock() {
+                return locked;
+            }
+            yield_now();
+        }
+        self.lock.lock(rt)
+    }
+
     /// A further desk. It waits for the lock.
     pub fn desk<R: Wait>(&self, rt: &R, alloc: Global) -> Result<Desk<B>, EnrolRefused>
         ensures { IfOk result (λ d. (d.calls ≡ []) × (self.now.first < d.number)) }
     {
-        let (desk, seat) = self.lock.lock(rt).enrol(&self.tie)?;
+        let (desk, seat) = self.hold(rt).enrol(&self.tie)?;
         Ok(Desk {
             number: desk.number,
             calls: Vec::new(alloc),
@@ -117,7 +133,7 @@ impl<B: Room> Shared<B> {
     pub fn worker_seat<R: Wait>(&self, rt: &R, alloc: Global) -> Result<Worker<B>, EnrolRefused>
         ensures { IfOk result (λ w. (w.seat.calls ≡ []) × (self.now.first < w.seat.number) × (1 ≤ w.place)) }
     {
-        let (desk, seat, place) = self.lock.lock(rt).enrol_worker(&self.tie)?;
+        let (desk, seat, place) = self.hold(rt).enrol_worker(&self.tie)?;
         let seat = Desk {
             number: desk.number,
             calls: Vec::new(alloc),
@@ -129,7 +145,7 @@ impl<B: Room> Shared<B> {
 
     /// Tells the workers to end. It waits for the lock.
     pub fn close<R: Wait>(&self, rt: &R) {
-        self.lock.lock(rt).closed = true;
+        self.hold(rt).closed = true;
         self.changed.notify_all();
     }
 }
