@@ -117,7 +117,7 @@ def main():
         print("one worker: %.2f million steps a second; two: %.2f; %.2f times as many (at least %.1f, aim %.1f)"
               % (one / 1e6, two / 1e6, two / one, LEAST, AIM))
         with open(file, "w") as f:
-            f.write(counting(2, 1000))
+            f.write(counting(2, 850))
         large = steps / statistics.median(counted(program, file, 2, 1, 0.002)[0] for _ in range(ROUNDS))
         print("one worker in a source of 100 KB: %.2f million steps a second" % (large / 1e6))
         with open(file, "w") as f:
