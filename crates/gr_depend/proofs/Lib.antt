@@ -3,6 +3,7 @@ pub mod LaneLemmas
 pub mod NoteLemmas
 pub mod ToldLemmas
 pub mod TouchLemmas
+pub mod StretchLemmas
 pub mod RoomLemmas
 pub mod AddingLemmas
 pub mod MarkLemmas

@@ -1,7 +1,12 @@
 -- A log as the list of its records.
-use Rattle.std.specs.Prelude.{List}
+use Rattle.std.specs.Prelude.{◌≡◌, ℕ, List, None}
 use Rattle.gr_step.specs.declared.record.Record.{Record}
 use Rattle.gr_depend.specs.declared.log.Log.{Log}
 
 abbrev pub records_of : Log → List Record
 records_of log = log.records.items
+
+-- the step is one of this goroutine that reached no further
+pub record IsAlone (go : List ℕ) (r : Record) : Type 0 where
+  pub name : r.id.go ≡ go
+  pub alone : r.change.beyond ≡ None

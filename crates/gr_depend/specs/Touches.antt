@@ -1,7 +1,8 @@
 -- The touches of an object by the steps of a log.
-use Rattle.std.specs.Prelude.{◌-◌, ◌++◌, ◌&&◌, not, ℕ, suc, Bool, true, false, if◌then◌else◌, List, [], ◌∷◌, length, take, Option, Some, None}
+use Rattle.std.specs.Prelude.{◌-◌, ◌++◌, ◌&&◌, not, ℕ, zero, suc, Bool, true, false, if◌then◌else◌, List, [], ◌∷◌, length, take, Option, Some, None}
 use Rattle.std.specs.List.{list_any}
 use Rattle.gr_base.specs.declared.objects.Object.{Object}
+use Rattle.gr_base.specs.declared.objects.Object.TheVariants.{Run, Go}
 use Rattle.gr_rules.specs.States.{same}
 use Rattle.gr_step.specs.declared.record.Record.{Record}
 use Rattle.gr_step.specs.Conflicts.{written_by, read_by, touched_by}
@@ -41,3 +42,13 @@ kept_for q place r = touches_for q (record { place = place; writes = false }) (r
 abbrev pub if_any : {A : Type 0} → List A → Option (List A)
 if_any [] = None
 if_any (x ∷ xs) = Some (x ∷ xs)
+
+-- a touch for each of so many steps one behind the other, the first of which stands at this place
+abbrev pub stretch : Bool → ℕ → ℕ → List Touch
+stretch w place zero = []
+stretch w place (suc count) = record { place = place; writes = w } ∷ stretch w (suc place) count
+
+-- what is kept for an object of so many steps of a goroutine that reached no further
+abbrev pub own_touches : List ℕ → ℕ → ℕ → Object → List Touch
+own_touches go place count o =
+    if same Run o then stretch false place count else if same (Go go) o then stretch true place count else []

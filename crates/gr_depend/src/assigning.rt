@@ -44,7 +44,10 @@ fn kept_spot(undo: &GoUndo) -> Option<Spot>
         | GoUndo::Parked(spot)
         | GoUndo::Faulted(spot) => Some(*spot),
         GoUndo::Left(left) => Some(left.frame.spot()),
-        GoUndo::Finished(frame) => Some(frame.spot()),
+        GoUndo::Finished(function, number, _) => Some(Spot {
+            function: *function,
+            number: *number,
+        }),
         GoUndo::Met(met) => Some(Spot {
             function: met.function,
             number: met.frame.number,

@@ -1,7 +1,7 @@
 //! The touches of one object.
 
-ghost use Rattle.std.specs.Prelude.{◌≡◌, ◌≤◌, ◌<◌, [], ◌∷◌, ◌++◌, OnOk, OnErr, IsOk};
-ghost use Rattle.gr_depend.specs.Touches.{without_last};
+ghost use Rattle.std.specs.Prelude.{◌≡◌, ◌≤◌, ◌<◌, ◌+◌, ◌^◌, [], ◌∷◌, ◌++◌, vec_len, vec_capacity, OnOk, OnErr, IsOk, true};
+ghost use Rattle.gr_depend.specs.Touches.{stretch, without_last};
 ghost use Rattle.gr_depend.specs.Room.{size_of};
 
 use crate::touch::Touch;
@@ -9,6 +9,20 @@ use gr_base::NoMemory;
 use std::alloc::Global;
 use std::cell::Cell;
 use std::marker::Model;
+
+/// Adds touches of so many steps that stand one behind the other, the first of them at a place. There is room for them.
+pub(crate) fn extend(touches: &mut Vec<Touch>, place: u64, count: usize, writes: bool)
+    requires room { vec_len touches.old + count ≤ vec_capacity touches.old }
+    requires places { place + count < 2 ^ 64 }
+    ensures { touches.new.items ≡ touches.old.items ++ stretch writes place count }
+{
+    for i in 0..count {
+        touches.push_reserved(Touch {
+            place: place + i as u64,
+            writes,
+        });
+    }
+}
 
 /// The touches of an object, in the order of the log.
 #[derive(Drop)]
@@ -54,6 +68,18 @@ impl Lane {
     {
         self.touches.reserve(1)?;
         self.touches.push_reserved(touch);
+        Ok(())
+    }
+
+    /// Adds touches of so many steps that wrote the object and stand one behind the other, the first of them at a place. Refused,
+    /// the touches are as before.
+    pub(crate) fn extend(&mut self, place: u64, count: usize) -> Result<(), NoMemory>
+        requires { place + count < 2 ^ 64 }
+        ensures ok { OnOk result (self.new.0 ≡ self.old.0 ++ stretch true place count) }
+        ensures err { OnErr result (self.new.0 ≡ self.old.0) }
+    {
+        self.touches.reserve(count)?;
+        extend(&mut self.touches, place, count, true);
         Ok(())
     }
 

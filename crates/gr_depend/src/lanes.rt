@@ -1,16 +1,17 @@
 //! The touches of each object.
 
-ghost use Rattle.std.specs.Prelude.{◌≡◌, ◌+◌, [], ◌∷◌, OnOk, OnErr, IfSome, IfNone, IsOk, IsTrue, Some, None, true, false, Bool, ◌↔◌, cond, position, slice_get, length, filter, ◌<◌};
+ghost use Rattle.std.specs.Prelude.{◌≡◌, ◌+◌, ◌^◌, [], ◌∷◌, ◌++◌, if◌then◌else◌, OnOk, OnErr, IfSome, IfNone, IsOk, IsTrue, Some, None, true, false, Bool, ◌↔◌, cond, position, slice_get, length, filter, ◌<◌};
 ghost use Rattle.std.proofs.Props.{props};
 ghost use Rattle.gr_rules.specs.States.{same};
 ghost use Rattle.gr_depend.specs.Keys.{same_key, key_of, seen};
+ghost use Rattle.gr_depend.specs.Touches.{own_touches, stretch};
 ghost use Rattle.indexmap.specs.IndexMap.{IsUnique, keys, get};
 
 use crate::guesses::Guesses;
 use crate::key::{Key, Named, ObjectRef};
-use crate::lane::Lane;
+use crate::lane::{Lane, extend};
 use crate::touch::Touch;
-use gr_base::NoMemory;
+use gr_base::{GoName, NoMemory};
 use indexmap::IndexMap;
 use std::alloc::Global;
 use std::cell::Cell;
@@ -259,6 +260,47 @@ impl Lanes {
         let key = Key::of(self.alloc, object)?;
         let mut lane = Lane::new(self.alloc);
         lane.push(touch)?;
+        self.insert(key, lane)
+    }
+
+    /// Adds the touches of so many steps of a goroutine that reached no further and stand one behind the other, the first of them
+    /// at a place. Refused, all lists are as before.
+    pub(crate) fn note_own(&mut self, go: &GoName, place: u64, count: usize) -> Result<(), NoMemory>
+        requires { place + count < 2 ^ 64 }
+        ensures ok { OnOk result ((q : Object) → list_of self.new q ≡ list_of self.old q ++ own_touches go.now place count q) }
+        ensures err { OnErr result (KeepsLists self.old self.new) }
+    {
+        self.run.reserve(count)?;
+        self.note_writes(go, place, count)?;
+        extend(&mut self.run, place, count, false);
+        Ok(())
+    }
+
+    /// Adds their touches to the list of the goroutine.
+    fn note_writes(&mut self, go: &GoName, place: u64, count: usize) -> Result<(), NoMemory>
+        requires { place + count < 2 ^ 64 }
+        ensures ok { OnOk result ((q : Object) → list_of self.new q ≡ (if same (objects.Go go.now) q then list_of self.old q ++ stretch true place count else list_of self.old q)) }
+        ensures err { OnErr result (KeepsLists self.old self.new) }
+        ensures run { self.new.run ≡ self.old.run }
+    {
+        match self.number(go) {
+            Some(number) => self.map.get_index_mut(number).unwrap().extend(place, count),
+            None => self.note_first_writes(go, place, count),
+        }
+    }
+
+    /// Makes a lane for a goroutine that has none, with their touches.
+    #[inline(never)]
+    fn note_first_writes(&mut self, go: &GoName, place: u64, count: usize) -> Result<(), NoMemory>
+        requires places { place + count < 2 ^ 64 }
+        requires absent { get same_key self.old.map (key_of (objects.Go go.now)) ≡ None }
+        ensures ok { OnOk result ((q : Object) → list_of self.new q ≡ (if same (objects.Go go.now) q then list_of self.old q ++ stretch true place count else list_of self.old q)) }
+        ensures err { OnErr result (KeepsLists self.old self.new) }
+        ensures run { self.new.run ≡ self.old.run }
+    {
+        let key = Key::of(self.alloc, &ObjectRef::Go(go))?;
+        let mut lane = Lane::new(self.alloc);
+        lane.extend(place, count)?;
         self.insert(key, lane)
     }
 

@@ -1,6 +1,6 @@
 //! The log of the steps that were taken.
 
-ghost use Rattle.std.specs.Prelude.{◌≡◌, ◌<◌, ◌++◌, vec_len, vec_capacity, ◌∷◌, [], ℕ, List, length, true, slice_index_or, slice_get, option_copied, IfErr, OnOk, OnErr, IfSome, IfNone, IsOk, IsTrue, MatchOption, ◌↔◌, ◌-◌};
+ghost use Rattle.std.specs.Prelude.{◌≡◌, ◌<◌, ◌++◌, vec_len, vec_capacity, ◌∷◌, [], ℕ, List, length, true, slice_index_or, slice_get, option_copied, IfErr, OnOk, OnErr, IfSome, IfNone, IsOk, IsTrue, MatchOption, All, ◌↔◌, ◌-◌};
 ghost use Rattle.std.specs.List.{list_all};
 ghost use Rattle.std.proofs.Props.{props};
 ghost use Rattle.gr_base.specs.declared.objects.Object.{Object};
@@ -12,7 +12,7 @@ ghost use Rattle.gr_depend.specs.Touches.{touches_in, none_twice, if_any};
 use crate::key::ObjectRef;
 use crate::lanes::Lanes;
 use crate::touch::Touch;
-use gr_base::{NoMemory, Object};
+use gr_base::{GoName, NoMemory, Object};
 use gr_step::Record;
 use std::alloc::Global;
 
@@ -26,7 +26,7 @@ pub struct Log {
 }
 
 impl Log {
-    ghost use Rattle.gr_depend.specs.Logs.{records_of};
+    ghost use Rattle.gr_depend.specs.Logs.{IsAlone, records_of};
     ghost use Rattle.gr_depend.specs.Room.{CanTake};
     ghost use Rattle.gr_depend.specs.Aside.{IsLaidAside};
     ghost use Rattle.gr_step.specs.declared.record.Record.{Record};
@@ -95,6 +95,21 @@ impl Log {
             Ok(()) => Ok(()),
             Err(error) => Err((self.records.pop().unwrap(), error)),
         }
+    }
+
+    /// Adds steps at the end that a goroutine took by itself and that reached no further. Refused, the log is as before.
+    pub fn append(&mut self, go: &GoName, steps: Vec<Record>) -> Result<(), NoMemory>
+        requires { All (IsAlone go.now) steps.items }
+        ensures ok { OnOk result (records_of self.new ≡ records_of self.old ++ steps.items) }
+        ensures err { OnErr result (records_of self.new ≡ records_of self.old) }
+    {
+        let count = steps.len();
+        self.records.reserve(count)?;
+        let place = self.records.len();
+        self.lanes.note_own(go, place as u64, count)?;
+        let mut steps = steps;
+        self.records.append(&mut steps).unwrap();
+        Ok(())
     }
 
     /// Takes the last step out, if there is one. It takes no memory.

@@ -84,7 +84,41 @@ pub fn number_of(cells: &[Option<Value>], operand: &Operand) -> Option<i64>
     }
 }
 
-/// What the operand gives, where it is a number, or an operator on two numbers, that stand in cells or in the code.
+/// The number that the operand is, where it stands in a cell or in the code, or is what an operator gives on two such numbers.
+#[inline]
+fn number_from(cells: &[Option<Value>], operand: &Operand) -> Option<i64>
+    requires { rules.evaluate cells.now (operand_of operand.now) ≢ wrong }
+    ensures { IfSome result (λ n. rules.evaluate cells.now (operand_of operand.now) ≡ gives (values.Int n)) }
+{
+    let Operand::Binary(op, left, right) = operand else {
+        return number_of(cells, operand);
+    };
+    let x = number_of(cells, left)?;
+    let y = number_of(cells, right)?;
+    match on_ints(*op, x, y) {
+        Ok(Scalar::Int(n)) => Some(n),
+        _ => None,
+    }
+}
+
+/// What an operator gives on such numbers.
+#[inline(never)]
+fn of_nested(
+    cells: &[Option<Value>],
+    op: BinaryOp,
+    left: &Operand,
+    right: &Operand,
+) -> Option<Result<Scalar, Fault>>
+    requires { rules.evaluate cells.now (operands.Binary op (operand_of left.now) (operand_of right.now)) ≢ wrong }
+    ensures { IfSome result (λ r. rules.evaluate cells.now (operands.Binary op (operand_of left.now) (operand_of right.now)) ≡ scalar_outcome r) }
+{
+    let x = number_from(cells, left)?;
+    let y = number_from(cells, right)?;
+    Some(on_ints(op, x, y))
+}
+
+/// What the operand gives, where it is a number, or an operator on numbers, or on what operators give on numbers, which stand in
+/// cells or in the code.
 #[inline]
 pub fn of_numbers(cells: &[Option<Value>], operand: &Operand) -> Option<Result<Scalar, Fault>>
     requires { rules.evaluate cells.now (operand_of operand.now) ≢ wrong }
@@ -92,9 +126,12 @@ pub fn of_numbers(cells: &[Option<Value>], operand: &Operand) -> Option<Result<S
 {
     match operand {
         Operand::Binary(op, left, right) => {
-            let x = number_of(cells, left)?;
-            let y = number_of(cells, right)?;
-            Some(on_ints(*op, x, y))
+            if let Some(x) = number_of(cells, left) {
+                if let Some(y) = number_of(cells, right) {
+                    return Some(on_ints(*op, x, y));
+                }
+            }
+            of_nested(cells, *op, left, right)
         }
         _ => Some(Ok(Scalar::Int(number_of(cells, operand)?))),
     }

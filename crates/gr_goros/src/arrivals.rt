@@ -139,7 +139,9 @@ impl Goroutine {
         match how {
             Halt::Finished => {
                 self.status = Status::Finished;
-                GoUndo::Finished(mem::replace(&mut self.top, Frame::unseen(alloc)))
+                let frame = mem::replace(&mut self.top, Frame::unseen(alloc));
+                let (function, number, cells) = frame.into_parts();
+                GoUndo::Finished(function, number, cells)
             }
             Halt::Faulted => GoUndo::Faulted(self.top.spot()),
         }

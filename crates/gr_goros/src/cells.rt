@@ -8,7 +8,7 @@ ghost use Rattle.gr_rules.specs.Frames.{assigned};
 ghost use Rattle.gr_goros.specs.Undoing.{each_restored, restored};
 
 use crate::undo::Former;
-use gr_base::{NoMemory, Value};
+use gr_base::{ChName, NoMemory, Value};
 use std::alloc::Global;
 use std::mem;
 
@@ -23,7 +23,7 @@ fn kept(slot: usize, held: Option<Value>) -> Former
         Some(Value::Bool(b)) => Former::Bool(slot, b),
         Some(Value::Unit) => Former::Unit(slot),
         Some(Value::Chan(None)) => Former::Nil(slot),
-        Some(Value::Chan(Some(name))) => Former::Channel(slot, name),
+        Some(Value::Chan(Some(name))) => Former::Channel(name.n, slot, name.go),
     }
 }
 
@@ -100,12 +100,12 @@ pub(crate) fn put_back(cells: &mut Vec<Option<Value>>, former: Former)
         Former::Bool(slot, b) => put(cells, slot, Some(Value::Bool(b))),
         Former::Unit(slot) => put(cells, slot, Some(Value::Unit)),
         Former::Nil(slot) => put(cells, slot, Some(Value::Chan(None))),
-        Former::Channel(slot, name) => put(cells, slot, Some(Value::Chan(Some(name)))),
+        Former::Channel(n, slot, go) => put(cells, slot, Some(Value::Chan(Some(ChName { go, n })))),
         Former::IntAndBool(b, slot, n, other) => {
             put(cells, other, Some(Value::Bool(b)));
-            put(cells, slot, Some(Value::Int(n)));
+            put(cells, slot as usize, Some(Value::Int(n)));
         }
-        Former::Each(written) => put_each(cells, written),
+        Former::Each(written) => put_each(cells, Box::into_inner(written)),
     }
 }
 
@@ -135,18 +135,24 @@ pub(crate) fn assign(
     Ok(written)
 }
 
-/// The number and the truth value that two cells hold, if they do.
+/// The number and the truth value that two cells hold, if they do, behind the number of the first cell.
 #[inline]
-fn number_and_truth(cells: &[Option<Value>], first: usize, second: usize) -> Option<(i64, bool)>
-    ensures number { IfSome result (λ r. held (slice_get cells.now first) ≡ gives (Int r.0)) }
-    ensures truth { IfSome result (λ r. held (slice_get cells.now second) ≡ gives (Bool r.1)) }
+fn number_and_truth(
+    cells: &[Option<Value>],
+    first: usize,
+    second: usize,
+) -> Option<(u32, i64, bool)>
+    ensures slot { IfSome result (λ r. r.0 ≡ first) }
+    ensures number { IfSome result (λ r. held (slice_get cells.now first) ≡ gives (Int r.1)) }
+    ensures truth { IfSome result (λ r. held (slice_get cells.now second) ≡ gives (Bool r.2)) }
 {
+    let slot = u32::try_from(first).ok()?;
     let n = match cells.get(first) {
         Some(Some(Value::Int(n))) => *n,
         _ => return None,
     };
     match cells.get(second) {
-        Some(Some(Value::Bool(b))) => Some((n, *b)),
+        Some(Some(Value::Bool(b))) => Some((slot, n, *b)),
         _ => None,
     }
 }
@@ -163,15 +169,17 @@ pub(crate) fn write_two(
     ensures back { IfOk result (λ former. restored former cells.new.items ≡ cells.old.items) }
     ensures err { OnErr result (cells.new.items ≡ cells.old.items) }
 {
-    if let Some((n, truth)) = number_and_truth(cells, first.0, second.0) {
+    if let Some((slot, n, truth)) = number_and_truth(cells, first.0, second.0) {
         put(cells, first.0, Some(first.1));
         put(cells, second.0, Some(second.1));
-        return Ok(Former::IntAndBool(truth, first.0, n, second.0));
+        return Ok(Former::IntAndBool(truth, slot, n, second.0));
     }
+    let mut kept = Box::new(alloc, Vec::new(alloc))?;
     let mut written = Vec::with_capacity(alloc, 2)?;
     note(cells, &mut written, first.0, first.1);
     note(cells, &mut written, second.0, second.1);
-    Ok(Former::Each(written))
+    *kept = written;
+    Ok(Former::Each(kept))
 }
 
 /// So many cells without a value.

@@ -2,10 +2,10 @@
 
 ghost use Rattle.std.specs.Prelude.{◌≡◌, ◌+◌, ◌<◌, ◌^◌, Bool, true, slice_get, IfSome, IfNone};
 ghost use Rattle.gr_base.specs.declared.kinds.Kind.TheVariants as kinds;
-ghost use Rattle.gr_base.specs.declared.values.Value.TheVariants.{Int};
+ghost use Rattle.gr_base.specs.declared.values.Value.TheVariants.{Int, Bool as Truth};
 ghost use Rattle.gr_rules.specs.Outcomes.{gives, wrong};
 ghost use Rattle.gr_rules.specs.Evaluation as rules;
-ghost use Rattle.gr_rules.specs.Evaluation.{held};
+ghost use Rattle.gr_rules.specs.Evaluation.{evaluate, held};
 ghost use Rattle.gr_rules.specs.Operands.{also, nothing};
 ghost use Rattle.gr_rules.specs.Goroutines.{ready};
 ghost use Rattle.gr_code.specs.Instructions.{Assigns};
@@ -21,6 +21,7 @@ use crate::frame::Frame;
 use crate::goroutine::Goroutine;
 use crate::undo::{Former, FrameUndo, GoUndo};
 use crate::wait::Status;
+use gr_base::Value;
 use gr_code::code::{Action, Code, Instruction, Operand};
 use gr_eval::{Scalar, number_in, number_of, of_numbers, on_ints};
 use gr_tree::BinaryOp;
@@ -33,6 +34,20 @@ pub(crate) struct Counted {
     pub(crate) writes: bool,
     pub(crate) slot: usize,
     pub(crate) former: i64,
+}
+
+/// The truth value that the operand is, where that stands in a cell.
+#[inline]
+fn truth_of(cells: &[Option<Value>], operand: &Operand) -> Option<bool>
+    ensures { IfSome result (λ b. evaluate cells.now (operand_of operand.now) ≡ gives (Truth b)) }
+{
+    let Operand::Variable(cell) = operand else {
+        return None;
+    };
+    match cells.get(*cell) {
+        Some(Some(Value::Bool(b))) => Some(*b),
+        _ => None,
+    }
 }
 
 impl Counted {
@@ -126,6 +141,7 @@ impl Frame {
         match operands.as_slice() {
             [operand] => self.count_by(action, operand),
             [] => self.count_on(action),
+            [first, second] => self.count_first(action, first, second),
             _ => None,
         }
     }
@@ -154,6 +170,19 @@ impl Frame {
             Action::Update { variable, op, on } => self.count_up(*variable, *op, operand, *on),
             Action::Test { holds, fails } => self.compare(operand, *holds, *fails),
             Action::Assign { targets, on } => self.set_one(targets, operand, *on),
+            _ => None,
+        }
+    }
+
+    /// .. of a statement with two operands.
+    #[inline]
+    fn count_first(&mut self, action: &Action, first: &Operand, second: &Operand) -> Option<Counted>
+        requires { ¬ (performed self.old (action_of action.now) (also (operand_of first.now) (also (operand_of second.now) nothing)) ≡ wrong) }
+        ensures counts { Counts result (performed self.old (action_of action.now) (also (operand_of first.now) (also (operand_of second.now) nothing))) self.old self.new }
+        ensures alone { IfSome result (λ _. (caller : Bool) → is_local_action caller (action_of action.now) ≡ true) }
+    {
+        match action {
+            Action::Assign { targets, on } => self.set_first(targets, first, second, *on),
             _ => None,
         }
     }
@@ -212,5 +241,25 @@ impl Frame {
             Some(Ok(Scalar::Int(n))) => Some(self.count_into(*variable, x, n, on)),
             _ => None,
         }
+    }
+
+    /// Assigns the first of a number and a truth value to one variable, as a clause of a select does that receives a number.
+    fn set_first(
+        &mut self,
+        targets: &[Option<usize>],
+        first: &Operand,
+        second: &Operand,
+        on: usize,
+    ) -> Option<Counted>
+        requires { ¬ (performed self.old (Assigns targets.now on) (also (operand_of first.now) (also (operand_of second.now) nothing)) ≡ wrong) }
+        ensures { Counts result (performed self.old (Assigns targets.now on) (also (operand_of first.now) (also (operand_of second.now) nothing))) self.old self.new }
+    {
+        let [Some(variable)] = targets else {
+            return None;
+        };
+        let _ = truth_of(self.cells(), second)?;
+        let x = number_in(self.cells(), *variable)?;
+        let n = number_of(self.cells(), first)?;
+        Some(self.count_into(*variable, x, n, on))
     }
 }

@@ -77,6 +77,24 @@ impl Frame {
         Ok(Frame::begin(counted, cells))
     }
 
+    /// The numbers of the function and of the next instruction, and the cells.
+    pub(crate) fn into_parts(self) -> (u32, usize, Vec<Option<Value>>)
+        ensures { self ≡ record { function = result.0; number = result.1; cells = result.2.items } }
+    {
+        (self.function, self.number, self.cells)
+    }
+
+    /// The frame that has these.
+    pub(crate) fn of_parts(function: u32, number: usize, cells: Vec<Option<Value>>) -> Frame
+        ensures { result ≡ record { function = function; number = number; cells = cells.items } }
+    {
+        Frame {
+            function,
+            number,
+            cells,
+        }
+    }
+
     /// The same once more.
     pub fn copy(&self, alloc: Global) -> Result<Frame, NoMemory>
         ensures { IfOk result (λ copy. copy ≡ self.now) }
@@ -211,11 +229,12 @@ impl Frame {
         ensures back { IfOk result (λ u. frame_before u self.new ≡ self.old) }
         ensures err { OnErr result (self.new ≡ self.old) }
     {
-        let written = cells::assign(alloc, &mut self.cells, targets, values)?;
+        let mut kept = Box::new(alloc, Vec::new(alloc))?;
+        *kept = cells::assign(alloc, &mut self.cells, targets, values)?;
         let number = mem::replace(&mut self.number, on);
         Ok(FrameUndo {
             number,
-            cells: Former::Each(written),
+            cells: Former::Each(kept),
         })
     }
 

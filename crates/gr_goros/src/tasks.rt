@@ -286,6 +286,9 @@ impl Frame {
         requires { ¬ (performed self.old Returns (operands_of operands.now) ≡ wrong) }
         ensures { Does result (performed self.old Returns (operands_of operands.now)) self.old self.new }
     {
+        if let [operand] = operands {
+            return Ok(Task::Leaves(evaluate(alloc, self.cells(), operand)?));
+        }
         let mut values = evaluate_all(alloc, self.cells(), operands)?;
         match values.pop() {
             Some(value) => Ok(Task::Leaves(value)),

@@ -7,7 +7,7 @@ ghost use Rattle.gr_goros.specs.Views.{lines_of};
 use crate::frame::Frame;
 use crate::goroutine::Goroutine;
 use crate::wait::Status;
-use gr_base::{ChName, NoMemory, Value};
+use gr_base::{GoName, NoMemory, Value};
 use std::mem;
 
 /// What was in the cells of a frame to which a change wrote.
@@ -22,12 +22,14 @@ pub enum Former {
     Unit(usize),
     /// A channel that is nil.
     Nil(usize),
-    Channel(usize, ChName),
-    /// Two cells, of which the first held a number and the second a truth value, as an earlier receive leaves them. The truth value
-    /// stands before the rest, where it takes no room.
-    IntAndBool(bool, usize, i64, usize),
+    /// A channel, by its number, the number of the cell, and the goroutine that made it. The first number stands before the rest,
+    /// where it takes no room.
+    Channel(u32, usize, GoName),
+    /// Two cells, of which the first held a number and the second a truth value, as an earlier receive leaves them: the truth value
+    /// and the number of the first cell stand before the rest, where they take no room.
+    IntAndBool(bool, u32, i64, usize),
     /// Each cell that was written to, in the order of the writes, with what was in it before.
-    Each(Vec<(usize, Option<Value>)>),
+    Each(Box<Vec<(usize, Option<Value>)>>),
 }
 
 /// Where a frame stands: the number of its function, and that of the next instruction there.
@@ -80,8 +82,8 @@ pub enum GoUndo {
     Met(Box<Met>),
     /// It began to wait.
     Parked(Spot),
-    /// It returned from its outermost frame, or ended the program, in this frame.
-    Finished(Frame),
+    /// It returned from its outermost frame, or ended the program: the numbers of the function and of the instruction, and the cells.
+    Finished(u32, usize, Vec<Option<Value>>),
     /// It stopped the program.
     Faulted(Spot),
     /// It was made ready again.
@@ -180,9 +182,9 @@ impl Goroutine {
                 self.status = Status::Ready;
                 self.steps -= 1;
             }
-            GoUndo::Finished(frame) => {
+            GoUndo::Finished(function, number, cells) => {
                 self.status = Status::Ready;
-                self.top = frame;
+                self.top = Frame::of_parts(function, number, cells);
                 self.steps -= 1;
             }
             GoUndo::Faulted(spot) => {

@@ -5,8 +5,8 @@ use Rattle.std.proofs.lemmas.List.{map-append, length-append}
 use Rattle.std.proofs.lemmas.List.Elements.{All-nil, All-push}
 use Rattle.gr_base.specs.declared.events.Choice.TheVariants.{Plain}
 use Rattle.gr_base.specs.declared.events.Event.{Event}
+use Rattle.gr_base.specs.declared.names.StepId.{StepId}
 use Rattle.gr_causal.specs.Machine.{IsLog}
-use Rattle.gr_causal.specs.Sequences.{Distinct}
 use Rattle.gr_causal.proofs.PathLemmas.{log_push}
 use Rattle.gr_pool.specs.Goroutines as pools
 use Rattle.gr_pool.specs.Goroutines.{is_among}
@@ -19,12 +19,10 @@ use Rattle.gr_laws.specs.Reached.{Logged}
 use Rattle.gr_code.specs.Goroutines.{CodeGoroutine}
 use Rattle.gr_contents.specs.Contents.{Contents, with_goroutine}
 use Rattle.gr_contents.proofs.NameLemmas.{go_is}
-use Rattle.gr_kept.proofs.RecordLemmas.{no_object_twice}
 use Rattle.gr_lower.specs.Lowered.{lowered}
 use Rattle.gr_step.specs.declared.leasing.Lease.{Lease}
 use Rattle.gr_step.specs.declared.record.Record.{Record}
 use Rattle.gr_step.specs.declared.store.Store.{Store}
-use Rattle.gr_step.specs.Conflicts.{touched_by}
 use Rattle.gr_step.specs.Kept.{Kept, one_more}
 use Rattle.gr_step.specs.Leasing.{AreRecords, no_record, one_more_record, Walk, IsLease, IsAsLent, loan_of, name_lent, goroutine_lent, goroutine_led_to, records_led}
 use Rattle.gr_step.specs.Leasing as leases
@@ -33,7 +31,7 @@ use Rattle.gr_step.specs.Premises.{Running}
 use Rattle.gr_step.specs.Records.{event_of}
 use Rattle.gr_step.specs.Stores.{contents_at, SameListing}
 use Rattle.gr_step.proofs.LeasingLemmas.{Led, walk_leads, store_has_channels}
-use Rattle.gr_depend.specs.Logs.{records_of}
+use Rattle.gr_depend.specs.Logs.{IsAlone, records_of}
 use Rattle.gr_rollback.specs.declared.TheConstants.{LOG_LIMIT}
 use Rattle.gr_rollback.specs.declared.course.Course.{Course}
 use Rattle.gr_rollback.specs.declared.machine.Machine.{Machine}
@@ -52,7 +50,6 @@ pub record KeptOn (p : Program) (b : Contents) (before : List Record) (log : Lis
   pub kept : Kept p b (before ++ records) (log ++ steps) t
   pub leads : IsLog (machine p) (state_in p s) steps (state_in p t)
   pub events : events_in p steps ≡ map event_of records
-  pub once : All (λ r. Distinct (touched_by r)) records
 
 pub kept_on : (p : Program) (b : Contents) (before : List Record) (log : List (Logged p)) (s : Contents) (records : List Record) (t : Contents)
     → Kept p b before log s → AreRecords p s records t → KeptOn p b before log s records t
@@ -61,7 +58,6 @@ kept_on p b before log s _ _ kept no_record = record {
   kept = subst {_, _} (λ rs. Kept p b rs (log ++ []) s) (sym (append-nil before)) (subst {_, _} (λ ls. Kept p b before ls s) (sym (append-nil log)) kept);
   leads = refl;
   events = refl;
-  once = All-nil (λ r. Distinct (touched_by r));
 }
 kept_on p b before log s _ _ kept (one_more_record {records} {t} r u are running is) =
     let so = kept_on p b before log s records t kept are in
@@ -75,7 +71,6 @@ kept_on p b before log s _ _ kept (one_more_record {records} {t} r u are running
       leads = log_push (machine p) (state_in p s) so.steps (state_in p t) l (state_in p u) so.leads told.step;
       events = map-append (λ (k : Logged p). k.event) so.steps (l ∷ []) ∙ ap (λ es. es ++ l.event ∷ []) so.events
           ∙ sym (map-append event_of records (r ∷ []));
-      once = All-push (λ r. Distinct (touched_by r)) records r so.once (no_object_twice p t r l u told);
     }
 
 -- their events are those of the goroutine
@@ -95,6 +90,13 @@ events_of_walk p go from _ _ (leases.one_more {records} {g} r h walk is) =
     map-append event_of records (r ∷ []) ∙ ap (λ es. es ++ event_of r ∷ []) (events_of_walk p go from records g walk)
     ∙ ap (λ (x : Event). replicate (length records) e ++ x ∷ []) (λ i. record { go = (is.name i).go; choice = is.plain i })
     ∙ one_more_event e (length records) ∙ ap (λ n. replicate n e) (sym (one_longer records r))
+
+-- none of their steps reached further than the goroutine
+pub alone_of_walk : (p : Program) (go : List ℕ) (from : CodeGoroutine) (records : List Record) (to : CodeGoroutine)
+    → Walk (lowered p) go from records to → All (IsAlone go) records
+alone_of_walk p go from _ _ leases.no_step = All-nil (IsAlone go)
+alone_of_walk p go from _ _ (leases.one_more {records} {g} r h walk is) =
+    All-push (IsAlone go) records r (alone_of_walk p go from records g walk) (record { name = ap (λ (i : StepId). i.go) is.name; alone = is.goes.beyond })
 
 -- a goroutine that stays ready
 pub ready_stays : (pool : pools.Goroutines) (s : Contents) (n : List ℕ) (g h : CodeGoroutine) → HasReady pool s → s.goroutines n ≡ Some g

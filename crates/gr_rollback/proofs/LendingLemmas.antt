@@ -1,9 +1,10 @@
 -- Of the goroutines that are ready, those whose next step is local.
-use Rattle.std.proofs.Common.{◌≡◌, ◌+◌, ◌-◌, ◌<◌, ◌≤◌, ◌%◌, ℕ, zero, suc, arith, Bool, true, false, cond, ◌&&◌, ◌||◌, List, [], ◌∷◌, length, drop, filter, get_or, All, Option, Some, None, refl, sym, ap, subst, ◌∙◌}
+use Rattle.std.proofs.Common.{◌≡◌, ◌+◌, ◌-◌, ◌*◌, ◌<◌, ◌≤◌, ◌%◌, ℕ, zero, suc, arith, Bool, true, false, cond, ◌&&◌, ◌||◌, List, [], ◌∷◌, length, drop, filter, get_or, All, Option, Some, None, refl, sym, ap, subst, ◌∙◌}
 use Rattle.std.specs.Prelude.{slice_get, option_map, Result, Ok, Err, IfOk, IfSome, IfNone}
 use Rattle.std.specs.List.{AllPairs, AllByRecursion}
 use Rattle.std.specs.declared.cmp.Ordering.TheVariants.{Less}
 use Rattle.std.proofs.lemmas.List.{drop_more, drop_all}
+use Rattle.std.proofs.lemmas.Nat.{mod-mul-add}
 use Rattle.std.proofs.lemmas.List.Elements.{All-from_recursion, recursion_from_All}
 use Rattle.gr_base.specs.Names.{go_cmp}
 use Rattle.gr_base.specs.declared.memory.NoMemory.{NoMemory}
@@ -177,6 +178,18 @@ module _ (p : Program) (w : World p) (m : Machine) (s : Stands p w m) where
   pub lent_at : (place : ℕ) (o : Option (List ℕ)) → IsInOrder m.course.pool.ready → o ≡ slice_get names (place % length names)
       → IsLentAt w.past.state place o
   lent_at place o ordered is = record { names = names; alone = go_alone ordered; at = is }
+
+  -- a place within them
+  pub lent_within : (place : ℕ) (n : List ℕ) → IsInOrder m.course.pool.ready → Some n ≡ slice_get names place → IsLentAt w.past.state place (Some n)
+  lent_within place n ordered is =
+      let none : place ≡ 0 * length names + place = omega arith in
+      let short : place % length names ≡ place = ap (λ k. k % length names) none ∙ mod-mul-add 0 (length names) place (within names place n is) in
+      lent_at place (Some n) ordered (is ∙ ap (slice_get names) (sym short))
+    where
+      within : (xs : List (List ℕ)) (i : ℕ) (x : List ℕ) → Some x ≡ slice_get xs i → i < length xs
+      within [] i x e = cc
+      within (y ∷ xs) zero x e = omega arith
+      within (y ∷ xs) (suc i) x e = let rest = within xs i x e in omega (arith, rest)
 
   pub some_alone : (n : List ℕ) → Some n ≡ slice_get names 0 → SomeGoesAlone w.past.state
   some_alone n e = (n, sym (as_rules n) ∙ stands_among names 0 n e)

@@ -22,5 +22,4 @@ mod DependenceLemmas
 mod AskLemmas
 mod LeasingLemmas
 mod LendingLemmas
-mod JoiningLemmas
 mod CountedLemmas

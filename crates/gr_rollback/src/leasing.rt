@@ -1,10 +1,8 @@
 //! Steps that a goroutine takes by itself on a copy, and that join the log together.
 
-ghost use Rattle.std.specs.Prelude.{◌≡◌, ◌+◌, ◌<◌, ◌≤◌, ◌++◌, ◌↔◌, length, take, filter, slice_get, get_or, [], All, IfOk, IfSome, IsTrue, OnOk, OnErr, option_copied, option_map};
-ghost use Rattle.gr_causal.specs.Sequences.{Distinct};
+ghost use Rattle.std.specs.Prelude.{◌≡◌, ◌+◌, ◌<◌, ◌≤◌, ◌↔◌, length, filter, slice_get, get_or, [], IfOk, IfSome, IsTrue, OnOk, OnErr, option_copied, option_map};
 ghost use Rattle.gr_pool.specs.Goroutines.{IsInOrder};
 ghost use Rattle.gr_program.specs.Programs.{Program as ProgramSeen};
-ghost use Rattle.gr_step.specs.Conflicts.{touched_by};
 ghost use Rattle.gr_step.specs.Leasing.{IsLease, IsAsLent, goes_alone, loan_of, program_lent};
 ghost use Rattle.gr_step.specs.Stores.{IsRun, SameListing, program_at, state_at, taken_at};
 ghost use Rattle.gr_depend.specs.Logs.{records_of};
@@ -13,9 +11,8 @@ use crate::LOG_LIMIT;
 use crate::course::Course;
 use crate::machine::Machine;
 use gr_base::{GoName, NoMemory};
-use gr_depend::Log;
 use gr_pool::Pool;
-use gr_step::{Lease, Record, Store};
+use gr_step::{Lease, Store};
 use std::alloc::Global;
 
 /// Whether the next step of the ready goroutine at a place is local.
@@ -49,7 +46,8 @@ fn count_alone(store: &Store, pool: &Pool) -> usize
 /// Of the ready goroutines whose next step is local, the one with a number, counted from 0.
 fn nth_alone<'a>(store: &Store, pool: &'a Pool, number: usize) -> Option<&'a GoName>
     requires { IsRun store.now }
-    ensures { option_copied result ≡ slice_get (filter (goes_alone (state_at store.now)) pool.now.ready) number }
+    ensures which { option_copied result ≡ slice_get (filter (goes_alone (state_at store.now)) pool.now.ready) number }
+    ensures ordered { IsInOrder pool.now.ready }
 {
     let mut left = number;
     for place in 0..pool.len() {
@@ -62,32 +60,6 @@ fn nth_alone<'a>(store: &Store, pool: &'a Pool, number: usize) -> Option<&'a GoN
         left -= 1;
     }
     None
-}
-
-/// Takes records from the end of the log until it has so many.
-fn shorten(log: &mut Log, len: usize)
-    requires { len ≤ length (records_of log.old) }
-    ensures { records_of log.new ≡ take len (records_of log.old) }
-{
-    while log.len() > len {
-        log.pop();
-    }
-}
-
-/// Lets records join the log. Refused, none has.
-fn push_all(log: &mut Log, records: Vec<Record>) -> Result<(), NoMemory>
-    requires { All (λ r. Distinct (touched_by r)) records.items }
-    ensures ok { OnOk result (records_of log.new ≡ records_of log.old ++ records.items) }
-    ensures err { OnErr result (records_of log.new ≡ records_of log.old) }
-{
-    let before = log.len();
-    for record in records {
-        if let Err((_, NoMemory)) = log.push(record) {
-            shorten(log, before);
-            return Err(NoMemory);
-        }
-    }
-    Ok(())
 }
 
 impl Course {
@@ -109,7 +81,7 @@ impl Course {
         ensures taken { taken_at self.new.store ≡ taken_at self.old.store }
     {
         let records = lease.take_records(alloc);
-        push_all(&mut self.log, records)?;
+        self.log.append(lease.go(), records)?;
         self.store.take_over(lease);
         Ok(())
     }
@@ -120,11 +92,15 @@ impl Machine {
     ghost use Rattle.gr_rollback.specs.Machines.{store_of, steps_of, Stands, IsMachine};
     ghost use Rattle.gr_rollback.specs.Leasing.{AllTaken, IsLentAt, SomeGoesAlone};
 
-    /// Of the goroutines whose next step is local, in the order of names, the one at a place, modulo their number.
+    /// Of the goroutines whose next step is local, in the order of names, the one at a place, modulo their number. It looks no
+    /// further than at that place, unless there are no more of them.
     fn alone_at(&self, place: u32) -> Option<&GoName>
         requires { IsMachine self.now }
         ensures { (p : ProgramSeen) (w : World p) → Stands p w self.now → IsLentAt w.past.state place (option_copied result) }
     {
+        if let Some(go) = nth_alone(&self.course.store, &self.course.pool, place as usize) {
+            return Some(go);
+        }
         let count = count_alone(&self.course.store, &self.course.pool);
         if count == 0 {
             return None;

@@ -1,6 +1,6 @@
 //! Batches that are committed: the steps of a goroutine on its copy become steps of the program.
 
-ghost use Rattle.std.specs.Prelude.{◌≡◌};
+ghost use Rattle.std.specs.Prelude.{◌≡◌, IsTrue};
 ghost use Rattle.gr_program.specs.Programs.{Program};
 ghost use Rattle.gr_step.specs.Stores.{SameListing, program_at};
 ghost use Rattle.gr_step.specs.Leasing.{IsLease, IsAsLent, loan_of, program_lent};
@@ -45,9 +45,28 @@ fn commit_lent(alloc: Global, debuggee: &mut Debuggee, lease: &mut Lease) -> Res
 }
 
 /// Lets the steps of a batch of the same program join the log, if its goroutine is as it was lent, in a run that goes on, and if the
-/// grant and the log have room for them. It tells whether the goroutine was so. An error means that a growth was refused; nothing
-/// has changed then.
-pub(crate) fn commit_own(
+/// grant and the log have room for them. The program is compared with the one that runs, unless it is known to be that. It tells
+/// whether program and goroutine were so. An error means that a growth was refused; nothing has changed then.
+pub(crate) fn commit(
+    alloc: Global,
+    debuggee: &mut Debuggee,
+    lease: Lease,
+    own: bool,
+) -> Result<(Batch, bool, Reply), NoMemory>
+    requires debuggee { IsDebuggee debuggee.old }
+    requires lease { IsLease lease }
+    requires own { IsTrue own → (program_lent lease ≡ program_at (store_in debuggee.old)) }
+    ensures commits { (p : Program) → (w : World p) → Stands p w debuggee.old → CommitsBatch p w (loan_of lease) result debuggee.new }
+    ensures listing { SameListing (store_in debuggee.old) (store_in debuggee.new) }
+{
+    if !own && !debuggee.machine.has_program_of(&lease) {
+        return Ok((lease.into_batch(), false, Reply::Stale));
+    }
+    commit_own(alloc, debuggee, lease)
+}
+
+/// .. of a batch of the same program.
+fn commit_own(
     alloc: Global,
     debuggee: &mut Debuggee,
     lease: Lease,
@@ -64,21 +83,4 @@ pub(crate) fn commit_own(
     }
     let reply = commit_lent(alloc, debuggee, &mut lease)?;
     Ok((lease.into_batch(), true, reply))
-}
-
-/// .. of any batch, whose program is compared with the one that runs.
-pub(crate) fn commit(
-    alloc: Global,
-    debuggee: &mut Debuggee,
-    lease: Lease,
-) -> Result<(Batch, bool, Reply), NoMemory>
-    requires debuggee { IsDebuggee debuggee.old }
-    requires lease { IsLease lease }
-    ensures commits { (p : Program) → (w : World p) → Stands p w debuggee.old → CommitsBatch p w (loan_of lease) result debuggee.new }
-    ensures listing { SameListing (store_in debuggee.old) (store_in debuggee.new) }
-{
-    if !debuggee.machine.has_program_of(&lease) {
-        return Ok((lease.into_batch(), false, Reply::Stale));
-    }
-    commit_own(alloc, debuggee, lease)
 }

@@ -10,7 +10,7 @@ ghost use Rattle.gr_session.specs.Granting.{IsTurnDue, CanLend, IsLoan};
 ghost use Rattle.gr_step.specs.Premises.{IsChecked};
 
 use crate::carry::carry_out;
-use crate::committing::{commit, commit_own};
+use crate::committing::commit;
 use crate::debuggee::Debuggee;
 use crate::granting::{can_lend, lend, room, turn_due};
 use crate::journal::{
@@ -152,17 +152,7 @@ impl Session {
         ensures err { OnErr result (self.new ≡ self.old) }
         ensures others { (self.new.program ≡ self.old.program) × (self.new.askers ≡ self.old.askers) }
     {
-        if let Err(why) = make_room(&mut self.journal) {
-            return Err(why);
-        }
-        let Batch { led } = batch;
-        match commit(alloc, &mut self.debuggee, led) {
-            Err(NoMemory) => Err(AskRefused::NoMemory),
-            Ok((batch, stood, reply)) => {
-                let asked = Asked::Batch(batch, stood);
-                Ok(keep(&mut self.journal, desk, asked, Memory::Enough, reply))
-            }
-        }
+        self.enter_batch(alloc, desk, batch, false)
     }
 
     /// The same of a batch whose program is known to be that of the session, and is not compared with it.
@@ -180,11 +170,30 @@ impl Session {
         ensures err { OnErr result (self.new ≡ self.old) }
         ensures others { (self.new.program ≡ self.old.program) × (self.new.askers ≡ self.old.askers) }
     {
+        self.enter_batch(alloc, desk, batch, true)
+    }
+
+    /// The same of either, where it is told whether the program is known to be that of the session.
+    fn enter_batch(
+        &mut self,
+        alloc: Global,
+        desk: DeskId,
+        batch: Batch,
+        own: bool,
+    ) -> Result<Receipt, AskRefused>
+        requires asker { (1 ≤ desk.number) × (desk.number ≤ self.old.askers) }
+        requires own { IsTrue own → ((loan_of batch).program ≡ program_of self.old.program) }
+        ensures entry { IfOk result (λ receipt. EntersBatch (program_of self.old.program) desk.number (loan_of batch)
+            self.old.journal self.new.journal receipt.number (said_of receipt.reply)) }
+        ensures full { IsErrOf result AskRefused.JournalFull ↔ (length self.old.journal ≡ JOURNAL_LIMIT) }
+        ensures err { OnErr result (self.new ≡ self.old) }
+        ensures others { (self.new.program ≡ self.old.program) × (self.new.askers ≡ self.old.askers) }
+    {
         if let Err(why) = make_room(&mut self.journal) {
             return Err(why);
         }
         let Batch { led } = batch;
-        match commit_own(alloc, &mut self.debuggee, led) {
+        match commit(alloc, &mut self.debuggee, led, own) {
             Err(NoMemory) => Err(AskRefused::NoMemory),
             Ok((batch, stood, reply)) => {
                 let asked = Asked::Batch(batch, stood);

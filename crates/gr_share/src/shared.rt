@@ -15,7 +15,7 @@ use std::thread::yield_now;
 
 // How often a thread gives way to others before it sleeps until the lock is free. A batch joins the log within some 20
 // microseconds, and a thread that sleeps wakes later than that.
-const TURNS: u32 = 200;
+const TRIES: u32 = 200;
 
 /// A session with the table that is to tie its askers' calls to its journal. The table has no name yet.
 #[derive(Drop)]
@@ -107,7 +107,7 @@ impl<B: Room> Shared<B> {
 
     // Waits for the lock.
     pub(crate) fn hold<R: Wait>(&self, rt: &R) -> MutexGuard<'_, Locked<B>> {
-        for _ in 0..TURNS {
+        for _ in 0..TRIES {
             if let Some(locked) = self.lock.try_lock() {
                 return locked;
             }

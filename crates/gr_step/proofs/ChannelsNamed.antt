@@ -4,6 +4,7 @@ use Rattle.std.specs.List.{list_any}
 use Rattle.std.proofs.lemmas.List.Folds.{list_any-append}
 use Rattle.std.proofs.lemmas.Bool.{cases_Bool}
 use Rattle.gr_base.specs.declared.names.ChName.{ChName}
+use Rattle.gr_contents.proofs.NameLemmas.{channel_self}
 use Rattle.gr_rules.specs.Operators.{same_channel}
 use Rattle.gr_rules.specs.Goroutines as rules
 use Rattle.gr_rules.specs.Goroutines.{channel_of}
@@ -37,6 +38,10 @@ alike_swapped [] seen c d = refl
 alike_swapped (n ∷ ns) seen c d =
     or_swapped (same_channel d c) (same_channel d n) (list_any (same_channel d) (ns ++ seen))
     ∙ ap (λ k. same_channel d n || k) (alike_swapped ns seen c d)
+
+-- a goroutine that waits on this channel alone
+pub none_but : (w : Wait) (c : ChName) → channel_of (wait_of w) ≡ c → channels_but (c ∷ []) (waits_of (w ∷ [])) ≡ []
+none_but w c is = rw (is, channel_self c) refl
 
 module _ (seen : List ChName) (ws : List Wait) (i : ℕ) (w : Wait) (names : List ChName) (below : i < length ws) (is : w ≡ get_or ws i w)
     (c : ChName) (of : c ≡ channel_of (wait_of w)) where

@@ -1,6 +1,5 @@
 -- A communication that proceeds, or cannot and is waited for.
-use Rattle.std.proofs.Common.{◌≡◌, ℕ, true, false, List, ◌∷◌, Option, Some, None, refl, sym, ap, subst, ◌∙◌}
-use Rattle.std.specs.Prelude.{is_some, option_map}
+use Rattle.std.proofs.Common.{◌≡◌, ℕ, List, ◌∷◌, Option, Some, None, refl, sym, ap, subst, ◌∙◌}
 use Rattle.gr_base.specs.declared.events.Choice.TheVariants as choices
 use Rattle.gr_base.specs.declared.events.Event.{Event}
 use Rattle.gr_base.specs.declared.names.ChName.{ChName}
@@ -21,13 +20,11 @@ use Rattle.gr_contents.specs.Tasks.{Acts}
 use Rattle.gr_contents.proofs.PerformingLemmas.{same_end_same_step}
 use Rattle.gr_contents.proofs.TaskLemmas.{attempt_is_of_the_rule}
 use Rattle.gr_lower.specs.Lowered.{lowered, meaning}
-use Rattle.gr_goros.specs.Views.{Seen}
-use Rattle.gr_tables.specs.NamedGoroutines.{name_at, seen_of}
 use Rattle.gr_step.specs.declared.objects.Objects.{Objects}
 use Rattle.gr_step.specs.declared.record.Change.{Change}
 use Rattle.gr_step.specs.Listings.{frame_in}
 use Rattle.gr_step.specs.Objects.{contents_in}
-use Rattle.gr_step.specs.Premises.{Running, CanCount, Acting, OfGoroutine, OfActor}
+use Rattle.gr_step.specs.Premises.{Acting, OfGoroutine, OfActor}
 use Rattle.gr_step.specs.Taking.{Takes}
 use Rattle.gr_step.specs.Communicating.{Trial, TrialIsSound, Tried}
 use Rattle.gr_step.proofs.RunningLemmas.{code_fits, never_unsound, acts_here}
@@ -63,28 +60,6 @@ pub tried_as : (p : Program) (e : Event) (s : Contents) (trial : Value → Trial
     → (t : Contents) → Tried p e (trial copy) s o t → Tried p e (trial v) s known t
 tried_as p e s trial copy v same o known is t tried =
     subst (λ c. Tried p e (trial v) s c t) is (subst (λ w. Tried p e (trial w) s o t) same tried)
-
--- a goroutine that acts does so wherever the contents are the same
-pub acting_still : (p : Program) (e : Event) (n k : ℕ) (o q : Objects) → contents_in q ≡ contents_in o → name_at q.goroutines k ≡ Some e.go
-    → Acting p e n o → Acting p e k q
-acting_still p e n k o q same named a = record {
-  running = subst (Running p) (sym same) a.running;
-  counted = subst CanCount (sym same) a.counted;
-  runs = ap (λ (s : Contents). s.run) same ∙ a.runs;
-  named = named;
-  goroutine = a.goroutine;
-  there = ap (λ (s : Contents). s.goroutines e.go) same ∙ a.there;
-  is_ready = a.is_ready;
-}
-
--- .. and is found there
-pub still_there : (p : Program) (e : Event) (n : ℕ) (o q : Objects) → Acting p e n o → contents_in q ≡ contents_in o
-    → is_some (seen_of q.goroutines e.go) ≡ false → ⊥
-still_there p e n o q a same absent = gone (seen_of q.goroutines e.go) absent (ap (λ (s : Contents). s.goroutines e.go) same ∙ a.there)
-  where
-    gone : (x : Option Seen) → is_some x ≡ false → option_map (λ y. y.content) x ≡ Some a.goroutine → ⊥
-    gone None h k = cc
-    gone (Some y) h k = let no : true ≡ false = h in cc
 
 module _ (p : Program) (e : Event) (number : ℕ) (o : Objects) (a : Acting p e number o) (plain : e.choice ≡ choices.Plain) (c : Communication)
     (task : OfGoroutine e (contents_in o) (λ g. task_of (lowered p) g ≡ gives (Wants (Communicates c)))) (trial : Trial) (rest : Actor → Attempt)

@@ -11,6 +11,7 @@ ghost use Rattle.gr_step.specs.Preparing.{AreToLeave};
 use gr_base::{ChName, NoMemory};
 use gr_goros::Wait;
 use std::alloc::Global;
+use std::slice;
 
 /// The channel of a wait.
 pub(crate) fn channel_of(wait: &Wait) -> &ChName
@@ -49,6 +50,23 @@ pub(crate) fn channels_but(
         names.push(channel.copy(alloc)?)?;
     }
     Ok(names)
+}
+
+/// The channels of these waits, each once, but for this one: none where that is all for which they wait, as mostly.
+#[tactic(auto, using(crate::proofs::ChannelsNamed::none_but))]
+pub(crate) fn other_channels(
+    alloc: Global,
+    channel: &ChName,
+    waits: &[Wait],
+) -> Result<Vec<ChName>, NoMemory>
+    ensures { IfOk result (λ names. names.items ≡ ruled (channel.now ∷ []) (waits_of waits.now)) }
+{
+    if let [wait] = waits {
+        if channel_of(wait) == channel {
+            return Ok(Vec::new(alloc));
+        }
+    }
+    channels_but(alloc, slice::from_ref(channel), waits)
 }
 
 /// The channels that a goroutine with these waits is still to leave, where it left a queue of this one: none where it waits for one

@@ -1,6 +1,6 @@
 //! Communications that proceed (Go: Send statements, Receive operator).
 
-ghost use Rattle.std.specs.Prelude.{◌≡◌, ◌∷◌, [], ◌++◌, true, false, Some, None, option_map, length, IfOk, IfErr, OnOk, OnErr, IfSome, IsOk};
+ghost use Rattle.std.specs.Prelude.{◌≡◌, ◌∷◌, [], ◌++◌, true, false, Some, None, option_map, length, IfOk, IfErr, OnOk, OnErr, IfSome, IfNone, IsOk};
 ghost use Rattle.gr_base.specs.declared.events.Choice.TheVariants as choices;
 ghost use Rattle.gr_base.specs.declared.kinds.Kind.TheVariants as kinds;
 ghost use Rattle.gr_rules.specs.Outcomes.{gives, faults};
@@ -48,6 +48,7 @@ impl Objects {
         requires sound { TrialIsSound (program_in listing.now) event.now (contents_in self.old) (λ a otherwise. rules.send a clause channel.now value otherwise) }
         ensures ok { IfOk result (λ change. Tried (program_in listing.now) event.now (λ a otherwise. rules.send a clause channel.now value otherwise) (contents_in self.old) change (contents_in self.new)) }
         ensures room { IfOk result (λ change. IfSome change (λ c. HasRoom event.now.go c self.new)) }
+        ensures stays { IfOk result (λ change. IfNone change (self.new ≡ self.old)) }
         ensures err { OnErr result (contents_in self.new ≡ contents_in self.old) }
     {
         let Some(found) = self.channels.get(channel) else {
@@ -87,6 +88,7 @@ impl Objects {
         requires sound { TrialIsSound (program_in listing.now) event.now (contents_in self.old) (λ a otherwise. rules.receive a clause channel.now zero otherwise) }
         ensures ok { IfOk result (λ change. Tried (program_in listing.now) event.now (λ a otherwise. rules.receive a clause channel.now zero otherwise) (contents_in self.old) change (contents_in self.new)) }
         ensures room { IfOk result (λ change. IfSome change (λ c. HasRoom event.now.go c self.new)) }
+        ensures stays { IfOk result (λ change. IfNone change (self.new ≡ self.old)) }
         ensures err { OnErr result (contents_in self.new ≡ contents_in self.old) }
     {
         let Some(found) = self.channels.get(channel) else {

@@ -17,7 +17,7 @@ ghost use Rattle.gr_step.specs.Passing.{CanArriveAt, BothArrive, Tells};
 ghost use Rattle.gr_step.specs.Preparing.{IsReached, IsPrepared, CanPass, IsPass, CanExchange, IsExchange, WaitsFor};
 
 use crate::beyond::reached_with;
-use crate::channels_named::{channels_but, channels_to_leave};
+use crate::channels_named::{channels_to_leave, other_channels};
 use crate::few::Few;
 use crate::objects::Objects;
 use crate::record::{Beyond, Change, Operation, Touched};
@@ -28,7 +28,6 @@ use gr_code::code::Code;
 use gr_goros::{Arrival, GoUndo, Status};
 use gr_tables::channels::Channels;
 use std::alloc::Global;
-use std::slice;
 
 /// The change of a step that met nobody, and changed these channels.
 #[inline(always)]
@@ -134,7 +133,7 @@ impl Objects {
         let Status::Waiting(waits) = goroutine.status() else {
             unreachable!()
         };
-        let others = channels_but(self.alloc, slice::from_ref(channel), waits)?;
+        let others = other_channels(self.alloc, channel, waits)?;
         let beyond = reached_with(self.alloc, operation, touched, go, &others)?;
         let names = channels_to_leave(self.alloc, channel, waits, others)?;
         Ok(Prepared {
@@ -144,35 +143,6 @@ impl Objects {
             channel: channel.copy(self.alloc)?,
             beyond,
         })
-    }
-
-    /// What arrives takes the goroutine with a number past its instruction, after `done` was done in the same step. Refused,
-    /// `done` is taken back.
-    #[inline(always)]
-    pub(crate) fn arrive(
-        &mut self,
-        code: &Code,
-        number: usize,
-        arrival: Arrival,
-        done: Few<(ChName, ChanUndo)>,
-    ) -> Result<(GoUndo, Few<(ChName, ChanUndo)>), NoMemory>
-        requires can { At (CanArrive (program_code_of code.now) (arrival_of arrival)) (seen_at self.old.goroutines number) }
-        requires fits { ChansFit (members done) (contents_of self.old.channels) }
-        requires room { HasRooms (members done) (rooms_of self.old.channels) }
-        ensures after { IfOk result (λ r. ChangesBy number (Arrives (program_code_of code.now) (arrival_of arrival) r.0) self.old.goroutines self.new.goroutines) }
-        ensures returned { IfOk result (λ r. r.1 ≡ done) }
-        ensures channels { OnOk result (self.new.channels ≡ self.old.channels) }
-        ensures err_goroutines { OnErr result (KeepsContents self.old.goroutines self.new.goroutines) }
-        ensures err_channels { OnErr result (TookBack (members done) self.old.channels self.new.channels) }
-        ensures run { self.new.run ≡ self.old.run }
-    {
-        match self.goroutines.deliver(number, code, arrival) {
-            Ok(undo) => Ok((undo, done)),
-            Err(error) => {
-                put_back(&mut self.channels, done);
-                Err(error)
-            }
-        }
     }
 
     /// The goroutine with a number goes past its communication with nobody, after `done` was done in the same step. Refused,
@@ -195,12 +165,16 @@ impl Objects {
         ensures err_channels { OnErr result (TookBack (members done) self.old.channels self.new.channels) }
         ensures run { self.new.run ≡ self.old.run }
     {
-        let (own, done) = self.arrive(code, number, passes, done)?;
-        Ok(told(kind, own, beyond, done))
+        match self.goroutines.deliver(number, code, passes) {
+            Ok(own) => Ok(told(kind, own, beyond, done)),
+            Err(error) => {
+                put_back(&mut self.channels, done);
+                Err(error)
+            }
+        }
     }
 
-    /// What arrives takes two goroutines past their communication, one after the other, after `done` was done in the same step.
-    /// Refused, neither has changed, and `done` is taken back.
+    /// What arrives takes two goroutines past their communication, one after the other. Refused, neither has changed.
     #[inline(always)]
     fn both_arrive(
         &mut self,
@@ -211,26 +185,21 @@ impl Objects {
         go: &GoName,
         partner: usize,
         meets: Arrival,
-        done: Few<(ChName, ChanUndo)>,
-    ) -> Result<(GoUndo, GoUndo, Few<(ChName, ChanUndo)>), NoMemory>
+    ) -> Result<(GoUndo, GoUndo), NoMemory>
         requires named { name_at self.old.goroutines number ≡ Some event.now.go }
         requires partner_named { name_at self.old.goroutines partner ≡ Some go.now }
         requires apart { same_go go.now event.now.go ≡ false }
         requires can { CanArriveAt (program_code_of code.now) (arrival_of passes) (goroutines_of self.old.goroutines event.now.go) }
         requires partner_can { CanArriveAt (program_code_of code.now) (arrival_of meets) (goroutines_of self.old.goroutines go.now) }
-        requires fits { ChansFit (members done) (contents_of self.old.channels) }
-        requires room { HasRooms (members done) (rooms_of self.old.channels) }
         ensures after { IfOk result (λ r. BothArrive (program_code_of code.now) event.now.go go.now (arrival_of passes) (arrival_of meets) r.0 r.1
             (goroutines_of self.old.goroutines) (goroutines_of self.new.goroutines)) }
-        ensures returned { IfOk result (λ r. r.2 ≡ done) }
-        ensures channels { OnOk result (self.new.channels ≡ self.old.channels) }
-        ensures err_goroutines { OnErr result (goroutines_of self.new.goroutines ≡ goroutines_of self.old.goroutines) }
-        ensures err_channels { OnErr result (TookBack (members done) self.old.channels self.new.channels) }
+        ensures err { OnErr result (goroutines_of self.new.goroutines ≡ goroutines_of self.old.goroutines) }
+        ensures channels { self.new.channels ≡ self.old.channels }
         ensures run { self.new.run ≡ self.old.run }
     {
-        let (own, done) = self.arrive(code, number, passes, done)?;
-        match self.arrive(code, partner, meets, done) {
-            Ok((met, done)) => Ok((own, met, done)),
+        let own = self.goroutines.deliver(number, code, passes)?;
+        match self.goroutines.deliver(partner, code, meets) {
+            Ok(met) => Ok((own, met)),
             Err(error) => {
                 self.goroutines.undo(number, own).unwrap();
                 Err(error)
@@ -268,9 +237,12 @@ impl Objects {
         } = prepared;
         let change = (channel, undo);
         let done = leave_after(&mut self.channels, self.alloc, change, &names, &go)?;
-        let (own, met, done) = self.both_arrive(
-            code, event, number, passes, &go, partner, meets, done,
-        )?;
-        Ok(told_with(kind, own, beyond, (go, met), done))
+        match self.both_arrive(code, event, number, passes, &go, partner, meets) {
+            Ok((own, met)) => Ok(told_with(kind, own, beyond, (go, met), done)),
+            Err(error) => {
+                put_back(&mut self.channels, done);
+                Err(error)
+            }
+        }
     }
 }

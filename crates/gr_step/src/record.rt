@@ -59,6 +59,8 @@ pub struct Beyond {
     pub operation: Option<Operation>,
     /// What it touched of the channel of the operation.
     pub touched: Touched,
+    /// Whether it ended or stopped the program.
+    pub stops: bool,
     /// The goroutine that it met, which it wrote.
     pub partner: Option<GoName>,
     /// The goroutines that it met or woke, with their changes.
@@ -66,8 +68,6 @@ pub struct Beyond {
     /// Its changes of channels, in their order.
     pub channels: Few<(ChName, ChanUndo)>,
     pub more: Option<Box<More>>,
-    /// Whether it ended or stopped the program.
-    pub stops: bool,
 }
 
 /// What a step did, and what it replaced.

@@ -195,9 +195,6 @@ impl Objects {
         if let Some(change) = self.send(listing, event, number, None, &name, sent)? {
             return Ok(change);
         }
-        let Some(number) = self.goroutines.number(&event.go) else {
-            unreachable!()
-        };
         self.wait_to_send(listing, event, number, Some(name), value)
     }
 
@@ -226,9 +223,6 @@ impl Objects {
         if let Some(change) = self.receive(listing, event, number, None, &name, given)? {
             return Ok(change);
         }
-        let Some(number) = self.goroutines.number(&event.go) else {
-            unreachable!()
-        };
         self.wait_to_receive(listing, event, number, Some(name), zero)
     }
 }

@@ -1,19 +1,18 @@
-use Rattle.std.proofs.Common.{◌++◌, ◌∙◌, List, All, Some, refl, ap, subst, sym}
-use Rattle.gr_causal.specs.Sequences.{Distinct}
+use Rattle.std.proofs.Common.{ℕ, ◌++◌, ◌∙◌, List, All, Some, refl, ap, subst, sym}
 use Rattle.gr_contents.specs.Contents.{with_goroutine}
-use Rattle.gr_step.specs.Leasing.{Loan, goroutine_led_to, loan_of}
+use Rattle.gr_step.specs.Leasing.{Loan, goroutine_led_to, goroutine_lent, loan_of, name_lent, program_lent, records_led}
 use Rattle.gr_step.specs.declared.record.Record.{Record}
-use Rattle.gr_step.specs.Conflicts.{touched_by}
-use Rattle.gr_step.specs.Stores.{contents_at, program_at}
-use Rattle.gr_depend.specs.Logs.{records_of}
-use Rattle.gr_rollback.proofs.LeasingLemmas.{joins_all, kept_then}
+use Rattle.gr_step.specs.Stores.{contents_at}
+use Rattle.gr_depend.specs.Logs.{IsAlone, records_of}
+use Rattle.gr_rollback.proofs.LeasingLemmas.{alone_of_walk, joins_all}
 use Rattle.gr_rollback.proofs.course.Course.keep_all.Goals as goal
 
-pub push_all-requires : goal.push_all-requires
-push_all-requires c =
-    let course = c.requires.course in
-    subst {_, _} (λ (rs : List Record). All (λ r. Distinct (touched_by r)) rs) (sym c.take_records-records.ensures.records)
-    (kept_then (program_at c.args.self.now.store) course.past c.args.self.now c.args.lease.now course.holds c.requires.lease c.requires.lent).once
+pub append-requires : goal.append-requires
+append-requires c =
+    let lease = c.args.lease.now in
+    subst {_, _} (λ (rs : List Record). All (IsAlone c.go.result.now) rs) (sym c.take_records-records.ensures.records)
+    (subst {_, _} (λ (n : List ℕ). All (IsAlone n) (records_led lease)) (sym (c.go.ensures ∙ ap (λ (x : Loan). x.name) c.take_records-records.ensures.loan))
+    (alone_of_walk (program_lent lease) (name_lent lease) (goroutine_lent lease) (records_led lease) (goroutine_led_to lease) c.requires.lease.walk))
 
 pub returns-clause-kept : goal.returns-clause-kept
 returns-clause-kept c = λ p w s.
@@ -21,7 +20,7 @@ returns-clause-kept c = λ p w s.
     let old = c.args.self.now in
     let lent = c.take_records-records in
     joins_all p w old _ l s c.requires.lease c.requires.lent (record {
-      log = c.in_ok-push_all.ensures.ok ∙ ap (λ rs. records_of old.log ++ rs) lent.ensures.records;
+      log = c.in_ok-append.ensures.ok ∙ ap (λ rs. records_of old.log ++ rs) lent.ensures.records;
       contents = c.take_over.ensures.after
           ∙ ap (λ (x : Loan). with_goroutine (contents_at old.store) x.name (Some (goroutine_led_to lent.new.self))) lent.ensures.loan
           ∙ ap (λ h. with_goroutine (contents_at old.store) (loan_of l).name (Some h)) lent.ensures.reached;

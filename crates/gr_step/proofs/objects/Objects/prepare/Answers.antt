@@ -10,7 +10,7 @@ use Rattle.gr_step.proofs.objects.Objects.prepare.Goals as goal
 
 pub channels_to_leave-requires : goal.channels_to_leave-requires
 channels_to_leave-requires c =
-    c.in_ok-others.ensures ∙ ap (λ l. channels_but l (waits_of c.deref.result.now)) c.from_ref.ensures.value
+    c.in_ok-others.ensures
     ∙ ap (λ l. channels_but (c.args.channel.now ∷ []) (waits_of l)) (c.deref.ensures.value ∙ sym c.deref-3.ensures.value)
 
 pub returns : goal.returns
@@ -20,7 +20,7 @@ returns c = λ ws reads writes h t.
     let waits : waits_of c.in-Waiting.waits.items ≡ ws = waits_alike c.args.self.now.goroutines c.args.go.now c.in-Some.goroutine.now
     (waits_of c.in-Waiting.waits.items) ws seen (ap status_of (sym c.in-Waiting.is) ∙ c.status.ensures) h in
     let others : c.in_ok-others.others.items ≡ channels_but (c.args.channel.now ∷ []) ws =
-    c.in_ok-others.ensures ∙ ap (λ l. channels_but l (waits_of c.deref.result.now)) c.from_ref.ensures.value
+    c.in_ok-others.ensures
     ∙ ap (λ l. channels_but (c.args.channel.now ∷ []) (waits_of l)) c.deref.ensures.value
     ∙ ap (channels_but (c.args.channel.now ∷ [])) waits in
     record {

@@ -1,5 +1,5 @@
-use Rattle.std.proofs.Common.{◌∷◌, [], Option, None, Some, refl, subst, sym}
-use Rattle.std.specs.Prelude.{option_map}
+use Rattle.std.proofs.Common.{◌≡◌, ◌∷◌, [], Option, None, Some, refl, subst, sym}
+use Rattle.std.specs.Prelude.{option_map, IfNone}
 use Rattle.gr_base.specs.declared.kinds.Kind.TheVariants.{RecvWait}
 use Rattle.gr_base.specs.declared.names.ChName.{ChName}
 use Rattle.gr_base.specs.declared.values.Value.{Value}
@@ -9,8 +9,10 @@ use Rattle.gr_rules.specs.Actors.{Actor}
 use Rattle.gr_rules.specs.Communications.{receive, wait}
 use Rattle.gr_step.specs.Communicating.{Trial, TrialIsSound}
 use Rattle.gr_step.specs.Listings.{program_in}
+use Rattle.gr_step.specs.Premises.{Acting}
+use Rattle.gr_step.specs.declared.record.Change.{Change}
 use Rattle.gr_step.specs.Objects.{contents_in}
-use Rattle.gr_step.proofs.SendOrWait.{task_at, tried_as, still_there, acting_still, trial_is_sound, took, rest_is_sound, waited}
+use Rattle.gr_step.proofs.SendOrWait.{task_at, tried_as, trial_is_sound, took, rest_is_sound, waited}
 use Rattle.gr_step.proofs.objects.Objects.receive_or_wait.Goals as goal
 use Rattle.gr_tables.proofs.ByNumber.{if_ok}
 
@@ -54,23 +56,10 @@ returns-in-Some-2-clause-ok c =
     (trial c.in-Some.name c.args.zero) (rest (Some c.in-Some.name) c.args.zero) (λ b. refl) c.in-Some-2.change (contents_in c.receive.new.self)
     (tried_as p e s (trial c.in-Some.name) _ _ c.in_ok-given.ensures.ok _ _ c.in-Some-2.is _ c.in_ok-change.ensures.ok)
 
-pub unreachable-requires : goal.unreachable-requires
-unreachable-requires c =
-    let p = program_in c.args.listing.now in
-    let e = c.args.event.now in
-    let s = contents_in c.args.self.now in
-    still_there p e c.args.number c.args.self.now c.receive.new.self c.requires.acting
-    (tried_as p e s (trial c.in-Some.name) _ _ c.in_ok-given.ensures.ok _ None c.in_default-2.is _ c.in_ok-change.ensures.ok).0
-    (sym c.in_default-number.ensures.present)
-
 pub wait_to_receive-requires-2-clause-acting : goal.wait_to_receive-requires-2-clause-acting
 wait_to_receive-requires-2-clause-acting c =
-    let p = program_in c.args.listing.now in
-    let e = c.args.event.now in
-    let s = contents_in c.args.self.now in
-    acting_still p e c.args.number c.in-Some-number.number c.args.self.now c.receive.new.self
-    (tried_as p e s (trial c.in-Some.name) _ _ c.in_ok-given.ensures.ok _ None c.in_default-2.is _ c.in_ok-change.ensures.ok).0
-    c.in-Some-number.ensures.named c.requires.acting
+    let stays = subst {_, _} (λ (o : Option Change). IfNone o (c.receive.new.self ≡ c.args.self.now)) c.in_default-2.is c.in_ok-change.ensures.stays in
+    subst {_, _} (Acting (program_in c.args.listing.now) c.args.event.now c.args.number) (sym stays) c.requires.acting
 
 pub wait_to_receive-requires-2-clause-sound : goal.wait_to_receive-requires-2-clause-sound
 wait_to_receive-requires-2-clause-sound c =

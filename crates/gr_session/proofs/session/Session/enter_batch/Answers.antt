@@ -4,12 +4,12 @@ use Rattle.gr_session.specs.declared.TheConstants.{JOURNAL_LIMIT}
 use Rattle.gr_session.specs.declared.journal.Memory.TheVariants.{Enough}
 use Rattle.gr_session.proofs.CommitLemmas.{means_batch}
 use Rattle.gr_session.proofs.JournalLemmas.{keeps_entry, keeps_still}
-use Rattle.gr_session.proofs.session.Session.commit_own.Goals as goal
+use Rattle.gr_session.proofs.session.Session.enter_batch.Goals as goal
 
-pub invariant_of-self-in-Err-commit_own : goal.invariant_of-self-in-Err-commit_own
-invariant_of-self-in-Err-commit_own c =
+pub invariant_of-self-in-Err-commit : goal.invariant_of-self-in-Err-commit
+invariant_of-self-in-Err-commit c =
     rw c.make_room.ensures.items
-    (keeps_still c.self.inside.debuggee c.commit_own.new.debuggee _ _ c.self.invariant (c.in-Err-commit_own.ensures.commits _ c.self.invariant.world c.self.invariant.stands))
+    (keeps_still c.self.inside.debuggee c.commit.new.debuggee _ _ c.self.invariant (c.in-Err-commit.ensures.commits _ c.self.invariant.world c.self.invariant.stands))
 
 pub invariant_of-self-in-Ok : goal.invariant_of-self-in-Ok
 invariant_of-self-in-Ok c =
@@ -17,7 +17,7 @@ invariant_of-self-in-Ok c =
     let room : length c.self.inside.journal.items < JOURNAL_LIMIT = search rules in
     let answer = c.in-Ok.ensures.commits _ c.self.invariant.world c.self.invariant.stands in
     rw (c.keep.ensures.entry, c.make_room.ensures.items)
-    (keeps_entry c.self.inside.debuggee c.commit_own.new.debuggee _ _ _ _ c.self.invariant asker.0 asker.1 room
+    (keeps_entry c.self.inside.debuggee c.commit.new.debuggee _ _ _ _ c.self.invariant asker.0 asker.1 room
     answer.1.world (means_batch _ c.self.invariant.world answer.1.world c.in-Ok.batch _ c.in-Ok.stood _ answer.0 answer.1.commits) answer.1.stands)
 
 pub returns-in-Ok-clause-entry : goal.returns-in-Ok-clause-entry

@@ -1,0 +1,149 @@
+-- Touches of steps that a goroutine took by itself, one behind the other.
+use Rattle.std.proofs.Common.{◌≡◌, ◌+◌, ℕ, zero, suc, Bool, true, false, cond, if◌then◌else◌, List, [], ◌∷◌, ◌++◌, length, filter, All, refl, sym, ap, ◌∙◌, append_assoc, append-nil, inl, inr, arith}
+use Rattle.std.specs.List.{list_all}
+use Rattle.std.specs.Option.{unwrap_or}
+use Rattle.std.proofs.lemmas.Bool.{cases_Bool, and_parts, and_from}
+use Rattle.std.proofs.lemmas.List.Elements.{All-head, All-tail}
+use Rattle.indexmap.specs.IndexMap.{get}
+use Rattle.gr_base.specs.declared.objects.Object.{Object}
+use Rattle.gr_base.specs.declared.objects.Object.TheVariants.{Run, Go}
+use Rattle.gr_rules.specs.States.{same}
+use Rattle.gr_laws.proofs.CellLemmas.{same_is}
+use Rattle.gr_step.specs.declared.record.Record.{Record}
+use Rattle.gr_step.specs.Conflicts.{touched_by}
+use Rattle.gr_depend.specs.declared.touch.Touch.{Touch}
+use Rattle.gr_depend.specs.declared.lanes.Lanes.{Lanes}
+use Rattle.gr_depend.specs.Keys.{key_of, same_key}
+use Rattle.gr_depend.specs.Lists.{nothing, list_of}
+use Rattle.gr_depend.specs.Logs.{IsAlone}
+use Rattle.gr_depend.specs.Touches.{touch_at, touches_in, none_twice, stretch, own_touches}
+use Rattle.gr_depend.proofs.LaneLemmas.{parts}
+use Rattle.gr_depend.proofs.NoteLemmas.{one_for, read_alone, written_alone, kept_alone}
+use Rattle.gr_depend.proofs.TouchLemmas.{kept_is_touch}
+
+-- one touch more
+stretch_last : (w : Bool) (place count : ℕ) → stretch w place (suc count) ≡ stretch w place count ++ record { place = place + count; writes = w } ∷ []
+stretch_last w place zero = let e : place ≡ place + 0 = omega arith in ap (λ n. record { place = n; writes = w } ∷ []) e
+stretch_last w place (suc count) =
+    let e : suc place + count ≡ place + suc count = omega arith in
+    ap (λ l. record { place = place; writes = w } ∷ l)
+    (stretch_last w (suc place) count ∙ ap (λ n. stretch w (suc place) count ++ record { place = n; writes = w } ∷ []) e)
+
+pub one_further : (ts us vs : List Touch) (w : Bool) (place count : ℕ) → ts ≡ us ++ stretch w place count
+    → vs ≡ ts ++ record { place = place + count; writes = w } ∷ [] → vs ≡ us ++ stretch w place (count + 1)
+one_further ts us vs w place count was added =
+    let e : suc count ≡ count + 1 = omega arith in
+    added ∙ ap (λ l. l ++ record { place = place + count; writes = w } ∷ []) was
+    ∙ append_assoc us (stretch w place count) (record { place = place + count; writes = w } ∷ [])
+    ∙ ap (λ l. us ++ l) (sym (stretch_last w place count)) ∙ ap (λ n. us ++ stretch w place n) e
+
+-- none of them wrote
+none_wrote : (place count : ℕ) → filter (λ (t : Touch). t.writes) (stretch false place count) ≡ []
+none_wrote place zero = refl
+none_wrote place (suc count) = none_wrote (suc place) count
+
+pub as_written : (ts : List Touch) (place count : ℕ) → filter (λ (t : Touch). t.writes) (ts ++ stretch false place count) ≡ filter (λ (t : Touch). t.writes) ts
+as_written [] place count = none_wrote place count
+as_written (t ∷ ts) place count = by t.writes (as_written ts place count)
+  where
+    by : (b : Bool) → filter (λ (t : Touch). t.writes) (ts ++ stretch false place count) ≡ filter (λ (t : Touch). t.writes) ts
+        → cond b (t ∷ filter (λ (t : Touch). t.writes) (ts ++ stretch false place count)) (filter (λ (t : Touch). t.writes) (ts ++ stretch false place count))
+        ≡ cond b (t ∷ filter (λ (t : Touch). t.writes) ts) (filter (λ (t : Touch). t.writes) ts)
+    by true rest = ap (λ l. t ∷ l) rest
+    by false rest = rest
+
+-- the step touched whether the program runs and its goroutine, and nothing twice
+pub alone_once : (go : List ℕ) (r : Record) → IsAlone go r → none_twice (touched_by r) ≡ true
+alone_once go r is = (λ i. none_twice (read_alone r is.alone i ++ written_alone r is.alone i))
+
+apart : (go : List ℕ) (q : Object) → same Run q ≡ true → same (Go go) q ≡ false
+apart go q e = ap (same (Go go)) (sym (same_is Run q e))
+
+own_touch : (go : List ℕ) (q : Object) (place : ℕ) (r : Record) → IsAlone go r → touch_at q place r ≡ own_touches go place 1 q
+own_touch go q place r is =
+    sym (kept_is_touch q place r (alone_once go r is)) ∙ kept_alone q place r is.alone
+    ∙ ap (λ (g : List ℕ). one_for q (record { place = place; writes = false }) Run ++ one_for q (record { place = place; writes = true }) (Go g)) is.name
+    ∙ by (same Run q) (same (Go go) q) (apart go q)
+  where
+    by : (a b : Bool) → (a ≡ true → b ≡ false)
+        → (if a then record { place = place; writes = false } ∷ [] else []) ++ (if b then record { place = place; writes = true } ∷ [] else [])
+        ≡ (if a then stretch false place 1 else if b then stretch true place 1 else [])
+    by true true h = absurd (let no : true ≡ false = h refl in cc)
+    by true false h = refl
+    by false true h = refl
+    by false false h = refl
+
+own_more : (go : List ℕ) (q : Object) (place count : ℕ) → own_touches go place 1 q ++ own_touches go (suc place) count q ≡ own_touches go place (suc count) q
+own_more go q place count = by (same Run q) (same (Go go) q)
+  where
+    by : (a b : Bool)
+        → (if a then stretch false place 1 else if b then stretch true place 1 else [])
+        ++ (if a then stretch false (suc place) count else if b then stretch true (suc place) count else [])
+        ≡ (if a then stretch false place (suc count) else if b then stretch true place (suc count) else [])
+    by true b = refl
+    by false true = refl
+    by false false = refl
+
+no_more : (go : List ℕ) (q : Object) (place : ℕ) → own_touches go place 0 q ≡ []
+no_more go q place = by (same Run q) (same (Go go) q)
+  where
+    by : (a b : Bool) → (if a then stretch false place 0 else if b then stretch true place 0 else []) ≡ []
+    by true b = refl
+    by false true = refl
+    by false false = refl
+
+own_in : (go : List ℕ) (q : Object) (place : ℕ) (rs : List Record) → All (IsAlone go) rs → touches_in q place rs ≡ own_touches go place (length rs) q
+own_in go q place [] all = sym (no_more go q place)
+own_in go q place (r ∷ rs) all =
+    (λ i. own_touch go q place r (All-head (IsAlone go) r rs all) i ++ own_in go q (suc place) rs (All-tail (IsAlone go) r rs all) i)
+    ∙ own_more go q place (length rs)
+
+-- the touches of a log, and of steps behind it
+touches_then : (q : Object) (place : ℕ) (xs ys : List Record) → touches_in q place (xs ++ ys) ≡ touches_in q place xs ++ touches_in q (place + length xs) ys
+touches_then q place [] ys = let e : place ≡ place + 0 = omega arith in ap (λ n. touches_in q n ys) e
+touches_then q place (x ∷ xs) ys =
+    let e : suc place + length xs ≡ place + suc (length xs) = omega arith in
+    ap (λ l. touch_at q place x ++ l) (touches_then q (suc place) xs ys ∙ ap (λ n. touches_in q (suc place) xs ++ touches_in q n ys) e)
+    ∙ sym (append_assoc (touch_at q place x) (touches_in q (suc place) xs) (touches_in q (place + suc (length xs)) ys))
+
+module _ (go : List ℕ) (xs ys : List Record) (alone : All (IsAlone go) ys) where
+  pub with_own : (q : Object) (l m : List Touch) (place count : ℕ) → l ≡ touches_in q 0 xs → place ≡ length xs → count ≡ length ys
+      → m ≡ l ++ own_touches go place count q → m ≡ touches_in q 0 (xs ++ ys)
+  with_own q l m place count was at long is =
+      is ∙ (λ i. was i ++ own_touches go (at i) (long i) q)
+      ∙ ap (λ k. touches_in q 0 xs ++ k) (sym (own_in go q (length xs) ys alone))
+      ∙ ap (λ n. touches_in q 0 xs ++ touches_in q n ys) (let e : length xs ≡ 0 + length xs = omega arith in e)
+      ∙ sym (touches_then q 0 xs ys)
+
+all_once : (go : List ℕ) (ys : List Record) → All (IsAlone go) ys → list_all (λ r. none_twice (touched_by r)) ys ≡ true
+all_once go [] alone = refl
+all_once go (y ∷ ys) alone =
+    and_from (none_twice (touched_by y)) _ (alone_once go y (All-head (IsAlone go) y ys alone)) (all_once go ys (All-tail (IsAlone go) y ys alone))
+
+pub all_once_then : (go : List ℕ) (xs ys : List Record) → list_all (λ r. none_twice (touched_by r)) xs ≡ true → All (IsAlone go) ys
+    → list_all (λ r. none_twice (touched_by r)) (xs ++ ys) ≡ true
+all_once_then go [] ys all alone = all_once go ys alone
+all_once_then go (x ∷ xs) ys all alone =
+    let both = and_parts (none_twice (touched_by x)) (list_all (λ r. none_twice (touched_by r)) xs) all in
+    and_from (none_twice (touched_by x)) _ both.0 (all_once_then go xs ys both.1 alone)
+
+-- the touches of the goroutine were added to these lists, and then those of Run
+pub own_added : (go : List ℕ) (place count : ℕ) (before : Object → List Touch) (b : Lanes) (run : List Touch)
+    → ((q : Object) → list_of b q ≡ (if same (Go go) q then before q ++ stretch true place count else before q))
+    → run ≡ before Run ++ stretch false place count
+    → (q : Object) → parts (λ k. k.0) run b.map q ≡ before q ++ own_touches go place count q
+own_added go place count before b run wrote read q = elim (cases_Bool (same Run q)) [
+  | inl e ↦ rw e (read ∙ ap (λ o. before o ++ stretch false place count) (same_is Run q e))
+  | inr f ↦ by_name f
+]
+  where
+    by : (c : Bool) (l : List Touch) → (if c then l ++ stretch true place count else l) ≡ l ++ (if c then stretch true place count else [])
+    by true l = refl
+    by false l = sym (append-nil l)
+
+    by_name : same Run q ≡ false → parts (λ k. k.0) run b.map q ≡ before q ++ own_touches go place count q
+    by_name f =
+        ap (λ (c : Bool). if c then run else (unwrap_or (get same_key b.map (key_of q)) nothing).0) f
+        ∙ ap (λ (c : Bool). if c then b.run.items else (unwrap_or (get same_key b.map (key_of q)) nothing).0) (sym f)
+        ∙ wrote q ∙ by (same (Go go) q) (before q)
+        ∙ ap (λ (c : Bool). before q ++ (if c then stretch false place count else if same (Go go) q then stretch true place count else [])) (sym f)
