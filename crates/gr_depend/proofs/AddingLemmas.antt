@@ -1,7 +1,6 @@
 -- Touches that are added for one object or for some, and then for others; what a refusal in between takes away.
-use Rattle.std.proofs.Common.{◌≡◌, ℕ, Bool, true, false, if◌then◌else◌, List, [], ◌∷◌, ◌++◌, Option, Some, None, Global, refl, sym, ap, subst, ◌∙◌, append_assoc, append-nil, arith}
-use Rattle.std.specs.Prelude.{option_map, Box}
-use Rattle.std.specs.Option.{unwrap_or}
+use Rattle.std.proofs.Common.{◌≡◌, ℕ, Bool, true, false, if◌then◌else◌, List, [], ◌∷◌, ◌++◌, Option, Some, None, refl, sym, ap, subst, ◌∙◌, append_assoc, append-nil, arith}
+use Rattle.std.specs.Prelude.{option_map}
 use Rattle.gr_base.specs.declared.names.ChName.{ChName}
 use Rattle.gr_base.specs.declared.objects.Object.{Object}
 use Rattle.gr_base.specs.declared.objects.Object.TheVariants.{Run, Go, Gate, Tail, Head}
@@ -100,23 +99,11 @@ writes_met b g os more met =
 abbrev pub reads_with_run : Beyond → List Object
 reads_with_run b = if b.stops then reads_in b else Run ∷ reads_in b
 
-some_is : {X : Type 0} {x y : X} → Some x ≡ Some y → x ≡ y
-some_is {X} {x} h = ap (λ o. unwrap_or o x) h
+pub read_further : (r : Record) (b : Beyond) → r.change.beyond ≡ Some b → read_by r ≡ reads_with_run b
+read_further r b is = ap (λ o. read_by (record r { change = record (r.change) { beyond = o } })) is
 
-pub read_further : (r : Record) (b : Beyond) → option_map (λ x. x.value) r.change.beyond ≡ Some b → read_by r ≡ reads_with_run b
-read_further r b = by r.change.beyond
-  where
-    by : (o : Option (Box Beyond Global)) → option_map (λ x. x.value) o ≡ Some b → read_by (record r { change = record (r.change) { beyond = o } }) ≡ reads_with_run b
-    by None is = cc
-    by (Some x) is = ap reads_with_run (some_is is)
-
-pub written_further : (r : Record) (b : Beyond) → option_map (λ x. x.value) r.change.beyond ≡ Some b → written_by r ≡ Go r.id.go ∷ writes_in b
-written_further r b = by r.change.beyond
-  where
-    by : (o : Option (Box Beyond Global)) → option_map (λ x. x.value) o ≡ Some b
-        → written_by (record r { change = record (r.change) { beyond = o } }) ≡ Go r.id.go ∷ writes_in b
-    by None is = cc
-    by (Some x) is = ap (λ b. Go r.id.go ∷ writes_in b) (some_is is)
+pub written_further : (r : Record) (b : Beyond) → r.change.beyond ≡ Some b → written_by r ≡ Go r.id.go ∷ writes_in b
+written_further r b is = ap (λ o. written_by (record r { change = record (r.change) { beyond = o } })) is
 
 -- what a step read that did not end the program
 pub reads_told : (b : Beyond) (os : List Object) → os ≡ read_by_more b.more

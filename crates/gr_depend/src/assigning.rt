@@ -28,6 +28,7 @@ use gr_code::code::{Action, Ask, Code, FunctionCode, Instruction};
 use gr_goros::{GoUndo, Spot};
 use gr_program::program::{Function, Program, Variable};
 use gr_step::Record;
+use gr_step::record::Form;
 
 /// Where the innermost frame of a goroutine stood before a change, if that keeps it.
 fn kept_spot(undo: &GoUndo) -> Option<Spot>
@@ -211,13 +212,17 @@ fn gives_there(program: &Program, code: &Code, spot: Spot, name: &[u8]) -> bool
 fn stood_at(step: &Record) -> Option<Spot>
     ensures { result ≡ stood step.now }
 {
-    if let Some(spot) = kept_spot(&step.change.own) {
-        return Some(spot);
+    match step.change.form() {
+        Form::Alone(_, own) => kept_spot(own),
+        Form::Passes(_, own, _) => kept_spot(own),
+        Form::Waits(waiting) => Some(waiting.spot),
+        Form::Further(_, own, beyond) => {
+            if let Some(spot) = kept_spot(own) {
+                return Some(spot);
+            }
+            first_spot(&step.id.go, beyond.met.as_slice())
+        }
     }
-    let Some(beyond) = &step.change.beyond else {
-        return None;
-    };
-    first_spot(&step.id.go, beyond.met.as_slice())
 }
 
 /// Whether a step gave a variable of this name a value.

@@ -9,36 +9,47 @@ ghost use Rattle.gr_step.specs.Kept.{Kept};
 ghost use Rattle.gr_kept.specs.Pairs.{id_of};
 ghost use Rattle.gr_base.specs.declared.names.ChName.{ChName};
 ghost use Rattle.gr_step.specs.declared.record.Record.{Record};
+ghost use Rattle.gr_step.specs.Records.{operation_in, operation_of as operation_ruled};
 ghost use Rattle.gr_depend.specs.Histories.{starts, start_of, is_fault, sends_to, receives_of, sent, received};
 
 use crate::conflicts::has_written;
 use crate::key::ObjectRef;
 use crate::log::Log;
 use gr_base::{ChName, GoName, Kind, StepId};
+use gr_step::record::Form;
 use gr_step::{Operation, Record};
 
 /// Whether a step started the goroutine.
 fn has_started(step: &Record, go: &GoName) -> bool
     ensures { result ≡ starts go.now step.now }
 {
-    step.change.kind == Kind::Go && *go != step.id.go && has_written(step, &ObjectRef::Go(go))
+    step.change.kind() == Kind::Go && *go != step.id.go && has_written(step, &ObjectRef::Go(go))
 }
 
 /// Whether a step was a fault.
 pub(crate) fn has_faulted(step: &Record) -> bool
     ensures { result ≡ is_fault step.now.change.kind }
 {
-    matches!(step.change.kind, Kind::Fault(_))
+    matches!(step.change.kind(), Kind::Fault(_))
+}
+
+/// What a step did with a channel.
+fn operation_of(step: &Record) -> Option<&Operation>
+    ensures { option_map operation_ruled (option_copied result) ≡ operation_in step.now.change }
+{
+    match step.change.form() {
+        Form::Alone(_, _) => None,
+        Form::Waits(waiting) => Some(&waiting.contact.operation),
+        Form::Passes(_, _, passage) => Some(&passage.contact.operation),
+        Form::Further(_, _, beyond) => beyond.operation.as_ref(),
+    }
 }
 
 /// Whether a step sent on a channel, or came to wait for that.
 fn has_sent(step: &Record, channel: &ChName) -> bool
     ensures { result ≡ sends_to channel.now step.now }
 {
-    let Some(beyond) = &step.change.beyond else {
-        return false;
-    };
-    match &beyond.operation {
+    match operation_of(step) {
         Some(Operation::SendsOn(own)) => channel == own && !has_faulted(step),
         _ => false,
     }
@@ -48,10 +59,7 @@ fn has_sent(step: &Record, channel: &ChName) -> bool
 fn has_received(step: &Record, channel: &ChName) -> bool
     ensures { result ≡ receives_of channel.now step.now }
 {
-    let Some(beyond) = &step.change.beyond else {
-        return false;
-    };
-    match &beyond.operation {
+    match operation_of(step) {
         Some(Operation::ReceivesFrom(own)) => channel == own && !has_faulted(step),
         _ => false,
     }

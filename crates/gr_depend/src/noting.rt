@@ -1,9 +1,11 @@
 //! The touches of a step, added to the lists of its objects or taken from them.
 
 ghost use Rattle.std.specs.Prelude.{◌≡◌, ◌++◌, List, ℕ, None, OnOk, OnErr, IsOk};
-ghost use Rattle.std.specs.Prelude.{◌∷◌, [], Some, option_map, false, if◌then◌else◌};
+ghost use Rattle.std.specs.Prelude.{◌∷◌, [], Option, Some, option_map, false, if◌then◌else◌};
 ghost use Rattle.gr_rules.specs.States.{same};
 ghost use Rattle.gr_base.specs.declared.objects.Object.TheVariants as objects;
+ghost use Rattle.gr_channels.specs.declared.changes.ChanUndo.{ChanUndo};
+ghost use Rattle.gr_step.specs.Effects.{reached_on};
 ghost use Rattle.gr_step.specs.Parts.{channel_in, parts_before, slot_before, reads_in, writes_in};
 ghost use Rattle.gr_depend.specs.Keys.{seen};
 ghost use Rattle.gr_depend.specs.Told.{seen_in};
@@ -12,12 +14,12 @@ ghost use Rattle.gr_depend.specs.Touches.{touches_for, kept_for};
 use crate::key::ObjectRef;
 use crate::lanes::Lanes;
 use crate::objects::{
-    Objects, channel_of, others_read, others_written, parts_of, parts_written, reads, writes,
+    Objects, others_read, others_written, parts_of, parts_written, read_in, reads, writes,
 };
 use crate::touch::Touch;
 use gr_base::{ChName, GoName, NoMemory, Object};
 use gr_step::Record;
-use gr_step::record::{Beyond, Parts};
+use gr_step::record::{Beyond, Contact, Form, Parts, Touched};
 
 impl Lanes {
     ghost use Rattle.gr_depend.specs.Lists.{list_of, KeepsLists, AddsFor, TakesFor};
@@ -33,9 +35,11 @@ impl Lanes {
         ensures succeeds { Fits self.old (λ q. list_of self.old q ++ kept_for q place step.now) → IsOk result }
         ensures room { KeepsRoom self.old self.new }
     {
-        match &step.change.beyond {
-            None => self.note_alone(place, step),
-            Some(beyond) => self.note_beyond(place, step, beyond),
+        match step.change.form() {
+            Form::Alone(_, _) => self.note_alone(place, step),
+            Form::Waits(waiting) => self.note_contact(place, step, &waiting.contact),
+            Form::Passes(_, _, passage) => self.note_contact(place, step, &passage.contact),
+            Form::Further(_, _, beyond) => self.note_beyond(place, step, beyond),
         }
     }
 
@@ -65,10 +69,77 @@ impl Lanes {
         Ok(())
     }
 
+    /// The same of a step that did something with one channel, and met nobody.
+    #[inline(always)]
+    fn note_contact(&mut self, place: u64, step: &Record, contact: &Contact) -> Result<(), NoMemory>
+        requires { (undo : Option ChanUndo) × (step.now.change.beyond ≡ Some (reached_on contact.now undo)) }
+        ensures ok { OnOk result ((q : Object) → list_of self.new q ≡ list_of self.old q ++ kept_for q place step.now) }
+        ensures err { OnErr result (KeepsLists self.old self.new) }
+        ensures succeeds { Fits self.old (λ q. list_of self.old q ++ kept_for q place step.now) → IsOk result }
+        ensures room { KeepsRoom self.old self.new }
+    {
+        let read = Touch {
+            place,
+            writes: false,
+        };
+        let written = Touch {
+            place,
+            writes: true,
+        };
+        self.note_read_in(contact, read)?;
+        let noted = self.note_written_in(&step.id.go, contact, written);
+        if let Err(error) = noted {
+            self.forget_list(&mut read_in(contact));
+            return Err(error);
+        }
+        Ok(())
+    }
+
+    /// Adds a touch to the lists of what a step read that did something with one channel. Refused, all lists are as before.
+    #[inline(always)]
+    fn note_read_in(&mut self, contact: &Contact, touch: Touch) -> Result<(), NoMemory>
+        ensures ok { OnOk result (AddsFor (objects.Run ∷ reads_in (reached_on contact.now None)) touch self.old self.new) }
+        ensures err { OnErr result (KeepsLists self.old self.new) }
+        ensures succeeds { FitsFor (objects.Run ∷ reads_in (reached_on contact.now None)) touch self.old → IsOk result }
+        ensures room { KeepsRoom self.old self.new }
+    {
+        let Touched { read, slot, .. } = contact.touched;
+        self.add_to_run(touch)?;
+        let noted = self.note_parts(contact.operation.channel(), read, slot, touch);
+        if let Err(error) = noted {
+            self.take_from_run();
+            return Err(error);
+        }
+        Ok(())
+    }
+
+    /// Adds a touch to the lists of what a step wrote that did something with one channel. Refused, all lists are as before.
+    #[inline(always)]
+    fn note_written_in(
+        &mut self,
+        go: &GoName,
+        contact: &Contact,
+        touch: Touch,
+    ) -> Result<(), NoMemory>
+        ensures ok { OnOk result (AddsFor (objects.Go go.now ∷ writes_in (reached_on contact.now None)) touch self.old self.new) }
+        ensures err { OnErr result (KeepsLists self.old self.new) }
+        ensures succeeds { FitsFor (objects.Go go.now ∷ writes_in (reached_on contact.now None)) touch self.old → IsOk result }
+        ensures room { KeepsRoom self.old self.new }
+    {
+        let Touched { written, slot, .. } = contact.touched;
+        self.add_to_lane(go, touch)?;
+        let noted = self.note_parts(contact.operation.channel(), written, slot, touch);
+        if let Err(error) = noted {
+            self.take_from_lane(go);
+            return Err(error);
+        }
+        Ok(())
+    }
+
     /// The same of a step that reached further.
     #[inline(never)]
     fn note_beyond(&mut self, place: u64, step: &Record, beyond: &Beyond) -> Result<(), NoMemory>
-        requires { option_map (λ b. b.value) step.now.change.beyond ≡ Some beyond.now }
+        requires { step.now.change.beyond ≡ Some beyond.now }
         ensures ok { OnOk result ((q : Object) → list_of self.new q ≡ list_of self.old q ++ kept_for q place step.now) }
         ensures err { OnErr result (KeepsLists self.old self.new) }
         ensures succeeds { Fits self.old (λ q. list_of self.old q ++ kept_for q place step.now) → IsOk result }
@@ -188,7 +259,7 @@ impl Lanes {
         let Some(operation) = &beyond.operation else {
             return self.note_all(others, touch);
         };
-        let channel = channel_of(operation);
+        let channel = operation.channel();
         let slot = beyond.touched.slot;
         if others.is_empty() {
             return self.note_parts(channel, parts, slot, touch);
@@ -298,9 +369,9 @@ impl Lanes {
         ensures lists { (before : Object → List Touch) (place : ℕ) → ((q : Object) → list_of self.old q ≡ before q ++ kept_for q place step.now) → (q : Object) → list_of self.new q ≡ before q }
         ensures room { KeepsRoom self.old self.new }
     {
-        match &step.change.beyond {
-            None => self.forget_alone(step),
-            Some(_) => self.forget_beyond(step),
+        match step.change.form() {
+            Form::Alone(_, _) => self.forget_alone(step),
+            _ => self.forget_beyond(step),
         }
     }
 

@@ -1,16 +1,17 @@
 //! The objects that a step touched, by its record.
 
-ghost use Rattle.std.specs.Prelude.{◌≡◌, ◌∷◌, ◌<◌, [], List, Some, if◌then◌else◌, MatchOption, IfSome, option_copied, option_map};
+ghost use Rattle.std.specs.Prelude.{◌≡◌, ◌∷◌, ◌<◌, [], List, Some, None, if◌then◌else◌, MatchOption, IfSome, option_copied, option_map};
 ghost use Rattle.gr_base.specs.declared.objects.Object.TheVariants as variants;
 ghost use Rattle.gr_step.specs.Conflicts.{written_by, read_by};
-ghost use Rattle.gr_step.specs.Parts.{channel_in, parts_before, partner_before, slot_before, read_by_more, written_by_more};
+ghost use Rattle.gr_step.specs.Effects.{reached_on};
+ghost use Rattle.gr_step.specs.Parts.{channel_in, parts_before, partner_before, slot_before, read_by_more, written_by_more, reads_in, writes_in};
 ghost use Rattle.gr_depend.specs.Keys.{seen};
 ghost use Rattle.gr_depend.specs.Told.{named, seen_in, count_in};
 
 use crate::key::ObjectRef;
 use gr_base::{ChName, GoName, Object};
-use gr_step::record::{Beyond, Parts};
-use gr_step::{Operation, Record};
+use gr_step::Record;
+use gr_step::record::{Beyond, Contact, Form, Parts};
 
 /// Objects that a step read, or that it wrote, by their names where they are: `Run` or its goroutine, parts of one channel, a
 /// goroutine that it met, and others, in this order.
@@ -173,20 +174,6 @@ impl<'a> Objects<'a> {
     }
 }
 
-/// The channel of an operation.
-#[inline]
-pub(crate) fn channel_of(operation: &Operation) -> &ChName
-    ensures { result.now ≡ channel_in operation.now }
-{
-    match operation {
-        Operation::SendsOn(channel) => channel,
-        Operation::ReceivesFrom(channel) => channel,
-        Operation::TakesLenOf(channel) => channel,
-        Operation::TakesCapOf(channel) => channel,
-        Operation::Closes(channel) => channel,
-    }
-}
-
 /// `Run`, which a step reads that does not write it.
 fn run_unless<'a>(stops: bool) -> Option<ObjectRef<'a>>
     ensures { (os : List Object) → named seen result os ≡ (if stops then os else variants.Run ∷ os) }
@@ -231,7 +218,7 @@ fn told<'a>(
         return Objects::without_channel(front, partner, others);
     };
     let place = beyond.touched.slot;
-    Objects::with_channel(front, parts, channel_of(operation), place, partner, others)
+    Objects::with_channel(front, parts, operation.channel(), place, partner, others)
 }
 
 /// Parts of a channel.
@@ -248,22 +235,46 @@ pub(crate) fn parts_written(beyond: &Beyond) -> Objects<'_>
     told(None, beyond, beyond.touched.written, None, &[])
 }
 
+/// These parts of the channel with which a step did something, that touched no other.
+fn in_contact<'a>(front: ObjectRef<'a>, contact: &'a Contact, parts: Parts) -> Objects<'a>
+    ensures { seen_in result ≡ seen front.entry ∷ parts_before parts contact.now.touched.slot (Some (channel_in contact.now.operation)) [] }
+{
+    let channel = contact.operation.channel();
+    let place = contact.touched.slot;
+    Objects::with_channel(Some(front), parts, channel, place, None, &[])
+}
+
+/// What a step read that did something with one channel, and touched no other.
+#[inline]
+pub(crate) fn read_in(contact: &Contact) -> Objects<'_>
+    ensures { seen_in result ≡ variants.Run ∷ reads_in (reached_on contact.now None) }
+{
+    in_contact(ObjectRef::Run, contact, contact.touched.read)
+}
+
+/// What a step wrote of which this is the goroutine, that did something with one channel, and met nobody.
+#[inline]
+fn written_in<'a>(own: ObjectRef<'a>, contact: &'a Contact) -> Objects<'a>
+    ensures { seen_in result ≡ seen own.entry ∷ writes_in (reached_on contact.now None) }
+{
+    in_contact(own, contact, contact.touched.written)
+}
+
 /// What a step read and did not write.
 #[inline]
 pub(crate) fn reads(step: &Record) -> Objects<'_>
     ensures { seen_in result ≡ read_by step.now }
 {
-    let Some(beyond) = &step.change.beyond else {
-        return Objects::without_channel(Some(ObjectRef::Run), None, &[]);
-    };
-    let front = run_unless(beyond.stops);
-    told(
-        front,
-        beyond,
-        beyond.touched.read,
-        None,
-        others_read(beyond),
-    )
+    match step.change.form() {
+        Form::Alone(_, _) => Objects::without_channel(Some(ObjectRef::Run), None, &[]),
+        Form::Waits(waiting) => read_in(&waiting.contact),
+        Form::Passes(_, _, passage) => read_in(&passage.contact),
+        Form::Further(_, _, beyond) => {
+            let front = run_unless(beyond.stops);
+            let parts = beyond.touched.read;
+            told(front, beyond, parts, None, others_read(beyond))
+        }
+    }
 }
 
 /// What a step wrote.
@@ -271,16 +282,15 @@ pub(crate) fn reads(step: &Record) -> Objects<'_>
 pub(crate) fn writes(step: &Record) -> Objects<'_>
     ensures { seen_in result ≡ written_by step.now }
 {
-    let own = Some(ObjectRef::Go(&step.id.go));
-    let Some(beyond) = &step.change.beyond else {
-        return Objects::without_channel(own, None, &[]);
-    };
-    let partner = beyond.partner.as_ref();
-    told(
-        own,
-        beyond,
-        beyond.touched.written,
-        partner,
-        others_written(beyond),
-    )
+    let own = ObjectRef::Go(&step.id.go);
+    match step.change.form() {
+        Form::Alone(_, _) => Objects::without_channel(Some(own), None, &[]),
+        Form::Waits(waiting) => written_in(own, &waiting.contact),
+        Form::Passes(_, _, passage) => written_in(own, &passage.contact),
+        Form::Further(_, _, beyond) => {
+            let partner = beyond.partner.as_ref();
+            let parts = beyond.touched.written;
+            told(Some(own), beyond, parts, partner, others_written(beyond))
+        }
+    }
 }

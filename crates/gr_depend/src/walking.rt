@@ -15,6 +15,7 @@ use crate::objects::{Objects, reads, writes};
 use crate::touch::Touch;
 use gr_base::{GoName, Object};
 use gr_step::Record;
+use gr_step::record::Form;
 
 impl Lanes {
     ghost use Rattle.gr_depend.specs.Lists.{list_of, IsNumbered};
@@ -38,9 +39,9 @@ impl Lanes {
         ensures read_walked { AreWalked self.now origin false read.new marks.new }
         ensures written_walked { AreWalked self.now origin true written.new marks.new }
     {
-        match &step.change.beyond {
-            None => self.mark_alone(origin, step, read, written, marks),
-            Some(_) => self.mark_beyond(origin, step, read, written, marks),
+        match step.change.form() {
+            Form::Alone(_, _) => self.mark_alone(origin, step, read, written, marks),
+            _ => self.mark_beyond(origin, step, read, written, marks),
         }
     }
 

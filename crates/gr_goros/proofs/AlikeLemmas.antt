@@ -1,5 +1,5 @@
 -- Lists that are compared place by place.
-use Rattle.std.proofs.Common.{◌≡◌, ℕ, zero, suc, ◌+◌, ◌<◌, Bool, true, false, List, [], ◌∷◌, ◌++◌, length, take, reverse, get_or, refl, sym, ap, ap₂, ◌∙◌, arith}
+use Rattle.std.proofs.Common.{◌≡◌, ℕ, zero, suc, ◌+◌, ◌<◌, ◌≤◌, Bool, true, false, List, [], ◌∷◌, ◌++◌, length, take, reverse, get_or, refl, sym, ap, ap₂, ◌∙◌, arith}
 use Rattle.std.proofs.Math.Seq.{take-suc, take-length}
 use Rattle.std.proofs.lemmas.List.{reverse-reverse}
 use Rattle.std.specs.Prelude.{Vec}
@@ -8,7 +8,7 @@ use Rattle.gr_rules.specs.Goroutines.{ToSend, ToReceive}
 use Rattle.gr_code.specs.CodeFrames.{CodeFrame}
 use Rattle.gr_goros.specs.Views.{frames_by, frames_of, is_finished, status_of, lines_of, waits_of, wait_of}
 use Rattle.gr_goros.specs.declared.wait.Status.{Status}
-use Rattle.gr_goros.specs.declared.wait.Status.TheVariants.{Ready, Waiting, Finished}
+use Rattle.gr_goros.specs.declared.wait.Status.TheVariants.{Ready, Sending, Receiving, Waiting, Finished}
 use Rattle.gr_goros.specs.declared.wait.Wait.{Wait}
 use Rattle.gr_goros.specs.declared.wait.Wait.TheVariants as waits
 use Rattle.gr_goros.proofs.TextLemmas.{next_line, lines_length}
@@ -95,12 +95,20 @@ waits_waited (rules.waiting ws) = ws
 waits_waited rules.ready = []
 waits_waited rules.finished = []
 
+-- two waits or more are not just one
+pub not_only : (w : rules.Wait) (ws : List Wait) → 2 ≤ length ws → rules.waiting (w ∷ []) ≡ rules.waiting (waits_of ws) → ⊥
+not_only w [] more same = omega (arith, more)
+not_only w (x ∷ []) more same = omega (arith, more)
+not_only w (x ∷ y ∷ ws) more same = let lengths : 1 ≡ suc (suc (length (waits_of ws))) = ap (λ s. length (waits_waited s)) same in omega (arith, lengths)
+
 pub same_waits : (vs ws : List Wait) → rules.waiting (waits_of vs) ≡ rules.waiting (waits_of ws) → vs ≡ ws
 same_waits vs ws same = sym (all_told vs) ∙ ap (λ s. waits_in (waits_waited s)) same ∙ all_told ws
 
 -- the frames of a goroutine that is not finished tell its innermost frame and the others
 pub live_unless_finished : (s : Status) → ¬ (s ≡ Finished) → is_finished (status_of s) ≡ false
 live_unless_finished Ready not = refl
+live_unless_finished (Sending c) not = refl
+live_unless_finished (Receiving c) not = refl
 live_unless_finished (Waiting ws) not = refl
 live_unless_finished Finished not = absurd (not refl)
 

@@ -1,27 +1,30 @@
 -- What goes on by itself, by its operands.
-use Rattle.std.proofs.Common.{◌≡◌, ℕ, suc, ◌+◌, ◌≤◌, Bool, true, false, not, ◌&&◌, List, [], ◌∷◌, length, arith, Option, Some, None, refl, sym, ap, ◌∙◌}
-use Rattle.std.specs.Prelude.{slice_get}
+use Rattle.std.proofs.Common.{◌≡◌, ℕ, ◌≤◌, Bool, true, false, not, ◌&&◌, List, [], ◌∷◌, length, reverse, arith, Option, Some, None, refl, sym, ap, ◌∙◌}
+use Rattle.std.proofs.Math.Dec.{eqb-suc-zero, leb-suc-suc}
+use Rattle.std.proofs.lemmas.List.{length-reverse}
+use Rattle.std.specs.Prelude.{slice_get, nat_eq, nat_le}
 use Rattle.gr_tree.specs.declared.expr.BinaryOp.{BinaryOp}
 use Rattle.gr_base.specs.declared.values.Value as values
 use Rattle.gr_base.specs.declared.values.Value.TheVariants.{Int, Bool as Truth, Unit as Empty, Chan}
-use Rattle.gr_base.specs.declared.kinds.Fault.{Fault}
 use Rattle.gr_rules.specs.Outcomes.{Outcome, gives, faults, wrong, ◌>>=◌}
 use Rattle.gr_rules.specs.Operators.{operate}
 use Rattle.gr_rules.specs.Operands.{Operand, Operands, nothing, also}
 use Rattle.gr_rules.specs.Evaluation.{Variables, held, evaluate, evaluate_all}
 use Rattle.gr_rules.specs.Frames.{assigned, written}
-use Rattle.gr_rules.specs.Deeds.{Communicates, only, as_truth, as_channel, as_int, texts}
+use Rattle.gr_rules.specs.Deeds.{only, as_truth, as_channel, as_int, texts}
 use Rattle.gr_rules.specs.Points.{Piece, OfText, OfValue}
 use Rattle.gr_rules.specs.Parts.{Ask, Calls, Receives, CountsItems, CountsPlaces, Decides}
 use Rattle.gr_rules.specs.Parts as parts
-use Rattle.gr_code.specs.Instructions.{Action, Assigns, AssignsReceived, Updates, ClosesChannel, PrintsLine, Sends, StartsFunction, Returns, GoesOn, Fails, Tests, Ranges, Turns, Arm, Instruction, Part, Decide, Perform, Choose, clauses_of}
+use Rattle.gr_code.specs.Instructions.{Action, Assigns, AssignsReceived, ClosesChannel, PrintsLine, Sends, StartsFunction, Returns, GoesOn, Fails, Tests, Ranges, Turns, Arm, Instruction, Decide, Choose, clauses_of}
 use Rattle.gr_code.specs.CodeViews.{operand_of, operands_of}
 use Rattle.gr_code.specs.declared.code.Operand as code
-use Rattle.gr_code.specs.CodeFrames.{CodeFrame, Task, Steps, Wants, acted, asked_in, task}
+use Rattle.gr_code.specs.CodeFrames.{ProgramCode, CodeFrame, Task, acted, asked_in, task}
+use Rattle.gr_code.specs.Goroutines.{has_caller, instruction_in, is_deepest, task_in}
 use Rattle.gr_eval.specs.Stops.{is_fault}
 use Rattle.gr_eval.specs.Stops as eval
-use Rattle.gr_goros.specs.Alone.{stays}
-use Rattle.gr_goros.specs.Tasks.{performed, stored, updated, only_of}
+use Rattle.gr_goros.specs.Alone.{stays, stays_in}
+use Rattle.gr_goros.specs.Tasks.{performed, stored, updated}
+use Rattle.gr_goros.specs.Views.{frames_by}
 
 -- what gives something, where nothing is wrong
 abbrev Sure : {A : Type 0} → Outcome A → Type 0
@@ -274,3 +277,26 @@ module _ (f : CodeFrame) (x : ℕ) (op : BinaryOp) (on : ℕ) (caller deepest : 
   not_one [] many = absurd (omega (arith, many))
   not_one (a ∷ []) many = absurd (omega (arith, many))
   not_one (a ∷ b ∷ os) many = update_many (operand_of a) (operand_of b) (operands_of os)
+
+-- what is told by how many frames lie below the innermost
+caller_by : (fs : List CodeFrame) → not (nat_eq (length fs) 0) ≡ has_caller fs
+caller_by [] = refl
+caller_by (f ∷ fs) = ap not (eqb-suc-zero (length fs))
+
+pub caller_told : (under : List CodeFrame) (n : ℕ) → n ≡ length under → not (nat_eq n 0) ≡ has_caller (reverse under)
+caller_told under n lengths = ap (λ k. not (nat_eq k 0)) (lengths ∙ sym (length-reverse under)) ∙ caller_by (reverse under)
+
+pub depth_told : (top : CodeFrame) (under : List CodeFrame) (n : ℕ) → n ≡ length under → nat_le 999 n ≡ is_deepest (top ∷ reverse under)
+depth_told top under n lengths = ap (nat_le 999) (lengths ∙ sym (length-reverse under)) ∙ sym (leb-suc-suc 999 (length (reverse under)))
+
+-- a goroutine whose task is not wrong is not finished, and goes on alone as its innermost frame does
+pub alone_by : (code : ProgramCode) (finished : Bool) (top : CodeFrame) (under : List CodeFrame) (i : Instruction) (caller deepest alone : Bool)
+    → ¬ (task_in code (frames_by finished top under) ≡ wrong) → instruction_in code top ≡ gives i
+    → caller ≡ has_caller (reverse under) → deepest ≡ is_deepest (top ∷ reverse under) → alone ≡ stays caller deepest (task top i)
+    → alone ≡ stays_in (frames_by finished top under) (task_in code (frames_by finished top under))
+alone_by code true top under i caller deepest alone right at below deep goes = absurd (right refl)
+alone_by code false top under i caller deepest alone right at below deep goes =
+    goes
+    ∙ ap (λ b. stays b deepest (task top i)) below
+    ∙ ap (λ b. stays (has_caller (reverse under)) b (task top i)) deep
+    ∙ ap (λ o. stays (has_caller (reverse under)) (is_deepest (top ∷ reverse under)) (o >>= λ i. task top i)) (sym at)

@@ -1,5 +1,5 @@
 -- Goroutines without where they lie in memory.
-use Rattle.std.specs.Prelude.{◌≡◌, ℕ, Bool, true, false, List, [], ◌∷◌, reverse, Result, Ok, Err, Vec}
+use Rattle.std.specs.Prelude.{◌≡◌, ℕ, Bool, true, false, List, [], ◌∷◌, reverse, None, Result, Ok, Err, Vec}
 use Rattle.gr_base.specs.declared.values.Value.{Value}
 use Rattle.gr_base.specs.declared.kinds.Fault.{Fault}
 use Rattle.gr_rules.specs.Outcomes.{Outcome, gives, faults}
@@ -35,6 +35,8 @@ waits_of (w ∷ ws) = wait_of w ∷ waits_of ws
 
 abbrev pub status_of : Status → rules.Status
 status_of statuses.Ready = ready
+status_of (statuses.Sending c) = waiting (ToSend c None ∷ [])
+status_of (statuses.Receiving c) = waiting (ToReceive c None ∷ [])
 status_of (statuses.Waiting ws) = waiting (waits_of ws.items)
 status_of statuses.Finished = finished
 

@@ -1,8 +1,8 @@
 //! What arrives at a goroutine, and how it comes to an end.
 
-ghost use Rattle.std.specs.Prelude.{◌≡◌, ◌+◌, ◌<◌, ◌^◌, IfOk, OnErr};
+ghost use Rattle.std.specs.Prelude.{◌≡◌, ◌+◌, ◌<◌, ◌^◌, ◌∷◌, [], IfOk, OnErr};
 ghost use Rattle.gr_rules.specs.Outcomes.{gives, wrong};
-ghost use Rattle.gr_rules.specs.Goroutines.{ready};
+ghost use Rattle.gr_rules.specs.Goroutines.{ready, ToSend, ToReceive};
 ghost use Rattle.gr_code.specs.CodeViews.{program_code_of};
 ghost use Rattle.gr_code.specs.Goroutines.{arrived, parked, retried, CanCount};
 ghost use Rattle.gr_goros.specs.Undoing.{IsLive, Undoes};
@@ -10,9 +10,9 @@ ghost use Rattle.gr_goros.specs.Views.{arrival_of, waits_of, CanHalt, halted};
 
 use crate::frame::Frame;
 use crate::goroutine::Goroutine;
-use crate::undo::{Former, FrameUndo, GoUndo, Met};
+use crate::undo::{Former, FrameUndo, GoUndo, Met, Spot};
 use crate::wait::{Status, Wait};
-use gr_base::{NoMemory, Value};
+use gr_base::{ChName, NoMemory, Value};
 use gr_code::code::Code;
 use std::alloc::Global;
 use std::mem;
@@ -126,6 +126,30 @@ impl Goroutine {
         self.status = Status::Waiting(waits);
         self.steps += 1;
         GoUndo::Parked(self.top.spot())
+    }
+
+    /// Begins to wait to send on a channel, and for nothing else. It answers where its innermost frame stands.
+    pub fn park_to_send(&mut self, channel: ChName) -> Spot
+        requires waiting { self.old.content.status ≡ ready }
+        requires counted { self.old.content.steps + 1 < 2 ^ 64 }
+        ensures after { self.new.content ≡ parked (ToSend channel None ∷ []) self.old.content }
+        ensures undone { Undoes (GoUndo.Parked result) self.old self.new }
+    {
+        self.status = Status::Sending(channel);
+        self.steps += 1;
+        self.top.spot()
+    }
+
+    /// Begins to wait to receive from a channel, and for nothing else. It answers where its innermost frame stands.
+    pub fn park_to_receive(&mut self, channel: ChName) -> Spot
+        requires waiting { self.old.content.status ≡ ready }
+        requires counted { self.old.content.steps + 1 < 2 ^ 64 }
+        ensures after { self.new.content ≡ parked (ToReceive channel None ∷ []) self.old.content }
+        ensures undone { Undoes (GoUndo.Parked result) self.old self.new }
+    {
+        self.status = Status::Receiving(channel);
+        self.steps += 1;
+        self.top.spot()
     }
 
     /// Comes to an end: from its outermost frame, or by a fault.

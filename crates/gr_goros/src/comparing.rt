@@ -1,12 +1,13 @@
 //! Whether goroutines are alike.
 
-ghost use Rattle.std.specs.Prelude.{◌≡◌, ◌↔◌, IsTrue};
-ghost use Rattle.gr_goros.specs.Views.{lines_of, status_of};
+ghost use Rattle.std.specs.Prelude.{◌≡◌, ◌↔◌, ◌∷◌, [], IsTrue};
+ghost use Rattle.gr_rules.specs.Goroutines.{waiting, ToSend, ToReceive};
+ghost use Rattle.gr_goros.specs.Views.{lines_of, status_of, wait_of, waits_of};
 
 use crate::frame::Frame;
 use crate::goroutine::Goroutine;
 use crate::wait::{Status, Wait};
-use gr_base::Value;
+use gr_base::{ChName, Value};
 
 /// What is like another or not.
 trait Alike: Sized {
@@ -82,14 +83,92 @@ fn same_lines(one: &[Vec<u8>], other: &[Vec<u8>]) -> bool
     true
 }
 
-/// Whether these say the same.
+/// Whether this is a wait to send on the channel, outside a select.
+fn sends_on(wait: &Wait, channel: &ChName) -> bool
+    ensures { IsTrue result ↔ (ToSend channel.now None ≡ wait_of wait.now) }
+{
+    match wait {
+        Wait::Send(one, None) => one == channel,
+        _ => false,
+    }
+}
+
+/// Whether this is a wait to receive from the channel, outside a select.
+fn receives_from(wait: &Wait, channel: &ChName) -> bool
+    ensures { IsTrue result ↔ (ToReceive channel.now None ≡ wait_of wait.now) }
+{
+    match wait {
+        Wait::Receive(one, None) => one == channel,
+        _ => false,
+    }
+}
+
+/// Whether these are just one wait to send on the channel, outside a select.
+#[tactic(auto, using(crate::proofs::AlikeLemmas::not_only))]
+fn only_send_on(waits: &[Wait], channel: &ChName) -> bool
+    ensures { IsTrue result ↔ (waiting (ToSend channel.now None ∷ []) ≡ waiting (waits_of waits.now)) }
+{
+    match waits {
+        [wait] => sends_on(wait, channel),
+        _ => false,
+    }
+}
+
+/// Whether these are just one wait to receive from the channel, outside a select.
+#[tactic(auto, using(crate::proofs::AlikeLemmas::not_only))]
+fn only_receive_from(waits: &[Wait], channel: &ChName) -> bool
+    ensures { IsTrue result ↔ (waiting (ToReceive channel.now None ∷ []) ≡ waiting (waits_of waits.now)) }
+{
+    match waits {
+        [wait] => receives_from(wait, channel),
+        _ => false,
+    }
+}
+
+/// Whether it says that the goroutine waits to send on the channel, and for nothing else, outside a select.
+fn is_sending(channel: &ChName, status: &Status) -> bool
+    ensures { IsTrue result ↔ (waiting (ToSend channel.now None ∷ []) ≡ status_of status.now) }
+{
+    match status {
+        Status::Sending(other) => channel == other,
+        Status::Waiting(waits) => only_send_on(waits, channel),
+        _ => false,
+    }
+}
+
+/// Whether it says that the goroutine waits to receive from the channel, and for nothing else, outside a select.
+fn is_receiving(channel: &ChName, status: &Status) -> bool
+    ensures { IsTrue result ↔ (waiting (ToReceive channel.now None ∷ []) ≡ status_of status.now) }
+{
+    match status {
+        Status::Receiving(other) => channel == other,
+        Status::Waiting(waits) => only_receive_from(waits, channel),
+        _ => false,
+    }
+}
+
+/// Whether it says that the goroutine waits for these.
+fn is_waiting(waits: &[Wait], status: &Status) -> bool
+    ensures { IsTrue result ↔ (waiting (waits_of waits.now) ≡ status_of status.now) }
+{
+    match status {
+        Status::Sending(channel) => only_send_on(waits, channel),
+        Status::Receiving(channel) => only_receive_from(waits, channel),
+        Status::Waiting(others) => all_alike(waits, others),
+        _ => false,
+    }
+}
+
+/// Whether these say the same. To wait for one communication outside a select can be said in two ways.
 fn same_status(one: &Status, other: &Status) -> bool
     ensures { IsTrue result ↔ (status_of one.now ≡ status_of other.now) }
 {
-    match (one, other) {
-        (Status::Ready, Status::Ready) | (Status::Finished, Status::Finished) => true,
-        (Status::Waiting(waits), Status::Waiting(others)) => all_alike(waits, others),
-        _ => false,
+    match one {
+        Status::Ready => matches!(other, Status::Ready),
+        Status::Sending(channel) => is_sending(channel, other),
+        Status::Receiving(channel) => is_receiving(channel, other),
+        Status::Waiting(waits) => is_waiting(waits, other),
+        Status::Finished => matches!(other, Status::Finished),
     }
 }
 

@@ -68,6 +68,8 @@ fn copy_status(alloc: Global, status: &Status) -> Result<Status, NoMemory>
 {
     match status {
         Status::Ready => Ok(Status::Ready),
+        Status::Sending(channel) => Ok(Status::Sending(channel.copy(alloc)?)),
+        Status::Receiving(channel) => Ok(Status::Receiving(channel.copy(alloc)?)),
         Status::Waiting(waits) => Ok(Status::Waiting(copy_all(alloc, waits)?)),
         Status::Finished => Ok(Status::Finished),
     }

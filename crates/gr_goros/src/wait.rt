@@ -14,6 +14,10 @@ pub enum Wait {
 pub enum Status {
     /// It takes a step.
     Ready,
+    /// It waits to send on this channel, and for nothing else, outside a select.
+    Sending(ChName),
+    /// It waits to receive from this channel, and for nothing else, outside a select.
+    Receiving(ChName),
     /// It waits for one of these; forever, where there is none.
     Waiting(Vec<Wait>),
     /// It has returned from its outermost frame, or ended the program.

@@ -4,13 +4,16 @@ use Rattle.std.proofs.lemmas.Bool.{cases_Bool}
 use Rattle.gr_code.specs.Goroutines.{CodeGoroutine}
 use Rattle.gr_contents.specs.Contents.{Contents}
 use Rattle.gr_goros.specs.Undoing.{undone}
+use Rattle.gr_goros.specs.declared.undo.Spot.{Spot}
 use Rattle.gr_goros.specs.declared.undo.GoUndo.{GoUndo}
+use Rattle.gr_goros.specs.declared.undo.GoUndo.TheVariants.{Parked}
 use Rattle.gr_laws.proofs.CellLemmas.{go_is, go_self}
 use Rattle.gr_pool.specs.Goroutines as pools
 use Rattle.gr_pool.specs.Goroutines.{is_among, with_name, without_name}
 use Rattle.gr_rules.specs.Goroutines.{ready}
 use Rattle.gr_rules.specs.States.{same_go}
-use Rattle.gr_step.specs.declared.record.Change.{Change}
+use Rattle.gr_step.specs.declared.record.Form.{Form}
+use Rattle.gr_step.specs.Effects.{Effect, effect_in}
 use Rattle.gr_step.specs.Records.{begun_by, go_back, go_undone, is_go, taken_back, goroutines_changed, GoesFit, CanGoBack}
 use Rattle.gr_rollback.specs.Prior.{changes_back, BringsBack, BringsStepBack, Loses}
 use Rattle.gr_rollback.specs.Readiness.{IsAsIn, HasAllReady, KnowsThere, HasReady, Settles, AllKnown, met_by, others_of}
@@ -113,13 +116,26 @@ loses_one n old new is known = record {
   others = λ q e. ap (is_among q) is ∙ without_others q n old.ready e;
 }
 
--- a step that reached no further than its goroutine
-pub brings_alone : (n : List ℕ) (c : Change) (old new : pools.Goroutines) → c.beyond ≡ None → BringsBack ((n, c.own) ∷ []) old new
-    → BringsStepBack (goroutines_changed n c) (begun_by c) old new
-brings_alone n c old new alone back = record { mid = new; back = rw alone back; loses = rw alone (loses_none new) }
+-- a step that met no other goroutine, and started none
+pub brings_own : (n : List ℕ) (u : GoUndo) (old new : pools.Goroutines) → BringsBack ((n, u) ∷ []) old new → BringsStepBack ((n, u) ∷ []) None old new
+brings_own n u old new back = record { mid = new; back = back; loses = loses_none new }
+
+-- its goroutine came to wait, and was ready before
+pub brings_waiting : (n : List ℕ) (spot : Spot) (old new : pools.Goroutines) → new.known ≡ old.known → new.ready ≡ with_name n old.ready
+    → BringsBack ((n, Parked spot) ∷ []) old new
+brings_waiting n spot old new known is = record {
+  known = known;
+  ready = λ s fits all. brings_ready n (Parked spot) old new s fits all (λ g. refl) is;
+}
+
+-- a step whose change is kept in this form
+pub brings_in : (n : List ℕ) (f g : Form) (c : Effect) (old new : pools.Goroutines) → effect_in f ≡ c → f ≡ g
+    → BringsStepBack (goroutines_changed n (effect_in g)) (begun_by (effect_in g)) old new → BringsStepBack (goroutines_changed n c) (begun_by c) old new
+brings_in n f g c old new is kept =
+    subst (λ (e : Effect). BringsStepBack (goroutines_changed n e) (begun_by e) old new) (ap effect_in (sym kept) ∙ is)
 
 -- a step is taken back
-module _ (n : List ℕ) (c : Change) (s : Contents) (can : CanGoBack n c s) where
+module _ (n : List ℕ) (c : Effect) (s : Contents) (can : CanGoBack n c s) where
   abbrev changed : List (List ℕ × GoUndo)
   changed = goroutines_changed n c
 

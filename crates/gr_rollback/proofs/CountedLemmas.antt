@@ -6,7 +6,7 @@ use Rattle.gr_pool.specs.Goroutines as pools
 use Rattle.gr_pool.specs.Goroutines.{is_among}
 use Rattle.gr_program.specs.Programs.{Program}
 use Rattle.gr_rules.specs.Steps.{refusal}
-use Rattle.gr_step.specs.declared.record.Change.{Change}
+use Rattle.gr_step.specs.Effects.{Effect}
 use Rattle.gr_step.specs.declared.record.Record.{Record}
 use Rattle.gr_step.specs.declared.refusal.StepRefused.{StepRefused}
 use Rattle.gr_step.specs.declared.store.Store.{Store}
@@ -26,10 +26,10 @@ use Rattle.gr_rollback.proofs.PoolLemmas.{settles_still}
 use Rattle.gr_rollback.proofs.StepLemmas.{record_is_allowed}
 
 -- such a step met no goroutine, and started none
-none_begun : (c : Change) → c.beyond ≡ None → begun_by c ≡ None
+none_begun : (c : Effect) → c.beyond ≡ None → begun_by c ≡ None
 none_begun c alone = ap (λ o. begun_by (record c { beyond = o })) alone
 
-no_others : (c : Change) → c.beyond ≡ None → others_of c ≡ []
+no_others : (c : Effect) → c.beyond ≡ None → others_of c ≡ []
 no_others c alone = ap (λ o. others_of (record c { beyond = o })) alone
 
 -- it was taken

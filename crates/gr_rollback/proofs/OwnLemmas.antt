@@ -20,7 +20,7 @@ use Rattle.gr_contents.specs.Leaves.{refused, performed, Refuses}
 use Rattle.gr_contents.specs.Performing.{StepsTo}
 use Rattle.gr_contents.proofs.MachineLemmas.{refusal_is_leaf}
 use Rattle.gr_contents.proofs.LookLemmas.{over_is_refused, unknown_is_refused, done_is_refused, waiting_is_refused}
-use Rattle.gr_step.specs.declared.record.Change.{Change}
+use Rattle.gr_step.specs.Effects.{Effect}
 use Rattle.gr_laws.proofs.CellLemmas.{go_is, go_self}
 use Rattle.gr_step.specs.Fews.{members}
 use Rattle.gr_step.specs.Records.{beyond, begun_by, go_back, go_undone, is_go, taken_back, goroutines_changed, GoesFit, CanGoBack}
@@ -72,7 +72,7 @@ begun_else : (o : Option (List ℕ)) (q : List ℕ) → is_among q (option_to_li
 begun_else None q f = refl
 begun_else (Some n) q f = (neither (same_go q n) false f).0
 
-pub others_stay : (n : List ℕ) (c : Change) (t : Contents) (q : List ℕ) → same_go q n ≡ false → is_among q (others_of c) ≡ false
+pub others_stay : (n : List ℕ) (c : Effect) (t : Contents) (q : List ℕ) → same_go q n ≡ false → is_among q (others_of c) ≡ false
     → (taken_back n c t).goroutines q ≡ t.goroutines q
 others_stay n c t q other f =
     let met : List (List ℕ × GoUndo) = beyond [] (λ b. members b.met) c in
@@ -89,7 +89,7 @@ pub back_none : (us : List (List ℕ × GoUndo)) (q : List ℕ) → go_back us q
 back_none [] q = refl
 back_none (u ∷ us) q = rw (back_none us q) (either_way (same_go q u.0) None)
 
-pub own_is_there : (n : List ℕ) (c : Change) (t : Contents) → CanGoBack n c t → (g : CodeGoroutine) × (t.goroutines n ≡ Some g)
+pub own_is_there : (n : List ℕ) (c : Effect) (t : Contents) → CanGoBack n c t → (g : CodeGoroutine) × (t.goroutines n ≡ Some g)
 own_is_there n c t can = by_option (t.goroutines n) can.goroutines.0
   where
     by_option : (o : Option CodeGoroutine) → At (Fits c.own) (go_back (beyond [] (λ b. members b.met) c) n o) → (g : CodeGoroutine) × (o ≡ Some g)
@@ -116,7 +116,7 @@ met_is_there (u ∷ us) f q fit t = elim (cases_Bool (same_go q u.0)) [
 ]
 
 -- .. and was there before it, unless the step started it
-pub met_was_there : (n : List ℕ) (c : Change) (t : Contents) (q : List ℕ) → CanGoBack n c t → is_among q (names_met (beyond [] (λ b. members b.met) c)) ≡ true
+pub met_was_there : (n : List ℕ) (c : Effect) (t : Contents) (q : List ℕ) → CanGoBack n c t → is_among q (names_met (beyond [] (λ b. members b.met) c)) ≡ true
     → is_go q (begun_by c) ≡ false → (g : CodeGoroutine) × ((taken_back n c t).goroutines q ≡ Some g)
 met_was_there n c t q can among other =
     let there = met_is_there ((n, c.own) ∷ beyond [] (λ b. members b.met) c) t.goroutines q can.goroutines
@@ -124,7 +124,7 @@ met_was_there n c t q can among other =
     (there.0, ap (λ b. if b then None else go_back (goroutines_changed n c) q (t.goroutines q)) other ∙ there.1)
 
 -- a goroutine that was ready is so after a step that reached no further and left its status as it was
-pub stays_ready : (n : List ℕ) (c : Change) (s t : Contents) → IsReadyIn s n → taken_back n c t ≡ s → CanGoBack n c t → c.beyond ≡ None
+pub stays_ready : (n : List ℕ) (c : Effect) (s t : Contents) → IsReadyIn s n → taken_back n c t ≡ s → CanGoBack n c t → c.beyond ≡ None
     → KeepsStatus c.own → IsReadyIn t n
 stays_ready n c s t was back can alone keeps =
     let there = own_is_there n c t can in

@@ -8,7 +8,7 @@ use Rattle.gr_code.specs.Goroutines.{CodeGoroutine}
 use Rattle.gr_contents.specs.Contents.{Contents}
 use Rattle.gr_goros.specs.Undoing.{undone}
 use Rattle.gr_goros.specs.declared.undo.GoUndo.{GoUndo}
-use Rattle.gr_step.specs.declared.record.Change.{Change}
+use Rattle.gr_step.specs.Effects.{Effect}
 use Rattle.gr_step.specs.declared.record.Record.{Record}
 use Rattle.gr_step.specs.Fews.{members}
 use Rattle.gr_step.specs.Records.{beyond, begun_by}
@@ -64,10 +64,10 @@ abbrev pub names_met : List (List ℕ × GoUndo) → List (List ℕ)
 names_met met = map (λ e. e.0) met
 
 -- the goroutines that a step met, and those with the one that it started
-abbrev pub met_by : Change → List (List ℕ)
+abbrev pub met_by : Effect → List (List ℕ)
 met_by c = names_met (beyond [] (λ b. members b.met) c)
 
-abbrev pub others_of : Change → List (List ℕ)
+abbrev pub others_of : Effect → List (List ℕ)
 others_of c = met_by c ++ option_to_list (begun_by c)
 
 -- the pool after a step, or after it is taken back: the goroutines that it met and the one that it started are known, and they

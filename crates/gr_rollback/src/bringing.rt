@@ -14,7 +14,7 @@ use gr_base::GoName;
 use gr_goros::{GoUndo, Status};
 use gr_pool::Pool;
 use gr_step::Record;
-use gr_step::record::Beyond;
+use gr_step::record::{Beyond, Form};
 
 /// Whether a goroutine was ready before a change.
 #[derive(Clone, Copy)]
@@ -31,7 +31,9 @@ fn prior_in(status: &Status) -> Prior
 {
     match status {
         Status::Ready => Prior::Ready,
-        Status::Waiting(_) | Status::Finished => Prior::Unready,
+        Status::Sending(_) | Status::Receiving(_) | Status::Waiting(_) | Status::Finished => {
+            Prior::Unready
+        }
     }
 }
 
@@ -108,9 +110,11 @@ pub(crate) fn bring_step_back(pool: &mut Pool, step: &Record)
     requires met { AllKnown (met_by step.now.change) pool.old }
     ensures { BringsStepBack (goroutines_changed step.now.id.go step.now.change) (begun_by step.now.change) pool.old pool.new }
 {
-    let own = &step.change.own;
-    match &step.change.beyond {
-        None => bring_back(pool, &step.id.go, own),
-        Some(beyond) => bring_beyond_back(pool, &step.id.go, own, beyond),
+    let go = &step.id.go;
+    match step.change.form() {
+        Form::Alone(_, own) => bring_back(pool, go, own),
+        Form::Waits(_) => pool.insert(go),
+        Form::Passes(_, own, _) => bring_back(pool, go, own),
+        Form::Further(_, own, beyond) => bring_beyond_back(pool, go, own, beyond),
     }
 }

@@ -11,7 +11,7 @@ use crate::bringing::{Prior, prior_to};
 use gr_base::{GoName, NoMemory};
 use gr_goros::{GoUndo, Status};
 use gr_pool::Pool;
-use gr_step::record::Change;
+use gr_step::record::{Change, Form};
 use gr_step::{Record, Store};
 
 // Whether a goroutine is there, and ready.
@@ -55,15 +55,15 @@ fn settle_own(pool: &mut Pool, store: &Store, go: &GoName)
 /// Makes the goroutine of a step unready where it is so in the store. The step reached no further than the goroutine, which was
 /// ready; what the step replaced tells of most that it is ready still.
 #[inline(always)]
-fn settle_alone(pool: &mut Pool, store: &Store, step: &Record)
-    requires own { is_among step.now.id.go pool.old.ready ≡ true }
-    requires ready { KeepsStatus step.now.change.own → IsReadyIn (contents_at store.now) step.now.id.go }
-    ensures { Settles (step.now.id.go ∷ []) (contents_at store.now) pool.old pool.new }
+fn settle_alone(pool: &mut Pool, store: &Store, go: &GoName, own: &GoUndo)
+    requires own { is_among go.now pool.old.ready ≡ true }
+    requires ready { KeepsStatus own.now → IsReadyIn (contents_at store.now) go.now }
+    ensures { Settles (go.now ∷ []) (contents_at store.now) pool.old pool.new }
 {
-    if let Prior::Same = prior_to(&step.change.own) {
+    if let Prior::Same = prior_to(own) {
         return;
     }
-    settle_own(pool, store, &step.id.go);
+    settle_own(pool, store, go);
 }
 
 /// Settles each of the goroutines that a step met.
@@ -92,7 +92,7 @@ pub(crate) fn know_child(pool: &mut Pool, change: &Change) -> Result<(), NoMemor
     ensures more { KnowsMore pool.old pool.new }
     ensures ready { pool.new.ready ≡ pool.old.ready }
 {
-    let Some(beyond) = &change.beyond else {
+    let Form::Further(_, _, beyond) = change.form() else {
         return Ok(());
     };
     let Some(go) = beyond.begins() else {
@@ -107,7 +107,7 @@ fn settle_others(pool: &mut Pool, store: &Store, step: &Record)
     requires child { KnowsReady (option_to_list (begun_by step.now.change)) (contents_at store.now) pool.old }
     ensures { Settles (others_of step.now.change) (contents_at store.now) pool.old pool.new }
 {
-    let Some(beyond) = &step.change.beyond else {
+    let Form::Further(_, _, beyond) = step.change.form() else {
         return;
     };
     settle_met(pool, store, beyond.met.as_slice());
@@ -146,8 +146,9 @@ pub(crate) fn settle_taken(pool: &mut Pool, store: &Store, step: &Record)
     requires child { AllKnown (option_to_list (begun_by step.now.change)) pool.old }
     ensures { Settles (step.now.id.go ∷ others_of step.now.change) (contents_at store.now) pool.old pool.new }
 {
-    match &step.change.beyond {
-        None => settle_alone(pool, store, step),
-        Some(_) => settle_further(pool, store, step),
+    match step.change.form() {
+        Form::Alone(_, own) => settle_alone(pool, store, &step.id.go, own),
+        Form::Waits(_) | Form::Passes(_, _, _) => settle_own(pool, store, &step.id.go),
+        Form::Further(_, _, _) => settle_further(pool, store, step),
     }
 }

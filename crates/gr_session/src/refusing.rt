@@ -25,7 +25,7 @@ pub(crate) fn standing(store: &Store, go: &GoName) -> Option<Refusal>
     };
     match goroutine.status() {
         Status::Ready => None,
-        Status::Waiting(_) => Some(Refusal::Waits),
+        Status::Sending(_) | Status::Receiving(_) | Status::Waiting(_) => Some(Refusal::Waits),
         Status::Finished => Some(Refusal::Done),
     }
 }

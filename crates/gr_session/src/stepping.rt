@@ -27,7 +27,7 @@ pub(crate) fn keep_step(debuggee: &mut Debuggee, event: Event) -> Result<(u64, K
         return Err(told(debuggee, why));
     }
     match debuggee.machine.log().last() {
-        Some(step) => Ok((step.id.n, step.change.kind)),
+        Some(step) => Ok((step.id.n, step.change.kind())),
         None => unreachable!(),
     }
 }

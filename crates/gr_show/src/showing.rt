@@ -113,7 +113,7 @@ fn status_shown(status: &Standing) -> Status
 {
     match status {
         Standing::Ready => Status::Ready,
-        Standing::Waiting(_) => Status::Waiting,
+        Standing::Sending(_) | Standing::Receiving(_) | Standing::Waiting(_) => Status::Waiting,
         Standing::Finished => Status::Done,
     }
 }

@@ -14,6 +14,7 @@ ghost use Rattle.gr_show.specs.Consoles.{OfEachLog, count_in, lines_told, passed
 use gr_base::{GoName, Kind, NoMemory, StepId};
 use gr_command::Reply;
 use gr_goros::GoUndo;
+use gr_step::record::{Change, Form};
 use gr_step::{Record, Store};
 use indexmap::IndexMap;
 use std::alloc::Global;
@@ -36,7 +37,7 @@ fn steps_told(alloc: Global, records: &[Record]) -> Result<Vec<(StepId, Kind)>, 
     let mut steps = Vec::with_capacity(alloc, records.len())?;
     for record in records {
         let id = record.id.copy(alloc)?;
-        steps.push_reserved((id, record.change.kind));
+        steps.push_reserved((id, record.change.kind()));
     }
     Ok(steps)
 }
@@ -57,12 +58,24 @@ fn lines_printed(alloc: Global, store: &Store, records: &[Record]) -> Result<Vec
     let mut lines = Vec::new(alloc);
     let mut counts = IndexMap::new(alloc);
     for record in records {
-        if !is_printed(&record.change.own) {
+        if !has_printed(&record.change) {
             continue;
         }
         tell_next(alloc, store, &record.id.go, &mut counts, &mut lines)?;
     }
     Ok(lines)
+}
+
+/// Whether a step printed a line.
+fn has_printed(change: &Change) -> bool
+    ensures { result ≡ printed_by change.now.own }
+{
+    match change.form() {
+        Form::Alone(_, own) => is_printed(own),
+        Form::Waits(_) => false,
+        Form::Passes(_, own, _) => is_printed(own),
+        Form::Further(_, own, _) => is_printed(own),
+    }
 }
 
 /// Whether a line was printed.

@@ -24,7 +24,7 @@ use Rattle.gr_channels.specs.declared.changes.ChanUndo.TheVariants.{Buffered}
 use Rattle.gr_tables.specs.NamedChannels.{At, contents_of, seen_of, GoesBack, OfferAt}
 use Rattle.gr_tables.specs.declared.channels.Channels.{Channels}
 use Rattle.gr_step.specs.declared.objects.Objects.{Objects}
-use Rattle.gr_step.specs.declared.record.Change.{Change}
+use Rattle.gr_step.specs.Effects.{Effect}
 use Rattle.gr_step.specs.Listings.{frame_in}
 use Rattle.gr_step.specs.Objects.{contents_in, run_of}
 use Rattle.gr_step.specs.Premises.{Acting, OfActor}
@@ -74,7 +74,7 @@ module _ (p : Program) (e : Event) (number : ℕ) (old : Objects) (acting : Acti
   can_buffer = can_pass_by p e number old acting clause has None goes_past code coded mid done all_goes
 
   -- .. and then it has
-  module _ (change : Change) (new : Objects)
+  module _ (change : Effect) (new : Objects)
       (x : IsPass code e.go (Passes clause None) (option_map_or Pick clause Buffer) (sends_on c) (objects.Gate c ∷ [])
       (objects.Tail c ∷ slot_numbered c found.content.capacity (tail_of found.content)) done change (record old { channels = mid }) new) where
     back : GoesBack done old.channels new.channels

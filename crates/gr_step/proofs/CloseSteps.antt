@@ -49,7 +49,7 @@ use Rattle.gr_tables.specs.NamedGoroutines.{At, Arrives, CanArrive, ChangesBy, g
 use Rattle.gr_tables.specs.declared.channels.Channels.{Channels}
 use Rattle.gr_tables.specs.declared.goroutines.Goroutines.{Goroutines}
 use Rattle.gr_step.specs.declared.objects.Objects.{Objects}
-use Rattle.gr_step.specs.declared.record.Change.{Change}
+use Rattle.gr_step.specs.Effects.{Effect}
 use Rattle.gr_step.specs.declared.record.Operation.TheVariants as operations
 use Rattle.gr_step.specs.Beyonds.{Stops}
 use Rattle.gr_step.specs.Listings.{frame_in, state_in}
@@ -121,7 +121,7 @@ no_run [] [] = refl
 no_run [] (c ∷ cs) = no_run [] cs
 no_run (n ∷ ns) cs = no_run ns cs
 
-module _ (p : Program) (e : Event) (number : ℕ) (old new : Objects) (acting : Acting p e number old) (c : ChName) (x : Content) (change : Change)
+module _ (p : Program) (e : Event) (number : ℕ) (old new : Objects) (acting : Acting p e number old) (c : ChName) (x : Content) (change : Effect)
     (k : Closing (lowered p) e c x change old new) (plain : e.choice ≡ Plain)
     (task : OfGoroutine e (contents_in old) (λ g. task_of (lowered p) g ≡ gives (Wants (Closes (Some c)))))
     (there : (contents_in old).channels c ≡ Some x) (is_open : x.closed ≡ false) where
@@ -241,7 +241,7 @@ module _ (p : Program) (e : Event) (number : ℕ) (o : Objects) (acting : Acting
   abbrev here : ActsHere p (contents_in o) e acting.goroutine
   here = acts_here p e number o acting
 
-  pub nil_takes : (change : Change) (t : Contents) → OfGoroutine e (contents_in o) (λ g. task_of (lowered p) g ≡ gives (Wants (Closes None)))
+  pub nil_takes : (change : Effect) (t : Contents) → OfGoroutine e (contents_in o) (λ g. task_of (lowered p) g ≡ gives (Wants (Closes None)))
       → Stops e.go CloseOfNil None [] (contents_in o) acting.goroutine change t → Takes p e (attempt p e) (contents_in o) change t
   nil_takes change t task stops =
       let wants = task acting.goroutine acting.there in
@@ -261,7 +261,7 @@ module _ (p : Program) (e : Event) (number : ℕ) (o : Objects) (acting : Acting
         (task acting.goroutine acting.there) refl plain (never_unsound p (contents_in o) acting.running e))
 
     module _ (x : Content) (there : (contents_in o).channels c ≡ Some x) where
-      pub twice_takes : (change : Change) (t : Contents) → x.closed ≡ true
+      pub twice_takes : (change : Effect) (t : Contents) → x.closed ≡ true
           → Stops e.go CloseOfClosed (Some (operations.Closes c)) (Gate c ∷ []) (contents_in o) acting.goroutine change t
           → Takes p e (attempt p e) (contents_in o) change t
       twice_takes change t closed stops =

@@ -36,7 +36,7 @@ use Rattle.gr_contents.proofs.TaskLemmas.{rule_is_sound}
 use Rattle.gr_lower.specs.Lowered.{lowered, meaning}
 use Rattle.gr_step.specs.Beyonds.{ChangesObjects, ReachesBeyond}
 use Rattle.gr_step.specs.declared.objects.Objects.{Objects}
-use Rattle.gr_step.specs.declared.record.Change.{Change}
+use Rattle.gr_step.specs.Effects.{Effect}
 use Rattle.gr_step.specs.declared.record.Operation.{Operation}
 use Rattle.gr_step.specs.declared.record.Operation.TheVariants.{TakesLenOf, TakesCapOf}
 use Rattle.gr_step.specs.Listings.{frame_in, state_in}
@@ -59,10 +59,10 @@ module _ (p : Program) (e : Event) (number : ℕ) (o : Objects) (acting : Acting
   g = acting.goroutine
 
   -- the change of a goroutine that goes on with the count n
-  abbrev pub Counted : ℕ → Change → Objects → Type 0
+  abbrev pub Counted : ℕ → Effect → Objects → Type 0
   Counted n c new = ChangesObjects (ChangesBy number (Arrives (lowered p) (Value (Int (pos n))) c.own)) o.run o new
 
-  module _ (n : ℕ) (c : Change) (new : Objects) (changes : Counted n c new) where
+  module _ (n : ℕ) (c : Effect) (new : Objects) (changes : Counted n c new) where
     pub on : Arrived p e.go (Value (Int (pos n))) g c.own o.goroutines new.goroutines
     on = arrived_here p e number o acting (Value (Int (pos n))) c.own new.goroutines changes.goroutines
 
@@ -130,7 +130,7 @@ module _ (p : Program) (e : Event) (number : ℕ) (o : Objects) (acting : Acting
     nil_room beyond = count_room None [] (told_none e.go c beyond)
 
   -- those of nil
-  module _ (c : Change) (new : Objects) (changes : Counted 0 c new) (kind : c.kind ≡ kinds.Length) (beyond : c.beyond ≡ None) where
+  module _ (c : Effect) (new : Objects) (changes : Counted 0 c new) (kind : c.kind ≡ kinds.Length) (beyond : c.beyond ≡ None) where
     pub nil_len_takes : task_of (lowered p) g ≡ gives (Wants (TakesLen None)) → Takes p e (attempt p e) s c (contents_in new)
     nil_len_takes task =
         let here = acts_here p e number o acting in

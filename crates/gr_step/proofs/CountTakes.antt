@@ -20,7 +20,7 @@ use Rattle.gr_tables.specs.NamedGoroutines.{At, ChangesBy, KeepsContents, name_a
 use Rattle.gr_tables.specs.declared.goroutines.Goroutines.{Goroutines}
 use Rattle.gr_lower.specs.Lowered.{lowered}
 use Rattle.gr_step.specs.declared.objects.Objects.{Objects}
-use Rattle.gr_step.specs.declared.record.Change.{Change}
+use Rattle.gr_step.specs.Effects.{Effect}
 use Rattle.gr_step.specs.Listings.{state_in}
 use Rattle.gr_step.specs.Objects.{contents_in, run_of}
 use Rattle.gr_step.specs.Premises.{Acting, CanCount, Running}
@@ -41,7 +41,7 @@ pub nothing_changed : (o : Objects) (new : Goroutines) → KeepsContents o.gorou
 nothing_changed o new keeps = λ j. record { run = run_of o.run; goroutines = keeps.goroutines j; channels = contents_of o.channels }
 
 -- the change that such a step leaves in its record
-abbrev pub counted_by : GoUndo → Change
+abbrev pub counted_by : GoUndo → Effect
 counted_by u = record { kind = kinds.Pure; own = u; beyond = None }
 
 module _ (p : Program) (e : Event) (number : ℕ) (o : Objects) (running : Running p (contents_in o)) (counts : CanCount (contents_in o))

@@ -34,7 +34,7 @@ use Rattle.gr_tables.proofs.Joining.{changes_join, changes_go_back}
 use Rattle.gr_tables.proofs.RoomLemmas.{within_self}
 use Rattle.gr_step.specs.declared.objects.Objects.{Objects}
 use Rattle.gr_step.specs.declared.partners.Prepared.{Prepared}
-use Rattle.gr_step.specs.declared.record.Change.{Change}
+use Rattle.gr_step.specs.Effects.{Effect}
 use Rattle.gr_step.specs.Listings.{frame_in}
 use Rattle.gr_step.specs.Objects.{contents_in, run_of}
 use Rattle.gr_step.specs.Premises.{Acting, OfGoroutine}
@@ -102,7 +102,7 @@ module _ (p : Program) (e : Event) (number : ℕ) (o : Objects) (acting : Acting
 
 -- the changes of channels that an exchange leaves lead from the channels before the first of them
 module _ (code : ProgramCode) (n m : List ℕ) (passes meets : Arrival) (names : List ChName) (kind : Kind) (operation : Operation)
-    (reads writes : List Object) (done : List (ChName × ChanUndo)) (c : Change) (old : Channels) (mid new : Objects) (goes : GoesBack done old mid.channels)
+    (reads writes : List Object) (done : List (ChName × ChanUndo)) (c : Effect) (old : Channels) (mid new : Objects) (goes : GoesBack done old mid.channels)
     (x : IsExchange code n m passes meets names kind operation reads writes done c mid new) where
   pub all_go_back : GoesBack x.changed old new.channels
   all_go_back = subst {_, _} (λ us. GoesBack us old new.channels) (sym x.exchanges.follows.are)
@@ -138,7 +138,7 @@ module _ (p : Program) (e : Event) (number : ℕ) (old : Objects) (acting : Acti
   written = touched ++ objects.Go n ∷ map objects.Gate (channels_but (c ∷ []) meet.m.waits)
 
   -- .. and was done
-  pub exchanged : (kind : Kind) (change : Change) (new : Objects)
+  pub exchanged : (kind : Kind) (change : Effect) (new : Objects)
       → IsExchange code e.go r.go (Passes clause gets) (IsMet case got) r.names.items kind operation reads written ((r.channel, u) ∷ []) change
       (record old { channels = mid }) new
       → IsExchange (lowered p) e.go n (Passes clause gets) (IsMet case got) r.names.items kind operation reads written ((c, u) ∷ []) change
@@ -174,7 +174,7 @@ module _ (p : Program) (e : Event) (number : ℕ) (old : Objects) (acting : Acti
   }
 
 module _ (code : ProgramCode) (n : List ℕ) (passes : Arrival) (kind : Kind) (operation : Operation) (reads writes : List Object)
-    (done : List (ChName × ChanUndo)) (c : Change) (old : Channels) (mid new : Objects) (goes : GoesBack done old mid.channels)
+    (done : List (ChName × ChanUndo)) (c : Effect) (old : Channels) (mid new : Objects) (goes : GoesBack done old mid.channels)
     (x : IsPass code n passes kind operation reads writes done c mid new) where
   pub pass_goes_back : GoesBack done old new.channels
   pass_goes_back = subst {_, _} (GoesBack done old) (sym x.channels) goes

@@ -26,7 +26,7 @@ use Rattle.gr_contents.specs.Contents.{goroutine_of}
 use Rattle.gr_contents.proofs.CodeStepLemmas.{finish_of_code, exit_of_code}
 use Rattle.gr_lower.specs.Lowered.{lowered, meaning}
 use Rattle.gr_step.specs.declared.objects.Objects.{Objects}
-use Rattle.gr_step.specs.declared.record.Change.{Change}
+use Rattle.gr_step.specs.Effects.{Effect}
 use Rattle.gr_step.specs.Beyonds.{HasEnded}
 use Rattle.gr_step.specs.Listings.{frame_in, state_in}
 use Rattle.gr_step.specs.Objects.{contents_in, run_of}
@@ -75,7 +75,7 @@ module _ (p : Program) (e : Event) (number : ℕ) (o : Objects) (acting : Acting
         (not_printed g (finished g) u own.back own.fits refl) refl
 
   -- with that the program ends
-  module _ (plain : e.choice ≡ Plain) (c : Change) (new : Objects) (ends : HasEnded number c o new) where
+  module _ (plain : e.choice ≡ Plain) (c : Effect) (new : Objects) (ends : HasEnded number c o new) where
     own : Placed e.go acting.goroutine (finished acting.goroutine) c.own o.goroutines new.goroutines
     own = placed number e.go o.goroutines new.goroutines acting.named acting.goroutine acting.there finished c.own ends.after.goroutines
 

@@ -32,7 +32,7 @@ use Rattle.gr_contents.proofs.GoingLemmas.{evaluating_faults}
 use Rattle.gr_lower.specs.Lowered.{lowered, meaning}
 use Rattle.gr_step.specs.declared.objects.Objects.{Objects}
 use Rattle.gr_step.specs.declared.record.Operation.{Operation}
-use Rattle.gr_step.specs.declared.record.Change.{Change}
+use Rattle.gr_step.specs.Effects.{Effect}
 use Rattle.gr_step.specs.Beyonds.{Stops}
 use Rattle.gr_step.specs.Listings.{frame_in, state_in}
 use Rattle.gr_step.specs.Objects.{contents_in}
@@ -53,7 +53,7 @@ FaultRow p e s g fault did reads =
 
 -- where the rules have the fault, and the table these reads, the fault is taken
 pub fault_takes : (p : Program) (e : Event) (number : ℕ) (o : Objects) (acting : Acting p e number o) (tries : Attempt) (fault : Fault)
-    (did : Option Operation) (read reads : List Object) (c : Change) (t : Contents) → Stops e.go fault did read (contents_in o) acting.goroutine c t
+    (did : Option Operation) (read reads : List Object) (c : Effect) (t : Contents) → Stops e.go fault did read (contents_in o) acting.goroutine c t
     → StepsTo (frame_in p) tries (contents_in o) (after_own (contents_in o) e.go (faulted acting.goroutine) (run_faulted fault))
     (code_report acting.goroutine (option_map operation_of did) (kinds.Fault fault))
     → FaultRow p e (contents_in o) acting.goroutine fault (option_map operation_of did) reads
@@ -112,7 +112,7 @@ module _ (p : Program) (s : Contents) (e : Event) (g : CodeGoroutine) (f : CodeF
       ∙ ap (λ (x : Choice). touches (flat_map (side (state_in p s)) (looked_at x [])) (objects.Run ∷ [])) plain
 
 -- operands that are at fault
-pub operands_fault : (p : Program) (e : Event) (number : ℕ) (o : Objects) (acting : Acting p e number o) (fault : Fault) (c : Change) (t : Contents)
+pub operands_fault : (p : Program) (e : Event) (number : ℕ) (o : Objects) (acting : Acting p e number o) (fault : Fault) (c : Effect) (t : Contents)
     → e.choice ≡ Plain → task_of (lowered p) acting.goroutine ≡ faults fault → Stops e.go fault None [] (contents_in o) acting.goroutine c t
     → Takes p e (attempt p e) (contents_in o) c t
 operands_fault p e number o acting fault c t plain task is =
@@ -128,7 +128,7 @@ operands_fault p e number o acting fault c t plain task is =
     (plain_fault_row p s e g here.f here.below here.acts (ap chooses task) fault plain) refl
 
 -- a fault beyond the operands, that did nothing with a channel
-pub task_faults : (p : Program) (e : Event) (number : ℕ) (o : Objects) (acting : Acting p e number o) (fault : Fault) (c : Change) (t : Contents)
+pub task_faults : (p : Program) (e : Event) (number : ℕ) (o : Objects) (acting : Acting p e number o) (fault : Fault) (c : Effect) (t : Contents)
     → e.choice ≡ Plain → chooses (task_of (lowered p) acting.goroutine) ≡ false
     → FaultsAt (meaning p) p (lowered p) (contents_in o) e acting.goroutine (acts_here p e number o acting).f (acts_here p e number o acting).below
     None fault

@@ -26,7 +26,7 @@ use Rattle.gr_lower.specs.Lowered.{lowered}
 use Rattle.gr_tables.specs.NamedChannels.{At, contents_of, seen_of, GoesBack, OfferAt, is_at_gate, withdrawn}
 use Rattle.gr_tables.specs.declared.channels.Channels.{Channels}
 use Rattle.gr_step.specs.declared.objects.Objects.{Objects}
-use Rattle.gr_step.specs.declared.record.Change.{Change}
+use Rattle.gr_step.specs.Effects.{Effect}
 use Rattle.gr_step.specs.Listings.{frame_in}
 use Rattle.gr_step.specs.Objects.{contents_in, run_of}
 use Rattle.gr_step.specs.Premises.{Acting, OfActor}
@@ -68,7 +68,7 @@ module _ (p : Program) (e : Event) (number : ℕ) (old : Objects) (acting : Acti
   module _ (meet : CanMeet p e (contents_in old) clause None c w.go w.case (Some (v, true)))
       (mid : Channels) (is_mid : contents_of mid ≡ updated same_channel (contents_of old.channels) c (Some (record x { receivers = ws })))
       (u : ChanUndo) (at_gate : is_at_gate u ≡ true) (goes : GoesBack ((c, u) ∷ []) old.channels mid) (names : List ChName) (to_leave : AreToLeave names c meet.m.waits)
-      (change : Change) (new : Objects)
+      (change : Effect) (new : Objects)
       (done : IsExchange (lowered p) e.go w.go (Passes clause None) (IsMet w.case (Some (v, true))) names (option_map_or Pick clause Hand) (sends_on c) []
       (objects.Gate c ∷ objects.Go w.go ∷ map objects.Gate (channels_but (c ∷ []) meet.m.waits)) ((c, u) ∷ []) change (record old { channels = mid }) new)
     where
@@ -123,7 +123,7 @@ module _ (p : Program) (e : Event) (number : ℕ) (old : Objects) (acting : Acti
         (can_exchange p e number old acting clause None c w.go w.case (Some (v, true)) its_receiver (sends_on c) [] (objects.Gate c ∷ []) r ready code coded
         mid u goes)
 
-    module _ (change : Change) (new : Objects)
+    module _ (change : Effect) (new : Objects)
         (done : IsExchange code e.go r.go (Passes clause None) (IsMet w.case (Some (z, true))) r.names.items (option_map_or Pick clause Hand) (sends_on c) []
         (objects.Gate c ∷ objects.Go w.go ∷ map objects.Gate (channels_but (c ∷ []) its_receiver.m.waits)) ((r.channel, u) ∷ []) change
         (record old { channels = mid }) new) where

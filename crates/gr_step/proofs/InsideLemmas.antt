@@ -29,7 +29,7 @@ use Rattle.gr_contents.proofs.NameLemmas.{channel_is, channel_self, go_self}
 use Rattle.gr_contents.proofs.WrittenLemmas.{written_parts_are_named, full_slots_meet}
 use Rattle.gr_goros.specs.declared.undo.GoUndo.{GoUndo}
 use Rattle.gr_tables.specs.NamedChannels.{chan_back, is_at_gate, AreAtGates, MoreAtGates}
-use Rattle.gr_step.specs.declared.record.Change.{Change}
+use Rattle.gr_step.specs.Effects.{Effect}
 use Rattle.gr_step.specs.Preparing.{AreToLeave}
 use Rattle.gr_step.specs.Records.{writes_of}
 use Rattle.gr_step.specs.Within.{IsAmong, EachIsAmong, PartsAreAmong}
@@ -68,7 +68,7 @@ more_before o os ps h = list_any-append (same o) os ps ∙ ap (λ b. list_any (s
 pub first_among : (n : List ℕ) (os : List Object) → IsAmong (Go n) (Go n ∷ os)
 first_among n os = ap (λ b. b || list_any (same (Go n)) os) (go_self n)
 
-pub own_is_written : (n : List ℕ) (c : Change) → IsAmong (Go n) (writes_of n c)
+pub own_is_written : (n : List ℕ) (c : Effect) → IsAmong (Go n) (writes_of n c)
 own_is_written n c = rw (go_self n) refl
 
 pub gate_first : (c : ChName) (os : List Object) → IsAmong (Gate c) (Gate c ∷ os)

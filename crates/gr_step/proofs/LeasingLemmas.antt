@@ -28,7 +28,7 @@ use Rattle.gr_tables.specs.declared.goroutines.Goroutines.{Goroutines}
 use Rattle.gr_lower.specs.Lowered.{lowered, meaning}
 use Rattle.gr_step.specs.declared.leasing.Lease.{Lease}
 use Rattle.gr_step.specs.declared.objects.Objects.{Objects}
-use Rattle.gr_step.specs.declared.record.Change.{Change}
+use Rattle.gr_step.specs.Effects.{Effect}
 use Rattle.gr_step.specs.declared.record.Record.{Record}
 use Rattle.gr_step.specs.declared.store.Store.{Store}
 use Rattle.gr_step.specs.Leasing.{AreRecords, no_record, one_more_record, GoesAlone, IsOwnRecord, CanBe, Walk, no_step, one_more, IsLease, IsLoanOf, loan_of, program_lent, name_lent, goroutine_lent, goroutine_led_to, records_led}
@@ -62,7 +62,7 @@ module _ (p : Program) (s : Contents) (run : Running p s) (valid : AreChannels s
       (local_stays_within (lowered p) g up.f up.below up.acts.up.frames here)
 
   -- the step is that of the rules
-  module _ (c : Change) (h : CodeGoroutine) (goes : GoesAlone (lowered p) g c h) where
+  module _ (c : Effect) (h : CodeGoroutine) (goes : GoesAlone (lowered p) g c h) where
     pub still_ready : h.status ≡ ready
     still_ready =
         let e = chosen_by n Plain in
@@ -86,7 +86,7 @@ module _ (p : Program) (s : Contents) (run : Running p s) (valid : AreChannels s
         (kinds_are.0 (state_in p s) e (goroutine_of (frame_in p) g))
 
     pub taken_alone : Takes p (chosen_by n Plain) (attempt p (chosen_by n Plain)) s c (with_goroutine s n (Some h))
-    taken_alone = subst {_, _} (λ (c : Change). Takes p (chosen_by n Plain) (attempt p (chosen_by n Plain)) s c (with_goroutine s n (Some h)))
+    taken_alone = subst {_, _} (λ (c : Effect). Takes p (chosen_by n Plain) (attempt p (chosen_by n Plain)) s c (with_goroutine s n (Some h)))
         (λ i. record { kind = c.kind; own = c.own; beyond = sym goes.beyond i }) alone_by_rules
 
   -- .. and its record is one of the store

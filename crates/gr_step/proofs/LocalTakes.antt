@@ -28,7 +28,7 @@ use Rattle.gr_contents.proofs.StandingLemmas.{local_step_keeps_standing}
 use Rattle.gr_lower.specs.Lowered.{lowered, meaning}
 use Rattle.gr_step.specs.Beyonds.{ChangesObjects, HasStopped, Stops}
 use Rattle.gr_step.specs.declared.objects.Objects.{Objects}
-use Rattle.gr_step.specs.declared.record.Change.{Change}
+use Rattle.gr_step.specs.Effects.{Effect}
 use Rattle.gr_step.specs.Listings.{frame_in, state_in}
 use Rattle.gr_step.specs.Objects.{contents_in, run_of}
 use Rattle.gr_step.specs.Premises.{Acting}
@@ -129,7 +129,7 @@ module _ (p : Program) (e : Event) (number : ℕ) (o : Objects) (acting : Acting
       local_room = own_room e.go (record { kind = kind; own = u; beyond = None }) (record o { goroutines = new }) stepped.own.room refl
 
       -- a fault
-      module _ (fault : Fault) (is : kind ≡ kinds.Fault fault) (c : Change) (last : Objects)
+      module _ (fault : Fault) (is : kind ≡ kinds.Fault fault) (c : Effect) (last : Objects)
           (stop : HasStopped fault u c (record o { goroutines = new }) last) where
         faults_as : LocallyIs acting.goroutine (task_of (lowered p) acting.goroutine) (kinds.Fault fault) stepped.after
         faults_as =

@@ -40,7 +40,7 @@ use Rattle.gr_lower.specs.Lowered.{lowered, meaning}
 use Rattle.gr_step.specs.Beyonds.{ReachesChannel, IsBadSize, Stops}
 use Rattle.gr_step.specs.declared.objects.Objects.{Objects}
 use Rattle.gr_step.specs.declared.record.Beyond.{Beyond}
-use Rattle.gr_step.specs.declared.record.Change.{Change}
+use Rattle.gr_step.specs.Effects.{Effect}
 use Rattle.gr_step.specs.Listings.{frame_in, state_in}
 use Rattle.gr_step.specs.Objects.{contents_in, run_of}
 use Rattle.gr_step.specs.Premises.{Acting}
@@ -79,11 +79,11 @@ module _ (p : Program) (e : Event) (number : ℕ) (o : Objects) (acting : Acting
   bad_size (negsuc n) task great =
       let here = acts_here p e number o acting in make_of_negative (meaning p) p (lowered p) s e g here.f here.below n here.acts task plain
 
-  pub size_takes : (size : ℤ) (c : Change) (t : Contents) → task_of (lowered p) g ≡ gives (Wants (Makes size)) → IsBadSize size
+  pub size_takes : (size : ℤ) (c : Effect) (t : Contents) → task_of (lowered p) g ≡ gives (Wants (Makes size)) → IsBadSize size
       → Stops e.go BadSize None [] s g c t → Takes p e (attempt p e) s c t
   size_takes size c t task bad is = task_faults p e number o acting BadSize c t plain (ap chooses task) (bad_size size task bad) is
 
-  pub many_takes : (n : ℕ) (c : Change) (t : Contents) → task_of (lowered p) g ≡ gives (Wants (Makes (pos n))) → n < most_places + 1
+  pub many_takes : (n : ℕ) (c : Effect) (t : Contents) → task_of (lowered p) g ≡ gives (Wants (Makes (pos n))) → n < most_places + 1
       → greatest_count ≤ g.channels → Stops e.go NameCount None [] s g c t → Takes p e (attempt p e) s c t
   many_takes n c t task small many is =
       let here = acts_here p e number o acting in
@@ -108,9 +108,9 @@ module _ (p : Program) (e : Event) (number : ℕ) (o : Objects) (acting : Acting
         (acting.counted.steps e.go g acting.there, fits)
 
     -- the channel is made, and the goroutine goes on with it
-    module _ (u : GoUndo) (b : Box Beyond Global) (reach : ReachesChannel next b.value) (gos : Goroutines)
+    module _ (u : GoUndo) (b : Beyond) (reach : ReachesChannel next b) (gos : Goroutines)
         (on : Arrived p e.go (Channel (Chan (Some next))) g u o.goroutines gos) where
-      abbrev c : Change
+      abbrev c : Effect
       c = record { kind = kinds.Make; own = u; beyond = Some b }
 
       abbrev t : Contents
@@ -173,7 +173,7 @@ module _ (p : Program) (e : Event) (number : ℕ) (o : Objects) (acting : Acting
             printed = on.silent;
             operation = ap (option_map operation_of) reach.operation;
             writes = ap (λ os. objects.Go e.go ∷ os) reach.writes ∙ ap (λ (r : Touches). objects.Go e.go ∷ r.writes) (sym row_is);
-            reads = ap (λ s. if s then reads_in b.value else objects.Run ∷ reads_in b.value) reach.stops
+            reads = ap (λ s. if s then reads_in b else objects.Run ∷ reads_in b) reach.stops
                 ∙ ap (λ os. objects.Run ∷ os) reach.reads
                 ∙ ap (λ (r : Touches). each_once (objects.Go e.go ∷ r.writes) (objects.Run ∷ r.reads)) (sym row_is);
             back = goes_back;

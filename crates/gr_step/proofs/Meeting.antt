@@ -33,7 +33,7 @@ use Rattle.gr_tables.specs.NamedChannels.{At, contents_of, seen_of, GoesBack, Ta
 use Rattle.gr_tables.specs.declared.channels.Channels.{Channels}
 use Rattle.gr_step.specs.declared.objects.Objects.{Objects}
 use Rattle.gr_step.specs.declared.partners.Prepared.{Prepared}
-use Rattle.gr_step.specs.declared.record.Change.{Change}
+use Rattle.gr_step.specs.Effects.{Effect}
 use Rattle.gr_step.specs.Listings.{frame_in}
 use Rattle.gr_step.specs.Objects.{contents_in, run_of}
 use Rattle.gr_step.specs.Premises.{Acting, OfActor}
@@ -107,7 +107,7 @@ module _ (p : Program) (e : Event) (number : ℕ) (old : Objects) (acting : Acti
           (can_exchange p e number old acting clause (Some (w.value, true)) c w.go w.case None its_sender (receives_from c) sides touched r ready code coded
           mid u goes)
 
-      module _ (change : Change) (new : Objects)
+      module _ (change : Effect) (new : Objects)
           (done : IsExchange code e.go r.go (Passes clause (Some (z, true))) (IsMet w.case None) r.names.items (option_map_or Pick clause Meet)
           (receives_from c) sides written ((r.channel, u) ∷ []) change (record old { channels = mid }) new) where
         so : IsExchange (lowered p) e.go w.go (Passes clause (Some (w.value, true))) (IsMet w.case None) r.names.items (option_map_or Pick clause Meet)
@@ -168,7 +168,7 @@ module _ (p : Program) (e : Event) (number : ℕ) (old : Objects) (acting : Acti
           (can_exchange p e number old acting clause (Some (item.0, true)) c w.go w.case None its_mover (receives_from c) [] moving r ready code coded
           mid u goes)
 
-      module _ (change : Change) (new : Objects)
+      module _ (change : Effect) (new : Objects)
           (done : IsExchange code e.go r.go (Passes clause (Some (z, true))) (IsMet w.case None) r.names.items (option_map_or Pick clause Take)
           (receives_from c) [] moved ((r.channel, u) ∷ []) change (record old { channels = mid }) new) where
         done_so : IsExchange (lowered p) e.go w.go (Passes clause (Some (item.0, true))) (IsMet w.case None) r.names.items (option_map_or Pick clause Take)

@@ -14,7 +14,7 @@ use Rattle.gr_tables.specs.NamedGoroutines.{seen_at, seen_of, goroutines_of, roo
 use Rattle.gr_tables.proofs.ByNumber.{seen_named}
 use Rattle.gr_step.specs.declared.objects.Objects.{Objects}
 use Rattle.gr_step.specs.declared.record.Beyond.{Beyond}
-use Rattle.gr_step.specs.declared.record.Change.{Change}
+use Rattle.gr_step.specs.Effects.{Effect}
 use Rattle.gr_step.specs.Objects.{contents_in}
 use Rattle.gr_step.specs.Records.{go_back, GoesFit, NeedNoFrame, FramesStay, goroutines_changed}
 use Rattle.gr_step.specs.Premises.{Acting}
@@ -52,10 +52,10 @@ no_frame (undos.Finished f n cells) a b back same = refl
 no_frame (undos.Faulted x) a b back same = refl
 no_frame (undos.Retried s) a b back same = refl
 
-pub frames_stay : (n : List ℕ) (c : Change) → NeedNoFrame (goroutines_changed n c) → FramesStay n c
+pub frames_stay : (n : List ℕ) (c : Effect) → NeedNoFrame (goroutines_changed n c) → FramesStay n c
 frames_stay n c none = by_beyond c.beyond
   where
-    by_beyond : (o : Option (Box Beyond Global)) → elim o as (λ _. Type 0) [ Some b ↦ NeedNoFrame (goroutines_changed n c) | None ↦ Unit {0} ]
+    by_beyond : (o : Option Beyond) → elim o as (λ _. Type 0) [ Some b ↦ NeedNoFrame (goroutines_changed n c) | None ↦ Unit {0} ]
     by_beyond None = tt
     by_beyond (Some b) = none
 

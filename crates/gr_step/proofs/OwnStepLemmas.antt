@@ -52,6 +52,8 @@ none_runs (faulted e) = refl
 
 unready : (s : seen.Status) (b : Bool) → ¬ (s ≡ statuses.Ready) → false ≡ by_status (status_of s) b
 unready statuses.Ready b not = absurd (not refl)
+unready (statuses.Sending c) b not = refl
+unready (statuses.Receiving c) b not = refl
 unready (statuses.Waiting ws) b not = refl
 unready statuses.Finished b not = refl
 

@@ -21,7 +21,7 @@ use Rattle.gr_contents.specs.Partners.{AreChannels}
 use Rattle.gr_contents.specs.Standing.{AllStand, ContentsStand}
 use Rattle.gr_contents.proofs.StandingLemmas.{change_keeps_standing}
 use Rattle.gr_lower.specs.Lowered.{lowered, meaning}
-use Rattle.gr_step.specs.declared.record.Change.{Change}
+use Rattle.gr_step.specs.Effects.{Effect}
 use Rattle.gr_step.specs.Listings.{frame_in, state_in}
 use Rattle.gr_step.specs.Records.{operation_in, is_printed, stops, writes_of, reads_of, goroutines_changed, channels_changed, begun_by}
 use Rattle.gr_step.specs.Records.{made_by}
@@ -49,7 +49,7 @@ module _ (n : List ℕ) (f : List ℕ → Option CodeGoroutine) (g after : CodeG
   own_fits = rw (same_name n) (fits, tt)
 
 -- the change reaches no other goroutine and no channel
-pub record IsOwn (n : List ℕ) (c : Change) : Type 0 where
+pub record IsOwn (n : List ℕ) (c : Effect) : Type 0 where
   pub goroutines : goroutines_changed n c ≡ (n, c.own) ∷ []
   pub channels : channels_changed c ≡ []
   pub begins : begun_by c ≡ None
@@ -60,7 +60,7 @@ pub record IsOwn (n : List ℕ) (c : Change) : Type 0 where
 abbrev pub after_own : Contents → List ℕ → CodeGoroutine → Run → Contents
 after_own s n after r = record (with_goroutine s n (Some after)) { run = r }
 
-module _ (s : Contents) (n : List ℕ) (g after : CodeGoroutine) (c : Change) (r : Run) (there : s.goroutines n ≡ Some g)
+module _ (s : Contents) (n : List ℕ) (g after : CodeGoroutine) (c : Effect) (r : Run) (there : s.goroutines n ≡ Some g)
     (back : undone c.own after ≡ g) (fits : Fits c.own after) (own : IsOwn n c) (run : (if stops c then live else r) ≡ s.run) where
   abbrev t : Contents
   t = after_own s n after r
@@ -83,7 +83,7 @@ module _ (s : Contents) (n : List ℕ) (g after : CodeGoroutine) (c : Change) (r
   }
 
 -- it stays within what the step touched
-own_within : (s : Contents) (n : List ℕ) (after : CodeGoroutine) (c : Change) (r : Run) → IsOwn n c → AreChannels s → ChangesWithin n c (after_own s n after r)
+own_within : (s : Contents) (n : List ℕ) (after : CodeGoroutine) (c : Effect) (r : Run) → IsOwn n c → AreChannels s → ChangesWithin n c (after_own s n after r)
 own_within s n after c r own valid = record {
   goroutines = subst {_, _} (λ us. EachIsAmong Go us (writes_of n c)) (sym own.goroutines) (own_is_written n c, tt);
   begun = λ q is. absurd (let no : None ≡ Some q = sym own.begins ∙ is in cc);
@@ -94,7 +94,7 @@ own_within s n after c r own valid = record {
 }
 
 -- what the change of a step tells is what the rules note of it
-pub record IsTold (p : Program) (e : Event) (s : Contents) (report : Report) (c : Change) : Type 0 where
+pub record IsTold (p : Program) (e : Event) (s : Contents) (report : Report) (c : Effect) : Type 0 where
   pub ordinal : report.ordinal ≡ count (state_in p s) e.go + 1
   pub kind : c.kind ≡ kind_of report
   pub printed : is_printed c.own ≡ is_some report.printed
@@ -103,7 +103,7 @@ pub record IsTold (p : Program) (e : Event) (s : Contents) (report : Report) (c 
   pub reads : reads_of c ≡ each_once (table (state_in p s) e report).writes (table (state_in p s) e report).reads
 
 -- where the step is that of the rules, it is taken
-pub own_takes : (p : Program) (e : Event) (attempt : Attempt) (s t : Contents) (g after : CodeGoroutine) (c : Change) (r : Run) (report : Report)
+pub own_takes : (p : Program) (e : Event) (attempt : Attempt) (s t : Contents) (g after : CodeGoroutine) (c : Effect) (r : Run) (report : Report)
     → s.goroutines e.go ≡ Some g → undone c.own after ≡ g → Fits c.own after → IsOwn e.go c → (if stops c then live else r) ≡ s.run
     → StepsTo (frame_in p) attempt s (after_own s e.go after r) report → IsTold p e s report c → ContentsStand (meaning p) (lowered p) s
     → AreChannels s → AllStand (meaning p) (lowered p) after.frames → t ≡ after_own s e.go after r → Takes p e attempt s c t

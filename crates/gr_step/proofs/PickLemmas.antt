@@ -40,7 +40,7 @@ use Rattle.gr_step.specs.Picks.{is_send, PicksArm, PicksReceive}
 use Rattle.gr_step.specs.Possible.{arm_at, arm_given, channel_given}
 use Rattle.gr_step.specs.Premises.{Acting, OfActor}
 use Rattle.gr_step.specs.Communicating.{TrialIsSound, Tried, Chosen}
-use Rattle.gr_step.specs.declared.record.Change.{Change}
+use Rattle.gr_step.specs.Effects.{Effect}
 use Rattle.gr_contents.specs.Contents.{Contents}
 use Rattle.gr_step.proofs.EventLemmas.{some_is, found_is}
 use Rattle.gr_step.proofs.PossibleLemmas.{AreClauses, no_clause, clause, have, innermost, task_of_arms, plain_at_fault, arms_at}
@@ -155,7 +155,7 @@ module _ (p : Program) (e : Event) (number : ℕ) (o : Objects) (a : Acting p e 
   pub picked_sound : TrialIsSound p e (contents_in o) (λ b otherwise. receive b (Some x.case) x.channel zero_value otherwise)
   picked_sound = trial_sound p e number o a (λ b otherwise. receive b (Some x.case) x.channel zero_value otherwise) step_of
 
-  pub picked_chosen : (change : Option Change) (t : Contents)
+  pub picked_chosen : (change : Option Effect) (t : Contents)
       → Tried p e (λ b otherwise. receive b (Some x.case) x.channel zero_value otherwise) (contents_in o) change t
       → Chosen p e (contents_in o) change t
   picked_chosen = trial_chosen p e number o a (λ b otherwise. receive b (Some x.case) x.channel zero_value otherwise) step_of

@@ -19,7 +19,7 @@ use Rattle.gr_tables.specs.NamedGoroutines.{ComesTo, TakenBack}
 use Rattle.gr_tables.specs.declared.goroutines.Goroutines.{Goroutines}
 use Rattle.gr_tables.proofs.ByNumber.{seen_named}
 use Rattle.gr_step.specs.declared.objects.Objects.{Objects}
-use Rattle.gr_step.specs.declared.record.Change.{Change}
+use Rattle.gr_step.specs.Effects.{Effect}
 use Rattle.gr_step.specs.Records.{channels_changed, HasRoom}
 use Rattle.gr_step.specs.Premises.{Acting}
 use Rattle.gr_step.proofs.ObjectLemmas.{change_was, change_is}
@@ -109,7 +109,7 @@ no_rooms us rooms is =
     (λ q. record { items = omega arith; senders = omega arith; receivers = omega arith })
 
 -- there is room for taking back a change that reaches no channel
-pub own_room : (n : List ℕ) (c : Change) (o : Objects) → need c.own ≤ go_rooms_of o.goroutines n → channels_changed c ≡ [] → HasRoom n c o
+pub own_room : (n : List ℕ) (c : Effect) (o : Objects) → need c.own ≤ go_rooms_of o.goroutines n → channels_changed c ≡ [] → HasRoom n c o
 own_room n c o room none = record { frames = room; places = no_rooms (channels_changed c) (rooms_of o.channels) none }
 
 -- what is true of the goroutine of a name is true at its number

@@ -5,9 +5,10 @@ use Rattle.std.specs.List.{list_any}
 use Rattle.std.proofs.lemmas.List.Folds.{list_any-append}
 use Rattle.gr_base.specs.declared.names.ChName.{ChName}
 use Rattle.gr_rules.specs.Operators.{same_channel}
-use Rattle.gr_rules.specs.Goroutines.{Wait, Status, waiting, channel_of}
+use Rattle.gr_rules.specs.Goroutines.{Wait, waiting, channel_of}
 use Rattle.gr_rules.specs.Actors.{channels_but}
 use Rattle.gr_contents.specs.Meetings.{NamesChannels}
+use Rattle.gr_contents.specs.Partners.{waits_in}
 use Rattle.gr_contents.proofs.MeetingLemmas.{named}
 use Rattle.gr_goros.specs.Views.{Seen, waits_of}
 use Rattle.gr_goros.specs.declared.wait.Wait.{Wait as DeclaredWait}
@@ -43,9 +44,13 @@ all_to_leave c ws more = record {
   otherwise = λ many. names_at_last c (waits_of ws);
 }
 
--- what a goroutine waits for, as it was seen
-pub waits_alike : (o : Goroutines) (n : List ℕ) (g : Seen) (vs ws : List Wait) → Some g ≡ seen_of o n → waiting vs ≡ g.content.status
-    → At (WaitsFor ws) (goroutines_of o n) → vs ≡ ws
-waits_alike o n g vs ws seen status h =
-    let here : At (WaitsFor ws) (Some g.content) = subst {_, _} (λ x. At (WaitsFor ws) (option_map (λ (g : Seen). g.content) x)) (sym seen) h in
-    ap (λ (s : Status). elim s [ waiting l ↦ l | _ ↦ vs ]) (status ∙ here)
+-- a goroutine that waits, as it was seen
+pub waits_there : (o : Goroutines) (n : List ℕ) (g : Seen) (ws : List Wait) → Some g ≡ seen_of o n → At (WaitsFor ws) (goroutines_of o n)
+    → g.content.status ≡ waiting ws
+waits_there o n g ws seen h = subst {_, _} (λ x. At (WaitsFor ws) (option_map (λ (g : Seen). g.content) x)) (sym seen) h
+
+-- a goroutine that waits for one thing alone leaves no further channel
+pub alone_leaves_none : (w : Wait) (c : ChName) (ws : List Wait) → waiting (w ∷ []) ≡ waiting ws → AreToLeave [] c ws
+alone_leaves_none w c ws is =
+    let same : w ∷ [] ≡ ws = ap waits_in is in
+    subst (λ (l : List Wait). AreToLeave [] c l) same (record { alone = λ one. refl; otherwise = λ not. absurd (not refl) })

@@ -9,14 +9,14 @@ use Rattle.gr_goros.specs.Undoing.{need}
 use Rattle.gr_goros.specs.declared.undo.GoUndo.{GoUndo}
 use Rattle.gr_step.specs.declared.record.Operation.{Operation}
 use Rattle.gr_step.specs.declared.record.Beyond.{Beyond}
-use Rattle.gr_step.specs.declared.record.Change.{Change}
+use Rattle.gr_step.specs.Effects.{Effect}
 use Rattle.gr_step.specs.Records.{operation_of, operation_in, stops, writes_of, reads_of, NeedNoFrame}
 use Rattle.gr_step.specs.Parts.{reads_in}
 use Rattle.gr_step.specs.Beyonds.{Reaches, ReachesBeyond}
 use Rattle.gr_step.proofs.OwnSteps.{IsOwn}
 
 -- what it did with a channel, what it read and wrote, and whether it stopped the program
-pub record Told (did : Option Operation) (read written : List Object) (stopped : Bool) (n : List ℕ) (c : Change) : Type 0 where
+pub record Told (did : Option Operation) (read written : List Object) (stopped : Bool) (n : List ℕ) (c : Effect) : Type 0 where
   pub own : IsOwn n c
   pub operation : operation_in c ≡ option_map operation_of did
   pub writes : writes_of n c ≡ Go n ∷ written
@@ -24,7 +24,7 @@ pub record Told (did : Option Operation) (read written : List Object) (stopped :
   pub stops : stops c ≡ stopped
 
 module _ (did : Option Operation) (read written : List Object) (stopped : Bool) (n : List ℕ) where
-  by : (k : Kind) (u : GoUndo) (o : Option (Box Beyond Global)) → ReachesBeyond did read written stopped (record { kind = k; own = u; beyond = o })
+  by : (k : Kind) (u : GoUndo) (o : Option Beyond) → ReachesBeyond did read written stopped (record { kind = k; own = u; beyond = o })
       → need u ≡ 0 → Told did read written stopped n (record { kind = k; own = u; beyond = o })
   by k u None h none = absurd h
   by k u (Some b) h none = record {
@@ -37,12 +37,12 @@ module _ (did : Option Operation) (read written : List Object) (stopped : Bool) 
     };
     operation = ap (option_map operation_of) h.operation;
     writes = ap (λ os. Go n ∷ os) h.writes;
-    reads = ap (λ s. if s then reads_in b.value else objects.Run ∷ reads_in b.value) h.stops
+    reads = ap (λ s. if s then reads_in b else objects.Run ∷ reads_in b) h.stops
         ∙ ap (λ os. if stopped then os else objects.Run ∷ os) h.reads;
     stops = h.stops;
   }
 
-  pub told : (c : Change) → ReachesBeyond did read written stopped c → need c.own ≡ 0 → Told did read written stopped n c
+  pub told : (c : Effect) → ReachesBeyond did read written stopped c → need c.own ≡ 0 → Told did read written stopped n c
   told c h none = by c.kind c.own c.beyond h none
 
 -- a change that reaches no further than its goroutine
@@ -50,15 +50,15 @@ pub alone : (n : List ℕ) (k : Kind) (u : GoUndo) → IsOwn n (record { kind = 
 alone n k u = record { goroutines = refl; channels = refl; begins = refl; makes = refl; frames = tt }
 
 -- .. of a change whose reach is known
-abbrev ReachesIn : Option Operation → List Object → List Object → Bool → Option (Box Beyond Global) → Type 0
-ReachesIn did read written stopped o = elim o [ Some b ↦ Reaches did read written stopped b.value | None ↦ ⊥ ]
+abbrev ReachesIn : Option Operation → List Object → List Object → Bool → Option Beyond → Type 0
+ReachesIn did read written stopped o = elim o [ Some b ↦ Reaches did read written stopped b | None ↦ ⊥ ]
 
-pub reaches_some : (did : Option Operation) (read written : List Object) (stopped : Bool) (c : Change) (b : Box Beyond Global) → c.beyond ≡ Some b
-    → Reaches did read written stopped b.value → ReachesBeyond did read written stopped c
+pub reaches_some : (did : Option Operation) (read written : List Object) (stopped : Bool) (c : Effect) (b : Beyond) → c.beyond ≡ Some b
+    → Reaches did read written stopped b → ReachesBeyond did read written stopped c
 reaches_some did read written stopped c b is h = subst {_, _} (ReachesIn did read written stopped) (sym is) h
 
 -- .. and of one that reaches no further than its goroutine
-pub told_none : (n : List ℕ) (c : Change) → c.beyond ≡ None → Told None [] [] false n c
+pub told_none : (n : List ℕ) (c : Effect) → c.beyond ≡ None → Told None [] [] false n c
 told_none n c is =
-    subst {_, _} (λ (o : Option (Box Beyond Global)). Told None [] [] false n (record { kind = c.kind; own = c.own; beyond = o })) (sym is)
+    subst {_, _} (λ (o : Option Beyond). Told None [] [] false n (record { kind = c.kind; own = c.own; beyond = o })) (sym is)
     (record { own = alone n c.kind c.own; operation = refl; writes = refl; reads = refl; stops = refl })

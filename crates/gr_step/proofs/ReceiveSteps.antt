@@ -31,7 +31,7 @@ use Rattle.gr_contents.proofs.MeetingLemmas.{leaving_senders_is_thin}
 use Rattle.gr_lower.specs.Lowered.{lowered}
 use Rattle.gr_goros.specs.declared.undo.GoUndo.{GoUndo}
 use Rattle.gr_tables.specs.NamedChannels.{chan_back, ChansFit, withdrawn}
-use Rattle.gr_step.specs.declared.record.Change.{Change}
+use Rattle.gr_step.specs.Effects.{Effect}
 use Rattle.gr_step.specs.Listings.{frame_in, state_in}
 use Rattle.gr_step.specs.Premises.{Running}
 use Rattle.gr_step.specs.Taking.{Takes}
@@ -60,7 +60,7 @@ full p s run c x w ws made senders =
 module _ (p : Program) (s : Contents) (run : Running p s) (e : Event) (g : CodeGoroutine) (f : CodeFrame) (below : List CodeFrame)
     (there : s.goroutines e.go ≡ Some g) (frames : g.frames ≡ f ∷ below) (clause : Option ℕ) (number : IsClause clause)
     (c : ChName) (initial : Value) (x : Content) (made : s.channels c ≡ Some x) (valid : IsChannel x) (otherwise : Attempt)
-    (t : Contents) (own : GoUndo) (us : List (ChName × ChanUndo)) (change : Change)
+    (t : Contents) (own : GoUndo) (us : List (ChName × ChanUndo)) (change : Effect)
     (is_run : t.run ≡ s.run) (back : (q : ChName) → chan_back us q (t.channels q) ≡ s.channels q) (fits : ChansFit us t.channels) where
   abbrev a : Actor
   a = actor_of (frame_in p) p e g f below

@@ -44,7 +44,7 @@ use Rattle.gr_goros.specs.Views.{outcome_of}
 use Rattle.gr_lower.specs.Lowered.{lowered, meaning}
 use Rattle.gr_step.specs.Beyonds.{ChangesObjects, ReachesBeyond, Stops}
 use Rattle.gr_step.specs.declared.objects.Objects.{Objects}
-use Rattle.gr_step.specs.declared.record.Change.{Change}
+use Rattle.gr_step.specs.Effects.{Effect}
 use Rattle.gr_step.specs.Choices.{IsFaultOf}
 use Rattle.gr_step.specs.Communicating.{Trial, TrialIsSound, Tried, Chosen}
 use Rattle.gr_step.specs.Listings.{frame_in, state_in}
@@ -63,7 +63,7 @@ use Rattle.gr_step.proofs.RunningLemmas.{ActsHere, acts_here, never_unsound}
 use Rattle.gr_step.proofs.SelectLists.{some_is, default_above, once_in_fault, once_in_default}
 
 -- an attempt that ends in the same is taken as this one
-pub taken_alike : (p : Program) (e : Event) (a b : Attempt) (s t : Contents) (c : Change) → Ends (frame_in p) s a b → Takes p e b s c t
+pub taken_alike : (p : Program) (e : Event) (a b : Attempt) (s t : Contents) (c : Effect) → Ends (frame_in p) s a b → Takes p e b s c t
     → Takes p e a s c t
 taken_alike p e a b s t c ends h = record {
   report = h.report;
@@ -116,7 +116,7 @@ module _ (p : Program) (e : Event) (number : ℕ) (o : Objects) (acting : Acting
     pub trial_sound : TrialIsSound p e s trial
     trial_sound h f below there frames = (refuse no_such_choice, λ q. never_unsound p s acting.running e (step h f below there frames ∙ q))
 
-    pub trial_chosen : (change : Option Change) (t : Contents) → Tried p e trial s change t → Chosen p e s change t
+    pub trial_chosen : (change : Option Effect) (t : Contents) → Tried p e trial s change t → Chosen p e s change t
     trial_chosen None t tried = (tried.0, step_here ∙ tried.1 g here.f here.below acting.there here.acts.up.frames (refuse no_such_choice))
     trial_chosen (Some c) t tried =
         taken_alike p e (attempt p e) (trial a (refuse no_such_choice)) s t c step_here
@@ -134,7 +134,7 @@ module _ (p : Program) (e : Event) (number : ℕ) (o : Objects) (acting : Acting
   no_fault_sent i c (Err fault) other step = never_unsound p s acting.running e (step g here.f here.below acting.there here.acts.up.frames)
 
   -- a fault of a value, where the clauses that the choice looks at are these
-  pub value_fault_takes : (ws : List Communication) (fault : Fault) (read : List Object) (c : Change) (t : Contents)
+  pub value_fault_takes : (ws : List Communication) (fault : Fault) (read : List Object) (c : Effect) (t : Contents)
       → looked_at e.choice (clauses_in (map (frame_in p) g.frames)) ≡ ws → IsFaultOf p e s g fault
       → read ≡ each_once [] (flat_map (side (state_in p s)) ws) → Stops e.go fault None read s g c t → Takes p e (attempt p e) s c t
   value_fault_takes ws fault read c t looked steps are is =
@@ -238,7 +238,7 @@ module _ (p : Program) (e : Event) (number : ℕ) (o : Objects) (acting : Acting
                 ((default_has_values (frame_in p) s a ws i (are_channels o) (sound Default pick) there none).1 vs values))
                 (acting.counted.steps e.go g acting.there)
 
-            module _ (read : List Object) (c : Change) (new : Objects) (kind : c.kind ≡ kinds.Default) (beyond : ReachesBeyond None read [] false c)
+            module _ (read : List Object) (c : Effect) (new : Objects) (kind : c.kind ≡ kinds.Default) (beyond : ReachesBeyond None read [] false c)
                 (changes : ChangesObjects (ChangesBy number (Arrives (lowered p) (Passes (Some i) None) c.own)) o.run o new) where
               on : Arrived p e.go (Passes (Some i) None) g c.own o.goroutines new.goroutines
               on = arrived_here p e number o acting (Passes (Some i) None) c.own new.goroutines changes.goroutines

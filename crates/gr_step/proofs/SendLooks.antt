@@ -20,7 +20,7 @@ use Rattle.gr_tables.specs.NamedChannels.{seen_of}
 use Rattle.gr_tables.specs.NamedGoroutines.{At, IsCounted, seen_at}
 use Rattle.gr_step.specs.declared.objects.Objects.{Objects}
 use Rattle.gr_step.specs.declared.record.Operation.TheVariants.{SendsOn}
-use Rattle.gr_step.specs.declared.record.Change.{Change}
+use Rattle.gr_step.specs.Effects.{Effect}
 use Rattle.gr_step.specs.Beyonds.{Stops}
 use Rattle.gr_step.specs.Listings.{frame_in}
 use Rattle.gr_step.specs.Objects.{contents_in}
@@ -52,7 +52,7 @@ module _ (p : Program) (e : Event) (number : ℕ) (old : Objects) (acting : Acti
 
   module _ (found : Seen) (seen : Some found ≡ seen_of old.channels c) where
     -- closed, it is a fault
-    module _ (closed : found.content.closed ≡ true) (d : ChName) (is : d ≡ c) (reads : List Object) (read : reads ≡ objects.Gate c ∷ []) (change : Change)
+    module _ (closed : found.content.closed ≡ true) (d : ChName) (is : d ≡ c) (reads : List Object) (read : reads ≡ objects.Gate c ∷ []) (change : Effect)
         (t : Contents) (stops : Stops e.go SendOnClosed (Some (SendsOn d)) reads (contents_in old) acting.goroutine change t) where
       here_faults : (f : CodeFrame) (below : List CodeFrame) (otherwise : Attempt)
           → Takes p e (send (actor_of (frame_in p) p e acting.goroutine f below) clause c v otherwise) (contents_in old) change t

@@ -21,7 +21,7 @@ use Rattle.gr_contents.proofs.PerformingLemmas.{same_end_same_step}
 use Rattle.gr_contents.proofs.TaskLemmas.{attempt_is_of_the_rule}
 use Rattle.gr_lower.specs.Lowered.{lowered, meaning}
 use Rattle.gr_step.specs.declared.objects.Objects.{Objects}
-use Rattle.gr_step.specs.declared.record.Change.{Change}
+use Rattle.gr_step.specs.Effects.{Effect}
 use Rattle.gr_step.specs.Listings.{frame_in}
 use Rattle.gr_step.specs.Objects.{contents_in}
 use Rattle.gr_step.specs.Premises.{Acting, OfGoroutine, OfActor}
@@ -31,7 +31,7 @@ use Rattle.gr_step.proofs.RunningLemmas.{code_fits, never_unsound, acts_here}
 use Rattle.gr_step.proofs.EventLemmas.{some_is}
 
 -- an attempt that ends in the same is the same step
-pub takes_as : (p : Program) (e : Event) (a b : Attempt) (s t : Contents) (c : Change)
+pub takes_as : (p : Program) (e : Event) (a b : Attempt) (s t : Contents) (c : Effect)
     → Ends (frame_in p) s a b → Takes p e b s c t → Takes p e a s c t
 takes_as p e a b s t c same h = record {
   report = h.report;
@@ -56,7 +56,7 @@ task_at p e s make channel known is task =
     subst (λ o. OfGoroutine e s (λ g. task_of (lowered p) g ≡ gives (Wants (Communicates (make o))))) is task
 
 -- .. and what was tried, by the value and by how it ended
-pub tried_as : (p : Program) (e : Event) (s : Contents) (trial : Value → Trial) (copy v : Value) → copy ≡ v → (o known : Option Change) → o ≡ known
+pub tried_as : (p : Program) (e : Event) (s : Contents) (trial : Value → Trial) (copy v : Value) → copy ≡ v → (o known : Option Effect) → o ≡ known
     → (t : Contents) → Tried p e (trial copy) s o t → Tried p e (trial v) s known t
 tried_as p e s trial copy v same o known is t tried =
     subst (λ c. Tried p e (trial v) s c t) is (subst (λ w. Tried p e (trial w) s o t) same tried)
@@ -93,7 +93,7 @@ module _ (p : Program) (e : Event) (number : ℕ) (o : Objects) (a : Acting p e 
   trial_is_sound g f below there frames = (rest (actor_of (frame_in p) p e g f below), tried_soundly g f below there frames)
 
   -- it proceeds
-  pub took : (change : Change) (t : Contents) → Tried p e trial s (Some change) t → Takes p e (attempt p e) s change t
+  pub took : (change : Effect) (t : Contents) → Tried p e trial s (Some change) t → Takes p e (attempt p e) s change t
   took change t tried =
       let h = acts_here p e number o a in
       takes_as p e _ _ s t change (tries a.goroutine h.f h.below a.there h.acts.up.frames)
@@ -106,7 +106,7 @@ module _ (p : Program) (e : Event) (number : ℕ) (o : Objects) (a : Acting p e 
         (λ g f below there frames bad. tried_soundly g f below there frames
         (tried.1 g f below there frames (rest (actor_of (frame_in p) p e g f below)) ∙ bad))
 
-    pub waited : (change : Change) (t : Contents) → OfActor p e m (λ b. Takes p e (rest b) m change t) → Takes p e (attempt p e) s change t
+    pub waited : (change : Effect) (t : Contents) → OfActor p e m (λ b. Takes p e (rest b) m change t) → Takes p e (attempt p e) s change t
     waited change t takes =
         let h = acts_here p e number o a in
         let b = actor_of (frame_in p) p e a.goroutine h.f h.below in

@@ -37,7 +37,7 @@ use Rattle.gr_lower.specs.Lowered.{lowered, meaning}
 use Rattle.gr_step.specs.Beyonds.{ReachesChild, Stops}
 use Rattle.gr_step.specs.declared.objects.Objects.{Objects}
 use Rattle.gr_step.specs.declared.record.Beyond.{Beyond}
-use Rattle.gr_step.specs.declared.record.Change.{Change}
+use Rattle.gr_step.specs.Effects.{Effect}
 use Rattle.gr_step.specs.Listings.{frame_in, state_in}
 use Rattle.gr_step.specs.Objects.{contents_in, run_of}
 use Rattle.gr_step.specs.Premises.{Acting}
@@ -90,13 +90,13 @@ module _ (p : Program) (e : Event) (number : ℕ) (o : Objects) (acting : Acting
   next = next_child e g
 
   -- a name that is too long, and one goroutine too many
-  pub deep_takes : (c : Change) (t : Contents) → most_counts ≤ length e.go → Stops e.go NameDepth None [] s g c t → Takes p e (attempt p e) s c t
+  pub deep_takes : (c : Effect) (t : Contents) → most_counts ≤ length e.go → Stops e.go NameDepth None [] s g c t → Takes p e (attempt p e) s c t
   deep_takes c t long is =
       let here = acts_here p e number o acting in
       task_faults p e number o acting NameDepth c t plain (ap chooses task)
       (go_too_deep (meaning p) p (lowered p) s e g here.f here.below function vs here.acts task plain long) is
 
-  pub many_takes : (c : Change) (t : Contents) → length e.go < most_counts → greatest_count ≤ g.children → Stops e.go NameCount None [] s g c t
+  pub many_takes : (c : Effect) (t : Contents) → length e.go < most_counts → greatest_count ≤ g.children → Stops e.go NameCount None [] s g c t
       → Takes p e (attempt p e) s c t
   many_takes c t short many is =
       let here = acts_here p e number o acting in
@@ -137,11 +137,11 @@ module _ (p : Program) (e : Event) (number : ℕ) (o : Objects) (acting : Acting
 
         -- and the child is put under its name
         module _ (place : ℕ) (child : Seen) (new : Goroutines) (here_known : name_at known place ≡ Some next)
-            (begins : IsStarted (entered (lowered p) function vs) child.content) (b : Box Beyond Global) (reach : ReachesChild next b.value) where
+            (begins : IsStarted (entered (lowered p) function vs) child.content) (b : Beyond) (reach : ReachesChild next b) where
           place_named : name_at went place ≡ Some next
           place_named = ap (λ l. slice_get l place) change.2.sets.names ∙ here_known
 
-          abbrev c : Change
+          abbrev c : Effect
           c = record { kind = kinds.Go; own = u; beyond = Some b }
 
           abbrev t : Contents
@@ -211,7 +211,7 @@ module _ (p : Program) (e : Event) (number : ℕ) (o : Objects) (acting : Acting
                 printed = on.silent;
                 operation = ap (option_map operation_of) reach.operation;
                 writes = ap (λ os. objects.Go e.go ∷ os) reach.writes ∙ ap (λ (r : Touches). objects.Go e.go ∷ r.writes) (sym row_is);
-                reads = ap (λ s. if s then reads_in b.value else objects.Run ∷ reads_in b.value) reach.stops
+                reads = ap (λ s. if s then reads_in b else objects.Run ∷ reads_in b) reach.stops
                     ∙ ap (λ os. objects.Run ∷ os) reach.reads
                     ∙ ap (λ (r : Touches). each_once (objects.Go e.go ∷ r.writes) (objects.Run ∷ r.reads)) (sym row_is);
                 back = goes_back;

@@ -9,12 +9,12 @@ use Rattle.gr_rules.specs.Steps.{attempt, machine}
 use Rattle.gr_contents.specs.Contents.{Contents}
 use Rattle.gr_contents.specs.Machines.{note_of}
 use Rattle.gr_contents.proofs.AttemptLemmas.{step_is_of_the_machine}
-use Rattle.gr_step.specs.declared.record.Change.{Change}
+use Rattle.gr_step.specs.Effects.{Effect}
 use Rattle.gr_step.specs.Listings.{frame_in, state_in}
 use Rattle.gr_step.specs.Premises.{Running}
 use Rattle.gr_step.specs.Taking.{Takes}
 
-pub runs_on : (p : Program) (e : Event) (s t : Contents) (c : Change) → Running p s → Takes p e (attempt p e) s c t → Running p t
+pub runs_on : (p : Program) (e : Event) (s t : Contents) (c : Effect) → Running p s → Takes p e (attempt p e) s c t → Running p t
 runs_on p e s t c run takes =
     let n = note_of (state_in p s) (attempt p e) takes.report takes.steps.cells in
     let step = step_is_of_the_machine (frame_in p) s t p e takes.report takes.steps in

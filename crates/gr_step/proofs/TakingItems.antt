@@ -28,7 +28,7 @@ use Rattle.gr_tables.specs.NamedChannels.{At, contents_of, seen_of, GoesBack, Ta
 use Rattle.gr_tables.specs.declared.channels.Channels.{Channels}
 use Rattle.gr_tables.proofs.Withdrawals.{none_after}
 use Rattle.gr_step.specs.declared.objects.Objects.{Objects}
-use Rattle.gr_step.specs.declared.record.Change.{Change}
+use Rattle.gr_step.specs.Effects.{Effect}
 use Rattle.gr_step.specs.Listings.{frame_in}
 use Rattle.gr_step.specs.Objects.{contents_in, run_of}
 use Rattle.gr_step.specs.Premises.{Acting, OfActor}
@@ -115,7 +115,7 @@ module _ (p : Program) (e : Event) (number : ℕ) (old : Objects) (acting : Acti
     abbrev ends : List Object
     ends = objects.Head c ∷ slot_numbered c found.content.capacity found.content.head
 
-    module _ (change : Change) (new : Objects)
+    module _ (change : Effect) (new : Objects)
         (x : IsPass code e.go (Passes clause (Some (z, true))) (option_map_or Pick clause Take) (receives_from c) (objects.Gate c ∷ []) ends done change
         (record old { channels = mid }) new) where
       back : GoesBack done old.channels new.channels
@@ -165,7 +165,7 @@ module _ (p : Program) (e : Event) (number : ℕ) (old : Objects) (acting : Acti
     abbrev looks : List Object
     looks = objects.Gate c ∷ objects.Head c ∷ slot_numbered c found.content.capacity found.content.head
 
-    module _ (change : Change) (new : Objects)
+    module _ (change : Effect) (new : Objects)
         (x : IsPass code e.go (Passes clause (Some (initial, false))) (option_map_or Pick clause Closed) (receives_from c) looks [] done change old new) where
       none_back : GoesBack done old.channels new.channels
       none_back = pass_goes_back code e.go (Passes clause (Some (initial, false))) (option_map_or Pick clause Closed) (receives_from c) looks [] done

@@ -19,7 +19,7 @@ use Rattle.gr_contents.specs.Standing.{ContentsStand}
 use Rattle.gr_goros.specs.declared.undo.GoUndo.{GoUndo}
 use Rattle.gr_lower.specs.Lowered.{lowered, meaning}
 use Rattle.gr_tables.specs.NamedChannels.{chan_back, ChansFit}
-use Rattle.gr_step.specs.declared.record.Change.{Change}
+use Rattle.gr_step.specs.Effects.{Effect}
 use Rattle.gr_step.specs.Listings.{frame_in, state_in}
 use Rattle.gr_step.specs.Records.{is_printed, reads_of, is_go, is_channel, go_back, GoesFit, goroutines_changed, channels_changed, taken_back, CanGoBack}
 use Rattle.gr_step.specs.Within.{EachIsAmong, PartsAreAmong, ChangesWithin}
@@ -46,7 +46,7 @@ pub record Reaches (p : Program) (e : Event) (attempt : Attempt) (s t : Contents
 
 module _ (p : Program) (e : Event) (attempt : Attempt) (s t : Contents) (report : Report) (reads writes : List Object) (own : GoUndo)
     (met : List (List ℕ × GoUndo)) (us : List (ChName × ChanUndo)) (r : Reaches p e attempt s t report reads writes own met us)
-    (c : Change) (tells : Tells c (kind_of report) report.operation reads writes own met us) where
+    (c : Effect) (tells : Tells c (kind_of report) report.operation reads writes own met us) where
   goes_back : taken_back e.go c t ≡ s
   goes_back =
       let run = ap (λ b. if b then live else t.run) tells.runs_on ∙ r.run in

@@ -16,7 +16,8 @@ use Rattle.gr_program.specs.Programs.{Program}
 use Rattle.gr_rules.specs.Outcomes.{gives, faults, wrong}
 use Rattle.gr_rules.specs.Operators.{same_channel}
 use Rattle.gr_rules.specs.Deeds.{Communication, Sending, Receiving, Otherwise, Chooses}
-use Rattle.gr_rules.specs.Goroutines.{Wait, channel_of}
+use Rattle.gr_rules.specs.Goroutines.{Wait, ToSend, ToReceive, channel_of}
+use Rattle.gr_rules.specs.States.{State}
 use Rattle.gr_rules.specs.Actors.{Actor, channels_but}
 use Rattle.gr_rules.specs.Communications.{waits_for, all_waits, wait}
 use Rattle.gr_rules.specs.States.{live}
@@ -43,11 +44,20 @@ use Rattle.gr_contents.proofs.MeetingLemmas.{named}
 use Rattle.gr_contents.proofs.StandingLemmas.{change_keeps_standing, same_goroutines_stand}
 use Rattle.gr_contents.proofs.WaitLemmas.{waiting_parks, waiting_is_made}
 use Rattle.gr_lower.specs.Lowered.{lowered, meaning}
-use Rattle.gr_tables.specs.NamedGoroutines.{seen_at, goroutines_of, At, CanPark}
-use Rattle.gr_tables.specs.NamedChannels.{contents_of, chan_back}
+use Rattle.gr_tables.specs.NamedGoroutines.{seen_at, goroutines_of, At, CanPark, ChangesBy, ComesTo}
+use Rattle.gr_tables.specs.NamedChannels.{contents_of, chan_back, GoesBack}
 use Rattle.gr_step.specs.declared.objects.Objects.{Objects}
-use Rattle.gr_step.specs.declared.record.Change.{Change}
+use Rattle.gr_step.specs.Effects.{Effect}
 use Rattle.gr_step.specs.declared.record.Operation.{Operation}
+use Rattle.gr_step.specs.declared.record.Operation.TheVariants.{SendsOn, ReceivesFrom}
+use Rattle.gr_step.specs.declared.record.Touched.{Touched}
+use Rattle.gr_step.specs.declared.record.Parts.TheVariants as parts
+use Rattle.gr_step.specs.declared.record.Form.TheVariants.{Waits}
+use Rattle.gr_step.specs.Effects.{effect_in}
+use Rattle.gr_step.specs.Parts.{channel_on, AreTouched}
+use Rattle.gr_goros.specs.declared.undo.GoUndo.TheVariants.{Parked}
+use Rattle.gr_goros.specs.declared.undo.Spot.{Spot}
+use Rattle.gr_channels.specs.declared.changes.ChanUndo.TheVariants.{ParkedSender, ParkedReceiver}
 use Rattle.gr_step.specs.Listings.{frame_in, state_in}
 use Rattle.gr_step.specs.Objects.{run_of, contents_in}
 use Rattle.gr_step.specs.Records.{operation_of, HasRoom, go_back, GoesFit, NeedNoFrame, CanGoBack, taken_back, is_go, is_channel, goroutines_changed, channels_changed, writes_of, reads_of}
@@ -145,7 +155,7 @@ numbered_next pending more i j c cs rest total first next are told =
     ∙ told
 
 module _ (p : Program) (e : Event) (number : ℕ) (old new : Objects) (acting : Acting p e number old) (kind : Kind) (operation : Option Operation)
-    (sides : List Object) (ws : List (Option ℕ × Communication)) (c : Change) (k : Parks e number kind operation sides ws c old new) where
+    (sides : List Object) (ws : List (Option ℕ × Communication)) (c : Effect) (k : Parks e number kind operation sides ws c old new) where
   abbrev s : Contents
   s = contents_in old
 
@@ -266,7 +276,7 @@ first_made f w made = (and_parts (is_made_for (with_channels f) w.1) true made).
 
 -- a goroutine that came to wait to send, to receive, or at a select
 module _ (p : Program) (e : Event) (number : ℕ) (old new : Objects) (acting : Acting p e number old) (operation : Option Operation)
-    (sides : List Object) (change : Change) where
+    (sides : List Object) (change : Effect) where
   pub waits_to_send : (c : Option ChName) (v : Value) → option_map operation_of operation ≡ option_map rules.sends_on c
       → sides ≡ side (state_of (frame_in p) (with_channels (contents_of old.channels))) (Sending c (gives v))
       → OfActor p e (contents_in old)
@@ -310,3 +320,82 @@ each_made f i [] made = refl
 each_made f i (c ∷ cs) made =
     let parts = and_parts (is_made_for (with_channels f) c) (list_all (λ w. is_made_for (with_channels f) w.1) (numbered (i + 1) cs)) made in
     and_from (is_made_for (with_channels f) c) (list_all (is_made_for (with_channels f)) cs) parts.0 (each_made f (i + 1) cs parts.1)
+
+-- a communication on nil waits for nothing, and touches nothing
+pub nil_waits : (w : Communication) → channel_on w ≡ None → [] ≡ all_waits ((None, w) ∷ [])
+nil_waits (Sending None v) is = refl
+nil_waits (Sending (Some c) v) is = absurd (let no : Some c ≡ None = is in cc)
+nil_waits (Receiving None initial) is = refl
+nil_waits (Receiving (Some c) initial) is = absurd (let no : Some c ≡ None = is in cc)
+nil_waits Otherwise is = refl
+
+pub nil_made : (f : ChName → Option Content) (w : Communication) → channel_on w ≡ None → AreMade ((None, w) ∷ []) f
+nil_made f (Sending None v) is = refl
+nil_made f (Sending (Some c) v) is = absurd (let no : Some c ≡ None = is in cc)
+nil_made f (Receiving None initial) is = refl
+nil_made f (Receiving (Some c) initial) is = absurd (let no : Some c ≡ None = is in cc)
+nil_made f Otherwise is = refl
+
+pub nil_touched : (s : State) (w : Communication) → channel_on w ≡ None
+    → AreTouched (record { read = parts.Nothing; written = parts.Nothing; slot = None }) None (each_once (gates_of ((None, w) ∷ [])) (side s w)) (gates_of ((None, w) ∷ []))
+nil_touched s (Sending None v) is = record { read = refl; written = refl; before = λ os. refl }
+nil_touched s (Sending (Some c) v) is = absurd (let no : Some c ≡ None = is in cc)
+nil_touched s (Receiving None initial) is = record { read = refl; written = refl; before = λ os. refl }
+nil_touched s (Receiving (Some c) initial) is = absurd (let no : Some c ≡ None = is in cc)
+nil_touched s Otherwise is = record { read = refl; written = refl; before = λ os. refl }
+
+-- what a step did with a channel to which it came to wait to send, or from which to receive, and on nil
+pub sends_on_each : (c : Option ChName) → option_map operation_of (option_map SendsOn c) ≡ option_map rules.sends_on c
+sends_on_each None = refl
+sends_on_each (Some c) = refl
+
+pub receives_from_each : (c : Option ChName) → option_map operation_of (option_map ReceivesFrom c) ≡ option_map rules.receives_from c
+receives_from_each None = refl
+receives_from_each (Some c) = refl
+
+-- a goroutine that came to wait for one communication on a channel, and what is kept of that
+module _ (e : Event) (number : ℕ) (c : ChName) (touched : Touched) (spot : Spot) (sides : List Object) (old new : Objects) (runs : new.run ≡ old.run) where
+  abbrev kept : Operation → Effect
+  kept operation = effect_in (Waits (record { contact = record { operation = operation; touched = touched }; spot = spot }))
+
+  pub parks_to_send : (v : Value) → ChangesBy number (ComesTo (parked (ToSend c None ∷ [])) (Parked spot)) old.goroutines new.goroutines
+      → contents_of new.channels ≡ queued_for e.go (contents_of old.channels) (None, Sending (Some c) (gives v))
+      → GoesBack ((c, ParkedSender) ∷ []) old.channels new.channels
+      → AreTouched touched (Some c) (each_once (gates_of ((None, Sending (Some c) (gives v)) ∷ [])) sides) (gates_of ((None, Sending (Some c) (gives v)) ∷ []))
+      → Parks e number kinds.SendWait (Some (SendsOn c)) sides ((None, Sending (Some c) (gives v)) ∷ []) (kept (SendsOn c)) old new
+  parks_to_send v goes queues back touches = record {
+    goroutine = goes;
+    channels = queues;
+    goes_back = back;
+    run = runs;
+    kind_is = refl;
+    operation_is = refl;
+    writes = ap (λ os. Go e.go ∷ os) touches.written;
+    reads = ap (λ os. Run ∷ os) touches.read;
+    alone = refl;
+    starts = refl;
+    makes = refl;
+    goes_on = refl;
+    gates = (refl, ap (λ b. b || false) (channel_self c), tt);
+  }
+
+  pub parks_to_receive : (zero : Value) → ChangesBy number (ComesTo (parked (ToReceive c None ∷ [])) (Parked spot)) old.goroutines new.goroutines
+      → contents_of new.channels ≡ queued_for e.go (contents_of old.channels) (None, Receiving (Some c) zero)
+      → GoesBack ((c, ParkedReceiver) ∷ []) old.channels new.channels
+      → AreTouched touched (Some c) (each_once (gates_of ((None, Receiving (Some c) zero) ∷ [])) sides) (gates_of ((None, Receiving (Some c) zero) ∷ []))
+      → Parks e number kinds.RecvWait (Some (ReceivesFrom c)) sides ((None, Receiving (Some c) zero) ∷ []) (kept (ReceivesFrom c)) old new
+  parks_to_receive zero goes queues back touches = record {
+    goroutine = goes;
+    channels = queues;
+    goes_back = back;
+    run = runs;
+    kind_is = refl;
+    operation_is = refl;
+    writes = ap (λ os. Go e.go ∷ os) touches.written;
+    reads = ap (λ os. Run ∷ os) touches.read;
+    alone = refl;
+    starts = refl;
+    makes = refl;
+    goes_on = refl;
+    gates = (refl, ap (λ b. b || false) (channel_self c), tt);
+  }

@@ -18,7 +18,7 @@ use Rattle.gr_step.specs.declared.objects.Run.{Run}
 use Rattle.gr_step.specs.declared.objects.Run.TheVariants.{Ended, Faulted}
 use Rattle.gr_step.specs.declared.record.Operation.{Operation}
 use Rattle.gr_step.specs.declared.record.Beyond.{Beyond}
-use Rattle.gr_step.specs.declared.record.Change.{Change}
+use Rattle.gr_step.specs.Effects.{Effect}
 use Rattle.gr_step.specs.Fews.{members}
 use Rattle.gr_step.specs.Parts.{reads_in, writes_in, begun_in, made_in}
 
@@ -40,8 +40,8 @@ abbrev pub Reaches : Option Operation → List Object → List Object → Bool �
 Reaches did read written stopped b = ReachesAll did read written None None stopped b
 
 -- .. of a change that reaches beyond its goroutine
-abbrev pub ReachesBeyond : Option Operation → List Object → List Object → Bool → Change → Type 0
-ReachesBeyond did read written stopped c = elim c.beyond [ Some b ↦ Reaches did read written stopped b.value | None ↦ ⊥ ]
+abbrev pub ReachesBeyond : Option Operation → List Object → List Object → Bool → Effect → Type 0
+ReachesBeyond did read written stopped c = elim c.beyond [ Some b ↦ Reaches did read written stopped b | None ↦ ⊥ ]
 
 -- .. made a channel of this name, or started a goroutine of this name
 abbrev pub ReachesChannel : ChName → Beyond → Type 0
@@ -56,7 +56,7 @@ IsBadSize (pos n) = most_places + 1 ≤ n
 IsBadSize (negsuc n) = Unit {0}
 
 -- the goroutine of this name stopped the program with a fault: what it did with a channel, and what it read
-pub record Stops (n : List ℕ) (fault : Fault) (did : Option Operation) (read : List Object) (s : Contents) (g : CodeGoroutine) (c : Change)
+pub record Stops (n : List ℕ) (fault : Fault) (did : Option Operation) (read : List Object) (s : Contents) (g : CodeGoroutine) (c : Effect)
     (t : Contents) : Type 0 where
   pub after : t ≡ record (with_goroutine s n (Some (faulted g))) { run = rules.faulted fault }
   pub kind : c.kind ≡ kinds.Fault fault
@@ -71,14 +71,14 @@ pub record ChangesObjects (change : Goroutines → Goroutines → Type 0) (run :
   pub channels : new.channels ≡ old.channels
 
 -- a step that was a fault stopped the program
-pub record HasStopped (fault : Fault) (undo : GoUndo) (c : Change) (old new : Objects) : Type 0 where
+pub record HasStopped (fault : Fault) (undo : GoUndo) (c : Effect) (old new : Objects) : Type 0 where
   pub kind : c.kind ≡ kinds.Fault fault
   pub own : c.own ≡ undo
   pub beyond : ReachesBeyond None [] (objects.Run ∷ []) true c
   pub after : new ≡ record old { run = Faulted fault }
 
 -- the goroutine with this number is done, and the program has ended
-pub record HasEnded (number : ℕ) (c : Change) (old new : Objects) : Type 0 where
+pub record HasEnded (number : ℕ) (c : Effect) (old new : Objects) : Type 0 where
   pub kind : c.kind ≡ kinds.Exit
   pub beyond : ReachesBeyond None [] (objects.Run ∷ []) true c
   pub after : ChangesObjects (ChangesBy number (ComesTo finished c.own)) Ended old new

@@ -15,7 +15,7 @@ use Rattle.gr_contents.specs.Contents.{Contents}
 use Rattle.gr_contents.specs.Leaves.{Refuses}
 use Rattle.gr_contents.specs.Looks.{Ends}
 use Rattle.gr_contents.specs.Presence.{Sound}
-use Rattle.gr_step.specs.declared.record.Change.{Change}
+use Rattle.gr_step.specs.Effects.{Effect}
 use Rattle.gr_step.specs.Listings.{frame_in, state_in}
 use Rattle.gr_step.specs.Premises.{OfActor}
 use Rattle.gr_step.specs.Taking.{Takes}
@@ -29,7 +29,7 @@ abbrev pub TrialIsSound : Program → Event → Contents → Trial → Type 0
 TrialIsSound p e s trial = OfActor p e s (λ a. (otherwise : Attempt) × Sound (frame_in p) s (trial a otherwise))
 
 -- it proceeds with a change, or cannot, and then nothing has changed
-abbrev pub Tried : Program → Event → Trial → Contents → Option Change → Contents → Type 0
+abbrev pub Tried : Program → Event → Trial → Contents → Option Effect → Contents → Type 0
 Tried p e trial s (Some c) t = OfActor p e s (λ a. (otherwise : Attempt) → Takes p e (trial a otherwise) s c t)
 Tried p e trial s None t = (t ≡ s) × OfActor p e s (λ a. (otherwise : Attempt) → Ends (frame_in p) s (trial a otherwise) otherwise)
 
@@ -42,6 +42,6 @@ abbrev pub HasValues : List Clause → Type 0
 HasValues cs = (vs : List Value) × (values_of (communications_of cs) ≡ gives vs)
 
 -- the choice of an event is taken, or is not possible here, and then nothing has changed
-abbrev pub Chosen : Program → Event → Contents → Option Change → Contents → Type 0
+abbrev pub Chosen : Program → Event → Contents → Option Effect → Contents → Type 0
 Chosen p e s (Some c) t = Takes p e (attempt p e) s c t
 Chosen p e s None t = (t ≡ s) × Refuses (attempt p e) (state_in p s) no_such_choice

@@ -16,7 +16,7 @@ use Rattle.gr_goros.specs.Undoing.{undone, Fits}
 use Rattle.gr_lower.specs.Lowered.{lowered}
 use Rattle.gr_step.specs.declared.leasing.Batch.{Batch}
 use Rattle.gr_step.specs.declared.leasing.Lease.{Lease}
-use Rattle.gr_step.specs.declared.record.Change.{Change}
+use Rattle.gr_step.specs.Effects.{Effect}
 use Rattle.gr_step.specs.declared.record.Record.{Record}
 use Rattle.gr_step.specs.declared.store.Store.{Store}
 use Rattle.gr_step.specs.Listings.{program_in, IsCoded}
@@ -25,7 +25,7 @@ use Rattle.gr_step.specs.Stores.{program_at, contents_at}
 use Rattle.gr_step.specs.Taking.{IsRecord}
 
 -- the goroutine goes on by a step that reaches no further than itself and is no fault; the change tells how it goes back
-pub record GoesAlone (code : ProgramCode) (g : CodeGoroutine) (c : Change) (h : CodeGoroutine) : Type 0 where
+pub record GoesAlone (code : ProgramCode) (g : CodeGoroutine) (c : Effect) (h : CodeGoroutine) : Type 0 where
   pub here : is_local code g ≡ true
   pub step : local code g ≡ gives (c.kind, h)
   pub no_fault : (f : Fault) → ¬ (c.kind ≡ kinds.Fault f)
@@ -39,7 +39,7 @@ CanCountOn g = g.steps + 1 < 2 ^ 64
 
 -- whether it has such a step
 abbrev pub HasOwnStep : ProgramCode → CodeGoroutine → Type 0
-HasOwnStep code g = (c : Change) × (h : CodeGoroutine) × GoesAlone code g c h
+HasOwnStep code g = (c : Effect) × (h : CodeGoroutine) × GoesAlone code g c h
 
 -- the record is that of such a step of the goroutine of this name
 pub record IsOwnRecord (code : ProgramCode) (go : List ℕ) (g : CodeGoroutine) (r : Record) (h : CodeGoroutine) : Type 0 where

@@ -3,6 +3,7 @@ pub mod Listings
 pub mod Objects
 pub mod Fews
 pub mod Parts
+pub mod Effects
 pub mod Records
 pub mod Premises
 pub mod Beyonds

@@ -24,7 +24,7 @@ use Rattle.gr_contents.specs.Waiting.{parked_for}
 use Rattle.gr_tables.specs.NamedChannels.{contents_of, AreAtGates, GoesBack}
 use Rattle.gr_tables.specs.NamedGoroutines.{ChangesBy, ComesTo}
 use Rattle.gr_step.specs.declared.objects.Objects.{Objects}
-use Rattle.gr_step.specs.declared.record.Change.{Change}
+use Rattle.gr_step.specs.Effects.{Effect}
 use Rattle.gr_step.specs.declared.record.Operation.{Operation}
 use Rattle.gr_step.specs.Records.{operation_of, operation_in, writes_of, reads_of, stops, goroutines_changed, channels_changed, begun_by, made_by}
 
@@ -62,7 +62,7 @@ channels_awaited ws = map channel_of (all_waits ws)
 
 -- The goroutine with the number, whose step is of this kind, looked at these and has come to wait, and the change goes back.
 pub record Parks (e : Event) (number : ℕ) (kind : Kind) (operation : Option Operation) (sides : List Object) (ws : List (Option ℕ × Communication))
-    (c : Change) (old new : Objects) : Type 0 where
+    (c : Effect) (old new : Objects) : Type 0 where
   pub goroutine : ChangesBy number (ComesTo (parked (all_waits ws)) c.own) old.goroutines new.goroutines
   pub channels : contents_of new.channels ≡ queued e.go ws (contents_of old.channels)
   pub goes_back : GoesBack (channels_changed c) old.channels new.channels

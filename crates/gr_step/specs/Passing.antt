@@ -16,7 +16,7 @@ use Rattle.gr_tables.specs.NamedChannels as channels
 use Rattle.gr_tables.specs.NamedChannels.{contents_of, withdrawn, ChansFit, HasRooms, Follows, MoreAtGates}
 use Rattle.gr_tables.specs.NamedGoroutines.{At, goroutines_of}
 use Rattle.gr_step.specs.declared.objects.Objects.{Objects}
-use Rattle.gr_step.specs.declared.record.Change.{Change}
+use Rattle.gr_step.specs.Effects.{Effect}
 use Rattle.gr_step.specs.Records.{operation_in, stops, writes_of, reads_of, goroutines_changed, channels_changed, begun_by, made_by, NeedNoFrame, FramesStay}
 
 -- what arrives fits the instruction of the goroutine that is there
@@ -34,7 +34,7 @@ pub record ArrivesAt (code : ProgramCode) (n : List ℕ) (arrival : Arrival) (u 
   pub fits : Fits u after
 
 -- what a change tells that reached beyond its goroutine, started and made nothing, and left the program running
-pub record Tells (c : Change) (kind : Kind) (operation : Option Operation) (reads writes : List Object) (own : GoUndo) (met : List (List ℕ × GoUndo))
+pub record Tells (c : Effect) (kind : Kind) (operation : Option Operation) (reads writes : List Object) (own : GoUndo) (met : List (List ℕ × GoUndo))
     (changed : List (ChName × ChanUndo)) : Type 0 where
   pub kind_is : c.kind ≡ kind
   pub own_is : c.own ≡ own

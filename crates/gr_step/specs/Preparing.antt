@@ -18,7 +18,7 @@ use Rattle.gr_tables.specs.NamedChannels.{contents_of, rooms_of, ChansFit, HasRo
 use Rattle.gr_tables.specs.NamedGoroutines.{At, goroutines_of, name_at}
 use Rattle.gr_step.specs.declared.objects.Objects.{Objects}
 use Rattle.gr_step.specs.declared.record.Beyond.{Beyond}
-use Rattle.gr_step.specs.declared.record.Change.{Change}
+use Rattle.gr_step.specs.Effects.{Effect}
 use Rattle.gr_step.specs.declared.partners.Prepared.{Prepared}
 use Rattle.gr_step.specs.Fews.{members}
 use Rattle.gr_step.specs.Parts.{reads_in, writes_in, begun_in, made_in}
@@ -66,7 +66,7 @@ pub record CanExchange (code : ProgramCode) (e : Event) (number : ℕ) (r : Prep
 
 -- two goroutines went past their communication, and the change tells of it
 pub record IsExchange (code : ProgramCode) (n m : List ℕ) (passes meets : Arrival) (names : List ChName) (kind : Kind) (operation : Operation)
-    (reads writes : List Object) (done : List (ChName × ChanUndo)) (c : Change) (old new : Objects) : Type 0 where
+    (reads writes : List Object) (done : List (ChName × ChanUndo)) (c : Effect) (old new : Objects) : Type 0 where
   pub own : GoUndo
   pub met : GoUndo
   pub changed : List (ChName × ChanUndo)
@@ -82,7 +82,7 @@ pub record CanPass (code : ProgramCode) (e : Event) (number : ℕ) (passes : Arr
 
 -- it went past, and the change tells of it
 pub record IsPass (code : ProgramCode) (n : List ℕ) (passes : Arrival) (kind : Kind) (operation : Operation) (reads writes : List Object)
-    (done : List (ChName × ChanUndo)) (c : Change) (old new : Objects) : Type 0 where
+    (done : List (ChName × ChanUndo)) (c : Effect) (old new : Objects) : Type 0 where
   pub own : GoUndo
   pub tells : Tells c kind (Some operation) reads writes own [] done
   pub goes : ArrivesAt code n passes own (goroutines_of old.goroutines) (goroutines_of new.goroutines)

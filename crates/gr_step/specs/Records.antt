@@ -22,7 +22,7 @@ use Rattle.gr_step.specs.declared.objects.Objects.{Objects}
 use Rattle.gr_step.specs.declared.record.Operation.{Operation}
 use Rattle.gr_step.specs.declared.record.Operation.TheVariants.{SendsOn, ReceivesFrom, TakesLenOf, TakesCapOf, Closes}
 use Rattle.gr_step.specs.declared.record.Beyond.{Beyond}
-use Rattle.gr_step.specs.declared.record.Change.{Change}
+use Rattle.gr_step.specs.Effects.{Effect}
 use Rattle.gr_step.specs.declared.record.Record.{Record}
 use Rattle.gr_step.specs.Fews.{members}
 use Rattle.gr_step.specs.Parts.{reads_in, writes_in, begun_in, made_in}
@@ -36,10 +36,10 @@ operation_of (TakesCapOf c) = rules.takes_cap_of c
 operation_of (Closes c) = rules.closes c
 
 -- what a change reaches beyond its goroutine, and d where it reaches no further
-abbrev pub beyond : {A : Type 0} → A → (Beyond → A) → Change → A
-beyond d f c = option_map_or (λ b. f b.value) c.beyond d
+abbrev pub beyond : {A : Type 0} → A → (Beyond → A) → Effect → A
+beyond d f c = option_map_or f c.beyond d
 
-abbrev pub operation_in : Change → Option rules.Operation
+abbrev pub operation_in : Effect → Option rules.Operation
 operation_in c = beyond None (λ b. option_map operation_of b.operation) c
 
 -- whether a line was printed
@@ -47,28 +47,28 @@ abbrev pub is_printed : GoUndo → Bool
 is_printed u = elim u [ Printed n ↦ true | _ ↦ false ]
 
 -- whether it ended or stopped the program
-abbrev pub stops : Change → Bool
+abbrev pub stops : Effect → Bool
 stops c = beyond false (λ b. b.stops) c
 
 -- the objects that a step of this goroutine wrote, and those that it read and did not write
-abbrev pub writes_of : List ℕ → Change → List Object
+abbrev pub writes_of : List ℕ → Effect → List Object
 writes_of n c = Go n ∷ beyond [] writes_in c
 
-abbrev pub reads_of : Change → List Object
+abbrev pub reads_of : Effect → List Object
 reads_of c = if stops c then beyond [] reads_in c else objects.Run ∷ beyond [] reads_in c
 
 -- its change of each goroutine, and of each channel, in their order
-abbrev pub goroutines_changed : List ℕ → Change → List (List ℕ × GoUndo)
+abbrev pub goroutines_changed : List ℕ → Effect → List (List ℕ × GoUndo)
 goroutines_changed n c = (n, c.own) ∷ beyond [] (λ b. members b.met) c
 
-abbrev pub channels_changed : Change → List (ChName × ChanUndo)
+abbrev pub channels_changed : Effect → List (ChName × ChanUndo)
 channels_changed c = beyond [] (λ b. members b.channels) c
 
 -- the goroutine that it started, and the channel that it made
-abbrev pub begun_by : Change → Option (List ℕ)
+abbrev pub begun_by : Effect → Option (List ℕ)
 begun_by c = beyond None begun_in c
 
-abbrev pub made_by : Change → Option ChName
+abbrev pub made_by : Effect → Option ChName
 made_by c = beyond None made_in c
 
 -- a change of a goroutine taken back
@@ -93,7 +93,7 @@ abbrev pub is_channel : ChName → Option ChName → Bool
 is_channel q o = option_map_or (same_channel q) o false
 
 -- the contents with a step of this goroutine taken back: what it changed is as it was, what it started and made is gone
-abbrev pub taken_back : List ℕ → Change → Contents → Contents
+abbrev pub taken_back : List ℕ → Effect → Contents → Contents
 taken_back n c t = record {
   run = if stops c then live else t.run;
   goroutines = λ q. if is_go q (begun_by c) then None else go_back (goroutines_changed n c) q (t.goroutines q);
@@ -106,17 +106,17 @@ NeedNoFrame [] = Unit {0}
 NeedNoFrame (e ∷ es) = (need e.1 ≡ 0) × NeedNoFrame es
 
 -- where a step reached beyond its goroutine, no frame has to come back
-abbrev pub FramesStay : List ℕ → Change → Type 0
+abbrev pub FramesStay : List ℕ → Effect → Type 0
 FramesStay n c = elim c.beyond [ Some b ↦ NeedNoFrame (goroutines_changed n c) | None ↦ Unit {0} ]
 
 -- what the step wrote stands, as far as taking it back needs; a frame has to come back only where nothing else does
-pub record CanGoBack (n : List ℕ) (c : Change) (t : Contents) : Type 0 where
+pub record CanGoBack (n : List ℕ) (c : Effect) (t : Contents) : Type 0 where
   pub goroutines : GoesFit (goroutines_changed n c) t.goroutines
   pub channels : ChansFit (channels_changed c) t.channels
   pub frames : FramesStay n c
 
 -- there is room for taking it back
-pub record HasRoom (n : List ℕ) (c : Change) (o : Objects) : Type 0 where
+pub record HasRoom (n : List ℕ) (c : Effect) (o : Objects) : Type 0 where
   pub frames : need c.own ≤ go_rooms_of o.goroutines n
   pub places : HasRooms (channels_changed c) (rooms_of o.channels)
 

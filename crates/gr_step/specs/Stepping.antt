@@ -15,7 +15,7 @@ use Rattle.gr_lower.specs.Lowered.{lowered}
 use Rattle.gr_tables.specs.NamedGoroutines.{name_at}
 use Rattle.gr_step.specs.declared.listing.Listing.{Listing}
 use Rattle.gr_step.specs.declared.objects.Objects.{Objects}
-use Rattle.gr_step.specs.declared.record.Change.{Change}
+use Rattle.gr_step.specs.Effects.{Effect}
 use Rattle.gr_step.specs.declared.refusal.StepRefused.{StepRefused}
 use Rattle.gr_step.specs.declared.stepping.Ready.{Ready}
 use Rattle.gr_step.specs.Listings.{program_in, state_in}
@@ -51,5 +51,5 @@ abbrev pub IsPossible : Listing → Event → Objects → Type 0
 IsPossible l e o = refusal (program_in l) (state_in (program_in l) (contents_in o)) e ≡ None
 
 -- the change is that of the step of the event, from the first objects to the second
-abbrev pub TakesStep : Listing → Event → Objects → Objects → Change → Type 0
+abbrev pub TakesStep : Listing → Event → Objects → Objects → Effect → Type 0
 TakesStep l e old new c = Takes (program_in l) e (attempt (program_in l) e) (contents_in old) c (contents_in new)

@@ -11,7 +11,7 @@ use Rattle.gr_contents.specs.Contents.{Contents}
 use Rattle.gr_contents.specs.Performing.{StepsTo}
 use Rattle.gr_contents.specs.Standing.{ContentsStand}
 use Rattle.gr_lower.specs.Lowered.{lowered, meaning}
-use Rattle.gr_step.specs.declared.record.Change.{Change}
+use Rattle.gr_step.specs.Effects.{Effect}
 use Rattle.gr_step.specs.declared.record.Record.{Record}
 use Rattle.gr_step.specs.declared.refusal.StepRefused.{StepRefused}
 use Rattle.gr_step.specs.declared.refusal.StepRefused.TheVariants as refusals
@@ -21,7 +21,7 @@ use Rattle.gr_step.specs.Within.{ChangesWithin}
 
 -- The attempt of an event is the step from the first contents to the second, and the change tells what the report does, has
 -- touched what the table says, and goes back.
-pub record Takes (p : Program) (e : Event) (attempt : Attempt) (s : Contents) (c : Change) (t : Contents) : Type 0 where
+pub record Takes (p : Program) (e : Event) (attempt : Attempt) (s : Contents) (c : Effect) (t : Contents) : Type 0 where
   pub report : Report
   pub steps : StepsTo (frame_in p) attempt s t report
   pub ordinal : report.ordinal ≡ count (state_in p s) e.go + 1

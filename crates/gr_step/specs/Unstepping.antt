@@ -9,7 +9,7 @@ use Rattle.gr_tables.specs.NamedGoroutines.{goroutines_of}
 use Rattle.gr_tables.specs.declared.channels.Channels.{Channels}
 use Rattle.gr_tables.specs.declared.goroutines.Goroutines.{Goroutines}
 use Rattle.gr_step.specs.declared.objects.Objects.{Objects}
-use Rattle.gr_step.specs.declared.record.Change.{Change}
+use Rattle.gr_step.specs.Effects.{Effect}
 use Rattle.gr_step.specs.Objects.{contents_in}
 use Rattle.gr_step.specs.Records.{taken_back, go_back, is_go, is_channel}
 
@@ -32,5 +32,5 @@ abbrev pub AreUndone : Option ChName → List (ChName × ChanUndo) → Channels 
 AreUndone made us old new = (q : ChName) → contents_of new q ≡ (if is_channel q made then None else chan_back us q (contents_of old q))
 
 -- the step of a goroutine is taken back
-abbrev pub IsTakenBack : List ℕ → Change → Objects → Objects → Type 0
+abbrev pub IsTakenBack : List ℕ → Effect → Objects → Objects → Type 0
 IsTakenBack n c old new = contents_in new ≡ taken_back n c (contents_in old)

@@ -23,7 +23,7 @@ use Rattle.gr_contents.specs.Partners.{waits_in}
 use Rattle.gr_tables.specs.NamedChannels.{contents_of, withdrawn, once_closed, AreAtGates, GoesBack}
 use Rattle.gr_tables.specs.NamedGoroutines.{goroutines_of}
 use Rattle.gr_step.specs.declared.objects.Objects.{Objects}
-use Rattle.gr_step.specs.declared.record.Change.{Change}
+use Rattle.gr_step.specs.Effects.{Effect}
 use Rattle.gr_step.specs.Passing.{ArrivesAt, Tells}
 use Rattle.gr_step.specs.Records.{go_back, GoesFit, NeedNoFrame}
 
@@ -75,7 +75,7 @@ abbrev pub written_by_close : ChName → (List ℕ → Option CodeGoroutine) →
 written_by_close c f names = Gate c ∷ map Go names ++ map Gate (channels_but (c ∷ []) (all_waits_known f names))
 
 -- The goroutine of the event went past its close of a channel with this content, on which nobody waits any more, and the change goes back.
-pub record Closing (code : ProgramCode) (e : Event) (c : ChName) (x : Content) (change : Change) (old new : Objects) : Type 0 where
+pub record Closing (code : ProgramCode) (e : Event) (c : ChName) (x : Content) (change : Effect) (old new : Objects) : Type 0 where
   pub between : List ℕ → Option CodeGoroutine
   pub met : List (List ℕ × GoUndo)
   pub changed : List (ChName × ChanUndo)

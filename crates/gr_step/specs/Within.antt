@@ -12,7 +12,7 @@ use Rattle.gr_contents.specs.Contents.{Contents}
 use Rattle.gr_contents.specs.NamedBack.{at_channel}
 use Rattle.gr_contents.specs.Partners.{AreChannels}
 use Rattle.gr_contents.specs.TakingBack.{part_of, any_written}
-use Rattle.gr_step.specs.declared.record.Change.{Change}
+use Rattle.gr_step.specs.Effects.{Effect}
 use Rattle.gr_step.specs.Records.{goroutines_changed, channels_changed, begun_by, made_by, writes_of, reads_of}
 
 -- the object is one of these
@@ -35,7 +35,7 @@ IsUnused o = (x : Content) × (o ≡ Some x) × (x.head ≡ 0) × (x.items ≡ [
 -- A step of this goroutine, which led to these contents, wrote the goroutines that it changed and started, the gate of the
 -- channel that it made, and of each channel that it changed the parts that the changes wrote; of such a channel it touched
 -- the gate. The channels keep within their bounds.
-pub record ChangesWithin (n : List ℕ) (c : Change) (t : Contents) : Type 0 where
+pub record ChangesWithin (n : List ℕ) (c : Effect) (t : Contents) : Type 0 where
   pub goroutines : EachIsAmong Go (goroutines_changed n c) (writes_of n c)
   pub begun : (q : List ℕ) → begun_by c ≡ Some q → IsAmong (Go q) (writes_of n c)
   pub made : (q : ChName) → made_by c ≡ Some q → IsAmong (Gate q) (writes_of n c) × IsUnused (t.channels q)

@@ -3,12 +3,13 @@
 ghost use Rattle.std.specs.Prelude.{◌≡◌, ◌++◌, ◌∷◌, [], List, Some, None, false, map, option_copied, option_map, IfOk};
 ghost use Rattle.gr_base.specs.declared.objects.Object.TheVariants as objects;
 ghost use Rattle.gr_step.specs.Beyonds.{Reaches, ReachesAll};
+ghost use Rattle.gr_step.specs.Effects.{reached_by_passage};
 ghost use Rattle.gr_step.specs.Parts.{begun_in, channel_in, read_by_more, written_by_more, begun_by_more, made_by_more, AreTouched};
 ghost use Rattle.gr_step.specs.Preparing.{IsReached};
 ghost use Rattle.gr_step.specs.Records.{operation_of};
 
 use crate::few::Few;
-use crate::record::{Beyond, More, Operation, Touched};
+use crate::record::{Beyond, Contact, More, Operation, Passage, Touched};
 use crate::touching::{push_gates, untouched};
 use gr_base::{ChName, GoName, NoMemory, Object};
 use std::alloc::Global;
@@ -58,14 +59,16 @@ pub(crate) fn waited(
 
 /// What a step reached that met nobody, by what it did with a channel and touched of it, before it changes anything.
 #[inline(always)]
-pub(crate) fn reached(
-    alloc: Global,
-    operation: Operation,
-    touched: Touched,
-) -> Result<Box<Beyond>, NoMemory>
-    ensures { (reads writes : List Object) → AreTouched touched (Some (channel_in operation)) reads writes → IfOk result (λ beyond. IsReached (operation_of operation) reads writes beyond.value) }
+pub(crate) fn passage(alloc: Global, contact: Contact) -> Result<Box<Passage>, NoMemory>
+    ensures told { (reads writes : List Object) → AreTouched contact.touched (Some (channel_in contact.operation)) reads writes
+        → IfOk result (λ passage. IsReached (operation_of contact.operation) reads writes (reached_by_passage passage.value)) }
+    ensures channel { IfOk result (λ passage. channel_in passage.value.contact.operation ≡ channel_in contact.operation) }
 {
-    waited(alloc, Some(operation), touched)
+    let passage = Passage {
+        contact,
+        undo: None,
+    };
+    Ok(Box::new(alloc, passage)?)
 }
 
 /// The gates of channels, if there are any.

@@ -1,15 +1,17 @@
 //! The channels of waits.
 
-ghost use Rattle.std.specs.Prelude.{◌≡◌, [], ◌∷◌, IfOk};
+ghost use Rattle.std.specs.Prelude.{◌≡◌, [], ◌∷◌, if◌then◌else◌, List, IfOk};
 ghost use Rattle.std.specs.List.{list_any};
 ghost use Rattle.gr_rules.specs.Operators.{same_channel};
 ghost use Rattle.gr_rules.specs.Actors.{channels_but as ruled};
 ghost use Rattle.gr_rules.specs.Goroutines.{channel_of as channel_ruled};
-ghost use Rattle.gr_goros.specs.Views.{wait_of, waits_of};
+ghost use Rattle.gr_rules.specs.Goroutines.{Wait as WaitSeen, waiting};
+ghost use Rattle.gr_contents.specs.Partners.{waits_in};
+ghost use Rattle.gr_goros.specs.Views.{status_of, wait_of, waits_of};
 ghost use Rattle.gr_step.specs.Preparing.{AreToLeave};
 
 use gr_base::{ChName, NoMemory};
-use gr_goros::Wait;
+use gr_goros::{Status, Wait};
 use std::alloc::Global;
 use std::slice;
 
@@ -52,13 +54,37 @@ pub(crate) fn channels_but(
     Ok(names)
 }
 
+/// This channel, but for those that were seen.
+fn channel_but(alloc: Global, seen: &[ChName], channel: &ChName) -> Result<Vec<ChName>, NoMemory>
+    ensures { IfOk result (λ names. names.items ≡ (if list_any (same_channel channel.now) seen.now then [] else channel.now ∷ [])) }
+{
+    let mut names = Vec::new(alloc);
+    if !is_among(channel, seen) {
+        names.push(channel.copy(alloc)?)?;
+    }
+    Ok(names)
+}
+
+/// The channels on which a goroutine of this status waits, each once, but for those that were seen.
+pub(crate) fn channels_awaited(
+    alloc: Global,
+    seen: &[ChName],
+    status: &Status,
+) -> Result<Vec<ChName>, NoMemory>
+    ensures { IfOk result (λ names. names.items ≡ ruled seen.now (waits_in (status_of status.now))) }
+{
+    match status {
+        Status::Sending(channel) | Status::Receiving(channel) => {
+            channel_but(alloc, seen, channel)
+        }
+        Status::Waiting(waits) => channels_but(alloc, seen, waits),
+        Status::Ready | Status::Finished => Ok(Vec::new(alloc)),
+    }
+}
+
 /// The channels of these waits, each once, but for this one: none where that is all for which they wait, as mostly.
 #[tactic(auto, using(crate::proofs::ChannelsNamed::none_but))]
-pub(crate) fn other_channels(
-    alloc: Global,
-    channel: &ChName,
-    waits: &[Wait],
-) -> Result<Vec<ChName>, NoMemory>
+fn other_channels(alloc: Global, channel: &ChName, waits: &[Wait]) -> Result<Vec<ChName>, NoMemory>
     ensures { IfOk result (λ names. names.items ≡ ruled (channel.now ∷ []) (waits_of waits.now)) }
 {
     if let [wait] = waits {
@@ -69,9 +95,26 @@ pub(crate) fn other_channels(
     channels_but(alloc, slice::from_ref(channel), waits)
 }
 
+/// The channels on which a goroutine of this status waits, each once, but for this one.
+pub(crate) fn others_awaited(
+    alloc: Global,
+    channel: &ChName,
+    status: &Status,
+) -> Result<Vec<ChName>, NoMemory>
+    ensures { IfOk result (λ names. names.items ≡ ruled (channel.now ∷ []) (waits_in (status_of status.now))) }
+{
+    match status {
+        Status::Sending(own) | Status::Receiving(own) => {
+            channel_but(alloc, slice::from_ref(channel), own)
+        }
+        Status::Waiting(waits) => other_channels(alloc, channel, waits),
+        Status::Ready | Status::Finished => Ok(Vec::new(alloc)),
+    }
+}
+
 /// The channels that a goroutine with these waits is still to leave, where it left a queue of this one: none where it waits for one
 /// thing alone, and else this one and the others.
-pub(crate) fn channels_to_leave(
+fn channels_to_leave(
     alloc: Global,
     channel: &ChName,
     waits: &[Wait],
@@ -86,4 +129,23 @@ pub(crate) fn channels_to_leave(
     let mut names = others;
     names.push(channel.copy(alloc)?)?;
     Ok(names)
+}
+
+/// .. of a goroutine that waits, by its status.
+#[tactic(auto, using(crate::proofs::PreparingLemmas::alone_leaves_none))]
+pub(crate) fn still_to_leave(
+    alloc: Global,
+    channel: &ChName,
+    status: &Status,
+    others: Vec<ChName>,
+) -> Result<Vec<ChName>, NoMemory>
+    requires { others.items ≡ ruled (channel.now ∷ []) (waits_in (status_of status.now)) }
+    ensures { (ws : List WaitSeen) → status_of status.now ≡ waiting ws → IfOk result (λ names. AreToLeave names.items channel.now ws) }
+{
+    match status {
+        Status::Waiting(waits) => channels_to_leave(alloc, channel, waits, others),
+        Status::Sending(_) | Status::Receiving(_) | Status::Ready | Status::Finished => {
+            Ok(Vec::new(alloc))
+        }
+    }
 }

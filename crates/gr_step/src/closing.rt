@@ -35,7 +35,7 @@ use crate::awaiting::waiting_on;
 use crate::few::Few;
 use crate::listing::Listing;
 use crate::objects::Objects;
-use crate::record::{Beyond, Change, Operation};
+use crate::record::{Beyond, Change, Form, Operation};
 use crate::touching::{gate_side, push_gates};
 use crate::waking::{all_channels, shut, wake_each};
 use gr_base::{ChName, Event, Fault, GoName, Kind, NoMemory, Object};
@@ -102,9 +102,7 @@ fn closed(
     beyond.met = Few::of_many(met);
     beyond.channels = Few::of_many(channels);
     Change {
-        kind: Kind::Close,
-        own,
-        beyond: Some(beyond),
+        form: Form::Further(Kind::Close, own, beyond),
     }
 }
 

@@ -17,7 +17,7 @@ ghost use Rattle.gr_step.specs.Taking.{Takes};
 use crate::faults::stopping;
 use crate::listing::Listing;
 use crate::objects::{Objects, Run};
-use crate::record::Change;
+use crate::record::{Change, Form};
 use gr_base::{Event, Kind, NoMemory};
 use gr_goros::{Halt, Need};
 
@@ -42,9 +42,7 @@ impl Objects {
         }
         let own = self.goroutines.halt(number, Halt::Finished);
         Ok(Change {
-            kind: Kind::Return,
-            own,
-            beyond: None,
+            form: Form::Alone(Kind::Return, own),
         })
     }
 
@@ -59,9 +57,7 @@ impl Objects {
         let own = self.goroutines.halt(number, Halt::Finished);
         self.run = Run::Ended;
         Ok(Change {
-            kind: Kind::Exit,
-            own,
-            beyond: Some(beyond),
+            form: Form::Further(Kind::Exit, own, beyond),
         })
     }
 }

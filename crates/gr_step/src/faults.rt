@@ -10,7 +10,7 @@ ghost use Rattle.gr_step.specs.Records.{HasRoom};
 ghost use Rattle.gr_step.specs.Beyonds.{Reaches, Stops, HasStopped, ChangesObjects};
 
 use crate::objects::{Objects, Run};
-use crate::record::{Beyond, Change, Operation};
+use crate::record::{Beyond, Change, Form, Operation};
 use gr_base::{Fault, Kind, NoMemory, Object};
 use gr_goros::{GoUndo, Halt};
 use std::alloc::Global;
@@ -47,9 +47,7 @@ impl Objects {
         let own = self.goroutines.halt(number, Halt::Faulted);
         self.run = Run::Faulted(fault);
         Ok(Change {
-            kind: Kind::Fault(fault),
-            own,
-            beyond: Some(beyond),
+            form: Form::Further(Kind::Fault(fault), own, beyond),
         })
     }
 
@@ -86,9 +84,7 @@ impl Objects {
         };
         self.run = Run::Faulted(fault);
         Ok(Change {
-            kind: Kind::Fault(fault),
-            own,
-            beyond: Some(beyond),
+            form: Form::Further(Kind::Fault(fault), own, beyond),
         })
     }
 }

@@ -16,7 +16,7 @@ ghost use Rattle.gr_step.specs.Leasing.{IsLease, SameLoan, LeadsOn, Stays, HasOw
 
 use crate::listing::Listing;
 use crate::objects::Run;
-use crate::record::{Change, Record};
+use crate::record::{Change, Form, Record};
 use crate::store::Store;
 use gr_base::{Choice, GoName, Kind, NoMemory, StepId};
 use gr_goros::{Goroutine, Status};
@@ -116,9 +116,7 @@ impl Lease {
             return Ok(false);
         }
         let change = Change {
-            kind,
-            own,
-            beyond: None,
+            form: Form::Alone(kind, own),
         };
         self.records.push_reserved(Record {
             id,

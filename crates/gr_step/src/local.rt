@@ -14,7 +14,7 @@ ghost use Rattle.gr_step.specs.Taking.{Takes};
 
 use crate::listing::Listing;
 use crate::objects::Objects;
-use crate::record::Change;
+use crate::record::{Change, Form};
 use gr_base::{Event, Fault, Kind, NoMemory};
 
 impl Objects {
@@ -39,9 +39,7 @@ impl Objects {
             return self.stop(number, fault, own);
         }
         Ok(Change {
-            kind,
-            own,
-            beyond: None,
+            form: Form::Alone(kind, own),
         })
     }
 

@@ -1,7 +1,7 @@
 //! Steps that make a channel, start a goroutine and count (Go: Making slices, maps and channels, Go statements, Length and
 //! capacity).
 
-ghost use Rattle.std.specs.Prelude.{◌≡◌, ◌+◌, ◌<◌, ◌∷◌, [], pos, false, Some, None, length, MatchOption, IfOk, OnErr};
+ghost use Rattle.std.specs.Prelude.{◌≡◌, ◌+◌, ◌<◌, ◌∷◌, [], pos, false, Some, None, length, MatchOption, option_map, IfOk, OnErr};
 ghost use Rattle.gr_base.specs.declared.events.Choice.TheVariants as choices;
 ghost use Rattle.gr_base.specs.declared.kinds.Kind.TheVariants as kinds;
 ghost use Rattle.gr_base.specs.declared.objects.Object.TheVariants as objects;
@@ -26,7 +26,7 @@ ghost use Rattle.gr_step.specs.Taking.{Takes};
 use crate::beyond::with_more;
 use crate::listing::Listing;
 use crate::objects::Objects;
-use crate::record::{Beyond, Change, More, Operation};
+use crate::record::{Beyond, Change, Form, More, Operation};
 use crate::touching::gate_side;
 use gr_base::{ChName, Event, Fault, GoName, Kind, NoMemory, Object, Value};
 use gr_channels::Channel;
@@ -169,9 +169,7 @@ impl Objects {
             return Err(error);
         }
         Ok(Change {
-            kind: Kind::Make,
-            own,
-            beyond: Some(beyond),
+            form: Form::Further(Kind::Make, own, beyond),
         })
     }
 
@@ -231,9 +229,7 @@ impl Objects {
             .deliver(number, &listing.code, Arrival::Child)?;
         self.goroutines.put(place, goroutine);
         Ok(Change {
-            kind: Kind::Go,
-            own,
-            beyond: Some(beyond),
+            form: Form::Further(Kind::Go, own, beyond),
         })
     }
 
@@ -296,15 +292,15 @@ impl Objects {
         beyond: Option<Box<Beyond>>,
     ) -> Result<Change, NoMemory>
         requires { At (CanArrive (program_code_of listing.now.code.value) (arrivals.Value (Int (pos count)))) (seen_at self.old.goroutines number) }
-        ensures ok { IfOk result (λ change. (change.kind ≡ kinds.Length) × (change.beyond ≡ beyond) × ChangesObjects (ChangesBy number (Arrives (program_code_of listing.now.code.value) (arrivals.Value (Int (pos count))) change.own)) self.old.run self.old self.new) }
+        ensures ok { IfOk result (λ change. (change.kind ≡ kinds.Length) × (change.beyond ≡ option_map (λ b. b.value) beyond) × ChangesObjects (ChangesBy number (Arrives (program_code_of listing.now.code.value) (arrivals.Value (Int (pos count))) change.own)) self.old.run self.old self.new) }
         ensures err { OnErr result (contents_in self.new ≡ contents_in self.old) }
     {
         let arrival = Arrival::Value(whole(count));
         let own = self.goroutines.deliver(number, &listing.code, arrival)?;
-        Ok(Change {
-            kind: Kind::Length,
-            own,
-            beyond,
-        })
+        let form = match beyond {
+            Some(beyond) => Form::Further(Kind::Length, own, beyond),
+            None => Form::Alone(Kind::Length, own),
+        };
+        Ok(Change { form })
     }
 }

@@ -9,44 +9,37 @@ ghost use Rattle.gr_contents.specs.Partners.{is_waiting};
 ghost use Rattle.gr_code.specs.CodeViews.{program_code_of};
 ghost use Rattle.gr_goros.specs.Views.{arrival_of};
 ghost use Rattle.gr_step.specs.Fews.{members};
-ghost use Rattle.gr_tables.specs.NamedChannels.{contents_of, rooms_of, withdrawn, ChansFit, HasRooms, TookBack, Follows, MoreAtGates};
+ghost use Rattle.gr_tables.specs.NamedChannels.{contents_of, rooms_of, withdrawn, ChansFit, HasRooms, TookBack, Follows, MoreAtGates, listed};
 ghost use Rattle.gr_tables.specs.NamedGoroutines.{At, goroutines_of, name_at, seen_at, CanArrive, Arrives, ChangesBy, KeepsContents};
+ghost use Rattle.gr_step.specs.Effects.{reached_by_passage};
 ghost use Rattle.gr_step.specs.Parts.{channel_in, AreTouched};
 ghost use Rattle.gr_step.specs.Records.{operation_of};
 ghost use Rattle.gr_step.specs.Passing.{CanArriveAt, BothArrive, Tells};
 ghost use Rattle.gr_step.specs.Preparing.{IsReached, IsPrepared, CanPass, IsPass, CanExchange, IsExchange, WaitsFor};
 
 use crate::beyond::reached_with;
-use crate::channels_named::{channels_to_leave, other_channels};
+use crate::channels_named::{others_awaited, still_to_leave};
 use crate::few::Few;
 use crate::objects::Objects;
-use crate::record::{Beyond, Change, Operation, Touched};
-use crate::unstepping::put_back;
+use crate::record::{Beyond, Change, Form, Operation, Passage, Touched};
+use crate::unstepping::{put_back, put_one_back};
 use gr_base::{ChName, Event, GoName, Kind, NoMemory, Object};
 use gr_channels::ChanUndo;
 use gr_code::code::Code;
-use gr_goros::{Arrival, GoUndo, Status};
+use gr_goros::{Arrival, GoUndo};
 use gr_tables::channels::Channels;
 use std::alloc::Global;
 
-/// The change of a step that met nobody, and changed these channels.
+/// The change of a step that met nobody, and changed its channel so, if it did.
 #[inline(always)]
-pub(crate) fn told(
-    kind: Kind,
-    own: GoUndo,
-    beyond: Box<Beyond>,
-    channels: Few<(ChName, ChanUndo)>,
-) -> Change
-    ensures { (operation : attempts.Operation) (reads writes : List Object) → IsReached operation reads writes beyond.value
-        → Tells result kind (Some operation) reads writes own [] (members channels) }
+fn told(kind: Kind, own: GoUndo, passage: Box<Passage>, undo: Option<ChanUndo>) -> Change
+    ensures { (operation : attempts.Operation) (reads writes : List Object) → IsReached operation reads writes (reached_by_passage passage.value)
+        → Tells result kind (Some operation) reads writes own [] (listed (channel_in passage.value.contact.operation) undo) }
 {
-    let mut beyond = beyond;
-    beyond.channels = channels;
-    Change {
-        kind,
-        own,
-        beyond: Some(beyond),
-    }
+    let mut passage = passage;
+    passage.undo = undo;
+    let form = Form::Passes(kind, own, passage);
+    Change { form }
 }
 
 /// The change of a step that met one goroutine, and changed these channels.
@@ -65,9 +58,7 @@ fn told_with(
     beyond.met = Few::One(met);
     beyond.channels = channels;
     Change {
-        kind,
-        own,
-        beyond: Some(beyond),
+        form: Form::Further(kind, own, beyond),
     }
 }
 
@@ -130,12 +121,10 @@ impl Objects {
         let Some(goroutine) = self.goroutines.get(number) else {
             unreachable!()
         };
-        let Status::Waiting(waits) = goroutine.status() else {
-            unreachable!()
-        };
-        let others = other_channels(self.alloc, channel, waits)?;
+        let status = goroutine.status();
+        let others = others_awaited(self.alloc, channel, status)?;
         let beyond = reached_with(self.alloc, operation, touched, go, &others)?;
-        let names = channels_to_leave(self.alloc, channel, waits, others)?;
+        let names = still_to_leave(self.alloc, channel, status, others)?;
         Ok(Prepared {
             go: go.copy(self.alloc)?,
             number,
@@ -145,8 +134,8 @@ impl Objects {
         })
     }
 
-    /// The goroutine with a number goes past its communication with nobody, after `done` was done in the same step. Refused,
-    /// `done` is taken back.
+    /// The goroutine with a number goes past its communication with nobody, after a change of its channel in the same step, if there
+    /// was one. Refused, that change is taken back.
     pub(crate) fn pass(
         &mut self,
         code: &Code,
@@ -154,21 +143,25 @@ impl Objects {
         number: usize,
         passes: Arrival,
         kind: Kind,
-        beyond: Box<Beyond>,
-        done: Few<(ChName, ChanUndo)>,
+        passage: Box<Passage>,
+        undo: Option<ChanUndo>,
     ) -> Result<Change, NoMemory>
-        requires { CanPass (program_code_of code.now) event.now number (arrival_of passes) (members done) self.old }
-        ensures ok { (operation : attempts.Operation) (reads writes : List Object) → IsReached operation reads writes beyond.value
-            → IfOk result (λ change. IsPass (program_code_of code.now) event.now.go (arrival_of passes) kind operation reads writes (members done) change
-            self.old self.new) }
+        requires { CanPass (program_code_of code.now) event.now number (arrival_of passes) (listed (channel_in passage.value.contact.operation) undo) self.old }
+        ensures ok { (operation : attempts.Operation) (reads writes : List Object) → IsReached operation reads writes (reached_by_passage passage.value)
+            → IfOk result (λ change. IsPass (program_code_of code.now) event.now.go (arrival_of passes) kind operation reads writes
+            (listed (channel_in passage.value.contact.operation) undo) change self.old self.new) }
         ensures err_goroutines { OnErr result (goroutines_of self.new.goroutines ≡ goroutines_of self.old.goroutines) }
-        ensures err_channels { OnErr result (TookBack (members done) self.old.channels self.new.channels) }
+        ensures err_channels { OnErr result (TookBack (listed (channel_in passage.value.contact.operation) undo) self.old.channels self.new.channels) }
         ensures run { self.new.run ≡ self.old.run }
     {
         match self.goroutines.deliver(number, code, passes) {
-            Ok(own) => Ok(told(kind, own, beyond, done)),
+            Ok(own) => Ok(told(kind, own, passage, undo)),
             Err(error) => {
-                put_back(&mut self.channels, done);
+                put_one_back(
+                    &mut self.channels,
+                    passage.contact.operation.channel(),
+                    undo,
+                );
                 Err(error)
             }
         }

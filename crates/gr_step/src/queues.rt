@@ -4,6 +4,9 @@ ghost use Rattle.std.specs.Prelude.{◌≡◌, ◌∷◌, [], Some, None, IfOk, 
 ghost use Rattle.std.specs.Option.{option_to_list};
 ghost use Rattle.gr_channels.specs.Channels.{each};
 ghost use Rattle.gr_channels.specs.Changes.{need};
+ghost use Rattle.gr_channels.specs.declared.changes.ChanUndo.TheVariants as undos;
+ghost use Rattle.gr_rules.specs.Deeds.{Sending, Receiving};
+ghost use Rattle.gr_rules.specs.Outcomes.{gives};
 ghost use Rattle.gr_goros.specs.Views.{communication_of, wait_of, waits_of};
 ghost use Rattle.gr_rules.specs.Communications as rules;
 ghost use Rattle.gr_tables.specs.NamedChannels.{contents_of, AreAtGates, GoesBack};
@@ -11,7 +14,7 @@ ghost use Rattle.gr_step.specs.Fews.{members};
 ghost use Rattle.gr_step.specs.Parks.{pending_of, channels_awaited, queued, queued_for, AreMade, NeedNoRoom};
 
 use crate::few::Few;
-use gr_base::{ChName, GoName, NoMemory};
+use gr_base::{ChName, GoName, NoMemory, Value};
 use gr_channels::{ChanUndo, Waiter};
 use gr_goros::{Clause, Wait};
 use gr_tables::channels::Channels;
@@ -53,6 +56,54 @@ pub(crate) fn all_waits(
         waits.push(wait)?;
     }
     Ok(waits)
+}
+
+/// Puts a goroutine at the end of the queue of those that wait to send on a channel, outside a select. Refused, no content has
+/// changed.
+#[inline(always)]
+pub(crate) fn queue_to_send(
+    channels: &mut Channels,
+    alloc: Global,
+    go: &GoName,
+    channel: &ChName,
+    value: Value,
+) -> Result<(), NoMemory>
+    requires { AreMade ((None, Sending (Some channel.now) (gives value)) ∷ []) (contents_of channels.old) }
+    ensures contents { OnOk result (contents_of channels.new ≡ queued_for go.now (contents_of channels.old) (None, Sending (Some channel.now) (gives value))) }
+    ensures back { OnOk result (GoesBack ((channel.now, undos.ParkedSender) ∷ []) channels.old channels.new) }
+    ensures err { OnErr result (contents_of channels.new ≡ contents_of channels.old) }
+{
+    let waiter = Waiter {
+        go: go.copy(alloc)?,
+        case: None,
+        value,
+    };
+    channels.park_sender(channel, waiter)?;
+    Ok(())
+}
+
+/// .. of those that wait to receive from a channel, outside a select. Refused, no content has changed. The zero value matters for what
+/// the rules say of it alone.
+#[inline(always)]
+pub(crate) fn queue_to_receive(
+    channels: &mut Channels,
+    alloc: Global,
+    go: &GoName,
+    channel: &ChName,
+    _zero: &Value,
+) -> Result<(), NoMemory>
+    requires { AreMade ((None, Receiving (Some channel.now) _zero.now) ∷ []) (contents_of channels.old) }
+    ensures contents { OnOk result (contents_of channels.new ≡ queued_for go.now (contents_of channels.old) (None, Receiving (Some channel.now) _zero.now)) }
+    ensures back { OnOk result (GoesBack ((channel.now, undos.ParkedReceiver) ∷ []) channels.old channels.new) }
+    ensures err { OnErr result (contents_of channels.new ≡ contents_of channels.old) }
+{
+    let waiter = Waiter {
+        go: go.copy(alloc)?,
+        case: None,
+        value: (),
+    };
+    channels.park_receiver(channel, waiter)?;
+    Ok(())
 }
 
 /// Puts a goroutine at the end of the queue for a communication; on nil it stands in none. Refused, no content has changed.

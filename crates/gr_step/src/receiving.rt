@@ -13,11 +13,10 @@ ghost use Rattle.gr_step.specs.Records.{HasRoom};
 ghost use Rattle.gr_step.specs.Premises.{Acting, OfGoroutine};
 ghost use Rattle.gr_step.specs.Communicating.{TrialIsSound, Tried};
 
-use crate::beyond::reached;
-use crate::few::Few;
+use crate::beyond::passage;
 use crate::listing::Listing;
 use crate::objects::Objects;
-use crate::record::{Change, Operation};
+use crate::record::{Change, Contact, Operation};
 use crate::sending::kind_by;
 use crate::touching::{end_read, exit_read, left, moved};
 use gr_base::{ChName, Event, Kind, NoMemory, Value};
@@ -48,18 +47,19 @@ impl Objects {
         let Some(found) = self.channels.get(channel) else {
             unreachable!()
         };
-        let operation = Operation::ReceivesFrom(channel.copy(self.alloc)?);
-        let touched = left(found);
-        let beyond = reached(self.alloc, operation, touched)?;
-        let name = channel.copy(self.alloc)?;
+        let contact = Contact {
+            operation: Operation::ReceivesFrom(channel.copy(self.alloc)?),
+            touched: left(found),
+        };
+        let passage = passage(self.alloc, contact)?;
         let Taken::Item(value, undo) = self.channels.take(channel)? else {
             unreachable!()
         };
-        let done = Few::One((name, undo));
         let kind = kind_by(clause, Kind::Take);
         let got = Some((value, true));
         let passes = Arrival::Passes { clause, got };
-        self.pass(&listing.code, event, number, passes, kind, beyond, done)
+        let code = &listing.code;
+        self.pass(code, event, number, passes, kind, passage, Some(undo))
     }
 
     /// Takes the front item, into whose place the value of the first goroutine that waits to send moves up. Refused, nothing has
@@ -188,13 +188,15 @@ impl Objects {
         let Some(found) = self.channels.get(channel) else {
             unreachable!()
         };
-        let operation = Operation::ReceivesFrom(channel.copy(self.alloc)?);
-        let touched = end_read(found);
-        let beyond = reached(self.alloc, operation, touched)?;
-        let done = Few::Empty;
+        let contact = Contact {
+            operation: Operation::ReceivesFrom(channel.copy(self.alloc)?),
+            touched: end_read(found),
+        };
+        let passage = passage(self.alloc, contact)?;
         let kind = kind_by(clause, Kind::Closed);
         let got = Some((zero, false));
         let passes = Arrival::Passes { clause, got };
-        self.pass(&listing.code, event, number, passes, kind, beyond, done)
+        let code = &listing.code;
+        self.pass(code, event, number, passes, kind, passage, None)
     }
 }

@@ -1,9 +1,14 @@
 //! Records of steps.
 
+ghost use Rattle.std.specs.Prelude.{◌≡◌};
+ghost use Rattle.gr_step.specs.Effects.{effect_in, kind_of_wait, queue_left_by};
+ghost use Rattle.gr_step.specs.Parts.{channel_in};
+
 use crate::few::Few;
 use gr_base::{ChName, Choice, GoName, Kind, Object, StepId};
 use gr_channels::ChanUndo;
-use gr_goros::GoUndo;
+use gr_goros::{GoUndo, Spot};
+use std::marker::Model;
 
 /// What a step did with a channel.
 #[derive(Debug, Drop)]
@@ -13,6 +18,22 @@ pub enum Operation {
     TakesLenOf(ChName),
     TakesCapOf(ChName),
     Closes(ChName),
+}
+
+impl Operation {
+    /// The channel.
+    #[inline]
+    pub fn channel(&self) -> &ChName
+        ensures { result.now ≡ channel_in self.now }
+    {
+        match self {
+            Operation::SendsOn(channel) => channel,
+            Operation::ReceivesFrom(channel) => channel,
+            Operation::TakesLenOf(channel) => channel,
+            Operation::TakesCapOf(channel) => channel,
+            Operation::Closes(channel) => channel,
+        }
+    }
 }
 
 /// Parts of one channel, in the order of gate, head, tail and slot.
@@ -70,13 +91,101 @@ pub struct Beyond {
     pub more: Option<Box<More>>,
 }
 
+/// What a step did with one channel, and what it touched of it.
+#[derive(Debug, Drop)]
+pub struct Contact {
+    pub operation: Operation,
+    pub touched: Touched,
+}
+
+/// What a step did whose goroutine came to wait for one communication on a channel, outside a select.
+#[derive(Debug, Drop)]
+pub struct Waiting {
+    /// The send or the receive.
+    pub contact: Contact,
+    /// Where the innermost frame stands.
+    pub spot: Spot,
+}
+
+/// What a step reached that communicated over one channel, and met nobody.
+#[derive(Debug, Drop)]
+pub struct Passage {
+    pub contact: Contact,
+    /// What it replaced in the channel, if it changed that.
+    pub undo: Option<ChanUndo>,
+}
+
+/// How what a step did is kept, in as little memory as there is need for.
+#[derive(Debug, Drop)]
+pub enum Form {
+    /// It reached no further than its goroutine: its kind, and what it replaced there.
+    Alone(Kind, GoUndo),
+    /// Its goroutine came to wait.
+    Waits(Waiting),
+    /// It communicated over a channel, and met nobody: its kind, what it replaced in its goroutine, and what it did with the channel.
+    Passes(Kind, GoUndo, Box<Passage>),
+    /// It reached further: its kind, what it replaced in its goroutine, and what it reached.
+    Further(Kind, GoUndo, Box<Beyond>),
+}
+
 /// What a step did, and what it replaced.
 #[derive(Debug, Drop)]
 pub struct Change {
-    pub kind: Kind,
-    /// What it replaced in its goroutine.
-    pub own: GoUndo,
-    pub beyond: Option<Box<Beyond>>,
+    pub(crate) form: Form,
+}
+
+impl Model for Change {
+    ghost use Rattle.gr_step.specs.Effects.{Effect, effect_in};
+
+    ghost Value = { Effect };
+
+    ghost view = { λ c. effect_in c.form };
+}
+
+impl Change {
+    /// How it is kept.
+    #[inline(always)]
+    pub fn form(&self) -> &Form
+        ensures { effect_in result.now ≡ self.now }
+    {
+        &self.form
+    }
+
+    /// The kind of the step.
+    #[inline(always)]
+    pub fn kind(&self) -> Kind
+        ensures { result ≡ self.now.kind }
+    {
+        match &self.form {
+            Form::Alone(kind, _) => *kind,
+            Form::Waits(waiting) => waiting.kind(),
+            Form::Passes(kind, _, _) => *kind,
+            Form::Further(kind, _, _) => *kind,
+        }
+    }
+}
+
+impl Waiting {
+    /// The kind of the step.
+    #[inline(always)]
+    pub fn kind(&self) -> Kind
+        ensures { result ≡ kind_of_wait self.now.contact.operation }
+    {
+        match &self.contact.operation {
+            Operation::SendsOn(_) => Kind::SendWait,
+            _ => Kind::RecvWait,
+        }
+    }
+
+    /// What it replaced in the channel.
+    pub(crate) fn undo(&self) -> ChanUndo
+        ensures { result ≡ queue_left_by self.now.contact.operation }
+    {
+        match &self.contact.operation {
+            Operation::SendsOn(_) => ChanUndo::ParkedSender,
+            _ => ChanUndo::ParkedReceiver,
+        }
+    }
 }
 
 /// A step that was taken, by which it can be taken back.

@@ -35,7 +35,7 @@ ghost use Rattle.gr_step.specs.Communicating.{Chosen};
 use crate::clauses::{default_clause, first_fault, take_clause};
 use crate::listing::Listing;
 use crate::objects::Objects;
-use crate::record::{Beyond, Change};
+use crate::record::{Beyond, Change, Form};
 use crate::sides::{each_once, sides};
 use gr_base::{Choice, Event, Fault, Kind, NoMemory, Object};
 use gr_goros::{Arrival, Clause};
@@ -258,9 +258,7 @@ impl Objects {
         };
         let own = self.goroutines.deliver(number, &listing.code, arrival)?;
         Ok(Change {
-            kind: Kind::Default,
-            own,
-            beyond: Some(beyond),
+            form: Form::Further(Kind::Default, own, beyond),
         })
     }
 }

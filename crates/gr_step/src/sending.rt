@@ -15,11 +15,10 @@ ghost use Rattle.gr_step.specs.Records.{HasRoom};
 ghost use Rattle.gr_step.specs.Premises.{Acting, OfGoroutine};
 ghost use Rattle.gr_step.specs.Communicating.{TrialIsSound, Tried};
 
-use crate::beyond::reached;
-use crate::few::Few;
+use crate::beyond::passage;
 use crate::listing::Listing;
 use crate::objects::Objects;
-use crate::record::{Change, Operation};
+use crate::record::{Change, Contact, Operation};
 use crate::touching::{entered, gate_written};
 use gr_base::{ChName, Event, Kind, NoMemory, Value};
 use gr_channels::Offered;
@@ -107,16 +106,17 @@ impl Objects {
         let Some(found) = self.channels.get(channel) else {
             unreachable!()
         };
-        let operation = Operation::SendsOn(channel.copy(self.alloc)?);
-        let touched = entered(found);
-        let beyond = reached(self.alloc, operation, touched)?;
-        let name = channel.copy(self.alloc)?;
+        let contact = Contact {
+            operation: Operation::SendsOn(channel.copy(self.alloc)?),
+            touched: entered(found),
+        };
+        let passage = passage(self.alloc, contact)?;
         let Offered::Buffered(undo) = self.channels.offer(channel, value)? else {
             unreachable!()
         };
-        let done = Few::One((name, undo));
         let kind = kind_by(clause, Kind::Buffer);
         let passes = Arrival::Passes { clause, got: None };
-        self.pass(&listing.code, event, number, passes, kind, beyond, done)
+        let code = &listing.code;
+        self.pass(code, event, number, passes, kind, passage, Some(undo))
     }
 }

@@ -47,7 +47,9 @@ impl Objects {
                 number,
                 ordinal: goroutine.steps() + 1,
             }),
-            Status::Waiting(_) => Err(StepRefused::Waits),
+            Status::Sending(_) | Status::Receiving(_) | Status::Waiting(_) => {
+                Err(StepRefused::Waits)
+            }
             Status::Finished => Err(StepRefused::Done),
         }
     }

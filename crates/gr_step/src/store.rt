@@ -13,7 +13,7 @@ ghost use Rattle.gr_step.specs.Records.{event_of, taken_back, CanGoBack};
 
 use crate::listing::Listing;
 use crate::objects::{Objects, Run};
-use crate::record::{Change, Record};
+use crate::record::{Change, Form, Record};
 use crate::refusal::StepRefused;
 use gr_base::{ChName, Choice, Event, GoName, Kind, NoMemory, StepId};
 use gr_channels::Channel;
@@ -132,9 +132,7 @@ impl Store {
             },
             choice: Choice::Plain,
             change: Change {
-                kind: Kind::Pure,
-                own,
-                beyond: None,
+                form: Form::Alone(Kind::Pure, own),
             },
         })
     }

@@ -2,17 +2,19 @@
 
 ghost use Rattle.std.specs.Prelude.{◌≡◌, ◌≤◌, ◌∷◌, [], if◌then◌else◌, Some, IfErr, OnOk, OnErr, IsOk};
 ghost use Rattle.gr_goros.specs.Undoing.{need};
-ghost use Rattle.gr_tables.specs.NamedChannels.{contents_of, rooms_of, ChansFit, HasRooms, TookBack};
+ghost use Rattle.gr_tables.specs.NamedChannels.{contents_of, rooms_of, ChansFit, HasRooms, TookBack, listed};
 ghost use Rattle.gr_tables.specs.NamedGoroutines.{goroutines_of, go_rooms_of};
 ghost use Rattle.gr_step.specs.Fews.{members};
 ghost use Rattle.gr_step.specs.Parts.{begun_in, made_in, begun_by_more, made_by_more};
 ghost use Rattle.gr_step.specs.Objects.{contents_in};
+ghost use Rattle.gr_step.specs.Effects.{effect_in};
+ghost use Rattle.gr_step.specs.declared.record.Form.TheVariants.{Waits, Passes};
 ghost use Rattle.gr_step.specs.Records.{GoesFit, NeedNoFrame, CanGoBack, HasRoom};
 ghost use Rattle.gr_step.specs.Unstepping.{GoBack, after_back, IsForgotten, IsUnmade, AreUndone, IsTakenBack};
 
 use crate::few::Few;
 use crate::objects::{Objects, Run};
-use crate::record::{Beyond, Change, More};
+use crate::record::{Beyond, Change, Form, More, Passage, Waiting};
 use gr_base::{ChName, GoName, Kind, NoMemory};
 use gr_channels::ChanUndo;
 use gr_goros::GoUndo;
@@ -76,6 +78,34 @@ pub(crate) fn put_back(channels: &mut Channels, undos: Few<(ChName, ChanUndo)>)
     }
 }
 
+/// Takes a change of a channel back, if there was one, for which there is room.
+pub(crate) fn put_one_back(channels: &mut Channels, channel: &ChName, undo: Option<ChanUndo>)
+    requires fits { ChansFit (listed channel.now undo) (contents_of channels.old) }
+    requires room { HasRooms (listed channel.now undo) (rooms_of channels.old) }
+    ensures { TookBack (listed channel.now undo) channels.old channels.new }
+{
+    if let Some(undo) = undo {
+        channels.put_back(channel, undo);
+    }
+}
+
+/// Makes room for taking a change of a channel back, if there was one. No content changes.
+fn make_room(
+    channels: &mut Channels,
+    channel: &ChName,
+    undo: &Option<ChanUndo>,
+) -> Result<(), NoMemory>
+    requires { ChansFit (listed channel.now undo.now) (contents_of channels.old) }
+    ensures contents { contents_of channels.new ≡ contents_of channels.old }
+    ensures ok { OnOk result (HasRooms (listed channel.now undo.now) (rooms_of channels.new)) }
+    ensures succeeds { HasRooms (listed channel.now undo.now) (rooms_of channels.old) → IsOk result }
+{
+    match undo {
+        Some(undo) => channels.make_room_for(channel, undo),
+        None => Ok(()),
+    }
+}
+
 /// Without the goroutine of a name that a step started, if it started one.
 fn forget(goroutines: &mut Goroutines, begun: Option<GoName>)
     ensures { IsForgotten begun (goroutines_of goroutines.old) goroutines.new }
@@ -111,21 +141,59 @@ impl Objects {
         ensures returned { IfErr result (λ e. e.0 ≡ change) }
         ensures succeeds { HasRoom go.now change self.old → IsOk result }
     {
-        let Change { kind, own, beyond } = change;
-        match beyond {
-            None => match undo_at(&mut self.goroutines, go, own) {
+        match change.form {
+            Form::Alone(kind, own) => match undo_at(&mut self.goroutines, go, own) {
                 Ok(()) => Ok(()),
-                Err((own, error)) => Err((
-                    Change {
-                        kind,
-                        own,
-                        beyond: None,
-                    },
-                    error,
-                )),
+                Err((own, error)) => {
+                    let form = Form::Alone(kind, own);
+                    Err((Change { form }, error))
+                }
             },
-            Some(beyond) => self.take_beyond_back(go, kind, own, beyond),
+            Form::Waits(waiting) => {
+                self.take_wait_back(go, waiting);
+                Ok(())
+            }
+            Form::Passes(kind, own, passage) => self.take_passage_back(go, kind, own, passage),
+            Form::Further(kind, own, beyond) => self.take_beyond_back(go, kind, own, beyond),
         }
+    }
+
+    /// .. of a step that communicated over one channel, and met nobody.
+    #[inline(never)]
+    fn take_passage_back(
+        &mut self,
+        go: &GoName,
+        kind: Kind,
+        own: GoUndo,
+        passage: Box<Passage>,
+    ) -> Result<(), (Change, NoMemory)>
+        requires { CanGoBack go.now (effect_in (Passes kind own passage)) (contents_in self.old) }
+        ensures back { OnOk result (IsTakenBack go.now (effect_in (Passes kind own passage)) self.old self.new) }
+        ensures err { OnErr result (contents_in self.new ≡ contents_in self.old) }
+        ensures returned { IfErr result (λ e. e.0 ≡ effect_in (Passes kind own passage)) }
+        ensures succeeds { HasRoom go.now (effect_in (Passes kind own passage)) self.old → IsOk result }
+    {
+        let channel = passage.contact.operation.channel();
+        if let Err(error) = make_room(&mut self.channels, channel, &passage.undo) {
+            let form = Form::Passes(kind, own, passage);
+            return Err((Change { form }, error));
+        }
+        let Passage { contact, undo } = Box::into_inner(passage);
+        put_one_back(&mut self.channels, contact.operation.channel(), undo);
+        undo_at(&mut self.goroutines, go, own).unwrap();
+        Ok(())
+    }
+
+    /// .. of a step whose goroutine came to wait, which needs no room.
+    #[inline(never)]
+    fn take_wait_back(&mut self, go: &GoName, waiting: Waiting)
+        requires { CanGoBack go.now (effect_in (Waits waiting)) (contents_in self.old) }
+        ensures { IsTakenBack go.now (effect_in (Waits waiting)) self.old self.new }
+    {
+        let undo = waiting.undo();
+        self.channels
+            .put_back(waiting.contact.operation.channel(), undo);
+        undo_at(&mut self.goroutines, go, GoUndo::Parked(waiting.spot)).unwrap();
     }
 
     /// .. of a step that reached beyond its goroutine.
@@ -137,15 +205,15 @@ impl Objects {
         own: GoUndo,
         beyond: Box<Beyond>,
     ) -> Result<(), (Change, NoMemory)>
-        requires { CanGoBack go.now (record { kind = kind; own = own; beyond = Some beyond }) (contents_in self.old) }
-        ensures back { OnOk result (IsTakenBack go.now (record { kind = kind; own = own; beyond = Some beyond }) self.old self.new) }
+        requires { CanGoBack go.now (record { kind = kind; own = own; beyond = Some beyond.value }) (contents_in self.old) }
+        ensures back { OnOk result (IsTakenBack go.now (record { kind = kind; own = own; beyond = Some beyond.value }) self.old self.new) }
         ensures err { OnErr result (contents_in self.new ≡ contents_in self.old) }
-        ensures returned { IfErr result (λ e. e.0 ≡ record { kind = kind; own = own; beyond = Some beyond }) }
-        ensures succeeds { HasRoom go.now (record { kind = kind; own = own; beyond = Some beyond }) self.old → IsOk result }
+        ensures returned { IfErr result (λ e. e.0 ≡ record { kind = kind; own = own; beyond = Some beyond.value }) }
+        ensures succeeds { HasRoom go.now (record { kind = kind; own = own; beyond = Some beyond.value }) self.old → IsOk result }
     {
         if let Err(error) = self.channels.make_room(beyond.channels.as_slice()) {
-            let beyond = Some(beyond);
-            return Err((Change { kind, own, beyond }, error));
+            let form = Form::Further(kind, own, beyond);
+            return Err((Change { form }, error));
         }
         self.take_rest_back(go, own, Box::into_inner(beyond));
         Ok(())

@@ -24,7 +24,8 @@ ghost use Rattle.gr_tables.specs.NamedChannels.{contents_of};
 ghost use Rattle.gr_tables.specs.NamedGoroutines.{seen_at, At, CanPark};
 ghost use Rattle.gr_step.specs.Parks.{pending_of, gates_of, with_channels, AreMade, Parks};
 ghost use Rattle.gr_step.specs.Beyonds.{Reaches};
-ghost use Rattle.gr_step.specs.Parts.{channel_in, channel_on, AreTouched};
+ghost use Rattle.gr_step.specs.Parts.{channel_on, AreTouched};
+ghost use Rattle.gr_step.specs.declared.record.Operation.TheVariants as operations;
 ghost use Rattle.gr_laws.specs.Touched.{each_once as each_read};
 ghost use Rattle.gr_rules.specs.Touches.{side as side_by};
 ghost use Rattle.gr_rules.specs.Frames.{Frame};
@@ -40,8 +41,8 @@ use crate::beyond::waited;
 use crate::channels_named::channels_but;
 use crate::listing::Listing;
 use crate::objects::Objects;
-use crate::queues::{all_waits, park_for_few};
-use crate::record::{Beyond, Change, Operation, Touched};
+use crate::queues::{all_waits, park_for_few, queue_to_receive, queue_to_send};
+use crate::record::{Beyond, Change, Contact, Form, Operation, Touched, Waiting};
 use crate::sides::{each_once, sides};
 use crate::touching::{entrance_read, exit_read, push_gates, untouched};
 use gr_base::{ChName, Event, Kind, NoMemory, Object, Value};
@@ -65,28 +66,6 @@ fn numbered(alloc: Global, clauses: Vec<Clause>) -> Result<Vec<(Option<u32>, Cla
     Ok(pending)
 }
 
-/// What a send does with its channel.
-fn send_operation(alloc: Global, channel: &Option<ChName>) -> Result<Option<Operation>, NoMemory>
-    ensures is { IfOk result (λ operation. option_map operation_of operation ≡ option_map attempts.sends_on channel.now) }
-    ensures channel { IfOk result (λ operation. option_map channel_in operation ≡ channel.now) }
-{
-    match channel {
-        Some(name) => Ok(Some(Operation::SendsOn(name.copy(alloc)?))),
-        None => Ok(None),
-    }
-}
-
-/// What a receive does with its channel.
-fn receive_operation(alloc: Global, channel: &Option<ChName>) -> Result<Option<Operation>, NoMemory>
-    ensures is { IfOk result (λ operation. option_map operation_of operation ≡ option_map attempts.receives_from channel.now) }
-    ensures channel { IfOk result (λ operation. option_map channel_in operation ≡ channel.now) }
-{
-    match channel {
-        Some(name) => Ok(Some(Operation::ReceivesFrom(name.copy(alloc)?))),
-        None => Ok(None),
-    }
-}
-
 /// The gates of the channels on which one waits.
 fn gates(alloc: Global, waits: &[Wait]) -> Result<Vec<Object>, NoMemory>
     ensures { IfOk result (λ gates. gates.items ≡ map objects.Gate (actors.channels_but [] (waits_of waits.now))) }
@@ -97,25 +76,27 @@ fn gates(alloc: Global, waits: &[Wait]) -> Result<Vec<Object>, NoMemory>
     Ok(gates)
 }
 
-/// What a wait for one communication touches of its channel: it writes the gate, and reads where the next value enters, or where
-/// the front item is. The channel is there, where it is on one.
-fn touched_alone(channels: &Channels, communication: &Clause) -> Touched
-    requires { is_made_for (with_channels (contents_of channels.now)) (communication_of communication.now) ≡ true }
-    ensures { (frame : CodeFrame → Frame) → AreTouched result (channel_on (communication_of communication.now))
-        (each_read (gates_of ((None, communication_of communication.now) ∷ [])) (side_by (state_of frame (with_channels (contents_of channels.now))) (communication_of communication.now)))
-        (gates_of ((None, communication_of communication.now) ∷ [])) }
+/// What a wait to send touches of its channel, which is there: it writes the gate, and reads where the next value enters.
+#[inline(always)]
+fn touched_to_send(channels: &Channels, channel: &ChName, value: &Value) -> Touched
+    requires { AreMade ((None, deeds.Sending (Some channel.now) (gives value.now)) ∷ []) (contents_of channels.now) }
+    ensures { (frame : CodeFrame → Frame) → AreTouched result (Some channel.now)
+        (each_read (gates_of ((None, deeds.Sending (Some channel.now) (gives value.now)) ∷ [])) (side_by (state_of frame (with_channels (contents_of channels.now))) (deeds.Sending (Some channel.now) (gives value.now))))
+        (gates_of ((None, deeds.Sending (Some channel.now) (gives value.now)) ∷ [])) }
 {
-    match communication {
-        Clause::Send {
-            channel: Some(name),
-            ..
-        } => entrance_read(channels.get(name).unwrap()),
-        Clause::Receive {
-            channel: Some(name),
-            ..
-        } => exit_read(channels.get(name).unwrap()),
-        _ => untouched(),
-    }
+    entrance_read(channels.get(channel).unwrap())
+}
+
+/// What a wait to receive touches of its channel, which is there: it writes the gate, and reads where the front item is. The zero
+/// value matters for what the rules say of it alone.
+#[inline(always)]
+fn touched_to_receive(channels: &Channels, channel: &ChName, _zero: &Value) -> Touched
+    requires { AreMade ((None, deeds.Receiving (Some channel.now) _zero.now) ∷ []) (contents_of channels.now) }
+    ensures { (frame : CodeFrame → Frame) → AreTouched result (Some channel.now)
+        (each_read (gates_of ((None, deeds.Receiving (Some channel.now) _zero.now) ∷ [])) (side_by (state_of frame (with_channels (contents_of channels.now))) (deeds.Receiving (Some channel.now) _zero.now)))
+        (gates_of ((None, deeds.Receiving (Some channel.now) _zero.now) ∷ [])) }
+{
+    exit_read(channels.get(channel).unwrap())
 }
 
 impl Objects {
@@ -140,11 +121,8 @@ impl Objects {
         let mut beyond = beyond;
         beyond.channels = park_for_few(&mut self.channels, self.alloc, &event.go, pending)?;
         let own = self.goroutines.park(number, waits);
-        Ok(Change {
-            kind,
-            own,
-            beyond: Some(beyond),
-        })
+        let form = Form::Further(kind, own, beyond);
+        Ok(Change { form })
     }
 
     /// Begins to wait for any of these, each with the number of its clause, after a look at the sides. Refused, nothing has changed.
@@ -170,29 +148,132 @@ impl Objects {
         self.begin_to_wait(event, number, kind, beyond, waits, pending)
     }
 
-    /// Begins to wait for one communication, which is no clause of a select. Refused, nothing has changed.
-    fn wait_alone(
+    /// Begins to wait for a communication on nil, forever. Refused, nothing has changed.
+    fn wait_on_nil(
         &mut self,
         event: &Event,
         number: usize,
         kind: Kind,
-        operation: Option<Operation>,
         communication: Clause,
     ) -> Result<Change, NoMemory>
         requires parks { At CanPark (seen_at self.old.goroutines number) }
-        requires made { AreMade ((None, communication_of communication) ∷ []) (contents_of self.old.channels) }
-        requires on { option_map channel_in operation ≡ channel_on (communication_of communication) }
-        ensures ok { (frame : CodeFrame → Frame) → IfOk result (λ change. Parks event.now number kind operation
+        requires nil { channel_on (communication_of communication) ≡ None }
+        ensures ok { (frame : CodeFrame → Frame) → IfOk result (λ change. Parks event.now number kind None
             (side_by (state_of frame (with_channels (contents_of self.old.channels))) (communication_of communication))
             ((None, communication_of communication) ∷ []) change self.old self.new) }
         ensures err { OnErr result (contents_in self.new ≡ contents_in self.old) }
     {
-        let alloc = self.alloc;
-        let touched = touched_alone(&self.channels, &communication);
-        let beyond = waited(alloc, operation, touched)?;
-        let pending = [(None, communication)];
-        let waits = all_waits(alloc, &pending)?;
-        self.begin_to_wait(event, number, kind, beyond, waits, &pending)
+        let beyond = waited(self.alloc, None, untouched())?;
+        let waits = Vec::new(self.alloc);
+        self.begin_to_wait(event, number, kind, beyond, waits, &[(None, communication)])
+    }
+
+    /// Begins to wait to send a value on a channel. Refused, nothing has changed.
+    #[inline(always)]
+    fn wait_for_receiver(
+        &mut self,
+        event: &Event,
+        number: usize,
+        channel: ChName,
+        value: Value,
+    ) -> Result<Change, NoMemory>
+        requires parks { At CanPark (seen_at self.old.goroutines number) }
+        requires made { AreMade ((None, deeds.Sending (Some channel) (gives value)) ∷ []) (contents_of self.old.channels) }
+        ensures ok { (frame : CodeFrame → Frame) → IfOk result (λ change. Parks event.now number kinds.SendWait (Some (operations.SendsOn channel))
+            (side_by (state_of frame (with_channels (contents_of self.old.channels))) (deeds.Sending (Some channel) (gives value)))
+            ((None, deeds.Sending (Some channel) (gives value)) ∷ []) change self.old self.new) }
+        ensures err { OnErr result (contents_in self.new ≡ contents_in self.old) }
+    {
+        let name = channel.copy(self.alloc)?;
+        let touched = touched_to_send(&self.channels, &channel, &value);
+        queue_to_send(&mut self.channels, self.alloc, &event.go, &channel, value)?;
+        let spot = self.goroutines.park_to_send(number, name);
+        let operation = Operation::SendsOn(channel);
+        let contact = Contact { operation, touched };
+        let form = Form::Waits(Waiting { contact, spot });
+        Ok(Change { form })
+    }
+
+    /// Begins to wait to receive from a channel. Refused, nothing has changed.
+    #[inline(always)]
+    fn wait_for_sender(
+        &mut self,
+        event: &Event,
+        number: usize,
+        channel: ChName,
+        zero: Value,
+    ) -> Result<Change, NoMemory>
+        requires parks { At CanPark (seen_at self.old.goroutines number) }
+        requires made { AreMade ((None, deeds.Receiving (Some channel) zero) ∷ []) (contents_of self.old.channels) }
+        ensures ok { (frame : CodeFrame → Frame) → IfOk result (λ change. Parks event.now number kinds.RecvWait (Some (operations.ReceivesFrom channel))
+            (side_by (state_of frame (with_channels (contents_of self.old.channels))) (deeds.Receiving (Some channel) zero))
+            ((None, deeds.Receiving (Some channel) zero) ∷ []) change self.old self.new) }
+        ensures err { OnErr result (contents_in self.new ≡ contents_in self.old) }
+    {
+        let name = channel.copy(self.alloc)?;
+        let touched = touched_to_receive(&self.channels, &channel, &zero);
+        queue_to_receive(&mut self.channels, self.alloc, &event.go, &channel, &zero)?;
+        let spot = self.goroutines.park_to_receive(number, name);
+        let operation = Operation::ReceivesFrom(channel);
+        let contact = Contact { operation, touched };
+        let form = Form::Waits(Waiting { contact, spot });
+        Ok(Change { form })
+    }
+
+    /// Begins to wait to send a value, on nil forever. Refused, nothing has changed.
+    #[inline(always)]
+    fn begin_to_send(
+        &mut self,
+        event: &Event,
+        number: usize,
+        channel: Option<ChName>,
+        value: Value,
+    ) -> Result<Change, NoMemory>
+        requires parks { At CanPark (seen_at self.old.goroutines number) }
+        requires made { AreMade ((None, deeds.Sending channel (gives value)) ∷ []) (contents_of self.old.channels) }
+        ensures ok { (frame : CodeFrame → Frame) → IfOk result (λ change. Parks event.now number kinds.SendWait (option_map operations.SendsOn channel)
+            (side_by (state_of frame (with_channels (contents_of self.old.channels))) (deeds.Sending channel (gives value)))
+            ((None, deeds.Sending channel (gives value)) ∷ []) change self.old self.new) }
+        ensures err { OnErr result (contents_in self.new ≡ contents_in self.old) }
+    {
+        match channel {
+            Some(channel) => self.wait_for_receiver(event, number, channel, value),
+            None => {
+                let clause = Clause::Send {
+                    channel: None,
+                    value: Ok(value),
+                };
+                self.wait_on_nil(event, number, Kind::SendWait, clause)
+            }
+        }
+    }
+
+    /// Begins to wait to receive, on nil forever. Refused, nothing has changed.
+    #[inline(always)]
+    fn begin_to_receive(
+        &mut self,
+        event: &Event,
+        number: usize,
+        channel: Option<ChName>,
+        zero: Value,
+    ) -> Result<Change, NoMemory>
+        requires parks { At CanPark (seen_at self.old.goroutines number) }
+        requires made { AreMade ((None, deeds.Receiving channel zero) ∷ []) (contents_of self.old.channels) }
+        ensures ok { (frame : CodeFrame → Frame) → IfOk result (λ change. Parks event.now number kinds.RecvWait (option_map operations.ReceivesFrom channel)
+            (side_by (state_of frame (with_channels (contents_of self.old.channels))) (deeds.Receiving channel zero))
+            ((None, deeds.Receiving channel zero) ∷ []) change self.old self.new) }
+        ensures err { OnErr result (contents_in self.new ≡ contents_in self.old) }
+    {
+        match channel {
+            Some(channel) => self.wait_for_sender(event, number, channel, zero),
+            None => {
+                let clause = Clause::Receive {
+                    channel: None,
+                    zero,
+                };
+                self.wait_on_nil(event, number, Kind::RecvWait, clause)
+            }
+        }
     }
 
     /// Waits to send a value. Refused, nothing has changed.
@@ -211,13 +292,7 @@ impl Objects {
         ensures room { IfOk result (λ change. HasRoom event.now.go change self.new) }
         ensures err { OnErr result (contents_in self.new ≡ contents_in self.old) }
     {
-        let alloc = self.alloc;
-        let operation = send_operation(alloc, &channel)?;
-        let clause = Clause::Send {
-            channel,
-            value: Ok(value),
-        };
-        self.wait_alone(event, number, Kind::SendWait, operation, clause)
+        self.begin_to_send(event, number, channel, value)
     }
 
     /// Waits to receive; the zero value matters where it is asked whether the clauses are those of the rules. Refused, nothing has
@@ -237,10 +312,7 @@ impl Objects {
         ensures room { IfOk result (λ change. HasRoom event.now.go change self.new) }
         ensures err { OnErr result (contents_in self.new ≡ contents_in self.old) }
     {
-        let alloc = self.alloc;
-        let operation = receive_operation(alloc, &channel)?;
-        let clause = Clause::Receive { channel, zero };
-        self.wait_alone(event, number, Kind::RecvWait, operation, clause)
+        self.begin_to_receive(event, number, channel, zero)
     }
 
     /// Waits for any clause of its select, none of whose values to send is at fault. Refused, nothing has changed.

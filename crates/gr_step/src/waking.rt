@@ -7,10 +7,10 @@ ghost use Rattle.gr_tables.specs.NamedChannels.{contents_of, rooms_of, At, IsOpe
 ghost use Rattle.gr_tables.specs.NamedGoroutines.{goroutines_of};
 ghost use Rattle.gr_step.specs.Wakes.{waits_known, all_waits_known, left_by_close, without_each, is_live_there, with_one_woken, with_each_woken, IsShut, LeadsOver};
 
-use crate::channels_named::channels_but;
+use crate::channels_named::channels_awaited;
 use gr_base::{ChName, GoName, NoMemory};
 use gr_channels::ChanUndo;
-use gr_goros::{GoUndo, Status};
+use gr_goros::GoUndo;
 use gr_tables::channels::Channels;
 use gr_tables::goroutines::Goroutines;
 use std::alloc::Global;
@@ -31,10 +31,7 @@ fn channels_of(
     let Some(goroutine) = goroutines.get(number) else {
         return Ok(Vec::new(alloc));
     };
-    match goroutine.status() {
-        Status::Waiting(waits) => channels_but(alloc, seen, waits),
-        _ => Ok(Vec::new(alloc)),
-    }
+    channels_awaited(alloc, seen, goroutine.status())
 }
 
 /// A channel, and then the others on which these goroutines wait, each once.

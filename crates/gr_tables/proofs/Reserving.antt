@@ -50,3 +50,7 @@ module _ (us : List (ChName × ChanUndo)) (place : ℕ) (e : ChName × ChanUndo)
     where
       other_needs : same_channel q e.0 ≡ false → needs (e ∷ drop place us) q ≡ needs (drop place us) q
       other_needs other = ap (λ t. cond t (plus (needs (drop place us) q) (minus (need e.1) (frees (drop place us) q))) (needs (drop place us) q)) other
+
+-- the channel of one change is there
+pub is_there : (c : ChName) (u : ChanUndo) (x : Option Content) → FitsAt u x → IsSome x
+is_there c u x h = some_of [] c u x h

@@ -6,7 +6,7 @@ ghost use Rattle.gr_tables.specs.NamedChannels.{contents_of, rooms_of, FitsAt, C
 ghost use Rattle.gr_tables.specs.Places.{room_of};
 
 use crate::channels::Channels;
-use crate::channels::places::{Places, room_to_go_back};
+use crate::channels::places::{Places, needed_by, room_to_go_back};
 use gr_base::{ChName, NoMemory};
 use gr_channels::ChanUndo;
 
@@ -51,6 +51,17 @@ impl Channels {
             self.reserve(name, room)?;
         }
         Ok(())
+    }
+
+    /// Makes room for taking one change back. No content changes.
+    pub fn make_room_for(&mut self, name: &ChName, undo: &ChanUndo) -> Result<(), NoMemory>
+        requires { FitsAt undo.now (contents_of self.old name.now) }
+        ensures contents { contents_of self.new ≡ contents_of self.old }
+        ensures ok { OnOk result (HasRooms ((name.now, undo.now) ∷ []) (rooms_of self.new)) }
+        ensures grows { KeepsRooms self.old self.new }
+        ensures succeeds { HasRooms ((name.now, undo.now) ∷ []) (rooms_of self.old) → IsOk result }
+    {
+        self.reserve(name, needed_by(undo))
     }
 
     /// The room at a channel is a number of places in memory.

@@ -57,7 +57,7 @@ impl Places {
 }
 
 /// How much room taking a change back needs.
-fn needed_by(undo: &ChanUndo) -> Places
+pub(super) fn needed_by(undo: &ChanUndo) -> Places
     ensures { room_of result ≡ need undo.now }
 {
     let (items, senders, receivers) = need_of(undo);

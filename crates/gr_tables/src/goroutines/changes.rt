@@ -1,6 +1,7 @@
 //! Changes of one goroutine of a store, in its place.
 
-ghost use Rattle.std.specs.Prelude.{◌≡◌, ◌≤◌, IsOk, IfOk, IfErr, IfSome, IfNone, OnOk, OnErr};
+ghost use Rattle.std.specs.Prelude.{◌≡◌, ◌≤◌, ◌∷◌, [], IsOk, IfOk, IfErr, IfSome, IfNone, OnOk, OnErr};
+ghost use Rattle.gr_rules.specs.Goroutines.{ToSend, ToReceive};
 ghost use Rattle.gr_code.specs.CodeViews.{program_code_of};
 ghost use Rattle.gr_code.specs.Goroutines.{local, parked, retried};
 ghost use Rattle.gr_goros.specs.Undoing.{Fits, IsLive, need};
@@ -11,9 +12,9 @@ ghost use Rattle.gr_tables.specs.Counting.{CanTry, StepsOn};
 ghost use Rattle.gr_tables.specs.Slots.{SlotChanges, SlotKeeps};
 
 use crate::goroutines::Goroutines;
-use gr_base::{Kind, NoMemory};
+use gr_base::{ChName, Kind, NoMemory};
 use gr_code::code::Code;
-use gr_goros::{Arrival, GoUndo, Goroutine, Halt, Wait};
+use gr_goros::{Arrival, GoUndo, Goroutine, Halt, Spot, Wait};
 use std::alloc::Global;
 
 /// The goroutine takes its next step. Refused, no content has changed.
@@ -86,6 +87,28 @@ fn park_in(slot: &mut Option<Goroutine>, waits: Vec<Wait>) -> GoUndo
         unreachable!()
     };
     goroutine.park(waits)
+}
+
+/// The goroutine begins to wait to send on a channel, and for nothing else.
+fn park_to_send_in(slot: &mut Option<Goroutine>, channel: ChName) -> Spot
+    requires { At CanPark slot.old }
+    ensures { SlotChanges (ComesTo (parked (ToSend channel None ∷ [])) (GoUndo.Parked result)) slot.old slot.new }
+{
+    let Some(goroutine) = slot else {
+        unreachable!()
+    };
+    goroutine.park_to_send(channel)
+}
+
+/// The goroutine begins to wait to receive from a channel, and for nothing else.
+fn park_to_receive_in(slot: &mut Option<Goroutine>, channel: ChName) -> Spot
+    requires { At CanPark slot.old }
+    ensures { SlotChanges (ComesTo (parked (ToReceive channel None ∷ [])) (GoUndo.Parked result)) slot.old slot.new }
+{
+    let Some(goroutine) = slot else {
+        unreachable!()
+    };
+    goroutine.park_to_receive(channel)
 }
 
 /// The goroutine comes to an end.
@@ -170,6 +193,26 @@ impl Goroutines {
     {
         let slot = self.map.get_index_mut(number).unwrap();
         park_in(slot, waits)
+    }
+
+    /// The goroutine with a number begins to wait to send on a channel, and for nothing else. It answers where its innermost
+    /// frame stands.
+    pub fn park_to_send(&mut self, number: usize, channel: ChName) -> Spot
+        requires { At CanPark (seen_at self.old number) }
+        ensures { ChangesBy number (ComesTo (parked (ToSend channel None ∷ [])) (GoUndo.Parked result)) self.old self.new }
+    {
+        let slot = self.map.get_index_mut(number).unwrap();
+        park_to_send_in(slot, channel)
+    }
+
+    /// The goroutine with a number begins to wait to receive from a channel, and for nothing else. It answers where its
+    /// innermost frame stands.
+    pub fn park_to_receive(&mut self, number: usize, channel: ChName) -> Spot
+        requires { At CanPark (seen_at self.old number) }
+        ensures { ChangesBy number (ComesTo (parked (ToReceive channel None ∷ [])) (GoUndo.Parked result)) self.old self.new }
+    {
+        let slot = self.map.get_index_mut(number).unwrap();
+        park_to_receive_in(slot, channel)
     }
 
     /// The goroutine with a number comes to an end: from its outermost frame, or by a fault.

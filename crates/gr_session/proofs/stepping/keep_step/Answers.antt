@@ -15,8 +15,9 @@ returns-in-Err-clause-takes c = λ p w s.
 pub returns-clause-takes : goal.returns-clause-takes
 returns-clause-takes c = λ p w s.
     let takes = c.in_default.ensures.taken p (course_of p w) s.machine in
-    took_step p w _ takes.step takes.state [] (record { machine = takes.stands; lines = s.lines; grant = s.grant }) c.args.event c.in-Some.step.now takes.joins refl
-    (rw c.log.ensures at c.in-Some.ensures)
+    rw c.kind.ensures
+    (took_step p w _ takes.step takes.state [] (record { machine = takes.stands; lines = s.lines; grant = s.grant }) c.args.event c.in-Some.step.now takes.joins refl
+    (rw c.log.ensures at c.in-Some.ensures))
 
 pub unreachable-requires : goal.unreachable-requires
 unreachable-requires c =

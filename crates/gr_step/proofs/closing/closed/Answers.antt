@@ -1,6 +1,5 @@
 use Rattle.std.proofs.Common.{◌≡◌, [], ◌∷◌, Some, if◌then◌else◌, refl, sym, ap, subst, ◌∙◌}
 use Rattle.std.specs.Prelude.{option_map}
-use Rattle.std.specs.Box.{with_value}
 use Rattle.gr_base.specs.declared.kinds.Kind.TheVariants as kinds
 use Rattle.gr_base.specs.declared.objects.Object.TheVariants as objects
 use Rattle.gr_rules.specs.Attempts.{closes}
@@ -20,7 +19,7 @@ returns-clause-told c = λ k writes h.
     (record {
       kind = kinds.Close;
       own = own;
-      beyond = Some (with_value (with_value c.args.beyond (record (c.deref_mut.result.now) { met = c.of_many.result })) (record b { channels = c.of_many-2.result }));
+      beyond = Some (record b { channels = c.of_many-2.result });
     })
     kinds.Close (Some (closes k)) [] writes own c.args.met.items c.args.channels.items)
     (sym put)

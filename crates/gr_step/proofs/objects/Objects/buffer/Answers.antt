@@ -6,6 +6,7 @@ use Rattle.gr_rules.specs.Touches.{slot_numbered}
 use Rattle.gr_code.specs.CodeViews.{program_code_of}
 use Rattle.gr_tables.specs.NamedChannels.{GoesBack}
 use Rattle.gr_step.specs.Listings.{program_in}
+use Rattle.gr_step.specs.Parts.{channel_in}
 use Rattle.gr_step.proofs.Buffering.{can_buffer, was_buffered, buffer_room}
 use Rattle.gr_step.proofs.Encounters.{before_these}
 use Rattle.gr_step.proofs.Results.{if_ok, if_err}
@@ -13,38 +14,38 @@ use Rattle.gr_step.proofs.objects.Objects.buffer.Goals as goal
 
 pub pass-requires : goal.pass-requires
 pass-requires c =
-    let done = ap (λ k. (k, c.in-Buffered.undo) ∷ []) c.in_ok-name.ensures in
+    let done = ap (λ k. (k, c.in-Buffered.undo) ∷ []) (c.in_ok-passage.ensures.channel ∙ c.in_ok-copy.ensures) in
     can_buffer (program_in c.args.listing.now) c.args.event.now c.args.number c.args.self.now c.requires.acting c.args.clause c.requires.clause
     c.args.channel.now c.args.value c.requires.sound c.in-Some.found.now c.in-Some.ensures c.requires.space (program_code_of c.deref.result.now)
     (ap program_code_of c.deref.ensures ∙ c.requires.coded) c.in-Buffered.undo c.offer.new.self (rw c.in-Buffered.is at c.in_ok-undo.ensures.rule)
-    (rw c.in-Buffered.is at c.in_ok-undo.ensures.back) ((c.in_ok-name.name, c.in-Buffered.undo) ∷ []) done
+    (rw c.in-Buffered.is at c.in_ok-undo.ensures.back) ((channel_in c.in_ok-passage.passage.value.contact.operation, c.in-Buffered.undo) ∷ []) done
 
 pub returns-clause-ok : goal.returns-clause-ok
 returns-clause-ok c =
-    let done = ap (λ k. (k, c.in-Buffered.undo) ∷ []) c.in_ok-name.ensures in
-    let told = rw c.in_ok-copy.ensures at (c.in_ok-beyond.ensures (Gate c.in_ok-copy.field-0 ∷ []) (Tail c.in_ok-copy.field-0 ∷ slot_numbered c.in_ok-copy.field-0 c.in-Some.found.now.content.capacity (tail_of c.in-Some.found.now.content)) (c.entered-touched.ensures c.in_ok-copy.field-0)) in
+    let done = ap (λ k. (k, c.in-Buffered.undo) ∷ []) (c.in_ok-passage.ensures.channel ∙ c.in_ok-copy.ensures) in
+    let told = rw c.in_ok-copy.ensures at (c.in_ok-passage.ensures.told (Gate c.in_ok-copy.field-0 ∷ []) (Tail c.in_ok-copy.field-0 ∷ slot_numbered c.in_ok-copy.field-0 c.in-Some.found.now.content.capacity (tail_of c.in-Some.found.now.content)) (c.entered.ensures c.in_ok-copy.field-0)) in
     if_ok c.pass.result (rw c.kind_by-kind.ensures at (c.pass.ensures.ok (sends_on c.args.channel.now) (Gate c.args.channel.now ∷ [])
     (Tail c.args.channel.now ∷ slot_numbered c.args.channel.now c.in-Some.found.now.content.capacity (tail_of c.in-Some.found.now.content)) told))
     (λ change x. was_buffered (program_in c.args.listing.now) c.args.event.now c.args.number c.args.self.now c.requires.acting c.args.clause c.requires.clause
     c.args.channel.now c.args.value c.requires.sound c.in-Some.found.now c.in-Some.ensures c.requires.space (program_code_of c.deref.result.now)
     (ap program_code_of c.deref.ensures ∙ c.requires.coded) c.in-Buffered.undo c.offer.new.self (rw c.in-Buffered.is at c.in_ok-undo.ensures.rule)
-    (rw c.in-Buffered.is at c.in_ok-undo.ensures.back) ((c.in_ok-name.name, c.in-Buffered.undo) ∷ []) done change c.pass.new.self x)
+    (rw c.in-Buffered.is at c.in_ok-undo.ensures.back) ((channel_in c.in_ok-passage.passage.value.contact.operation, c.in-Buffered.undo) ∷ []) done change c.pass.new.self x)
 
 pub returns-clause-room : goal.returns-clause-room
 returns-clause-room c =
-    let done = ap (λ k. (k, c.in-Buffered.undo) ∷ []) c.in_ok-name.ensures in
-    let told = rw c.in_ok-copy.ensures at (c.in_ok-beyond.ensures (Gate c.in_ok-copy.field-0 ∷ []) (Tail c.in_ok-copy.field-0 ∷ slot_numbered c.in_ok-copy.field-0 c.in-Some.found.now.content.capacity (tail_of c.in-Some.found.now.content)) (c.entered-touched.ensures c.in_ok-copy.field-0)) in
+    let done = ap (λ k. (k, c.in-Buffered.undo) ∷ []) (c.in_ok-passage.ensures.channel ∙ c.in_ok-copy.ensures) in
+    let told = rw c.in_ok-copy.ensures at (c.in_ok-passage.ensures.told (Gate c.in_ok-copy.field-0 ∷ []) (Tail c.in_ok-copy.field-0 ∷ slot_numbered c.in_ok-copy.field-0 c.in-Some.found.now.content.capacity (tail_of c.in-Some.found.now.content)) (c.entered.ensures c.in_ok-copy.field-0)) in
     if_ok c.pass.result (rw c.kind_by-kind.ensures at (c.pass.ensures.ok (sends_on c.args.channel.now) (Gate c.args.channel.now ∷ [])
     (Tail c.args.channel.now ∷ slot_numbered c.args.channel.now c.in-Some.found.now.content.capacity (tail_of c.in-Some.found.now.content)) told))
     (λ change x. buffer_room (program_in c.args.listing.now) c.args.event.now c.args.number c.args.self.now c.requires.acting c.args.clause c.requires.clause
     c.args.channel.now c.args.value c.requires.sound c.in-Some.found.now c.in-Some.ensures c.requires.space (program_code_of c.deref.result.now)
     (ap program_code_of c.deref.ensures ∙ c.requires.coded) c.in-Buffered.undo c.offer.new.self (rw c.in-Buffered.is at c.in_ok-undo.ensures.rule)
-    (rw c.in-Buffered.is at c.in_ok-undo.ensures.back) ((c.in_ok-name.name, c.in-Buffered.undo) ∷ []) done change c.pass.new.self x)
+    (rw c.in-Buffered.is at c.in_ok-undo.ensures.back) ((channel_in c.in_ok-passage.passage.value.contact.operation, c.in-Buffered.undo) ∷ []) done change c.pass.new.self x)
 
 pub returns-clause-err : goal.returns-clause-err
 returns-clause-err c =
-    let done = ap (λ k. (k, c.in-Buffered.undo) ∷ []) c.in_ok-name.ensures in
+    let done = ap (λ k. (k, c.in-Buffered.undo) ∷ []) (c.in_ok-passage.ensures.channel ∙ c.in_ok-copy.ensures) in
     if_err c.pass.result c.pass.ensures.err_goroutines c.pass.ensures.err_channels (λ gos took.
-    before_these c.args.self.now c.offer.new.self ((c.in_ok-name.name, c.in-Buffered.undo) ∷ [])
+    before_these c.args.self.now c.offer.new.self ((channel_in c.in_ok-passage.passage.value.contact.operation, c.in-Buffered.undo) ∷ [])
     (subst {_, _} (λ us. GoesBack us c.args.self.now.channels c.offer.new.self) (sym done) (rw c.in-Buffered.is at c.in_ok-undo.ensures.back))
     c.pass.new.self gos took c.pass.ensures.run)

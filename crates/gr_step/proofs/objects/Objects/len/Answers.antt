@@ -69,7 +69,7 @@ returns-clause-ok c =
     if_ok c.count-2.result _ _ (λ change h.
     len_takes p c.args.event.now c.args.number c.args.self.now acting c.requires.plain c.items_of-items.result change c.count-2.new.self
     (rw c.requires.coded at h.2)
-    c.in-Some.channel there.0 task there.1 (sym counts) h.0 (reaches_some _ _ _ _ change c.in_ok-beyond.beyond h.1 reads))
+    c.in-Some.channel there.0 task there.1 (sym counts) h.0 (reaches_some _ _ _ _ change c.in_ok-beyond.beyond.value h.1 reads))
     c.count-2.ensures.ok
 
 pub returns-clause-room : goal.returns-clause-room
@@ -80,5 +80,5 @@ returns-clause-room c =
     len_room p c.args.event.now c.args.number c.args.self.now acting c.requires.plain c.items_of-items.result change c.count-2.new.self
     (rw c.requires.coded at h.2)
     c.in-Some.channel c.in_ok-reads.reads.items
-    (reaches_some _ _ _ _ change c.in_ok-beyond.beyond h.1 c.in_ok-beyond.ensures))
+    (reaches_some _ _ _ _ change c.in_ok-beyond.beyond.value h.1 c.in_ok-beyond.ensures))
     c.count-2.ensures.ok

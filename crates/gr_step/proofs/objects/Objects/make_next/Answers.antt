@@ -71,5 +71,5 @@ returns-clause-ok c =
     let on = arrived_here p c.args.event.now c.args.number c.args.self.now acting (Channel (Chan (Some next))) c.in_ok-own.own c.deliver.new.self
     (rw (code, name) at c.in_ok-own.ensures.after) in
     make_takes p c.args.event.now c.args.number c.args.self.now acting c.requires.plain c.args.places (c.requires.task acting.goroutine acting.there)
-    c.requires.small few.1 c.in_ok-own.own c.in_ok-beyond.beyond (rw is at c.in_ok-beyond.ensures) c.deliver.new.self on c.add.new.self
+    c.requires.small few.1 c.in_ok-own.own c.in_ok-beyond.beyond.value (rw is at c.in_ok-beyond.ensures) c.deliver.new.self on c.add.new.self
     (rw is at c.in_default.ensures.contents)

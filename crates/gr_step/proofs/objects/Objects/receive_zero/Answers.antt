@@ -17,7 +17,7 @@ pass-requires c =
 
 pub returns-clause-ok : goal.returns-clause-ok
 returns-clause-ok c =
-    let told = rw c.in_ok-copy.ensures at (c.in_ok-beyond.ensures (Gate c.in_ok-copy.field-0 ∷ Head c.in_ok-copy.field-0 ∷ slot_numbered c.in_ok-copy.field-0 c.in-Some.found.now.content.capacity c.in-Some.found.now.content.head) [] (c.end_read-touched.ensures c.in_ok-copy.field-0)) in
+    let told = rw c.in_ok-copy.ensures at (c.in_ok-passage.ensures.told (Gate c.in_ok-copy.field-0 ∷ Head c.in_ok-copy.field-0 ∷ slot_numbered c.in_ok-copy.field-0 c.in-Some.found.now.content.capacity c.in-Some.found.now.content.head) [] (c.end_read.ensures c.in_ok-copy.field-0)) in
     if_ok c.pass.result (rw c.kind_by-kind.ensures at (c.pass.ensures.ok (receives_from c.args.channel.now)
     (Gate c.args.channel.now ∷ Head c.args.channel.now
     ∷ slot_numbered c.args.channel.now c.in-Some.found.now.content.capacity c.in-Some.found.now.content.head) [] told))
@@ -27,7 +27,7 @@ returns-clause-ok c =
 
 pub returns-clause-room : goal.returns-clause-room
 returns-clause-room c =
-    let told = rw c.in_ok-copy.ensures at (c.in_ok-beyond.ensures (Gate c.in_ok-copy.field-0 ∷ Head c.in_ok-copy.field-0 ∷ slot_numbered c.in_ok-copy.field-0 c.in-Some.found.now.content.capacity c.in-Some.found.now.content.head) [] (c.end_read-touched.ensures c.in_ok-copy.field-0)) in
+    let told = rw c.in_ok-copy.ensures at (c.in_ok-passage.ensures.told (Gate c.in_ok-copy.field-0 ∷ Head c.in_ok-copy.field-0 ∷ slot_numbered c.in_ok-copy.field-0 c.in-Some.found.now.content.capacity c.in-Some.found.now.content.head) [] (c.end_read.ensures c.in_ok-copy.field-0)) in
     if_ok c.pass.result (rw c.kind_by-kind.ensures at (c.pass.ensures.ok (receives_from c.args.channel.now)
     (Gate c.args.channel.now ∷ Head c.args.channel.now
     ∷ slot_numbered c.args.channel.now c.in-Some.found.now.content.capacity c.in-Some.found.now.content.head) [] told))

@@ -11,7 +11,7 @@ use Rattle.gr_rules.specs.Communications.{send, wait}
 use Rattle.gr_step.specs.Communicating.{Trial, TrialIsSound}
 use Rattle.gr_step.specs.Listings.{program_in}
 use Rattle.gr_step.specs.Premises.{Acting}
-use Rattle.gr_step.specs.declared.record.Change.{Change}
+use Rattle.gr_step.specs.Effects.{Effect}
 use Rattle.gr_step.specs.Objects.{contents_in}
 use Rattle.gr_step.proofs.SendOrWait.{task_at, tried_as, trial_is_sound, took, rest_is_sound, waited}
 use Rattle.gr_step.proofs.objects.Objects.send_or_wait.Goals as goal
@@ -59,7 +59,7 @@ returns-in-Some-2-clause-ok c =
 
 pub wait_to_send-requires-2-clause-acting : goal.wait_to_send-requires-2-clause-acting
 wait_to_send-requires-2-clause-acting c =
-    let stays = subst {_, _} (λ (o : Option Change). IfNone o (c.send.new.self ≡ c.args.self.now)) c.in_default-2.is c.in_ok-change.ensures.stays in
+    let stays = subst {_, _} (λ (o : Option Effect). IfNone o (c.send.new.self ≡ c.args.self.now)) c.in_default-2.is c.in_ok-change.ensures.stays in
     subst {_, _} (Acting (program_in c.args.listing.now) c.args.event.now c.args.number) (sym stays) c.requires.acting
 
 pub wait_to_send-requires-2-clause-sound : goal.wait_to_send-requires-2-clause-sound

@@ -87,4 +87,4 @@ returns-clause-ok c =
     c.args.arguments.items (c.requires.task acting.goroutine acting.there) c.requires.short few.1 c.know.new.self
     (rw child at c.in_ok-place.ensures.names) c.know.ensures.goroutines c.in_ok-own.own c.deliver.new.self (rw again at c.in_ok-own.ensures.after)
     c.in_ok-place.place c.in_ok-goroutine.goroutine c.put.new.self (rw child at c.in_ok-place.ensures.number) begins
-    c.in_ok-beyond.beyond (rw child at c.in_ok-beyond.ensures) c.put.ensures
+    c.in_ok-beyond.beyond.value (rw child at c.in_ok-beyond.ensures) c.put.ensures

@@ -1,0 +1,14 @@
+use Rattle.std.proofs.Common.{refl, sym, ap, ◌∙◌}
+use Rattle.std.specs.Option.{option_copied_mut}
+use Rattle.gr_tables.specs.NamedGoroutines.{CanPark}
+use Rattle.gr_tables.proofs.ByNumber.{written_unique, changed}
+use Rattle.gr_tables.proofs.goroutines.Goroutines.park_to_receive.Goals as goal
+
+pub invariant_of-self : goal.invariant_of-self
+invariant_of-self c = record { unique = written_unique c.args.self.now.map c.args.number _ c.args.self.now.unique }
+
+pub returns : goal.returns
+returns c =
+    changed c.args.self.now _ c.args.number c.unwrap-slot.result.now c.park_to_receive_in.new.slot
+    refl (sym (ap option_copied_mut c.unwrap-slot.ensures) ∙ c.get_index_mut.ensures.value)
+    (CanPark) c.requires _ c.park_to_receive_in.ensures
