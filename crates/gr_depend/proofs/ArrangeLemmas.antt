@@ -1,5 +1,5 @@
 -- Steps that are taken out of a log and put back in another order.
-use Rattle.std.proofs.Common.{rules, ◌≡◌, ◌<◌, ◌≤◌, ◌+◌, ◌||◌, ℕ, zero, suc, Bool, true, false, List, [], ◌∷◌, ◌++◌, length, map, reverse, slice_get, slice_index_or, take, drop, set, get_or, vec_capacity, Option, Some, None, refl, sym, ap, subst, ◌∙◌, append_assoc, append-nil, inl, inr, arith}
+use Rattle.std.proofs.Common.{rules, ◌≡◌, ◌<◌, ◌≤◌, ◌+◌, ◌^◌, ◌||◌, ℕ, zero, suc, Bool, true, false, List, [], ◌∷◌, ◌++◌, length, map, reverse, slice_get, slice_index_or, take, drop, set, get_or, vec_capacity, Option, Some, None, refl, sym, ap, subst, ◌∙◌, append_assoc, append-nil, inl, inr, arith}
 use Rattle.std.specs.List.{list_all}
 use Rattle.std.proofs.lemmas.Bool.{cases_Bool, and_parts}
 use Rattle.std.proofs.Math.ListN.{drop_of_length-le}
@@ -106,6 +106,11 @@ in_order_too log old new rest empty d order can = record {
       let a = length-append old rest in let b = length-append new rest in
       let c : length (old ++ rest) ≤ vec_capacity log.records = subst (λ l. length (l ++ (old ++ rest)) ≤ vec_capacity log.records) empty can.records in
       subst (λ l. length (l ++ (new ++ rest)) ≤ vec_capacity log.records) (sym empty) (omega (arith, same, a, b, c));
+  places =
+      let same = length_is old new swaps in
+      let a = length-append old rest in let b = length-append new rest in
+      let c : length (old ++ rest) ≤ 2 ^ 32 = subst (λ l. length (l ++ (old ++ rest)) ≤ 2 ^ 32) empty can.places in
+      subst (λ l. length (l ++ (new ++ rest)) ≤ 2 ^ 32) (sym empty) (omega (arith, same, a, b, c));
   touches =
       subst (λ l. Fits log.lanes (λ o. touches_in o 0 (l ++ (new ++ rest)))) (sym empty)
       (moved (subst (λ l. Fits log.lanes (λ o. touches_in o 0 (l ++ (old ++ rest)))) empty can.touches));
@@ -244,4 +249,8 @@ all_put_back old new from i steps below end back =
     )
 
 pub can_take_none : (log : Log) → CanTake log []
-can_take_none log = search rules
+can_take_none log = record {
+  records = search rules;
+  places = let a = length-append log.records.items [] in let b = log.few in omega (arith, a, b);
+  touches = search rules;
+}

@@ -1,5 +1,5 @@
 -- Room is kept by what changes the lists, and it is there for what was said to fit.
-use Rattle.std.proofs.Common.{◌≡◌, ◌<◌, ◌≤◌, ◌+◌, ◌-◌, ℕ, suc, Bool, true, false, if◌then◌else◌, List, [], ◌∷◌, ◌++◌, length, filter, slice_get, Some, None, get_or, take, drop, vec_capacity, refl, sym, ap, subst, ◌∙◌, append_assoc, arith, inl, inr}
+use Rattle.std.proofs.Common.{◌≡◌, ◌<◌, ◌≤◌, ◌+◌, ◌-◌, ◌^◌, ℕ, suc, Bool, true, false, if◌then◌else◌, List, [], ◌∷◌, ◌++◌, length, filter, slice_get, Some, None, get_or, take, drop, vec_capacity, refl, sym, ap, subst, ◌∙◌, append_assoc, arith, inl, inr}
 use Rattle.std.proofs.lemmas.Bool.{cases_Bool}
 use Rattle.std.proofs.lemmas.List.{take_more, length-append, take-append-drop}
 use Rattle.std.specs.Option.{unwrap_or}
@@ -158,5 +158,6 @@ pub takes_on : (old new : Log) (steps left : List Record) → new.records.items 
     → vec_capacity old.records ≤ vec_capacity new.records → KeepsRoom old.lanes new.lanes → CanTake old steps → CanTake new left
 takes_on old new steps left is more room can = record {
   records = let same : length (new.records.items ++ left) ≡ length (old.records.items ++ steps) = ap length is in let a = can.records in omega (arith, same, a, more);
+  places = subst (λ l. length l ≤ 2 ^ 32) (sym is) can.places;
   touches = room (λ o. touches_in o 0 (new.records.items ++ left)) (subst (λ l. Fits old.lanes (λ o. touches_in o 0 l)) (sym is) can.touches);
 }

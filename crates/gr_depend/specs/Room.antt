@@ -1,5 +1,5 @@
 -- Room for touches that come, without memory.
-use Rattle.std.specs.Prelude.{◌≤◌, ◌+◌, ◌++◌, ℕ, if◌then◌else◌, List, length, filter, vec_capacity}
+use Rattle.std.specs.Prelude.{◌≤◌, ◌+◌, ◌^◌, ◌++◌, ℕ, if◌then◌else◌, List, length, filter, vec_capacity}
 use Rattle.std.specs.Option.{unwrap_or}
 use Rattle.indexmap.specs.IndexMap.{get}
 use Rattle.gr_base.specs.declared.objects.Object.{Object}
@@ -37,4 +37,5 @@ KeepsRoom old new = (lists : Object → List Touch) → Fits old lists → Fits 
 -- these records can be pushed, one after the other, without memory
 pub record CanTake (log : Log) (steps : List Record) : Type 0 where
   pub records : length (log.records.items ++ steps) ≤ vec_capacity log.records
+  pub places : length (log.records.items ++ steps) ≤ 2 ^ 32
   pub touches : Fits log.lanes (λ o. touches_in o 0 (log.records.items ++ steps))

@@ -11,14 +11,14 @@ use std::cell::Cell;
 use std::marker::Model;
 
 /// Adds touches of so many steps that stand one behind the other, the first of them at a place. There is room for them.
-pub(crate) fn extend(touches: &mut Vec<Touch>, place: u64, count: usize, writes: bool)
+pub(crate) fn extend(touches: &mut Vec<Touch>, place: u32, count: usize, writes: bool)
     requires room { vec_len touches.old + count ≤ vec_capacity touches.old }
-    requires places { place + count < 2 ^ 64 }
+    requires places { place + count ≤ 2 ^ 32 }
     ensures { touches.new.items ≡ touches.old.items ++ stretch writes place count }
 {
     for i in 0..count {
         touches.push_reserved(Touch {
-            place: place + i as u64,
+            place: place + i as u32,
             writes,
         });
     }
@@ -73,8 +73,8 @@ impl Lane {
 
     /// Adds touches of so many steps that wrote the object and stand one behind the other, the first of them at a place. Refused,
     /// the touches are as before.
-    pub(crate) fn extend(&mut self, place: u64, count: usize) -> Result<(), NoMemory>
-        requires { place + count < 2 ^ 64 }
+    pub(crate) fn extend(&mut self, place: u32, count: usize) -> Result<(), NoMemory>
+        requires { place + count ≤ 2 ^ 32 }
         ensures ok { OnOk result (self.new.0 ≡ self.old.0 ++ stretch true place count) }
         ensures err { OnErr result (self.new.0 ≡ self.old.0) }
     {

@@ -1,6 +1,6 @@
 //! The touches of each object.
 
-ghost use Rattle.std.specs.Prelude.{◌≡◌, ◌+◌, ◌^◌, [], ◌∷◌, ◌++◌, if◌then◌else◌, OnOk, OnErr, IfSome, IfNone, IsOk, IsTrue, Some, None, true, false, Bool, ◌↔◌, cond, position, slice_get, length, filter, ◌<◌};
+ghost use Rattle.std.specs.Prelude.{◌≡◌, ◌≤◌, ◌+◌, ◌^◌, [], ◌∷◌, ◌++◌, if◌then◌else◌, OnOk, OnErr, IfSome, IfNone, IsOk, IsTrue, Some, None, true, false, Bool, ◌↔◌, cond, position, slice_get, length, filter, ◌<◌};
 ghost use Rattle.std.proofs.Props.{props};
 ghost use Rattle.gr_rules.specs.States.{same};
 ghost use Rattle.gr_depend.specs.Keys.{same_key, key_of, seen};
@@ -265,8 +265,8 @@ impl Lanes {
 
     /// Adds the touches of so many steps of a goroutine that reached no further and stand one behind the other, the first of them
     /// at a place. Refused, all lists are as before.
-    pub(crate) fn note_own(&mut self, go: &GoName, place: u64, count: usize) -> Result<(), NoMemory>
-        requires { place + count < 2 ^ 64 }
+    pub(crate) fn note_own(&mut self, go: &GoName, place: u32, count: usize) -> Result<(), NoMemory>
+        requires { place + count ≤ 2 ^ 32 }
         ensures ok { OnOk result ((q : Object) → list_of self.new q ≡ list_of self.old q ++ own_touches go.now place count q) }
         ensures err { OnErr result (KeepsLists self.old self.new) }
     {
@@ -277,8 +277,8 @@ impl Lanes {
     }
 
     /// Adds their touches to the list of the goroutine.
-    fn note_writes(&mut self, go: &GoName, place: u64, count: usize) -> Result<(), NoMemory>
-        requires { place + count < 2 ^ 64 }
+    fn note_writes(&mut self, go: &GoName, place: u32, count: usize) -> Result<(), NoMemory>
+        requires { place + count ≤ 2 ^ 32 }
         ensures ok { OnOk result ((q : Object) → list_of self.new q ≡ (if same (objects.Go go.now) q then list_of self.old q ++ stretch true place count else list_of self.old q)) }
         ensures err { OnErr result (KeepsLists self.old self.new) }
         ensures run { self.new.run ≡ self.old.run }
@@ -291,8 +291,8 @@ impl Lanes {
 
     /// Makes a lane for a goroutine that has none, with their touches.
     #[inline(never)]
-    fn note_first_writes(&mut self, go: &GoName, place: u64, count: usize) -> Result<(), NoMemory>
-        requires places { place + count < 2 ^ 64 }
+    fn note_first_writes(&mut self, go: &GoName, place: u32, count: usize) -> Result<(), NoMemory>
+        requires places { place + count ≤ 2 ^ 32 }
         requires absent { get same_key self.old.map (key_of (objects.Go go.now)) ≡ None }
         ensures ok { OnOk result ((q : Object) → list_of self.new q ≡ (if same (objects.Go go.now) q then list_of self.old q ++ stretch true place count else list_of self.old q)) }
         ensures err { OnErr result (KeepsLists self.old self.new) }

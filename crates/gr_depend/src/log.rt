@@ -1,6 +1,6 @@
 //! The log of the steps that were taken.
 
-ghost use Rattle.std.specs.Prelude.{◌≡◌, ◌<◌, ◌++◌, vec_len, vec_capacity, ◌∷◌, [], ℕ, List, length, true, slice_index_or, slice_get, option_copied, IfErr, OnOk, OnErr, IfSome, IfNone, IsOk, IsTrue, MatchOption, All, ◌↔◌, ◌-◌};
+ghost use Rattle.std.specs.Prelude.{◌≡◌, ◌<◌, ◌≤◌, ◌^◌, ◌++◌, vec_len, vec_capacity, ◌∷◌, [], ℕ, List, length, true, slice_index_or, slice_get, option_copied, IfErr, OnOk, OnErr, IfSome, IfNone, IsOk, IsTrue, MatchOption, All, ◌↔◌, ◌-◌};
 ghost use Rattle.std.specs.List.{list_all};
 ghost use Rattle.std.proofs.Props.{props};
 ghost use Rattle.gr_base.specs.declared.objects.Object.{Object};
@@ -16,6 +16,9 @@ use gr_base::{GoName, NoMemory, Object};
 use gr_step::Record;
 use std::alloc::Global;
 
+/// The most steps of a log: a touch keeps the place of its step in 32 bits.
+const MOST_STEPS: usize = 4_294_967_296;
+
 /// The steps that were taken and are kept, in their order, with the touches of each object.
 #[derive(Drop)]
 pub struct Log {
@@ -23,6 +26,7 @@ pub struct Log {
     pub(crate) lanes: Lanes,
     ghost touches: { (o : Object) → list_of lanes o ≡ touches_in o 0 records.items } by { Prim.hlevel props },
     ghost once: { list_all (λ r. none_twice (touched_by r)) records.items ≡ true },
+    ghost few: { length records.items ≤ 2 ^ 32 },
 }
 
 impl Log {
@@ -74,7 +78,8 @@ impl Log {
         self.records.last()
     }
 
-    /// Adds a step at the end. Refused, the log is as before, and the record is handed back. It is not refused where there is room.
+    /// Adds a step at the end. Refused, the log is as before, and the record is handed back. It is not refused where there is room,
+    /// which a log of 2^32 steps never has.
     #[inline(always)]
     pub fn push(&mut self, step: Record) -> Result<(), (Record, NoMemory)>
         requires { Distinct (touched_by step) }
@@ -85,28 +90,36 @@ impl Log {
         ensures room { (rest : List Record) → CanTake self.old (step ∷ rest) → OnOk result (CanTake self.new rest) }
         ensures room_err { (rest : List Record) → CanTake self.old rest → OnErr result (CanTake self.new rest) }
     {
+        let place = self.records.len();
+        if place >= MOST_STEPS {
+            return Err((step, NoMemory));
+        }
         let reserved = self.records.reserve(1);
         if let Err(error) = reserved {
             return Err((step, NoMemory::from(error)));
         }
-        let place = self.records.len();
         self.records.push_reserved(step);
-        match self.lanes.note(place as u64, &self.records[place]) {
+        match self.lanes.note(place as u32, &self.records[place]) {
             Ok(()) => Ok(()),
             Err(error) => Err((self.records.pop().unwrap(), error)),
         }
     }
 
-    /// Adds steps at the end that a goroutine took by itself and that reached no further. Refused, the log is as before.
+    /// Adds steps at the end that a goroutine took by itself and that reached no further. Refused, the log is as before; it has no
+    /// room where it would come to 2^32 steps.
     pub fn append(&mut self, go: &GoName, steps: Vec<Record>) -> Result<(), NoMemory>
         requires { All (IsAlone go.now) steps.items }
         ensures ok { OnOk result (records_of self.new ≡ records_of self.old ++ steps.items) }
         ensures err { OnErr result (records_of self.new ≡ records_of self.old) }
     {
         let count = steps.len();
-        self.records.reserve(count)?;
         let place = self.records.len();
-        self.lanes.note_own(go, place as u64, count)?;
+        let left = MOST_STEPS - place;
+        if count >= left {
+            return Err(NoMemory);
+        }
+        self.records.reserve(count)?;
+        self.lanes.note_own(go, place as u32, count)?;
         let mut steps = steps;
         self.records.append(&mut steps).unwrap();
         Ok(())
@@ -143,7 +156,7 @@ impl Log {
         ensures records { records_of self.new ≡ records_of self.old ++ step ∷ [] }
         ensures room { (rest : List Record) → CanTake self.old (step ∷ rest) → CanTake self.new rest }
     {
-        self.lanes.note(self.records.len() as u64, &step).unwrap();
+        self.lanes.note(self.records.len() as u32, &step).unwrap();
         self.records.push_reserved(step);
     }
 

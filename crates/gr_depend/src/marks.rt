@@ -44,7 +44,7 @@ fn mark_later(marks: &mut [bool], origin: Origin, touches: &[Touch], all: bool)
     while left > 0 {
         left -= 1;
         let touch = touches[left];
-        if touch.place <= origin.place as u64 {
+        if touch.place as usize <= origin.place {
             return;
         }
         mark(marks, origin.base, touch, all);
@@ -60,7 +60,7 @@ fn mark_earlier(marks: &mut [bool], origin: Origin, touches: &[Touch], all: bool
 {
     for i in 0..touches.len() {
         let touch = touches[i];
-        if touch.place >= origin.place as u64 {
+        if touch.place as usize >= origin.place {
             return;
         }
         mark(marks, origin.base, touch, all);

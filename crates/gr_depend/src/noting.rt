@@ -29,7 +29,7 @@ impl Lanes {
 
     /// Adds the touches of a step at a place. Refused, all lists are as before.
     #[inline(always)]
-    pub(crate) fn note(&mut self, place: u64, step: &Record) -> Result<(), NoMemory>
+    pub(crate) fn note(&mut self, place: u32, step: &Record) -> Result<(), NoMemory>
         ensures ok { OnOk result ((q : Object) → list_of self.new q ≡ list_of self.old q ++ kept_for q place step.now) }
         ensures err { OnErr result (KeepsLists self.old self.new) }
         ensures succeeds { Fits self.old (λ q. list_of self.old q ++ kept_for q place step.now) → IsOk result }
@@ -45,7 +45,7 @@ impl Lanes {
 
     /// The same of a step that reached no further than its goroutine.
     #[inline(always)]
-    fn note_alone(&mut self, place: u64, step: &Record) -> Result<(), NoMemory>
+    fn note_alone(&mut self, place: u32, step: &Record) -> Result<(), NoMemory>
         requires { step.now.change.beyond ≡ None }
         ensures ok { OnOk result ((q : Object) → list_of self.new q ≡ list_of self.old q ++ kept_for q place step.now) }
         ensures err { OnErr result (KeepsLists self.old self.new) }
@@ -71,7 +71,7 @@ impl Lanes {
 
     /// The same of a step that did something with one channel, and met nobody.
     #[inline(always)]
-    fn note_contact(&mut self, place: u64, step: &Record, contact: &Contact) -> Result<(), NoMemory>
+    fn note_contact(&mut self, place: u32, step: &Record, contact: &Contact) -> Result<(), NoMemory>
         requires { (undo : Option ChanUndo) × (step.now.change.beyond ≡ Some (reached_on contact.now undo)) }
         ensures ok { OnOk result ((q : Object) → list_of self.new q ≡ list_of self.old q ++ kept_for q place step.now) }
         ensures err { OnErr result (KeepsLists self.old self.new) }
@@ -138,7 +138,7 @@ impl Lanes {
 
     /// The same of a step that reached further.
     #[inline(never)]
-    fn note_beyond(&mut self, place: u64, step: &Record, beyond: &Beyond) -> Result<(), NoMemory>
+    fn note_beyond(&mut self, place: u32, step: &Record, beyond: &Beyond) -> Result<(), NoMemory>
         requires { step.now.change.beyond ≡ Some beyond.now }
         ensures ok { OnOk result ((q : Object) → list_of self.new q ≡ list_of self.old q ++ kept_for q place step.now) }
         ensures err { OnErr result (KeepsLists self.old self.new) }

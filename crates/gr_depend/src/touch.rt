@@ -4,6 +4,6 @@
 #[derive(Clone, Copy, Debug, PartialEq, Eq)]
 pub struct Touch {
     /// The place in the log, counted from 0.
-    pub place: u64,
+    pub place: u32,
     pub writes: bool,
 }

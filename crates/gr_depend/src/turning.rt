@@ -40,7 +40,7 @@ impl Latest {
 
 /// Where the step at a place of the log comes in the order.
 #[inline]
-fn target_of(to: &[usize], place: u64) -> usize
+fn target_of(to: &[usize], place: u32) -> usize
     ensures { result ≡ place_at to.now place }
 {
     to.get(place as usize).copied().unwrap_or(0)

@@ -1,5 +1,5 @@
 -- What has room in a log has room without one of its steps.
-use Rattle.std.proofs.Common.{◌≡◌, ℕ, suc, ◌+◌, ◌≤◌, Bool, true, false, ◌||◌, List, [], ◌∷◌, ◌++◌, length, filter, inl, inr, refl, ap, subst, arith, length-append}
+use Rattle.std.proofs.Common.{◌≡◌, ℕ, suc, ◌+◌, ◌^◌, ◌≤◌, Bool, true, false, ◌||◌, List, [], ◌∷◌, ◌++◌, length, filter, inl, inr, refl, ap, subst, arith, length-append}
 use Rattle.std.proofs.lemmas.Bool.{cases_Bool}
 use Rattle.std.specs.Prelude.{vec_capacity}
 use Rattle.gr_base.specs.declared.objects.Object.{Object}
@@ -71,6 +71,7 @@ no_more a b n h k = omega arith
 pub less_room : (log : Log) (r : Record) (rest : List Record) → CanTake log (r ∷ rest) → CanTake log rest
 less_room log r rest can = record {
   records = shorter (records_of log) rest r (vec_capacity log.records) can.records;
+  places = shorter (records_of log) rest r (2 ^ 32) can.places;
   touches = record {
     each = λ o.
         let less = subst (λ ts. length ts ≤ length (wanted true (touches_in o 0 (records_of log ++ r ∷ rest)))) (all_are_wanted (touches_in o 0 (records_of log ++ rest)))

@@ -1,4 +1,4 @@
-use Rattle.std.proofs.Common.{◌≡◌, ◌++◌, true, length, subst, sym, ap, ◌∙◌, arith}
+use Rattle.std.proofs.Common.{◌≡◌, ◌≤◌, ◌^◌, ◌++◌, true, length, subst, sym, ap, ◌∙◌, length-append, arith}
 use Rattle.std.specs.List.{list_all}
 use Rattle.std.specs.Prelude.{if◌then◌else◌}
 use Rattle.gr_step.specs.Conflicts.{touched_by}
@@ -9,8 +9,7 @@ use Rattle.gr_depend.proofs.log.Log.append.Goals as goal
 
 pub note_own-requires : goal.note_own-requires
 note_own-requires c =
-    let small = c.reserve.new.self.small in
-    omega (arith, small, c.in_ok-reserve.ensures.ok, c.reserve.ensures.len, c.len-place.ensures)
+    omega (arith, c.if-count-left.false)
 
 pub unwrap-requires : goal.unwrap-requires
 unwrap-requires c =
@@ -22,6 +21,7 @@ invariant_of-self-in-Break-branch-2 c =
     record {
       touches = λ o. c.in_err-note_own.ensures.err o ∙ log.touches o ∙ ap (touches_in o 0) (sym c.reserve.ensures.items);
       once = subst (λ l. list_all (λ r. none_twice (touched_by r)) l ≡ true) (sym c.reserve.ensures.items) log.once;
+      few = subst (λ l. length l ≤ 2 ^ 32) (sym c.reserve.ensures.items) log.few;
     }
 
 pub invariant_of-self-2 : goal.invariant_of-self-2
@@ -38,4 +38,5 @@ invariant_of-self-2 c =
       touches = λ o. with_own c.args.go.now log.records.items steps.items c.requires o (list_of log.lanes o) (list_of c.note_own.new.self o) c.len-place.result c.len-count.result
           (log.touches o) at long (c.in_ok-note_own.ensures.ok o) ∙ ap (touches_in o 0) (sym joined);
       once = subst (λ l. list_all (λ r. none_twice (touched_by r)) l ≡ true) (sym joined) (all_once_then c.args.go.now log.records.items steps.items log.once c.requires);
+      few = let all = ap length joined in let both = length-append log.records.items steps.items in omega (arith, all, both, at, long, c.if-count-left.false);
     }

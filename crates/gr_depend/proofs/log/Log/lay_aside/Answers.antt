@@ -1,4 +1,4 @@
-use Rattle.std.proofs.Common.{◌≡◌, ◌+◌, ◌++◌, ◌∷◌, [], true, length, subst, sym, ap, ◌∙◌, append_assoc, arith}
+use Rattle.std.proofs.Common.{◌≡◌, ◌+◌, ◌++◌, ◌∷◌, [], true, length, subst, sym, ap, ◌∙◌, append_assoc, length-append, arith}
 use Rattle.std.specs.List.{list_all}
 use Rattle.std.specs.Option.{option_to_list}
 use Rattle.gr_step.specs.Conflicts.{touched_by}
@@ -19,6 +19,7 @@ invariant_of-self c =
       touches = c.forget.ensures.lists (λ q. touches_in q 0 rs) (0 + length rs)
           (λ q. without_step rs step once.1 q (list_of log.lanes q) (log.touches q ∙ ap (touches_in q 0) items));
       once = once.0;
+      few = let long = ap length items in let one_more = length-append rs (step ∷ []) in let few = log.few in omega (arith, long, one_more, few);
     }
 
 pub returns : goal.returns

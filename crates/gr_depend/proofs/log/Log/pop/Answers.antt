@@ -1,4 +1,4 @@
-use Rattle.std.proofs.Common.{◌≡◌, ◌+◌, ◌++◌, ◌∷◌, [], true, length, subst, sym, ap, ◌∙◌, append_assoc, arith}
+use Rattle.std.proofs.Common.{◌≡◌, ◌+◌, ◌++◌, ◌∷◌, [], true, length, subst, sym, ap, ◌∙◌, append_assoc, length-append, arith}
 use Rattle.std.specs.List.{list_all}
 use Rattle.gr_step.specs.Conflicts.{touched_by}
 use Rattle.gr_depend.specs.Touches.{touches_in, none_twice}
@@ -16,6 +16,9 @@ invariant_of-self-2 c =
       touches = c.forget.ensures.lists (λ q. touches_in q 0 rs) (0 + length rs)
           (λ q. without_step rs c.in_ok-step.step once.1 q (list_of log.lanes q) (log.touches q ∙ ap (touches_in q 0) c.in_ok-step.ensures.items));
       once = once.0;
+      few =
+          let long = ap length c.in_ok-step.ensures.items in let one_more = length-append rs (c.in_ok-step.step ∷ []) in let few = log.few in
+          omega (arith, long, one_more, few);
     }
 
 pub returns-clause-room : goal.returns-clause-room

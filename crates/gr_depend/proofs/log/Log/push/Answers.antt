@@ -1,4 +1,4 @@
-use Rattle.std.proofs.Common.{◌≡◌, ℕ, List, [], ◌∷◌, ◌++◌, true, get_or, length, take, subst, sym, ap, ◌∙◌, append_assoc, arith}
+use Rattle.std.proofs.Common.{◌≡◌, ◌≤◌, ◌^◌, ℕ, List, [], ◌∷◌, ◌++◌, true, get_or, length, take, subst, sym, ap, ◌∙◌, append_assoc, length-append, arith}
 use Rattle.std.proofs.Math.Seq.{take-append_seam}
 use Rattle.std.proofs.lemmas.List.{get_or_push}
 use Rattle.std.specs.List.{list_all}
@@ -33,6 +33,7 @@ invariant_of-self-in-Ok c =
           (found log.records.items c.push_reserved.new.self.items c.index.result.now step c.len-place.result pushed at c.index.ensures))
           ∙ ap (touches_in o 0) (sym pushed);
       once = subst (λ l. list_all (λ r. none_twice (touched_by r)) l ≡ true) (sym pushed) (all_once_last log.records.items step log.once once);
+      few = let long = ap length pushed in let one_more = length-append log.records.items (step ∷ []) in omega (arith, long, one_more, at, c.if-place-ge-MOST_STEPS.false);
     }
 
 pub invariant_of-self-in-Err-note : goal.invariant_of-self-in-Err-note
@@ -46,6 +47,7 @@ invariant_of-self-in-Err-note c =
     record {
       touches = λ o. c.in-Err-note.ensures.err o ∙ log.touches o ∙ ap (touches_in o 0) (sym back);
       once = subst (λ l. list_all (λ r. none_twice (touched_by r)) l ≡ true) (sym back) log.once;
+      few = subst (λ l. length l ≤ 2 ^ 32) (sym back) log.few;
     }
 
 pub returns-in-Ok-clause-room : goal.returns-in-Ok-clause-room

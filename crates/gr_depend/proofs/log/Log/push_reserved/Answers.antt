@@ -1,4 +1,4 @@
-use Rattle.std.proofs.Common.{◌≡◌, [], ◌∷◌, ◌++◌, true, subst, sym, ap, ◌∙◌, append_assoc, arith}
+use Rattle.std.proofs.Common.{◌≡◌, [], ◌∷◌, ◌++◌, true, length, subst, sym, ap, ◌∙◌, append_assoc, length-append, arith}
 use Rattle.std.specs.List.{list_all}
 use Rattle.std.specs.Prelude.{OnOk}
 use Rattle.gr_base.specs.declared.objects.Object.{Object}
@@ -27,6 +27,10 @@ invariant_of-self c =
       touches = λ o. with_step log.records.items c.args.step once o (list_of log.lanes o) (list_of c.note.new.self o) c.len.result
           (log.touches o) (omega (arith, log.records.ok.0, c.len.ensures)) (noted o) ∙ ap (touches_in o 0) (sym items);
       once = subst (λ l. list_all (λ r. none_twice (touched_by r)) l ≡ true) (sym items) (all_once_last log.records.items c.args.step log.once once);
+      few =
+          let long = ap length items in let one_more = length-append log.records.items (c.args.step ∷ []) in
+          let all = length-append log.records.items (c.args.step ∷ c.requires.room.0) in let fit = c.requires.room.1.places in
+          omega (arith, long, one_more, all, fit);
     }
 
 pub returns-clause-room : goal.returns-clause-room
