@@ -15,10 +15,12 @@ bin/rewind: FORCE
 demo:
 	cd crates/rewind_cli && rt try -- data/swapped_variables.go < stdin
 
+RT_JOBS ?= $(shell nproc)
+
 # The gate: every proof from nothing, the must-fail edits, the tests and the programs. As many checks side by side as there are
 # processors: each takes at most 5 GB, and by its own reckoning (up to 11 GB) `rt` would leave half of the processors without work.
 test:
-	RT_JOBS=$${RT_JOBS:-$$(nproc)} rt ci
+	RT_JOBS=$(RT_JOBS) rt ci
 
 # The must-fail edits that the gate leaves out (crates/NAME/edits), of every crate, or of one: make edits CRATE=gr_scan.
 # As committed, in a fresh clone.
