@@ -1,6 +1,5 @@
 //! Those who call a session, each on a thread of its own.
 
-use crate::debugger::Full;
 use crate::meeting::{Door, Meeting};
 use gr_command::{Command, Line, read_command, write_reply};
 use gr_share::{Desk, Room, Shared, Worker, worker};
@@ -8,10 +7,32 @@ use rewind::counted::Counted;
 use rewind::desk::serve_desk;
 use rewind::stream::ServeFault;
 use std::alloc::Global;
+use std::io::{ErrorKind, Write};
 use std::sync::Wait;
-use std::thread;
 use std::thread::Threads;
 use std::time::{Clock, Duration};
+use std::{io, thread};
+
+// Takes as many bytes as there is room, and then fails.
+#[derive(Drop)]
+struct Full {
+    room: usize,
+}
+
+impl Write for Full {
+    fn write(&mut self, buf: &[u8]) -> io::Result<usize> {
+        if self.room == 0 {
+            return Err(io::Error::from(ErrorKind::Other));
+        }
+        let taken = buf.len().min(self.room);
+        self.room -= taken;
+        Ok(taken)
+    }
+
+    fn flush(&mut self) -> io::Result<()> {
+        Ok(())
+    }
+}
 
 /// What a desk does on its thread.
 #[derive(Clone, Copy)]

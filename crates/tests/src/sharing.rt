@@ -17,11 +17,11 @@ use std::sync::Wait;
 use std::test::Fail;
 
 // Two goroutines that take 21 steps each, 20 of them by themselves.
-pub(crate) const SPINNING: &[u8] =
+const SPINNING: &[u8] =
     b"package main\nfunc spin(n int) { for i := 0; i < n; i++ { } }\nfunc main() {\n\tgo spin(9)\n\tgo spin(9)\n\tselect {}\n}\n";
 
 // Starts both, and lets the workers take steps.
-pub(crate) const STARTED: [&[u8]; 4] = [b"step g0", b"step g0", b"step g0", b"free 1000"];
+const STARTED: [&[u8]; 4] = [b"step g0", b"step g0", b"step g0", b"free 1000"];
 
 const PRINTING: &[u8] = b"package main\nfunc main() { println(-9223372036854775808) }\n";
 

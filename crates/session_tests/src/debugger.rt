@@ -33,8 +33,8 @@ impl Read for Broken<'_> {
 
 // Takes as many bytes as there is room, and then fails.
 #[derive(Drop)]
-pub(crate) struct Full {
-    pub(crate) room: usize,
+struct Full {
+    room: usize,
 }
 
 impl Write for Full {

@@ -2,11 +2,17 @@
 //! goroutine changed or for which the grant has no room.
 ghost use Rattle.std.specs.Prelude.{◌≤◌};
 
-use crate::sharing::{SPINNING, STARTED};
 use gr_command::{Line, Reply, read_command, write_reply};
 use gr_session::{Batch, DeskId, Open, Session, run_batch};
 use std::alloc::Global;
 use std::test::Fail;
+
+// Two goroutines that take 21 steps each, 20 of them by themselves.
+const SPINNING: &[u8] =
+    b"package main\nfunc spin(n int) { for i := 0; i < n; i++ { } }\nfunc main() {\n\tgo spin(9)\n\tgo spin(9)\n\tselect {}\n}\n";
+
+// Starts both, and lets the workers take steps.
+const STARTED: [&[u8]; 4] = [b"step g0", b"step g0", b"step g0", b"free 1000"];
 
 // A program that ends beside a goroutine which takes steps by itself.
 const ENDING: &[u8] =
