@@ -18,7 +18,8 @@ demo:
 RT_JOBS ?= $(shell nproc)
 
 # The gate: every proof from nothing, the must-fail edits, the tests and the programs. As many checks side by side as there are
-# processors: each takes at most 5 GB, and by its own reckoning (up to 11 GB) `rt` would leave half of the processors without work.
+# processors: none was seen to take more than 5.5 GB, and by its own reckoning (up to 11 GB) `rt` would leave half of the processors
+# without work. With less memory for each: make test RT_JOBS=2.
 test:
 	RT_JOBS=$(RT_JOBS) rt ci
 

@@ -34,7 +34,7 @@ FitsFor os t l = Fits l (λ q. list_of l q ++ touches_for q t os)
 abbrev pub KeepsRoom : Lanes → Lanes → Type 0
 KeepsRoom old new = (lists : Object → List Touch) → Fits old lists → Fits new lists
 
--- these records can be pushed, one after the other, without memory
+-- these records can be pushed, one after the other, without memory, and their places fit in 32 bits
 pub record CanTake (log : Log) (steps : List Record) : Type 0 where
   pub records : length (log.records.items ++ steps) ≤ vec_capacity log.records
   pub places : length (log.records.items ++ steps) ≤ 2 ^ 32
