@@ -1,61 +1,84 @@
-# Rewind. `rt` is the command of the Rattle kit; `make words`, `make command-line-test`, `make bench`, `make gate-times` and
-# `make dap-test` need python3 too.
+# Rewind. `make help` lists the targets. The toolchain's command `rt` must be on the path for what builds or proves.
 
-.PHONY: all demo test edits words command-line-test bench replay hostile gate-times dap-test page page-test page-pictures clean
-
-# Proves the program and what it stands on, and installs it as bin/rewind.
-all: bin/rewind
-
-bin/rewind: FORCE
-	cd crates/rewind_cli && rt run -- --help >/dev/null
-	mkdir -p bin
-	cp crates/rewind_cli/out/rewind_cli bin/rewind
-
-# The main job on a real example: built without proofs, and so no verdict.
-demo:
-	cd crates/rewind_cli && rt try -- data/swapped_variables.go < stdin
-
+PREFIX ?= /usr/local
+# The program that tests take: bin/rewind (proved) or bin/rewind-quick.
+REWIND ?= bin/rewind
+# Checks side by side: as many as processors. None was seen to take more than 5.5 GB. With less memory: make gate RT_JOBS=2.
 RT_JOBS ?= $(shell nproc)
 
-# The gate: every proof from nothing, the must-fail edits, the tests and the programs. As many checks side by side as there are
-# processors: none was seen to take more than 5.5 GB, and by its own reckoning (up to 11 GB) `rt` would leave half of the processors
-# without work. With less memory for each: make test RT_JOBS=2.
-test:
-	RT_JOBS=$(RT_JOBS) rt ci
+HAS_RT := $(shell command -v rt)
+RT = $(if $(HAS_RT),rt,$(error rewind: 'rt' is not on the path: install the Rattle toolchain first (README.md, 'Building it')))
+NEEDS_RT = @: $(RT)
 
-# The must-fail edits that the gate leaves out (crates/NAME/edits), of every crate, or of one: make edits CRATE=gr_scan.
-# As committed, in a fresh clone.
-edits:
+.DEFAULT_GOAL := $(if $(HAS_RT),all,help)
+.PHONY: all help quick quick-page demo test gate edits words command-line-test bench replay hostile gate-times dap-test page page-test \
+	page-pictures install uninstall clean
+
+## Use it
+
+all: bin/rewind ## proves the program, and leaves it as bin/rewind (about an hour)
+
+bin/rewind: FORCE
+	$(NEEDS_RT)
+	tools/prove.py rewind_cli $@ --help
+
+quick: bin/rewind-quick ## builds the program without proofs, as bin/rewind-quick (3 minutes)
+
+bin/rewind-quick: bin/quick/rewind.bc tools/quick_program.py
+	$(NEEDS_RT)
+	tools/quick_program.py $< $@
+
+SOURCES := $(shell find crates -path '*/src/*.rt')
+
+bin/quick/rewind.bc: $(SOURCES) crates.txt tools/quick_module.py tools/keep_module tools/kit.py
+	$(NEEDS_RT)
+	tools/quick_module.py $@
+
+demo: bin/rewind-quick ## shows how to take back the step behind a deadlock (3 minutes with the quick build)
+	@tools/demo.py bin/rewind-quick
+
+page: bin/rewind ## the debugger in a web page of the proved program: bin/rewind.html (5 minutes after make)
+	page/needs.sh libjs-codemirror
+	mkdir -p page/out
+	page/module/build.py page/out/rewind.wasm
+	page/inline.py page/out/rewind.wasm bin/rewind.html
+
+install: ## installs the program, its manual page and the editor adapter (PREFIX=/usr/local, DESTDIR)
+	tools/install.sh "$(DESTDIR)" "$(PREFIX)"
+
+uninstall: ## removes what install installed
+	tools/install.sh --remove "$(DESTDIR)" "$(PREFIX)"
+
+## Test it
+
+test: bin/rewind-quick ## every test, without proofs (10 minutes on two processors)
+	tests/run.py bin/rewind-quick
+
+gate: ## the gate: each proof from nothing, edits that must be refused, all tests and programs (hours; see README.md)
+	RT_JOBS=$(RT_JOBS) $(RT) ci
+
+edits: ## the edits that must be refused and that the gate leaves out (hours; CRATE=NAME for one crate)
+	$(NEEDS_RT)
 	bench/edits.sh $(CRATE)
 
-# What is said of commands, codes and exit statuses, from the texts in docs/words: the program's constants, the manual page, and the
-# tables of the documents.
-words:
-	docs/words/make.py
-
-# Whether all words stand as made; and what the program writes by its command line, with pipes and at a pseudo-terminal.
-command-line-test: bin/rewind
+command-line-test: $(REWIND) ## what the program writes by its command line, with pipes and at a terminal (1 minute)
 	docs/words/make.py --check
-	bench/command_line.py bin/rewind
+	bench/command_line.py $(REWIND)
 
-bin/channel_bench: FORCE
-	cd crates/channel_bench && rt run >/dev/null
-	mkdir -p bin
-	cp crates/channel_bench/out/channel_bench bin/channel_bench
+replay: $(REWIND) ## steps of 1,000 random sessions, taken again in fresh sessions and in other orders (5 minutes)
+	bench/replay.py $(REWIND)
 
-bin/front_bench: FORCE
-	cd crates/front_bench && rt run >/dev/null
-	mkdir -p bin
-	cp crates/front_bench/out/front_bench bin/front_bench
+dap-test: $(REWIND) ## the adapter for editors (1 minute)
+	REWIND=$(REWIND) editors/dap/tests/run
 
-bin/racing: FORCE
-	cd crates/racing && rt run >/dev/null
-	mkdir -p bin
-	cp crates/racing/out/racing bin/racing
+page-test: page ## the page in headless Chromium (3 minutes)
+	page/needs.sh chromium nodejs
+	page/test.sh bin/rewind.html
 
-# The time of a step in a small and in a large program, of rollback, of steps that workers take, of changes of a channel at a small
-# and a large capacity, and of scanning, parsing and checking small and large sources.
-bench: bin/rewind bin/channel_bench bin/front_bench
+hostile: $(REWIND) bin/racing ## hostile sources and commands, failing devices, refused memory, races (6 processor minutes)
+	hostile/all.sh $(REWIND)
+
+bench: bin/rewind bin/channel_bench bin/front_bench ## times of steps, rollback, workers, channels and the front (minutes)
 	bench/steps.py bin/rewind
 	bench/core.py bin/rewind
 	bench/rollback.py bin/rewind
@@ -63,48 +86,34 @@ bench: bin/rewind bin/channel_bench bin/front_bench
 	bench/channels.py bin/channel_bench
 	bench/front.py bin/front_bench
 
-# The steps that random sessions keep, taken once more in fresh sessions and in other orders: each goroutine, channel and text must
-# be the same.
-replay: bin/rewind
-	bench/replay.py bin/rewind
-
-# Hostile use: broken and huge sources, hostile commands, devices that fail, each growth refused in turn, the limits, and callers that
-# race. Needs a C compiler, `cc`.
-hostile: bin/rewind bin/racing
-	hostile/all.sh bin/rewind
-
-# The gate in a fresh clone of what is committed, with the processor minutes of each crate (bin/gate.md, bin/gate.log).
-gate-times:
+gate-times: ## the gate in a fresh clone, with the processor minutes of each crate: bin/gate.md (hours)
+	$(NEEDS_RT)
 	mkdir -p bin
 	bench/gate.py --table bin/gate.md --log bin/gate.log
 
-# The adapter for editors, with bin/rewind, or with another: make dap-test REWIND=PATH.
-REWIND ?= bin/rewind
+## Make again what is made
 
-dap-test: $(REWIND)
-	REWIND=$(REWIND) editors/dap/tests/run
+words: ## the program's texts, manual page and tables from docs/words (a second)
+	docs/words/make.py
 
-# The debugger in a web page: bin/rewind.html, one file that works from disk. Its program is that of the proved crates, compiled to
-# WebAssembly. Installs Debian's libjs-codemirror where it is missing.
-page: bin/rewind
-	page/needs.sh libjs-codemirror
-	mkdir -p page/out
-	page/module/build.py page/out/rewind.wasm
-	page/inline.py page/out/rewind.wasm bin/rewind.html
-
-# The page in headless Chromium: every example session byte for byte, stories by clicks and keys, and pictures of the page for people
-# to look at (page/out/looks). Installs Debian's chromium and nodejs where they are missing.
-page-test: page
-	page/needs.sh chromium nodejs
-	page/test.sh bin/rewind.html
-
-# The pictures of docs/SESSIONS.md, drawn by the page.
-page-pictures: page
+page-pictures: page ## the pictures of docs/SESSIONS.md, drawn by the page (1 minute)
 	page/needs.sh chromium nodejs
 	mkdir -p docs/pictures
 	node page/test/pictures.mjs $(CURDIR)/bin/rewind.html page/pictures.json docs/pictures
 
-clean:
+clean: ## removes all that was made
 	rm -rf bin crates/*/out page/out
+
+help: ## lists these targets
+	@awk '/^## / { printf "\n%s\n", substr($$0, 4) } /^[a-z-]+:.*## / { name = $$0; sub(/:.*/, "", name); sub(/.*## /, ""); \
+		printf "  make %-18s %s\n", name, $$0 }' $(firstword $(MAKEFILE_LIST))
+
+bin/channel_bench bin/front_bench bin/racing: FORCE
+	$(NEEDS_RT)
+	tools/prove.py $(notdir $@) $@
+
+# A program that is named and that no rule makes must be there.
+$(filter-out bin/rewind bin/rewind-quick,$(REWIND)):
+	$(error rewind: there is no program $@: name one by REWIND=PATH, or leave it out)
 
 FORCE:

@@ -3,7 +3,7 @@
 
     bench/gate.py [--here FOLDER] [--table FILE] [--log FILE]
 
-Runs `make test` in a fresh clone of this repository at HEAD, or in the clone FOLDER, and watches its processes: each check
+Runs `make gate` in a fresh clone of this repository at HEAD, or in the clone FOLDER, and watches its processes: each check
 names its crate in its arguments, works for tests where it has `--test`, and for a must-fail edit where it runs in a
 folder of its own outside the repository. Prints, and writes as Markdown where --table names a file, the processor
 minutes of each crate's proof, tests and edits, and the minutes that they took by the clock, the longest chain of crates
@@ -154,7 +154,7 @@ def run_gate(folder, log):
     started = time.monotonic()
     with tempfile.TemporaryDirectory(prefix="gate-files-") as room, open(log, "wb") as out:
         os.chmod(room, 0o711)  # programs run as nobody, below this folder
-        gate = subprocess.Popen(["make", "-s", "test"], cwd=folder, env={**os.environ, "TMPDIR": room}, stdin=subprocess.DEVNULL,
+        gate = subprocess.Popen(["make", "-s", "gate"], cwd=folder, env={**os.environ, "TMPDIR": room}, stdin=subprocess.DEVNULL,
                                 stdout=out, stderr=out, start_new_session=True)
         usage = watch_to_the_end(gate, watch, started)
     return watch, time.monotonic() - started, usage.ru_utime + usage.ru_stime, gate.returncode

@@ -1,7 +1,9 @@
 #!/usr/bin/env python3
 """Steps that random sessions keep, taken once more in fresh sessions: each goroutine, channel and text must be the same.
 
-    bench/replay.py [--sessions N] [--seed S] [--keep DIR] [PROGRAM]      (1,000 sessions, seed 1, bin/rewind)
+    bench/replay.py [--sessions N] [--seconds T] [--seed S] [--jobs J] [--keep DIR] [PROGRAM]
+
+With nothing said: 1,000 sessions of bin/rewind, seed 1, as many at once as processors. After T seconds no session begins.
 
 A session steps, runs, takes steps back with their consequences, takes them again and puts them in other orders, at random,
 over a random source. Then its kept steps are taken in a fresh session in the order of its log, and in two others that respect
@@ -14,6 +16,7 @@ import random
 import subprocess
 import sys
 import tempfile
+import time
 from concurrent.futures import ThreadPoolExecutor
 
 
@@ -200,18 +203,21 @@ def run(program, seed, keep):
 def main():
     parser = argparse.ArgumentParser()
     parser.add_argument("--sessions", type=int, default=1000)
+    parser.add_argument("--seconds", type=float, default=float("inf"))
+    parser.add_argument("--jobs", type=int, default=os.cpu_count())
     parser.add_argument("--seed", type=int, default=1)
     parser.add_argument("--keep")
     parser.add_argument("program", nargs="?", default="bin/rewind")
     given = parser.parse_args()
-    failed = 0
-    with ThreadPoolExecutor(os.cpu_count()) as pool:
+    end = time.monotonic() + given.seconds
+    with ThreadPoolExecutor(given.jobs) as pool:
         seeds = range(given.seed, given.seed + given.sessions)
-        for seed, why in pool.map(lambda s: run(given.program, s, given.keep), seeds):
-            if why:
-                failed += 1
-                print("%d: %s" % (seed, why))
-    print("%d passed, %d failed" % (given.sessions - failed, failed))
+        begun = pool.map(lambda seed: time.monotonic() < end and run(given.program, seed, given.keep), seeds)
+        results = [it for it in begun if it]
+    failed = [it for it in results if it[1]]
+    for seed, why in failed:
+        print("FAILED %d: %s" % (seed, why))
+    print("%d passed, %d failed" % (len(results) - len(failed), len(failed)))
     sys.exit(1 if failed else 0)
 
 

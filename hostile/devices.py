@@ -1,7 +1,7 @@
 #!/usr/bin/env python3
 """Devices that fail, stop, are interrupted, or take and give one byte at a time, at every place of an example session.
 
-    hostile/devices.py [PROGRAM] [--jobs N]      (bin/rewind, all processors)
+    hostile/devices.py [PROGRAM] [--jobs N] [--sessions S]      (bin/rewind, all processors, all sessions)
 
 For every k and j, under each example session that has commands:
 
@@ -94,11 +94,17 @@ def of_session(part):
     return session.tally
 
 
+def chosen():
+    """The sessions that are asked for: the given number of those that have commands, or all."""
+    with_commands = [name for name in sessions() if examples(".script")[name]]
+    return with_commands[:settings.sessions] if settings.sessions else sessions()
+
+
 def main():
-    parts = [(name, what) for what in ("writes", "reads", "sources") for name in sessions()]
+    parts = [(name, what) for what in ("writes", "reads", "sources") for name in chosen()]
     return in_parts(settings.jobs, of_session, parts).tell("devices")
 
 
-settings, library = given("Devices that fail."), Preloaded()
+settings, library = given("Devices that fail.", sessions=0), Preloaded()
 if __name__ == "__main__":
     sys.exit(main())

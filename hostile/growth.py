@@ -1,7 +1,7 @@
 #!/usr/bin/env python3
 """Each growth inside one call refused in turn: what stands after it, and the same call made again with memory.
 
-    hostile/growth.py [PROGRAM] [--jobs N] [--rest R]      (bin/rewind, all processors, R = 1)
+    hostile/growth.py [PROGRAM] [--jobs N] [--rest R] [--commands C]      (bin/rewind, all processors, R = 1, all commands)
 
 Every command of the example sessions, and of `kinds`, which has a step of every kind, is one case: its k-th growth is refused,
 for k = 1, 2, .. until it meets none, and with `--rest 1` once more with all growths after that in the same command. Either the
@@ -25,6 +25,8 @@ from program import (
 
 UNCHANGED = (b"no N6", b"no Q2", b"no B6 0")
 MEMORY = (3, b"rewind: memory\n")
+# The commands of a short run, those that change a session first.
+WORDS = (b"run", b"back", b"redo", b"order", b"undo", b"step", b"deps", b"causes", b"log", b"console", b"show", b"chan", b"text")
 OPENING = (b"rewind: S8\n", b"rewind: P4\n", b"rewind: C11\n")
 
 
@@ -181,6 +183,14 @@ def session(name):
         return source.read(), script.read().split(b"\n")[:-1]
 
 
+def one_of_each(commands):
+    """The last command of each word, those that do most first."""
+    found = {}
+    for name, at in commands:
+        found[session(name)[1][at].split()[0]] = (name, at)
+    return [found[word] for word in WORDS if word in found]
+
+
 def tell_table(tally):
     """The growths refused in each call, by what became of them."""
     rows = defaultdict(Counter)
@@ -194,16 +204,20 @@ def tell_table(tally):
 
 def main():
     names = sessions() + ["kinds"]
-    tally = in_parts(settings.jobs, of_command, [(name, at) for name in names for at in range(len(session(name)[1]))])
-    tally.add(in_parts(settings.jobs, of_opening, examples()))
+    commands = [(name, at) for name in names for at in range(len(session(name)[1]))]
+    if settings.commands:
+        commands = one_of_each(commands)[:settings.commands]
+    tally = in_parts(settings.jobs, of_command, commands)
+    if not settings.commands:
+        tally.add(in_parts(settings.jobs, of_opening, examples()))
     tell_table(tally)
     for failure in tally.failures[:20]:
         print("FAILED", failure)
     refused = sum(times for (kind, what), times in tally.ends.items() if what != "commands")
-    print("growths: %d cases, %d growths refused, failures %d" % (sum(tally.ends.values()) - refused, refused, len(tally.failures)))
-    return 1 if tally.failures else 0
+    print("growths: %d cases, of which these growths were refused:" % (sum(tally.ends.values()) - refused))
+    return tally.close(refused)
 
 
-settings, library = given("Each growth refused.", rest=1), Preloaded()
+settings, library = given("Each growth refused.", rest=1, commands=0), Preloaded()
 if __name__ == "__main__":
     sys.exit(main())

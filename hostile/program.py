@@ -172,7 +172,12 @@ class Tally:
             print("FAILED", failure)
         for what, times in sorted(self.ends.items(), key=lambda end: (-end[1], end[0])):
             print("%9d %s" % (times, what))
-        print("%s: %d cases, failures %d" % (title, sum(self.ends.values()), len(self.failures)), flush=True)
+        print(title)
+        return self.close(sum(self.ends.values()))
+
+    def close(self, cases):
+        """Prints how many cases passed and failed, and answers the status."""
+        print("%d passed, %d failed" % (cases - len(self.failures), len(self.failures)), flush=True)
         return 1 if self.failures else 0
 
 

@@ -53,9 +53,9 @@ def program_of(arguments: Arguments, chosen: Optional[str]) -> Program:
 
 
 def find_rewind() -> str:
-    """The `rewind` to use where none is named: `$REWIND`, that of the repository, or the one on the path."""
-    beside = os.path.join(REPOSITORY, "bin", "rewind")
-    found = os.environ.get("REWIND") or (beside if os.path.exists(beside) else shutil.which("rewind"))
+    """The `rewind` to use where none is named: `$REWIND`, that of the repository (proved, else quick), or the one on the path."""
+    beside = [os.path.join(REPOSITORY, "bin", name) for name in ("rewind", "rewind-quick")]
+    found = os.environ.get("REWIND") or next(filter(os.path.exists, beside), None) or shutil.which("rewind")
     if not found:
         raise BadRequest("there is no rewind: build it with `make`, or name one by --rewind PATH or $REWIND")
     return found

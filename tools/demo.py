@@ -1,0 +1,83 @@
+#!/usr/bin/env python3
+"""Shows a deadlock, the step behind it, and the same program without it: the source, and each command with its reply.
+
+    tools/demo.py [--check] PROGRAM      (--check only says whether the program replies as tools/demo.txt has it)
+"""
+import os
+import subprocess
+import sys
+
+import kit
+
+STORY = f"{kit.ROOT}/tools/demo.txt"
+SOURCE = f"{kit.ROOT}/crates/sessions/data/deadlock.go"
+END = """
+That was all. For a program of your own, type
+
+    {program} FILE.go
+
+and then such commands; 'quit' ends. The commands are in docs/COMMANDS.md, and the Go that it takes in docs/LANGUAGE.md."""
+
+
+def lines_of(path):
+    with open(path, encoding="utf-8") as file:
+        return file.read().splitlines()
+
+
+def is_reply(line):
+    return line.startswith(("| ", "ok", "no ", "? "))
+
+
+def answers(program, commands):
+    """The replies of the program, each a list of lines."""
+    given = "".join(f"{it}\n" for it in commands)
+    try:
+        said = subprocess.run([program, SOURCE], input=given, stdout=subprocess.PIPE, text=True, check=True).stdout
+    except (OSError, subprocess.CalledProcessError) as error:
+        kit.stop(f"{program} does not run ({error})")
+    found, reply = [], []
+    for line in said.splitlines():
+        reply.append(line)
+        if not line.startswith("|"):
+            found.append(reply)
+            reply = []
+    return found
+
+
+def tell(program):
+    """The story with the replies that the program gives now."""
+    story = lines_of(STORY)
+    replies = iter(answers(program, [line[2:] for line in story if line.startswith("> ")]))
+    for line in story:
+        if line == "SOURCE":
+            yield from (f"{number:6}  {text}" for number, text in enumerate(lines_of(SOURCE), 1))
+        elif line.startswith("> "):
+            yield from [line, *next(replies, [])]
+        elif not is_reply(line):
+            yield line
+
+
+def check(program):
+    """Says whether the story stands as the program tells it, and returns the exit status."""
+    wanted = [line for line in lines_of(STORY) if line.startswith("> ") or is_reply(line)]
+    got = [line for line in tell(program) if line.startswith("> ") or is_reply(line)]
+    differ = [(old, new) for old, new in zip([*wanted, ""], [*got, ""]) if old != new]
+    for old, new in differ[:1]:
+        print(f"FAILED demo: tools/demo.txt has '{old}', the program gives '{new}'")
+    print(f"{0 if differ else 1} passed, {1 if differ else 0} failed")
+    return 1 if differ else 0
+
+
+def main():
+    words = [word for word in sys.argv[1:] if word != "--check"]
+    if len(words) != 1:
+        sys.exit(__doc__)
+    if not os.access(words[0], os.X_OK):
+        kit.stop(f"there is no program {words[0]}")
+    if "--check" in sys.argv:
+        sys.exit(check(words[0]))
+    print("\n".join(tell(words[0])))
+    print(END.format(program=words[0]))
+
+
+main()

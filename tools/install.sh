@@ -1,0 +1,49 @@
+#!/bin/sh
+# install.sh [--remove] DESTDIR PREFIX: installs the program, its manual page and the adapter for editors under DESTDIR/PREFIX, or
+# removes them. The program is bin/rewind if it is there, else bin/rewind-quick.
+set -eu
+top=$(cd "$(dirname "$0")/.." && pwd)
+
+stop() {
+  echo "rewind: $1" >&2
+  exit 2
+}
+
+removes=
+if [ "$1" = --remove ]; then
+  removes=yes
+  shift
+fi
+[ -n "$2" ] || stop "PREFIX is empty: name a folder, as PREFIX=/usr/local"
+to=$1$2
+case $to in /*) ;; *) stop "PREFIX must begin with '/', and '$2' does not" ;; esac
+
+if [ -n "$removes" ]; then
+  if [ -e "$to/bin/rewind" ] && [ ! -w "$to/bin" ]; then
+    stop "cannot write in $to/bin"
+  fi
+  rm -rf "$to/bin/rewind" "$to/bin/rewind-dap" "$to/share/man/man1/rewind.1" "$to/lib/rewind"
+  echo "removed rewind from $to"
+  exit 0
+fi
+
+program=$top/bin/rewind
+kind='the proved program'
+if [ ! -x "$program" ]; then
+  program=$top/bin/rewind-quick
+  kind='the quick build, which is not proved'
+fi
+[ -x "$program" ] || stop "there is no program: build one by 'make' or 'make quick'"
+mkdir -p "$to/bin" "$to/share/man/man1" "$to/lib/rewind/bin" "$to/lib/rewind/editors" 2>/dev/null || stop "cannot write in $to"
+[ -w "$to/bin" ] && [ -w "$to/share/man/man1" ] && [ -w "$to/lib/rewind" ] || stop "cannot write in $to"
+
+install -m 755 "$program" "$to/bin/rewind"
+install -m 644 "$top/docs/rewind.1" "$to/share/man/man1/rewind.1"
+rm -rf "$to/lib/rewind/editors/dap"
+mkdir -p "$to/lib/rewind/editors/dap/rewind_dap"
+install -m 755 "$top/editors/dap/rewind-dap" "$to/lib/rewind/editors/dap/rewind-dap"
+install -m 644 "$top"/editors/dap/rewind_dap/*.py "$to/lib/rewind/editors/dap/rewind_dap"
+# The adapter finds the program beside itself, and is found on the path.
+ln -sfn ../../../bin/rewind "$to/lib/rewind/bin/rewind"
+ln -sfn ../lib/rewind/editors/dap/rewind-dap "$to/bin/rewind-dap"
+echo "installed $kind as $to/bin/rewind"

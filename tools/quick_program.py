@@ -1,0 +1,38 @@
+#!/usr/bin/env python3
+"""Compiles a module of `quick_module.py`, and links it with the toolchain's C library.
+
+    tools/quick_program.py MODULE.bc PROGRAM
+"""
+import os
+import shlex
+import shutil
+import subprocess
+import sys
+import tempfile
+
+import kit
+
+TARGET = ["--target=x86_64-unknown-linux-gnu", "-march=x86-64", "--no-default-config", "-no-canonical-prefixes", "-fintegrated-cc1"]
+CODE = ["-ffunction-sections", "-fdata-sections", "-mllvm", "-no-trap-after-noreturn", "-mllvm", "-trap-unreachable", "-fPIE", "-O2"]
+
+
+def main():
+    if len(sys.argv) != 3:
+        sys.exit(__doc__)
+    module, program = sys.argv[1:]
+    if not os.path.isfile(module):
+        kit.stop(f"there is no module {module}")
+    kit.writable(program)
+    linker = shlex.split(os.environ.get("CC") or "cc")
+    if not shutil.which(linker[0]):
+        kit.stop(f"there is no C compiler '{linker[0]}' to link with: install one, or name one in CC")
+    folder = kit.folder()
+    with tempfile.TemporaryDirectory(prefix="rewind-quick-") as work:
+        words = ["clang", *TARGET, *CODE, "-c", "-x", "ir", module, "-o", f"{work}/program.o"]
+        subprocess.run(words, executable=f"{folder}/toolchain/bin/clang", check=True)
+        parts = [f"{work}/program.o", f"{folder}/c/libos_c.a", f"{folder}/c/liblibc_c.a"]
+        subprocess.run([*linker, *parts, "-o", f"{program}.part", "-Wl,--gc-sections"], check=True)
+    os.replace(f"{program}.part", program)
+
+
+main()
