@@ -34,6 +34,7 @@ PARTS = {
     "adapter": ["editors/dap/tests/run"],
     "sessions": ["tests/sessions.py", "PROGRAM"],
     "demo": ["tools/demo.py", "--check", "PROGRAM"],
+    "edits": ["tests/edits.py", "PROGRAM"],
 }
 
 
