@@ -37,11 +37,33 @@ bin/quick/rewind.bc: $(SOURCES) crates.txt tools/quick_module.py tools/keep_modu
 demo: bin/rewind-quick ## shows how to take back the step behind a deadlock (3 minutes with the quick build)
 	@tools/demo.py bin/rewind-quick
 
-page: bin/rewind ## the debugger in a web page of the proved program: bin/rewind.html (5 minutes after make)
-	page/needs.sh libjs-codemirror
-	mkdir -p page/out
-	page/module/build.py page/out/rewind.wasm
+quick-page: page-needs page/out/rewind-quick.wasm ## the debugger in a web page of the quick build: bin/rewind-quick.html (3 minutes)
+	page/inline.py page/out/rewind-quick.wasm bin/rewind-quick.html --unproved
+
+page: page-needs page/out/rewind.wasm ## the debugger in a web page of the proved program: bin/rewind.html (5 minutes after make)
 	page/inline.py page/out/rewind.wasm bin/rewind.html
+
+# What is missing of Debian's packages is installed before anything is built.
+.PHONY: page-needs browser-needs
+page-needs:
+	@page/needs.sh libjs-codemirror
+
+browser-needs:
+	@page/needs.sh chromium nodejs
+
+PAGE_COMPILER := page/module/build.py page/module/retarget.py $(wildcard page/module/*.c) tools/kit.py
+
+page/out/rewind-quick.wasm: bin/quick/rewind.bc $(PAGE_COMPILER)
+	$(NEEDS_RT)
+	page/module/build.py $< $@
+
+page/out/rewind.wasm: page/out/rewind.bc $(PAGE_COMPILER)
+	$(NEEDS_RT)
+	page/module/build.py $< $@
+
+page/out/rewind.bc: bin/rewind page/module/proved_module.py page/module/keep_module
+	$(NEEDS_RT)
+	page/module/proved_module.py $@
 
 install: ## installs the program, its manual page and the editor adapter (PREFIX=/usr/local, DESTDIR)
 	tools/install.sh "$(DESTDIR)" "$(PREFIX)"
@@ -71,9 +93,10 @@ replay: $(REWIND) ## steps of 1,000 random sessions, taken again in fresh sessio
 dap-test: $(REWIND) ## the adapter for editors (1 minute)
 	REWIND=$(REWIND) editors/dap/tests/run
 
-page-test: page ## the page in headless Chromium (3 minutes)
-	page/needs.sh chromium nodejs
-	page/test.sh bin/rewind.html
+IS_QUICK = $(filter rewind-quick,$(notdir $(REWIND)))
+
+page-test: browser-needs $(if $(IS_QUICK),quick-page,page) ## the page in headless Chromium (3 minutes)
+	page/test.sh bin/rewind$(if $(IS_QUICK),-quick).html
 
 hostile: $(REWIND) bin/racing ## hostile sources and commands, failing devices, refused memory, races (6 processor minutes)
 	hostile/all.sh $(REWIND)
@@ -96,8 +119,7 @@ gate-times: ## the gate in a fresh clone, with the processor minutes of each cra
 words: ## the program's texts, manual page and tables from docs/words (a second)
 	docs/words/make.py
 
-page-pictures: page ## the pictures of docs/SESSIONS.md, drawn by the page (1 minute)
-	page/needs.sh chromium nodejs
+page-pictures: browser-needs page ## the pictures of docs/SESSIONS.md, drawn by the page (1 minute)
 	mkdir -p docs/pictures
 	node page/test/pictures.mjs $(CURDIR)/bin/rewind.html page/pictures.json docs/pictures
 

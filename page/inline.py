@@ -1,8 +1,10 @@
 #!/usr/bin/env python3
-"""inline.py MODULE.wasm OUT.html: one file of the page, its styles and scripts, the editor, the program and what it shows.
+"""Makes one file of the page, its styles and scripts, the editor, the program and what it shows.
 
-The meanings of codes, kinds and commands come from docs/, and the examples from crates/sessions/data, so that nothing is said
-twice.
+    page/inline.py MODULE.wasm OUT.html [--unproved]
+
+With --unproved the page says that its program is not proved. The meanings of codes, kinds and commands come from docs/, and the
+examples from crates/sessions/data, so that nothing is said twice.
 """
 import base64
 import json
@@ -12,14 +14,23 @@ import sys
 
 HERE = os.path.dirname(os.path.realpath(__file__))
 ROOT = os.path.dirname(HERE)
+sys.path.insert(0, f"{ROOT}/tools")
+import kit  # noqa: E402
+
 MIRROR = "/usr/share/javascript/codemirror"
 LICENCE = "/usr/share/doc/libjs-codemirror/copyright"
 IMPORT = re.compile(r'^import \{[^}]*\} from "\./(\w+\.js)";\n', re.M)
+# What page.html says of a program that is not proved.
+OF_UNPROVED = re.compile(r"<!--unproved:(.*?)-->")
 
 
 def read(path):
-    with open(path, encoding="utf-8") as it:
-        return it.read()
+    try:
+        with open(path, encoding="utf-8") as it:
+            return it.read()
+    except OSError as error:
+        package = ": install Debian's package libjs-codemirror" if path.startswith("/usr/") else ""
+        kit.stop(f"cannot read {path} ({error.strerror}){package}")
 
 
 def modules(name, done):
@@ -49,7 +60,8 @@ def rows(page, heading=None):
     """Returns the cells of the tables of a page of docs/, or of one section of it."""
     text = read(f"{ROOT}/docs/{page}")
     if heading:
-        text = re.search(rf"^## {heading}\n(.*?)(?=^## |\Z)", text, re.M | re.S)[1]
+        found = re.search(rf"^## {heading}\n(.*?)(?=^## |\Z)", text, re.M | re.S)
+        text = found[1] if found else kit.stop(f"docs/{page} has no section '{heading}', which the page takes its words from")
     lines = [it for it in text.splitlines() if it.startswith("| ") and it.endswith(" |")]
     return [[plain(cell) for cell in re.split(r"(?<!\\)\|", it)[1:-1]] for it in lines]
 
@@ -94,22 +106,37 @@ def given():
     return {"codes": codes(), "kinds": kinds(), "commands": commands(), "stories": stories(), "licence": read(LICENCE)}
 
 
-def main():
-    wasm, out = sys.argv[1:]
+def program(wasm):
+    if not os.path.isfile(wasm):
+        kit.stop(f"there is no module {wasm}")
     with open(wasm, "rb") as it:
-        program = base64.b64encode(it.read()).decode()
+        return base64.b64encode(it.read()).decode()
+
+
+def page(wasm, is_proved):
+    """The text of the page."""
     styles = [f"{MIRROR}/lib/codemirror.css", f"{HERE}/src/style.css"]
     scripts = [read(f"{MIRROR}/lib/codemirror.js"), read(f"{MIRROR}/mode/go/go.js")]
     safe = json.dumps(given()).replace("</", "<\\/")
-    parts = [f'<script id="program" type="application/octet-stream">{program}</script>']
+    parts = [f'<script id="program" type="application/octet-stream">{program(wasm)}</script>']
     parts += [f'<script id="given" type="application/json">{safe}</script>']
     parts += ["<script>" + it.replace("</script", "<\\/script") + "</script>" for it in scripts]
     parts += [f'<script type="module">\n{one_script()}</script>']
-    page = read(f"{HERE}/src/page.html")
-    page = page.replace("<!--STYLES-->", "".join(f"<style>{read(it)}</style>\n" for it in styles))
-    page = page.replace("<!--SCRIPTS-->", "\n".join(parts))
-    with open(out, "w", encoding="utf-8") as it:
-        it.write(page)
+    text = OF_UNPROVED.sub("" if is_proved else r"\1", read(f"{HERE}/src/page.html"))
+    text = text.replace("<!--STYLES-->", "".join(f"<style>{read(it)}</style>\n" for it in styles))
+    return text.replace("<!--SCRIPTS-->", "\n".join(parts))
+
+
+def main():
+    words = [it for it in sys.argv[1:] if it != "--unproved"]
+    if len(words) != 2:
+        sys.exit(__doc__)
+    wasm, out = words
+    kit.writable(out)
+    text = page(wasm, is_proved=len(words) == len(sys.argv) - 1)
+    with open(f"{out}.part", "w", encoding="utf-8") as it:
+        it.write(text)
+    os.replace(f"{out}.part", out)
 
 
 main()

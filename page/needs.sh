@@ -1,6 +1,6 @@
 #!/bin/sh
-# needs.sh PACKAGE..: installs what is missing of Debian's packages chromium, nodejs and libjs-codemirror.
-set -e
+# needs.sh PACKAGE..: installs what is missing of Debian's packages chromium, nodejs and libjs-codemirror. Where that cannot be done,
+# one sentence says what to install, and the status is 2.
 
 is_there() {
   case $1 in
@@ -10,13 +10,26 @@ is_there() {
   esac >/dev/null 2>&1
 }
 
-missing=
-for package in "$@"; do
-  is_there "$package" || missing="$missing $package"
-done
+missing_of() {
+  for package in "$@"; do
+    is_there "$package" || printf ' %s' "$package"
+  done
+}
+
+# Never asks for a password.
+as_root() {
+  if [ "$(id -u)" = 0 ]; then "$@"; else sudo -n "$@"; fi
+}
+
+apt() {
+  as_root apt-get -qq -o DPkg::Lock::Timeout=60 -o Acquire::http::Timeout=20 -o Acquire::https::Timeout=20 "$@"
+}
+
+missing=$(missing_of "$@")
 [ -n "$missing" ] || exit 0
 echo "page: installing$missing"
-become=
-[ "$(id -u)" = 0 ] || become=sudo
-$become apt-get update -q
-$become apt-get install -y -q --no-install-recommends $missing
+{ apt update && apt install -y --no-install-recommends $missing; } </dev/null >/dev/null 2>&1
+missing=$(missing_of "$@")
+[ -n "$missing" ] || exit 0
+echo "rewind: the page needs what could not be installed here: 'apt-get install$missing'" >&2
+exit 2

@@ -1,77 +1,86 @@
 #!/usr/bin/env python3
-"""build.py OUT.wasm: the proved program `rewind` as a WebAssembly module.
+"""Compiles a module of the program `rewind` to WebAssembly, and links it with the C files of this folder.
 
-The crate rewind_cli and those below it are built already (`make` does that). `rattle build` proves the program again over what
-it kept, and hands its LLVM module to `clang` of this folder, which compiles it for wasm64.
+    page/module/build.py MODULE.bc OUT.wasm
 """
-import importlib.machinery
-import importlib.util
 import os
-import shutil
 import subprocess
 import sys
 import tempfile
 
+from retarget import NeedsX86, retarget
+
 HERE = os.path.dirname(os.path.realpath(__file__))
-ROOT = os.path.dirname(os.path.dirname(HERE))
-CRATE = f"{ROOT}/crates/rewind_cli"
+sys.path.insert(0, f"{HERE}/../../tools")
+import kit  # noqa: E402
+
 STACK = "8388608"
-C_WORDS = ["--no-default-config", "--target=wasm64-unknown-unknown", "-mcpu=lime1", "-O2", "-ffreestanding", "-fno-builtin"]
-C_WORDS += ["-fno-strict-aliasing", "-nostdinc", "-ffunction-sections", "-Wall", "-Werror"]
+TARGET = ["--no-default-config", "--target=wasm64-unknown-unknown", "-mcpu=lime1"]
+AS_TEXT = ["--no-default-config", "--target=x86_64-unknown-linux-gnu", "-S", "-emit-llvm", "-O0", "-Xclang", "-disable-llvm-passes"]
+# Neither a division nor a conversion of 128 bits may call a library that is not there.
+PLAIN = ["-mllvm", "-expand-div-rem-bits=64", "-mllvm", "-expand-fp-convert-bits=64", "-mllvm", "-trap-unreachable"]
+SECTIONS = ["-ffunction-sections", "-fdata-sections"]
+C_WORDS = ["-O2", "-ffreestanding", "-fno-builtin", "-fno-strict-aliasing", "-nostdinc", "-ffunction-sections", "-Wall"]
 
 
-def kit():
-    said = subprocess.run(["rt", "doc"], stdout=subprocess.PIPE, text=True, check=True)
-    return os.path.dirname(said.stdout.strip())
+class Tools:
+    """The toolchain's compiler and linker. Where one refuses what it is given, the program ends with what it says."""
+
+    def __init__(self, folder):
+        self.folder = folder
+        self.compiler = f"{folder}/toolchain/bin/clang"
+
+    def run(self, words, executable=None):
+        ran = subprocess.run(words, executable=executable, stderr=subprocess.PIPE, text=True, errors="replace")
+        if ran.returncode:
+            said = ran.stderr.strip().splitlines() or [f"status {ran.returncode}"]
+            kit.stop(f"{os.path.basename(words[0])} does not make the page's program: {said[0]}")
+
+    def clang(self, *words):
+        self.run(["clang", *words], self.compiler)
+
+    def archive(self, out, parts):
+        self.run(["llvm-ar", "rc", out, *parts], self.compiler)
+
+    def link(self, out, archive):
+        words = ["--target", "wasm64-unknown-unknown", "--toolchain", f"{self.folder}/toolchain", "--stack", STACK]
+        self.run([f"{self.folder}/bin/rattle-link", *words, "-o", out, archive])
 
 
-def words_of_crate(folder):
-    """Returns what `rt` would say to `rattle build` of the program."""
-    loader = importlib.machinery.SourceFileLoader("rtlib", f"{folder}/bin/rtlib.py")
-    rtlib = importlib.util.module_from_spec(importlib.util.spec_from_loader("rtlib", loader))
-    sys.dont_write_bytecode, sys.modules["rtlib"], sys.argv = True, rtlib, ["rt"]
-    os.chdir(CRATE)
-    loader.exec_module(rtlib)
-    return rtlib.Crate(CRATE, ROOT, {}, ()).words(["--jobs", "1"])
+def retargeted(module, work, tools):
+    """The module as text for wasm64."""
+    before, after = f"{work}/x86.ll", f"{work}/wasm.ll"
+    tools.clang(*AS_TEXT, "-x", "ir", module, "-o", before)
+    with open(before, encoding="latin-1") as lines, open(after, "w", encoding="latin-1") as out:
+        try:
+            out.writelines(retarget(lines))
+        except NeedsX86 as line:
+            kit.stop(f"the program needs an x86-64 processor, and the page has none: {line}")
+    os.remove(before)
+    return after
 
 
-def tools(folder, work):
-    """The kit's tools, with this folder's `clang` in place of its own."""
-    os.makedirs(f"{work}/tools/bin")
-    os.symlink(f"{folder}/toolchain/lib", f"{work}/tools/lib")
-    for name in os.listdir(f"{folder}/toolchain/bin"):
-        made_by = f"{HERE}/clang" if name == "clang" else f"{folder}/toolchain/bin/{name}"
-        os.symlink(made_by, f"{work}/tools/bin/{name}")
-    return f"{work}/tools"
-
-
-def link(folder, work, program, out):
-    """Links the program's object file with the C files of this folder."""
-    clang, archive = f"{folder}/toolchain/bin/clang", f"{work}/program.a"
-    parts = [program]
+def build(module, out, work, tools):
+    parts = [f"{work}/program.o"]
+    tools.clang(*TARGET, *PLAIN, *SECTIONS, "-O2", "-Werror", "-c", "-x", "ir", retargeted(module, work, tools), "-o", parts[0])
     for name in ("heap", "system", "threads"):
         parts.append(f"{work}/{name}.o")
-        subprocess.run(["clang", *C_WORDS, "-c", f"{HERE}/{name}.c", "-o", parts[-1]], executable=clang, check=True)
-    subprocess.run(["llvm-ar", "rc", archive, *parts], executable=clang, check=True)
-    words = ["--target", "wasm64-unknown-unknown", "--toolchain", f"{folder}/toolchain", "--stack", STACK]
-    subprocess.run([f"{folder}/bin/rattle-link", *words, "-o", out, archive], check=True)
+        tools.clang(*TARGET, *C_WORDS, "-Werror", "-c", f"{HERE}/{name}.c", "-o", parts[-1])
+    tools.archive(f"{work}/program.a", parts)
+    tools.link(f"{out}.part", f"{work}/program.a")
+    os.replace(f"{out}.part", out)
 
 
 def main():
-    out = os.path.abspath(sys.argv[1])
-    folder = kit()
+    if len(sys.argv) != 3:
+        sys.exit(__doc__)
+    module, out = sys.argv[1:]
+    if not os.path.isfile(module):
+        kit.stop(f"there is no module {module}")
+    kit.writable(out)
+    tools = Tools(kit.folder())
     with tempfile.TemporaryDirectory(prefix="rewind-page-") as work:
-        program = f"{work}/program.o"
-        # An object file that stands here already is linked as it is: for trials without proofs.
-        given = os.environ.get("PROGRAM_OBJECT")
-        if given:
-            shutil.copy(given, program)
-        else:
-            words = ["build", *words_of_crate(folder), "--incremental", "out/incremental", "--toolchain", tools(folder, work)]
-            # The test of the processor at the start would not link.
-            words += ["--backend", "llvm", "--cpu=x86-64", "-o", program]
-            subprocess.run([f"{folder}/bin/rattle", *words], cwd=CRATE, check=True)
-        link(folder, work, program, out)
+        build(module, out, work, tools)
 
 
 main()

@@ -1,10 +1,11 @@
-/* The part of an operating system that the program asks for, in a page: the words of its command line, one file (`program.go`) and
- * the three standard streams. The page gives `host.read` and `host.write`; descriptor 3 is the file. */
+/* The part of an operating system that the program asks for, in a page: the words of its command line, one file (`program.go`), the
+ * three standard streams, and an end. The page gives `host.read`, `host.write` and `host.exit`; descriptor 3 is the file. */
 typedef unsigned long size;
 typedef long count;
 
 __attribute__((import_module("host"), import_name("read"))) count host_read(int descriptor, void *to, size most);
 __attribute__((import_module("host"), import_name("write"))) count host_write(int descriptor, const void *from, size most);
+__attribute__((import_module("host"), import_name("exit"), noreturn)) void host_exit(int status);
 
 enum { NO_SUCH_FILE = 2, INPUT_OUTPUT = 5, OUT_OF_RANGE = 34, THE_FILE = 3 };
 static const char *const command_line[] = {"rewind", "program.go"};
@@ -41,6 +42,7 @@ int open(const char *path, int flags, ...) {
   return -1;
 }
 int close(int descriptor) { return 0; }
+_Noreturn void _exit(int status) { host_exit(status); }
 count read(int descriptor, void *to, size most) { return answered(host_read(descriptor, to, most)); }
 count write(int descriptor, const void *from, size most) { return answered(host_write(descriptor, from, most)); }
 count __write(int descriptor, const void *from, size most) { return write(descriptor, from, most); }

@@ -6,6 +6,19 @@
 const SOURCE = 3; // the descriptor of the source file; 0, 1 and 2 are the standard streams
 const QUESTIONS = new Set(["deps", "causes", "show", "chan", "text", "console", "log"]);
 
+// What the program's `_exit` throws: the run is over, with this status.
+class Exit {
+  constructor(status) {
+    this.status = status;
+  }
+}
+
+// The status of a run that was ended by what was thrown. A fault of the program is thrown on.
+function statusOf(thrown) {
+  if (thrown instanceof Exit) return thrown.status;
+  throw thrown;
+}
+
 export const canSuspend = () => "Suspending" in WebAssembly && "promising" in WebAssembly;
 
 export function compileProgram(base64) {
@@ -62,7 +75,10 @@ class Streams {
 
   async instance(program, read) {
     const write = (_, from, count) => this.write(from, count);
-    const { exports } = await WebAssembly.instantiate(program, { host: { read, write } });
+    const exit = (status) => {
+      throw new Exit(status);
+    };
+    const { exports } = await WebAssembly.instantiate(program, { host: { read, write, exit } });
     this.memory = exports.memory;
     return exports.program_main;
   }
@@ -83,7 +99,7 @@ class WaitingRun {
     const read = new WebAssembly.Suspending((descriptor, to, most) => this.read(descriptor, to, most));
     const main = WebAssembly.promising(await this.streams.instance(this.program, read));
     const settled = this.nextSettling();
-    main().then((status) => this.end(status), (fault) => this.end(fault));
+    main().catch(statusOf).then((status) => this.end(status), (fault) => this.end(fault));
     await settled;
     return this.streams.takeOutput();
   }
@@ -152,10 +168,18 @@ class RepeatedRun {
       return streams.readInput(to, most);
     };
     const main = await streams.instance(this.program, read);
-    const status = main();
+    const status = RepeatedRun.statusAtEnd(main);
     if (!waits) this.status = status;
     this.keep(bytes);
     return streams.takeOutput().subarray(bytes.length ? before : 0);
+  }
+
+  static statusAtEnd(main) {
+    try {
+      return main();
+    } catch (thrown) {
+      return statusOf(thrown);
+    }
   }
 
   // There is no run that waits, and each run was told the end of its input.

@@ -1,11 +1,9 @@
-// looks.mjs PAGE.html FOLDER: pictures of the page, wide and narrow, light and dark, for people to look at; and what can be measured
-// of a look: nothing is wider than the window, and every text has the contrast that it needs.
+// Pictures of the page, wide and narrow, light and dark, for people to look at; and what can be measured of a look: nothing is wider
+// than the window, and every text has the contrast that it needs.
 
-import { Browser } from "./browser.mjs";
 import { Hands } from "./hands.mjs";
-import { equal, holds, verdict } from "./expected.mjs";
+import { equal, holds } from "./checks.mjs";
 
-const [page, folder] = process.argv.slice(2);
 const ENOUGH = 4.5;
 
 // Runs in the page: texts whose colour is too close to what is behind them.
@@ -50,7 +48,7 @@ function clippedLabels() {
 }
 
 // The table of keys, and the ring around what has the focus.
-async function lookAtHelp(browser, name) {
+async function lookAtHelp(browser, folder, name) {
   await browser.run("document.getElementById('help').click()");
   equal(`faint texts of the help, ${name}`, await browser.run(`(${faintTexts})(${ENOUGH})`), []);
   equal(`keys that are shown, ${name}`, await browser.run("[...document.querySelectorAll('#keys kbd')].filter((it) => !it.getClientRects().length).length"), 0);
@@ -58,7 +56,8 @@ async function lookAtHelp(browser, name) {
   await browser.run("document.getElementById('help-dialog').close()");
 }
 
-async function look(browser, hands, width, scheme) {
+async function look(browser, folder, width, scheme) {
+  const hands = new Hands(browser);
   const height = width > 1000 ? 800 : 2300;
   await browser.size(width, height, scheme);
   await hands.story("lost_update");
@@ -75,19 +74,9 @@ async function look(browser, hands, width, scheme) {
   equal(`faint texts of a refusal at ${width}, ${scheme}`, await browser.run(`(${faintTexts})(${ENOUGH})`), []);
   holds(`the note of a refusal takes the width at ${width}`, (await browser.run(`(${besideNote})()`)) < 12);
   await browser.shot(`${folder}/refused-${width}-${scheme}.png`);
-  await lookAtHelp(browser, `${width}-${scheme}`);
+  await lookAtHelp(browser, folder, `${width}-${scheme}`);
 }
 
-const browser = await Browser.open();
-let status = 1;
-try {
-  await browser.size(1280, 800);
-  await browser.load(page);
-  for (const width of [1280, 400]) for (const scheme of ["light", "dark"]) await look(browser, new Hands(browser), width, scheme);
-  status = verdict("looks", browser.faults);
-} catch (fault) {
-  console.log(fault, browser.faults);
-} finally {
-  await browser.close();
+export async function looks(browser, folder) {
+  for (const width of [1280, 400]) for (const scheme of ["light", "dark"]) await look(browser, folder, width, scheme);
 }
-process.exit(status);

@@ -1,9 +1,9 @@
-// sessions.mjs PAGE.html FOLDER: every example session in the page, with the engine as it is used there. Prints which differ.
+// Every example session in the page, byte for byte, with the engine as it is used there.
 
-import { readFileSync, readdirSync, existsSync } from "node:fs";
-import { Browser } from "./browser.mjs";
+import { existsSync, readFileSync, readdirSync } from "node:fs";
+import { counts, failed, holds } from "./checks.mjs";
 
-const [page, folder] = process.argv.slice(2);
+const FOLDER = new URL("../../crates/sessions/data", import.meta.url).pathname;
 const base64 = (file) => (existsSync(file) ? readFileSync(file).toString("base64") : "");
 
 // Runs in the page: one session, and what it wrote as base64.
@@ -16,30 +16,29 @@ async function sessionInPage(source, script, suspends) {
   return btoa(said.map((piece) => Array.from(piece, (byte) => String.fromCharCode(byte)).join("")).join(""));
 }
 
-async function differing(browser, suspends) {
-  const names = readdirSync(folder).filter((name) => name.endsWith(".go")).map((name) => name.slice(0, -3)).sort();
-  const bad = [];
-  for (const name of names) {
-    const given = [`${folder}/${name}.go`, `${folder}/${name}.script`].map((file) => JSON.stringify(base64(file)));
-    const said = await browser.run(`(${sessionInPage})(${given.join(",")},${suspends})`);
-    if (said !== base64(`${folder}/${name}.expect`)) bad.push(name);
-  }
-  return { count: names.length, bad };
+// The first line that differs, in words.
+function difference(wanted, got) {
+  const [left, right] = [wanted, got].map((text) => Buffer.from(text, "base64").toString().split("\n"));
+  const at = left.findIndex((line, number) => line !== right[number]);
+  const line = at < 0 ? left.length : at;
+  return `line ${line + 1}: wanted ${JSON.stringify(left[line] ?? null)}, got ${JSON.stringify(right[line] ?? null)}`;
 }
 
-const browser = await Browser.open();
-let status = 0;
-try {
-  await browser.load(page);
-  for (const suspends of [true, false]) {
-    const { count, bad } = await differing(browser, suspends);
-    for (const name of bad) console.log(`${name}: differs`);
-    console.log(`${count - bad.length} of ${count} sessions are as expected, ${suspends ? "in one run that waits" : "run anew for each exchange"}`);
-    if (bad.length || !count) status = 1;
+async function allOf(browser, suspends) {
+  const names = readdirSync(FOLDER).filter((name) => name.endsWith(".go")).map((name) => name.slice(0, -3)).sort();
+  const how = suspends ? "in one run that waits" : "run anew for each exchange";
+  const before = counts.failed;
+  holds("there are example sessions", names.length);
+  for (const name of names) {
+    const given = [`${FOLDER}/${name}.go`, `${FOLDER}/${name}.script`].map((file) => JSON.stringify(base64(file)));
+    const said = await browser.run(`(${sessionInPage})(${given.join(",")},${suspends})`);
+    const wanted = base64(`${FOLDER}/${name}.expect`);
+    if (said === wanted) counts.passed++;
+    else failed(`session ${name}, ${how}, ${difference(wanted, said)}`);
   }
-  for (const fault of browser.faults) console.log(`fault in the page: ${fault}`);
-  if (browser.faults.length) status = 1;
-} finally {
-  await browser.close();
+  console.log(`${names.length - counts.failed + before} of ${names.length} sessions are as expected, ${how}`);
 }
-process.exit(status);
+
+export async function sessions(browser) {
+  for (const suspends of [true, false]) await allOf(browser, suspends);
+}

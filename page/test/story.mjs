@@ -1,9 +1,7 @@
-// story.mjs PAGE.html: stories by clicks and keys, where the program waits and where it is run anew for each exchange. What panes
-// and picture show is compared with docs/SESSIONS.md's replies.
+// Stories by clicks and keys. What panes and picture show is compared with docs/SESSIONS.md's replies.
 
-import { Browser } from "./browser.mjs";
 import { Hands } from "./hands.mjs";
-import { equal, holds, verdict } from "./expected.mjs";
+import { equal, holds } from "./checks.mjs";
 
 const ALT = 1;
 
@@ -133,20 +131,10 @@ async function longRuns(hands) {
   await hands.source("package main\nfunc main() {}\n");
 }
 
-async function stories(hash) {
-  const browser = await Browser.open();
-  try {
-    await browser.size(1280, 800);
-    await browser.load(process.argv[2], hash);
-    const hands = new Hands(browser);
-    for (const part of [takeBackAndDoAgain, messages, pickClauses, exchangeNeighbours, refusals, longRuns]) await part(hands);
-    return verdict(`stories by clicks and keys, ${hash ? "run anew for each exchange" : "in one run that waits"}`, browser.faults);
-  } catch (fault) {
-    console.log(fault, browser.faults);
-    return 1;
-  } finally {
-    await browser.close();
-  }
+const STORIES = [takeBackAndDoAgain, messages, pickClauses, exchangeNeighbours, refusals, longRuns];
+
+export async function stories(browser) {
+  for (const story of STORIES) await story(new Hands(browser));
 }
 
-process.exit((await stories("")) || (await stories("#repeat")));
+export const firstStory = (browser) => takeBackAndDoAgain(new Hands(browser));

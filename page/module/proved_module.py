@@ -1,0 +1,55 @@
+#!/usr/bin/env python3
+"""Leaves the LLVM module of the proved program `rewind`.
+
+    page/module/proved_module.py OUT.bc
+
+The crate rewind_cli and those below it are built already (`make` does that). `rattle build` proves the program again over what it
+kept, and hands its module to `keep_module` of this folder.
+"""
+import filecmp
+import os
+import shutil
+import subprocess
+import sys
+import tempfile
+
+HERE = os.path.dirname(os.path.realpath(__file__))
+sys.path.insert(0, f"{HERE}/../../tools")
+import kit  # noqa: E402
+
+CRATE = f"{kit.ROOT}/crates/rewind_cli"
+
+
+def words_of_build(folder, tools, program):
+    """The command line that `rt` would give to `rattle build` of the program."""
+    os.chdir(CRATE)
+    crate = kit.library(folder).Crate(CRATE, kit.ROOT, {}, ())
+    words = [f"{folder}/bin/rattle", "build", *crate.words(["--jobs", "1"]), "--incremental", "out/incremental"]
+    # The test of the processor at the start would not link.
+    return [*words, "--toolchain", tools, "--backend", "llvm", "--cpu=x86-64", "-o", program]
+
+
+def keep(module, out):
+    """Leaves a module as `out`. One that has not changed stays as it is, so that `make` compiles nothing again."""
+    if not os.path.exists(out) or not filecmp.cmp(module, out, shallow=False):
+        shutil.move(module, f"{out}.part")
+        os.replace(f"{out}.part", out)
+
+
+def main():
+    if len(sys.argv) != 2:
+        sys.exit(__doc__)
+    out = os.path.abspath(sys.argv[1])
+    kit.writable(out)
+    folder = kit.folder()
+    if not os.path.exists(f"{CRATE}/out/rewind_cli"):
+        kit.stop("the program is not proved yet: run 'make' first")
+    with tempfile.TemporaryDirectory(prefix="rewind-page-") as work:
+        tools = kit.tools(folder, f"{work}/tools", f"{HERE}/keep_module")
+        built = subprocess.run(words_of_build(folder, tools, f"{work}/program.o"), stdin=subprocess.DEVNULL)
+        if built.returncode or not os.path.exists(f"{tools}/module.bc"):
+            kit.fail("the program is not proved: see what the toolchain says above")
+        keep(f"{tools}/module.bc", out)
+
+
+main()

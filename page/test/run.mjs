@@ -1,0 +1,67 @@
+// run.mjs PAGE.html FOLDER [--short]: tests a page. Pictures to look at go to FOLDER. The short form has the example sessions and one
+// story. The last line counts the checks; the status is 0 where all passed, else 1.
+
+import { spawnSync } from "node:child_process";
+import { basename } from "node:path";
+import { Browser, DidNotStart } from "./browser.mjs";
+import { counts, equal, failed, noFaults } from "./checks.mjs";
+import { looks } from "./looks.mjs";
+import { sessions } from "./sessions.mjs";
+import { firstStory, stories } from "./story.mjs";
+
+const [page, folder, form] = process.argv.slice(2);
+
+// The page says of its program whether it is proved, where it is named and in the help.
+async function build(browser) {
+  const places = ["title", "h1", "#help-dialog"];
+  const says = await browser.run(`${JSON.stringify(places)}.map((place) => /unproved build/.test(document.querySelector(place).textContent))`);
+  const isUnproved = basename(page) === "rewind-quick.html";
+  equal("the page says that it is an unproved build, in its title, heading and help", says, places.map(() => isUnproved));
+}
+
+// How the program's module becomes one for WebAssembly, and what is refused.
+function ofModule() {
+  const { stdout, stderr } = spawnSync(new URL("module.py", import.meta.url).pathname, { encoding: "utf8" });
+  const [, passed, bad] = /(\d+) passed, (\d+) failed\n$/.exec(stdout) || [];
+  if (passed === undefined) return failed(`module: ${stderr || "it does not run"}`);
+  process.stdout.write(stdout.replace(/.*\n$/, ""));
+  counts.passed += Number(passed);
+  counts.failed += Number(bad);
+  console.log(`module: ${passed} checks passed`);
+}
+
+const ALL = [
+  { name: "kind of build", part: build },
+  { name: "sessions", part: sessions },
+  { name: "stories in one run that waits", part: stories },
+  { name: "stories run anew for each exchange", part: stories, hash: "#repeat" },
+  { name: "looks", part: (browser) => looks(browser, folder) },
+];
+const SHORT = [ALL[0], ALL[1], { name: "a story", part: firstStory }];
+
+// Runs a part in a browser of its own.
+async function run({ name, part, hash }) {
+  const browser = await Browser.open();
+  const [passed, began] = [counts.passed, performance.now()];
+  try {
+    await browser.size(1280, 800);
+    await browser.load(page, hash);
+    await part(browser);
+    noFaults(name, browser.faults);
+  } finally {
+    await browser.close();
+  }
+  console.log(`${name}: ${counts.passed - passed} checks passed in ${((performance.now() - began) / 1000).toFixed(1)} seconds`);
+}
+
+ofModule();
+for (const it of form === "--short" ? SHORT : ALL) {
+  try {
+    await run(it);
+  } catch (fault) {
+    failed(`${it.name}: ${fault.message}`);
+    if (fault instanceof DidNotStart) break;
+  }
+}
+console.log(`${counts.passed} passed, ${counts.failed} failed`);
+process.exit(counts.failed ? 1 : 0);
