@@ -4,13 +4,13 @@ use Rattle.std.specs.Prelude.{option_map}
 use Rattle.gr_base.specs.declared.names.ChName.{ChName}
 use Rattle.gr_base.specs.declared.objects.Object.{Object}
 use Rattle.gr_base.specs.declared.objects.Object.TheVariants.{Run, Go, Gate, Tail, Head}
-use Rattle.gr_step.specs.declared.record.Beyond.{Beyond}
-use Rattle.gr_step.specs.declared.record.Operation.{Operation}
-use Rattle.gr_step.specs.declared.record.Parts.{Parts}
-use Rattle.gr_step.specs.declared.record.Parts.TheVariants as parts
-use Rattle.gr_step.specs.declared.record.Record.{Record}
-use Rattle.gr_step.specs.Conflicts.{read_by, written_by}
-use Rattle.gr_step.specs.Parts.{channel_in, parts_before, partner_before, slot_before, read_by_more, written_by_more, reads_in, writes_in}
+use Rattle.gr_record.specs.declared.record.Beyond.{Beyond}
+use Rattle.gr_record.specs.declared.record.Operation.{Operation}
+use Rattle.gr_record.specs.declared.record.Parts.{Parts}
+use Rattle.gr_record.specs.declared.record.Parts.TheVariants as parts
+use Rattle.gr_record.specs.declared.record.Record.{Record}
+use Rattle.gr_record.specs.Conflicts.{read_by, written_by}
+use Rattle.gr_record.specs.Parts.{channel_in, parts_before, partner_before, slot_before, read_by_more, written_by_more, reads_in, writes_in}
 use Rattle.gr_depend.specs.declared.touch.Touch.{Touch}
 use Rattle.gr_depend.specs.declared.lanes.Lanes.{Lanes}
 use Rattle.gr_depend.specs.Touches.{touches_for, kept_for}

@@ -13,8 +13,8 @@ use Rattle.gr_causal.specs.Sequences.{In, Distinct}
 use Rattle.gr_causal.proofs.OrderLemmas.{reached}
 use Rattle.gr_rules.specs.States.{same}
 use Rattle.gr_laws.proofs.CellLemmas.{same_self}
-use Rattle.gr_step.specs.declared.record.Record.{Record}
-use Rattle.gr_step.specs.Conflicts.{written_by, touched_by, conflict_of}
+use Rattle.gr_record.specs.declared.record.Record.{Record}
+use Rattle.gr_record.specs.Conflicts.{written_by, touched_by, conflict_of}
 use Rattle.gr_depend.specs.declared.touch.Touch.{Touch}
 use Rattle.gr_depend.specs.declared.log.Log.{Log}
 use Rattle.gr_depend.specs.Logs.{records_of}

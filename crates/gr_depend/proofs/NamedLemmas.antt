@@ -9,8 +9,8 @@ use Rattle.gr_base.specs.declared.objects.Object.TheVariants.{Go}
 use Rattle.gr_base.specs.declared.names.StepId.{StepId}
 use Rattle.gr_rules.specs.States.{same}
 use Rattle.gr_laws.proofs.CellLemmas.{same_self}
-use Rattle.gr_step.specs.declared.record.Record.{Record}
-use Rattle.gr_step.specs.Conflicts.{read_by, written_by, touched_by}
+use Rattle.gr_record.specs.declared.record.Record.{Record}
+use Rattle.gr_record.specs.Conflicts.{read_by, written_by, touched_by}
 use Rattle.gr_depend.specs.declared.touch.Touch.{Touch}
 use Rattle.gr_depend.specs.Marks.{hits, IsAscending}
 use Rattle.gr_depend.specs.Named.{IsNamed, NoneFrom, IsLastOf}

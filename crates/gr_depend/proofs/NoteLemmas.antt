@@ -6,8 +6,8 @@ use Rattle.gr_base.specs.declared.objects.Object.TheVariants.{Run, Go}
 use Rattle.gr_rules.specs.States.{same}
 use Rattle.gr_depend.specs.declared.touch.Touch.{Touch}
 use Rattle.gr_depend.specs.declared.lanes.Lanes.{Lanes}
-use Rattle.gr_step.specs.declared.record.Record.{Record}
-use Rattle.gr_step.specs.Conflicts.{read_by, written_by}
+use Rattle.gr_record.specs.declared.record.Record.{Record}
+use Rattle.gr_record.specs.Conflicts.{read_by, written_by}
 use Rattle.gr_depend.specs.Touches.{without_last, touches_for, kept_for}
 use Rattle.gr_depend.specs.Lists.{list_of, Adds, TakesBack, AddsFor, TakesFor}
 

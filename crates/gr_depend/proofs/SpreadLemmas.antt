@@ -5,8 +5,8 @@ use Rattle.std.proofs.lemmas.Bool.Decides.{nat_tests}
 use Rattle.std.proofs.lemmas.List.{take_more, drop_all, take_all, length-replicate, length-set}
 use Rattle.std.proofs.lemmas.List.Folds.{list_any-append}
 use Rattle.gr_causal.specs.Dependence.{hits}
-use Rattle.gr_step.specs.declared.record.Record.{Record}
-use Rattle.gr_step.specs.Conflicts.{conflict_of}
+use Rattle.gr_record.specs.declared.record.Record.{Record}
+use Rattle.gr_record.specs.Conflicts.{conflict_of}
 use Rattle.gr_depend.specs.declared.lanes.Lanes.{Lanes}
 use Rattle.gr_depend.specs.declared.marks.Side.TheVariants.{Later}
 use Rattle.gr_depend.specs.declared.marks.Origin.{Origin}

@@ -9,8 +9,8 @@ use Rattle.gr_base.specs.declared.objects.Object.{Object}
 use Rattle.gr_base.specs.declared.objects.Object.TheVariants.{Run, Go}
 use Rattle.gr_rules.specs.States.{same}
 use Rattle.gr_laws.proofs.CellLemmas.{same_is}
-use Rattle.gr_step.specs.declared.record.Record.{Record}
-use Rattle.gr_step.specs.Conflicts.{touched_by}
+use Rattle.gr_record.specs.declared.record.Record.{Record}
+use Rattle.gr_record.specs.Conflicts.{touched_by}
 use Rattle.gr_depend.specs.declared.touch.Touch.{Touch}
 use Rattle.gr_depend.specs.declared.lanes.Lanes.{Lanes}
 use Rattle.gr_depend.specs.Keys.{key_of, same_key}

@@ -1,9 +1,9 @@
 -- Objects that belong to no channel.
 use Rattle.std.proofs.Common.{◌≡◌, ℕ, List, Option, None, refl}
 use Rattle.gr_base.specs.declared.objects.Object.{Object}
-use Rattle.gr_step.specs.declared.record.Parts.{Parts}
-use Rattle.gr_step.specs.declared.record.Parts.TheVariants as parts
-use Rattle.gr_step.specs.Parts.{parts_before}
+use Rattle.gr_record.specs.declared.record.Parts.{Parts}
+use Rattle.gr_record.specs.declared.record.Parts.TheVariants as parts
+use Rattle.gr_record.specs.Parts.{parts_before}
 
 -- without a channel there are no parts of it
 pub no_channel : (p : Parts) (slot : Option ℕ) (os : List Object) → parts_before p slot None os ≡ os

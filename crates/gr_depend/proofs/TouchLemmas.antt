@@ -7,8 +7,8 @@ use Rattle.gr_base.specs.declared.objects.Object.{Object}
 use Rattle.gr_causal.specs.Sequences.{In, Distinct}
 use Rattle.gr_rules.specs.States.{same}
 use Rattle.gr_laws.proofs.CellLemmas.{same_is}
-use Rattle.gr_step.specs.declared.record.Record.{Record}
-use Rattle.gr_step.specs.Conflicts.{written_by, read_by, touched_by}
+use Rattle.gr_record.specs.declared.record.Record.{Record}
+use Rattle.gr_record.specs.Conflicts.{written_by, read_by, touched_by}
 use Rattle.gr_depend.specs.declared.touch.Touch.{Touch}
 use Rattle.gr_depend.specs.Touches.{is_among, touch_at, touches_in, none_twice, touches_for, kept_for}
 use Rattle.gr_depend.proofs.KeyLemmas.{same_sym}

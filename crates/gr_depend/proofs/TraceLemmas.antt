@@ -2,8 +2,8 @@
 use Rattle.std.proofs.Common.{◌≡◌, ◌<◌, ◌≤◌, ◌+◌, ◌-◌, ◌||◌, ◌&&◌, ℕ, suc, Bool, true, false, nat_lt, cond, List, [], ◌∷◌, length, drop, set as list_set, replicate, slice_get, Some, refl, sym, ap, ◌∙◌, zero-add, arith}
 use Rattle.std.proofs.lemmas.List.{drop_more, drop_all, length-set}
 use Rattle.gr_causal.specs.Dependence.{hits, causes}
-use Rattle.gr_step.specs.declared.record.Record.{Record}
-use Rattle.gr_step.specs.Conflicts.{conflict_of}
+use Rattle.gr_record.specs.declared.record.Record.{Record}
+use Rattle.gr_record.specs.Conflicts.{conflict_of}
 use Rattle.gr_depend.specs.declared.marks.Side.TheVariants.{Earlier}
 use Rattle.gr_depend.specs.declared.marks.Origin.{Origin}
 use Rattle.gr_depend.specs.declared.lanes.Lanes.{Lanes}

@@ -11,8 +11,8 @@ use Rattle.gr_causal.specs.Sequences.{In, Before}
 use Rattle.gr_causal.proofs.ListLemmas.{or_true, or_left, or_right, some_is, none_not, In-append_right}
 use Rattle.gr_rules.specs.States.{same}
 use Rattle.gr_laws.proofs.CellLemmas.{same_self}
-use Rattle.gr_step.specs.declared.record.Record.{Record}
-use Rattle.gr_step.specs.Conflicts.{written_by, read_by, touched_by, conflict_of}
+use Rattle.gr_record.specs.declared.record.Record.{Record}
+use Rattle.gr_record.specs.Conflicts.{written_by, read_by, touched_by, conflict_of}
 use Rattle.gr_depend.specs.declared.key.Key.{Key}
 use Rattle.gr_depend.specs.declared.lanes.Lanes.{Lanes}
 use Rattle.gr_depend.specs.declared.touch.Touch.{Touch}

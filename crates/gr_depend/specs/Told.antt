@@ -3,7 +3,7 @@ use Rattle.std.specs.Prelude.{ℕ, ◌+◌, List, ◌∷◌, Option, option_copi
 use Rattle.std.specs.Option.{option_map_or}
 use Rattle.gr_base.specs.declared.objects.Object.{Object}
 use Rattle.gr_base.specs.declared.objects.Object.TheVariants.{Gate, Tail, Head, Slot}
-use Rattle.gr_step.specs.Parts.{partner_before}
+use Rattle.gr_record.specs.Parts.{partner_before}
 use Rattle.gr_depend.specs.declared.objects.Objects.{Objects}
 use Rattle.gr_depend.specs.Keys.{seen}
 

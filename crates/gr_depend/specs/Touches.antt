@@ -4,8 +4,8 @@ use Rattle.std.specs.List.{list_any}
 use Rattle.gr_base.specs.declared.objects.Object.{Object}
 use Rattle.gr_base.specs.declared.objects.Object.TheVariants.{Run, Go}
 use Rattle.gr_rules.specs.States.{same}
-use Rattle.gr_step.specs.declared.record.Record.{Record}
-use Rattle.gr_step.specs.Conflicts.{written_by, read_by, touched_by}
+use Rattle.gr_record.specs.declared.record.Record.{Record}
+use Rattle.gr_record.specs.Conflicts.{written_by, read_by, touched_by}
 use Rattle.gr_depend.specs.declared.touch.Touch.{Touch}
 
 abbrev pub without_last : {A : Type 0} → List A → List A

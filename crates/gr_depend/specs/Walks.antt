@@ -2,8 +2,8 @@
 use Rattle.std.specs.Prelude.{◌≡◌, ◌<◌, ◌≤◌, ◌+◌, ◌||◌, ℕ, Bool, true, false, List, length}
 use Rattle.std.specs.List.{list_any}
 use Rattle.gr_base.specs.declared.objects.Object.{Object}
-use Rattle.gr_step.specs.declared.record.Record.{Record}
-use Rattle.gr_step.specs.Conflicts.{read_by, written_by}
+use Rattle.gr_record.specs.declared.record.Record.{Record}
+use Rattle.gr_record.specs.Conflicts.{read_by, written_by}
 use Rattle.gr_depend.specs.declared.lanes.Lanes.{Lanes}
 use Rattle.gr_depend.specs.declared.marks.Origin.{Origin}
 use Rattle.gr_depend.specs.Lists.{list_of, list_numbered}

@@ -11,7 +11,7 @@ use gr_base::{GoName, StepId};
 
 impl Log {
     ghost use Rattle.gr_depend.specs.Logs.{records_of};
-    ghost use Rattle.gr_step.specs.declared.record.Record.{Record};
+    ghost use Rattle.gr_record.specs.declared.record.Record.{Record};
 
     /// The place of the step of a name. The time is logarithmic in the steps of its goroutine where that took one of any two
     /// touches of it that follow each other.

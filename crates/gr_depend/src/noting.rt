@@ -5,8 +5,8 @@ ghost use Rattle.std.specs.Prelude.{◌∷◌, [], Option, Some, option_map, fal
 ghost use Rattle.gr_rules.specs.States.{same};
 ghost use Rattle.gr_base.specs.declared.objects.Object.TheVariants as objects;
 ghost use Rattle.gr_channels.specs.declared.changes.ChanUndo.{ChanUndo};
-ghost use Rattle.gr_step.specs.Effects.{reached_on};
-ghost use Rattle.gr_step.specs.Parts.{channel_in, parts_before, slot_before, reads_in, writes_in};
+ghost use Rattle.gr_record.specs.Effects.{reached_on};
+ghost use Rattle.gr_record.specs.Parts.{channel_in, parts_before, slot_before, reads_in, writes_in};
 ghost use Rattle.gr_depend.specs.Keys.{seen};
 ghost use Rattle.gr_depend.specs.Told.{seen_in};
 ghost use Rattle.gr_depend.specs.Touches.{touches_for, kept_for};
@@ -18,8 +18,8 @@ use crate::objects::{
 };
 use crate::touch::Touch;
 use gr_base::{ChName, GoName, NoMemory, Object};
-use gr_step::Record;
-use gr_step::record::{Beyond, Contact, Form, Parts, Touched};
+use gr_record::Record;
+use gr_record::record::{Beyond, Contact, Form, Parts, Touched};
 
 impl Lanes {
     ghost use Rattle.gr_depend.specs.Lists.{list_of, KeepsLists, AddsFor, TakesFor};

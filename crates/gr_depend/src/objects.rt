@@ -2,16 +2,16 @@
 
 ghost use Rattle.std.specs.Prelude.{◌≡◌, ◌∷◌, ◌<◌, [], List, Some, None, if◌then◌else◌, MatchOption, IfSome, option_copied, option_map};
 ghost use Rattle.gr_base.specs.declared.objects.Object.TheVariants as variants;
-ghost use Rattle.gr_step.specs.Conflicts.{written_by, read_by};
-ghost use Rattle.gr_step.specs.Effects.{reached_on};
-ghost use Rattle.gr_step.specs.Parts.{channel_in, parts_before, partner_before, slot_before, read_by_more, written_by_more, reads_in, writes_in};
+ghost use Rattle.gr_record.specs.Conflicts.{written_by, read_by};
+ghost use Rattle.gr_record.specs.Effects.{reached_on};
+ghost use Rattle.gr_record.specs.Parts.{channel_in, parts_before, partner_before, slot_before, read_by_more, written_by_more, reads_in, writes_in};
 ghost use Rattle.gr_depend.specs.Keys.{seen};
 ghost use Rattle.gr_depend.specs.Told.{named, seen_in, count_in};
 
 use crate::key::ObjectRef;
 use gr_base::{ChName, GoName, Object};
-use gr_step::Record;
-use gr_step::record::{Beyond, Contact, Form, Parts};
+use gr_record::Record;
+use gr_record::record::{Beyond, Contact, Form, Parts};
 
 /// Objects that a step read, or that it wrote, by their names where they are: `Run` or its goroutine, parts of one channel, a
 /// goroutine that it met, and others, in this order.

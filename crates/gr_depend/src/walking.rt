@@ -14,8 +14,8 @@ use crate::marks::{Origin, mark_list};
 use crate::objects::{Objects, reads, writes};
 use crate::touch::Touch;
 use gr_base::{GoName, Object};
-use gr_step::Record;
-use gr_step::record::Form;
+use gr_record::Record;
+use gr_record::record::Form;
 
 impl Lanes {
     ghost use Rattle.gr_depend.specs.Lists.{list_of, IsNumbered};

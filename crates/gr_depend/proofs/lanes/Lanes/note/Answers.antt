@@ -1,5 +1,5 @@
 use Rattle.std.proofs.Common.{Some, sym, ap, ◌∙◌}
-use Rattle.gr_step.specs.Effects.{Effect, effect_in, queue_left_by}
+use Rattle.gr_record.specs.Effects.{Effect, effect_in, queue_left_by}
 use Rattle.gr_depend.proofs.lanes.Lanes.note.Goals as goal
 
 pub note_contact-requires : goal.note_contact-requires

@@ -1,7 +1,7 @@
 use Rattle.std.proofs.Common.{◌≡◌, List, true, false, ◌∷◌, subst, ◌∙◌}
 use Rattle.gr_base.specs.declared.objects.Object.{Object}
 use Rattle.gr_base.specs.declared.objects.Object.TheVariants.{Go}
-use Rattle.gr_step.specs.Parts.{writes_in}
+use Rattle.gr_record.specs.Parts.{writes_in}
 use Rattle.gr_depend.specs.Lists.{TakesFor}
 use Rattle.gr_depend.proofs.RoomLemmas.{fits_written}
 use Rattle.gr_depend.proofs.AddingLemmas.{keeps_all, reads_with_run, read_further, written_further, fits_read, both_kept}

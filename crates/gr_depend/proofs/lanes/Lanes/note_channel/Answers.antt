@@ -1,6 +1,6 @@
 use Rattle.std.proofs.Common.{◌≡◌, List, true, false, [], Some, subst}
 use Rattle.gr_base.specs.declared.objects.Object.{Object}
-use Rattle.gr_step.specs.Parts.{parts_before}
+use Rattle.gr_record.specs.Parts.{parts_before}
 use Rattle.gr_depend.specs.Lists.{TakesFor}
 use Rattle.gr_depend.proofs.LaneLemmas.{on_ok}
 use Rattle.gr_depend.proofs.AddingLemmas.{as_listed, fits_as, start_fits, end_fits, added_both, keeps_all, parts_first, parts_none}

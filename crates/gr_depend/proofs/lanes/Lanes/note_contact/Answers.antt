@@ -1,8 +1,8 @@
 use Rattle.std.proofs.Common.{◌≡◌, List, true, false, ◌∷◌, None, subst}
 use Rattle.gr_base.specs.declared.objects.Object.{Object}
 use Rattle.gr_base.specs.declared.objects.Object.TheVariants.{Run, Go}
-use Rattle.gr_step.specs.Effects.{reached_on}
-use Rattle.gr_step.specs.Parts.{reads_in, writes_in}
+use Rattle.gr_record.specs.Effects.{reached_on}
+use Rattle.gr_record.specs.Parts.{reads_in, writes_in}
 use Rattle.gr_depend.specs.Lists.{TakesFor}
 use Rattle.gr_depend.proofs.RoomLemmas.{fits_written}
 use Rattle.gr_depend.proofs.AddingLemmas.{keeps_all, read_further, written_further, fits_read, both_kept}

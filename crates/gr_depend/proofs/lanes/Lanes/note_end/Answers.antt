@@ -1,6 +1,6 @@
 use Rattle.std.proofs.Common.{◌≡◌, ℕ, Option, true, false, [], ◌∷◌, subst, sym}
 use Rattle.gr_base.specs.declared.objects.Object.TheVariants.{Slot}
-use Rattle.gr_step.specs.Parts.{slot_before}
+use Rattle.gr_record.specs.Parts.{slot_before}
 use Rattle.gr_depend.specs.Keys.{seen}
 use Rattle.gr_depend.specs.Lists.{AddsFor}
 use Rattle.gr_depend.specs.Room.{FitsFor}

@@ -1,6 +1,6 @@
 use Rattle.std.proofs.Common.{◌≡◌, true, false, [], ◌∷◌}
 use Rattle.gr_base.specs.declared.objects.Object.TheVariants.{Gate, Head}
-use Rattle.gr_step.specs.Parts.{slot_before}
+use Rattle.gr_record.specs.Parts.{slot_before}
 use Rattle.gr_depend.proofs.NoteLemmas.{added_after}
 use Rattle.gr_depend.proofs.RoomLemmas.{fits_rest}
 use Rattle.gr_depend.proofs.AddingLemmas.{first_fits, keeps_one}

@@ -2,7 +2,7 @@ use Rattle.std.proofs.Common.{◌≡◌, List, true, false, [], ◌∷◌, refl,
 use Rattle.std.specs.Prelude.{option_map}
 use Rattle.gr_base.specs.declared.objects.Object.{Object}
 use Rattle.gr_base.specs.declared.objects.Object.TheVariants.{Go}
-use Rattle.gr_step.specs.Parts.{channel_in, parts_before, written_by_more}
+use Rattle.gr_record.specs.Parts.{channel_in, parts_before, written_by_more}
 use Rattle.gr_depend.specs.Lists.{TakesFor}
 use Rattle.gr_depend.proofs.LaneLemmas.{on_ok}
 use Rattle.gr_depend.proofs.AddingLemmas.{as_listed, fits_as, start_fits, end_fits, added_both, keeps_all, writes_unmet, writes_met}

@@ -2,7 +2,7 @@ use Rattle.std.proofs.Common.{◌≡◌, List, true, false, ◌∷◌, ap, ◌�
 use Rattle.std.specs.Prelude.{option_map}
 use Rattle.gr_base.specs.declared.objects.Object.{Object}
 use Rattle.gr_base.specs.declared.objects.Object.TheVariants.{Run}
-use Rattle.gr_step.specs.Parts.{channel_in, parts_before, reads_in}
+use Rattle.gr_record.specs.Parts.{channel_in, parts_before, reads_in}
 use Rattle.gr_depend.proofs.NoteLemmas.{added_after}
 use Rattle.gr_depend.proofs.RoomLemmas.{fits_rest}
 use Rattle.gr_depend.proofs.AddingLemmas.{as_listed, fits_as, first_fits, keeps_one, reads_told, reads_going}

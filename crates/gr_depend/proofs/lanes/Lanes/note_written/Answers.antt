@@ -1,6 +1,6 @@
 use Rattle.std.proofs.Common.{◌≡◌, true, false}
 use Rattle.gr_base.specs.declared.objects.Object.TheVariants.{Go}
-use Rattle.gr_step.specs.Parts.{writes_in}
+use Rattle.gr_record.specs.Parts.{writes_in}
 use Rattle.gr_depend.proofs.NoteLemmas.{added_after}
 use Rattle.gr_depend.proofs.RoomLemmas.{fits_rest}
 use Rattle.gr_depend.proofs.AddingLemmas.{first_fits, keeps_one}

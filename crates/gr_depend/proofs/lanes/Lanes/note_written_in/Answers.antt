@@ -1,7 +1,7 @@
 use Rattle.std.proofs.Common.{◌≡◌, true, false, [], ◌∷◌, Some, None, ap}
 use Rattle.gr_base.specs.declared.objects.Object.TheVariants.{Go}
-use Rattle.gr_step.specs.Effects.{reached_on}
-use Rattle.gr_step.specs.Parts.{parts_before, writes_in}
+use Rattle.gr_record.specs.Effects.{reached_on}
+use Rattle.gr_record.specs.Parts.{parts_before, writes_in}
 use Rattle.gr_depend.proofs.NoteLemmas.{added_after}
 use Rattle.gr_depend.proofs.RoomLemmas.{fits_rest}
 use Rattle.gr_depend.proofs.AddingLemmas.{as_listed, fits_as, first_fits, keeps_one}

@@ -1,7 +1,7 @@
 use Rattle.std.proofs.Common.{◌≡◌, ◌≤◌, ◌^◌, ◌++◌, true, length, subst, sym, ap, ◌∙◌, length-append, arith}
 use Rattle.std.specs.List.{list_all}
 use Rattle.std.specs.Prelude.{if◌then◌else◌}
-use Rattle.gr_step.specs.Conflicts.{touched_by}
+use Rattle.gr_record.specs.Conflicts.{touched_by}
 use Rattle.gr_depend.specs.Lists.{list_of}
 use Rattle.gr_depend.specs.Touches.{touches_in, none_twice}
 use Rattle.gr_depend.proofs.StretchLemmas.{with_own, all_once_then}

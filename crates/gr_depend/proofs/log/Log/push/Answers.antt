@@ -2,8 +2,8 @@ use Rattle.std.proofs.Common.{◌≡◌, ◌≤◌, ◌^◌, ℕ, List, [], ◌�
 use Rattle.std.proofs.Math.Seq.{take-append_seam}
 use Rattle.std.proofs.lemmas.List.{get_or_push}
 use Rattle.std.specs.List.{list_all}
-use Rattle.gr_step.specs.declared.record.Record.{Record}
-use Rattle.gr_step.specs.Conflicts.{touched_by}
+use Rattle.gr_record.specs.declared.record.Record.{Record}
+use Rattle.gr_record.specs.Conflicts.{touched_by}
 use Rattle.gr_depend.specs.Room.{Fits}
 use Rattle.gr_depend.specs.Touches.{touches_in, kept_for, none_twice}
 use Rattle.gr_depend.specs.Lists.{list_of}
