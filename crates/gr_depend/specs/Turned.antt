@@ -3,7 +3,7 @@ use Rattle.std.specs.Prelude.{◌≡◌, ◌<◌, ◌≤◌, ◌||◌, ℕ, true
 use Rattle.gr_causal.specs.Sequences.{Before}
 use Rattle.gr_record.specs.declared.record.Record.{Record}
 use Rattle.gr_record.specs.Conflicts.{conflict_of}
-use Rattle.gr_depend.specs.declared.touch.Touch.{Touch}
+use Rattle.gr_touches.specs.declared.touch.Touch.{Touch}
 
 -- the place that a list of places has for one
 abbrev pub place_at : List ℕ → ℕ → ℕ

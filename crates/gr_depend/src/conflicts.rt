@@ -3,15 +3,14 @@
 ghost use Rattle.std.specs.Prelude.{◌≡◌, ◌<◌, length, slice_get, Some};
 ghost use Rattle.std.specs.List.{list_any};
 ghost use Rattle.gr_record.specs.Conflicts.{written_by, read_by, touched_by, conflict_of};
-ghost use Rattle.gr_depend.specs.Keys.{seen};
-ghost use Rattle.gr_depend.specs.Told.{seen_in};
-ghost use Rattle.gr_depend.specs.Touches.{is_among};
+ghost use Rattle.gr_touches.specs.Keys.{seen};
+ghost use Rattle.gr_touches.specs.Told.{seen_in};
+ghost use Rattle.gr_touches.specs.Touches.{is_among};
 
-use crate::key::ObjectRef;
 use crate::log::Log;
-use crate::objects::{Objects, reads, writes};
 use gr_base::Object;
 use gr_record::Record;
+use gr_touches::{ObjectRef, Objects, reads, writes};
 
 /// Whether the object is one of these.
 fn is_one_of(object: &ObjectRef<'_>, objects: Objects<'_>) -> bool

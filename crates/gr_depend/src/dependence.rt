@@ -6,12 +6,12 @@ ghost use Rattle.indexmap.specs.IndexMap.{keys};
 ghost use Rattle.gr_record.specs.Conflicts.{conflict_of};
 ghost use Rattle.gr_record.specs.Back.{marked, unmarked};
 ghost use Rattle.gr_depend.specs.Marked.{dependent_marks, cause_marks, conflict_at};
-ghost use Rattle.gr_depend.specs.Marks.{Marks};
-ghost use Rattle.gr_depend.specs.Walks.{AreWalked, HasMarks};
+ghost use Rattle.gr_touches.specs.Marks.{Marks};
+ghost use Rattle.gr_touches.specs.Walks.{AreWalked, HasMarks};
 
 use crate::log::Log;
-use crate::marks::{Origin, Side};
 use gr_base::NoMemory;
+use gr_touches::{Origin, Side};
 use std::alloc::Global;
 
 /// As many marks, none of which is set.

@@ -13,11 +13,11 @@ ghost use Rattle.gr_record.specs.Records.{operation_in, operation_of as operatio
 ghost use Rattle.gr_depend.specs.Histories.{starts, start_of, is_fault, sends_to, receives_of, sent, received};
 
 use crate::conflicts::has_written;
-use crate::key::ObjectRef;
 use crate::log::Log;
 use gr_base::{ChName, GoName, Kind, StepId};
 use gr_record::record::Form;
 use gr_record::{Operation, Record};
+use gr_touches::ObjectRef;
 
 /// Whether a step started the goroutine.
 fn has_started(step: &Record, go: &GoName) -> bool

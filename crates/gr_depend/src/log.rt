@@ -6,14 +6,12 @@ ghost use Rattle.std.proofs.Props.{props};
 ghost use Rattle.gr_base.specs.declared.objects.Object.{Object};
 ghost use Rattle.gr_causal.specs.Sequences.{Distinct};
 ghost use Rattle.gr_record.specs.Conflicts.{touched_by};
-ghost use Rattle.gr_depend.specs.Lists.{list_of};
-ghost use Rattle.gr_depend.specs.Touches.{touches_in, none_twice, if_any};
+ghost use Rattle.gr_touches.specs.Lists.{list_of};
+ghost use Rattle.gr_touches.specs.Touches.{touches_in, none_twice, if_any};
 
-use crate::key::ObjectRef;
-use crate::lanes::Lanes;
-use crate::touch::Touch;
 use gr_base::{GoName, NoMemory, Object};
 use gr_record::Record;
+use gr_touches::{Lanes, ObjectRef, Touch};
 use std::alloc::Global;
 
 /// The most steps of a log: a touch keeps the place of its step in 32 bits.

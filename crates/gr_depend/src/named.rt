@@ -4,10 +4,9 @@ ghost use Rattle.std.specs.Prelude.{◌≡◌, ◌==◌, ◌↔◌, ℕ, true, S
 ghost use Rattle.std.specs.List.{list_any};
 ghost use Rattle.gr_depend.specs.Named.{IsNamed, NoneFrom, IsLastOf};
 
-use crate::key::ObjectRef;
 use crate::log::Log;
-use crate::touch::Touch;
 use gr_base::{GoName, StepId};
+use gr_touches::{ObjectRef, Touch};
 
 impl Log {
     ghost use Rattle.gr_depend.specs.Logs.{records_of};
