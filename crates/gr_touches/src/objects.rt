@@ -115,6 +115,7 @@ impl<'a> Objects<'a> {
     pub(crate) fn next(&mut self) -> Option<ObjectRef<'a>>
         ensures first { MatchOption result (seen_in self.old ≡ self.new.others.now) (λ first. seen_in self.old ≡ seen first ∷ seen_in self.new) }
         ensures fewer { IfSome result (λ _. count_in self.new < count_in self.old) }
+        ensures others { self.new.others ≡ self.old.others }
     {
         if let Some(front) = self.front {
             self.front = None;
@@ -148,29 +149,8 @@ impl<'a> Objects<'a> {
         ensures fewer { IfSome result (λ r. count_in r.1 < count_in self.entry) }
     {
         let mut rest = self;
-        if let Some(front) = self.front {
-            rest.front = None;
-            return Some((front, rest));
-        }
-        if let Some(channel) = self.gate {
-            rest.gate = None;
-            return Some((ObjectRef::Gate(channel), rest));
-        }
-        if let Some(channel) = self.head {
-            rest.head = None;
-            return Some((ObjectRef::Head(channel), rest));
-        }
-        if let Some(channel) = self.tail {
-            rest.tail = None;
-            return Some((ObjectRef::Tail(channel), rest));
-        }
-        if let Some((channel, place)) = self.slot {
-            rest.slot = None;
-            return Some((ObjectRef::Slot(channel, place), rest));
-        }
-        let partner = self.partner?;
-        rest.partner = None;
-        Some((ObjectRef::Go(partner), rest))
+        let first = rest.next()?;
+        Some((first, rest))
     }
 }
 
