@@ -1,6 +1,7 @@
 //! Lists of touches by object: the touches of a step are added and taken away, and the steps that conflict with one are marked.
 #![tactic(auto)]
 
+mod forgetting;
 mod guesses;
 pub mod key;
 mod lane;

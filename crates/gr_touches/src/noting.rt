@@ -1,7 +1,6 @@
-//! The touches of a step, added to the lists of its objects or taken from them.
+//! The touches of a step, added to the lists of its objects.
 
-ghost use Rattle.std.specs.Prelude.{◌≡◌, ◌++◌, List, ℕ, None, OnOk, OnErr, IsOk};
-ghost use Rattle.std.specs.Prelude.{◌∷◌, [], Option, Some, option_map, false, if◌then◌else◌};
+ghost use Rattle.std.specs.Prelude.{◌≡◌, ◌++◌, ◌∷◌, [], OnOk, OnErr, IsOk, Option, None, Some, option_map, false, if◌then◌else◌};
 ghost use Rattle.gr_rules.specs.States.{same};
 ghost use Rattle.gr_base.specs.declared.objects.Object.TheVariants as objects;
 ghost use Rattle.gr_channels.specs.declared.changes.ChanUndo.{ChanUndo};
@@ -9,20 +8,19 @@ ghost use Rattle.gr_record.specs.Effects.{reached_on};
 ghost use Rattle.gr_record.specs.Parts.{channel_in, parts_before, slot_before, reads_in, writes_in};
 ghost use Rattle.gr_touches.specs.Keys.{seen};
 ghost use Rattle.gr_touches.specs.Told.{seen_in};
-ghost use Rattle.gr_touches.specs.Touches.{touches_for, kept_for};
+ghost use Rattle.gr_touches.specs.Touches.{kept_for};
 
 use crate::key::ObjectRef;
 use crate::lanes::Lanes;
 use crate::objects::{
-    Objects, others_read, others_written, parts_of, parts_written, read_in, reads, writes,
+    Objects, others_read, others_written, parts_of, parts_written, read_in, reads,
 };
 use crate::touch::Touch;
 use gr_base::{ChName, GoName, NoMemory, Object};
-use gr_record::Record;
-use gr_record::record::{Beyond, Contact, Form, Parts, Touched};
+use gr_record::record::{Beyond, Contact, Form, Parts, Record, Touched};
 
 impl Lanes {
-    ghost use Rattle.gr_touches.specs.Lists.{list_of, KeepsLists, AddsFor, TakesFor};
+    ghost use Rattle.gr_touches.specs.Lists.{list_of, KeepsLists, AddsFor};
     ghost use Rattle.gr_touches.specs.Room.{Fits, FitsFor, KeepsRoom};
     ghost use Rattle.gr_touches.specs.declared.touch.Touch.{Touch};
     ghost use Rattle.gr_base.specs.declared.objects.Object.{Object};
@@ -363,38 +361,6 @@ impl Lanes {
         self.note_list(&mut parts_of(channel, Parts::All, slot), touch)
     }
 
-    /// Takes the touches of the last step from the lists. It takes no memory.
-    #[inline]
-    pub fn forget(&mut self, step: &Record)
-        ensures lists { (before : Object → List Touch) (place : ℕ) → ((q : Object) → list_of self.old q ≡ before q ++ kept_for q place step.now) → (q : Object) → list_of self.new q ≡ before q }
-        ensures room { KeepsRoom self.old self.new }
-    {
-        match step.change.form() {
-            Form::Alone(_, _) => self.forget_alone(step),
-            _ => self.forget_beyond(step),
-        }
-    }
-
-    /// The same of a step that reached no further than its goroutine.
-    #[inline]
-    fn forget_alone(&mut self, step: &Record)
-        requires { step.now.change.beyond ≡ None }
-        ensures lists { (before : Object → List Touch) (place : ℕ) → ((q : Object) → list_of self.old q ≡ before q ++ kept_for q place step.now) → (q : Object) → list_of self.new q ≡ before q }
-        ensures room { KeepsRoom self.old self.new }
-    {
-        self.take_from_lane(&step.id.go);
-        self.take_from_run();
-    }
-
-    /// The same of a step that reached further.
-    fn forget_beyond(&mut self, step: &Record)
-        ensures lists { (before : Object → List Touch) (place : ℕ) → ((q : Object) → list_of self.old q ≡ before q ++ kept_for q place step.now) → (q : Object) → list_of self.new q ≡ before q }
-        ensures room { KeepsRoom self.old self.new }
-    {
-        self.forget_list(&mut writes(step));
-        self.forget_list(&mut reads(step));
-    }
-
     /// Adds a touch to the lists of these objects. Refused, all lists are as before.
     fn note_list(&mut self, objects: &mut Objects<'_>, touch: Touch) -> Result<(), NoMemory>
         ensures ok { OnOk result (AddsFor (seen_in objects.old) touch self.old self.new) }
@@ -414,18 +380,6 @@ impl Lanes {
         Ok(())
     }
 
-    /// Takes the last touch from the list of each of these objects. It takes no memory.
-    fn forget_list(&mut self, objects: &mut Objects<'_>)
-        ensures lists { TakesFor (seen_in objects.old) self.old self.new }
-        ensures room { KeepsRoom self.old self.new }
-    {
-        let Some(first) = objects.next() else {
-            return self.forget_all(objects.others);
-        };
-        self.forget_list(objects);
-        self.take_back(&first);
-    }
-
     /// The same for a slice. Refused, all lists are as before.
     fn note_all(&mut self, objects: &[Object], touch: Touch) -> Result<(), NoMemory>
         ensures ok { OnOk result (AddsFor objects.now touch self.old self.new) }
@@ -441,17 +395,5 @@ impl Lanes {
             }
         }
         Ok(())
-    }
-
-    /// The same for a slice.
-    fn forget_all(&mut self, objects: &[Object])
-        ensures lists { TakesFor objects.now self.old self.new }
-        ensures room { KeepsRoom self.old self.new }
-    {
-        let mut left = objects.len();
-        while left > 0 {
-            left -= 1;
-            self.take_back(&ObjectRef::of(&objects[left]));
-        }
     }
 }
