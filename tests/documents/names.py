@@ -1,5 +1,6 @@
 """Functions and crates that documents name in code font: they are there, and what is promised of a crate is public."""
 
+import functools
 import re
 
 from . import repository, sources
@@ -157,6 +158,7 @@ def check_everywhere(checks, document):
                 checks.holds(place, is_part(text), f"no crate has {text}")
 
 
+@functools.lru_cache(maxsize=None)
 def kit_crates():
     """The crates of the kit that crates.txt names."""
     words = re.findall(r"\w+", re.sub(r"#.*", "", repository.read("crates.txt")))

@@ -61,16 +61,19 @@ def folders():
     return found
 
 
+@functools.lru_cache(maxsize=None)
 def documents():
     """Every Markdown file."""
     return [name for name in files() if name.endswith(".md")]
 
 
+@functools.lru_cache(maxsize=None)
 def crates():
     """The names of the crates."""
     return sorted({name.split("/")[1] for name in files() if name.startswith("crates/") and name.count("/") > 1})
 
 
+@functools.lru_cache(maxsize=None)
 def session_names():
     """The names of the example sessions."""
     return sorted(os.path.basename(it)[:-3] for it in files() if it.startswith(SESSIONS + "/") and it.endswith(".go"))
