@@ -5,12 +5,13 @@ import re
 import xml.etree.ElementTree
 
 from . import repository, shell
-from .markdown import page, spans
+from .markdown import SPAN, page, spans
 
 ENDINGS = "antt c css go html js json md mjs py rt script expect sh svg toml txt".split()
 ELSEWHERE = re.compile(r"(https?|mailto|ftp):")
 # Documents whose paths in code font are all of this repository. In the others only those that begin with a folder of it are.
 MAPS = ("README.md", "docs/THEOREMS.md", "docs/ARCHITECTURE.md", "docs/SESSIONS.md", "docs/COMMANDS.md", "page/README.md")
+UNFINISHED = re.compile(r"\b(?:TODO|FIXME|TBD|XXX|[A-Z]{3,}(?:_[A-Z]+)+)\b")
 PLACEHOLDER = re.compile(r"\b[A-Z]{1,}\b|[*~$<>@{}]|\.\.\.")
 
 
@@ -107,6 +108,8 @@ def check_words(checks, program, document):
             refusal = re.match(r"rewind: ([A-Z]\d+)\b", text)
             if refusal:
                 checks.holds(place, refusal[1] in codes, f"the program has no code {refusal[1]}")
+        for word in UNFINISHED.findall(SPAN.sub("", line)):
+            checks.fail(f"{document.name}:{number + 1}", f"the word {word} stands for something that is missing")
 
 
 def check_paths(checks, document):
