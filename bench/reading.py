@@ -4,7 +4,8 @@
     bench/reading.py [--check]
 
 Writes the last column of that table anew: the lines of the named modules without imports, comments and empty lines.
-With --check it changes nothing and fails where a number is not right or a module is not there.
+With --check it changes nothing, and tells each number that is not right. It tells, and changes nothing, where a row has another form or
+names a module that is not there.
 """
 import os
 import re
@@ -12,38 +13,80 @@ import sys
 
 TOP = os.path.dirname(os.path.dirname(os.path.abspath(__file__)))
 PAGE = os.path.join(TOP, "docs", "THEOREMS.md")
+HEAD = "| To believe | Read | Lines |"
 ROW = re.compile(r"(\| .* \| (`gr_\w+`: .*|`\w+`: .*) \|) [\d,]+ \|")
 
 
+def path_of(crate, module):
+    return os.path.join(TOP, "crates", crate, "specs", module + ".antt")
+
+
 def lines_of(crate, module):
-    with open(os.path.join(TOP, "crates", crate, "specs", module + ".antt"), encoding="utf-8") as file:
+    with open(path_of(crate, module), encoding="utf-8") as file:
         lines = [line.strip() for line in file]
     return sum(1 for line in lines if line and not line.startswith(("--", "use ", "pub use ")))
 
 
-def lines_read(reading):
-    """The lines of 'crate: Module, Module; crate: Module', crates in backquotes."""
-    total = 0
+def modules_of(reading):
+    """(crate, module) of each module of 'crate: Module, Module; crate: Module', crates in backquotes."""
     for part in reading.split(";"):
         crate, _, modules = part.partition(":")
-        total += sum(lines_of(crate.strip(" `"), module.strip()) for module in modules.split(","))
-    return total
+        for module in modules.split(","):
+            yield crate.strip(" `"), module.strip()
+
+
+def rows(lines):
+    """(place, row) of each row of the table; a row that is not as it should be is None."""
+    head = lines.index(HEAD)
+    for number, line in enumerate(lines[head + 2:], head + 3):
+        if not line.startswith("|"):
+            return
+        yield f"docs/THEOREMS.md:{number}", ROW.fullmatch(line)
+
+
+def faults(lines):
+    """What is wrong with the table itself: it is not there, a row has another form, or names what is not there."""
+    if HEAD not in lines:
+        yield f"docs/THEOREMS.md: no table '{HEAD}'"
+        return
+    for place, row in rows(lines):
+        if not row:
+            yield f"{place}: a row of another form than '| WORDS | `CRATE`: MODULE, MODULE | NUMBER |'"
+        for crate, module in modules_of(row[2]) if row else ():
+            if not os.path.exists(path_of(crate, module)):
+                yield f"{place}: {crate} has no specs/{module}.antt"
 
 
 def counted(line):
+    """The line of the page with the number that is right, if it has one."""
     row = ROW.fullmatch(line)
-    return "%s %s |" % (row[1], format(lines_read(row[2]), ",")) if row else line
+    if not row:
+        return line
+    total = sum(lines_of(crate, module) for crate, module in modules_of(row[2]))
+    return f"{row[1]} {total:,} |"
+
+
+def differences(lines):
+    """What to tell of each number that is not right."""
+    for place, row in rows(lines):
+        told, right = row[0].split("|")[-2].strip(), counted(row[0]).split("|")[-2].strip()
+        if told != right:
+            what = row[0].split("|")[1].strip()
+            yield f"{place}: '{what}' has {told}, and its modules have {right} lines (bench/reading.py)"
 
 
 def main():
     with open(PAGE, encoding="utf-8") as file:
-        old = file.read()
-    new = "\n".join(counted(line) for line in old.split("\n"))
-    if "--check" in sys.argv[1:]:
-        return 0 if new == old else 1
-    with open(PAGE, "w", encoding="utf-8") as file:
-        file.write(new)
-    return 0
+        lines = file.read().split("\n")
+    wrong = list(faults(lines))
+    if not wrong and "--check" in sys.argv[1:]:
+        wrong = list(differences(lines))
+    elif not wrong:
+        with open(PAGE, "w", encoding="utf-8") as file:
+            file.write("\n".join(map(counted, lines)))
+    for line in wrong:
+        print(line)
+    return 1 if wrong else 0
 
 
 if __name__ == "__main__":

@@ -25,7 +25,7 @@ PARTS = {
     "tests": ["tests/crate.py", "tests"],
     "page": ["tests/page.py", "PROGRAM"],
     "racing": ["tests/crate.py", "racing"],
-    "replay": ["bench/replay.py", "PROGRAM", "--seconds", "60", "--jobs", "1"],
+    "replay": ["bench/replay.py", "PROGRAM", "--sessions", "100000", "--seconds", "60", "--jobs", "1"],
     "growth": ["hostile/growth.py", "PROGRAM", "--commands", "10", "--jobs", "1"],
     "part_tests": ["tests/crate.py", "part_tests"],
     "devices": ["hostile/devices.py", "PROGRAM", "--sessions", "1", "--jobs", "1"],
@@ -34,6 +34,7 @@ PARTS = {
     "adapter": ["editors/dap/tests/run"],
     "sessions": ["tests/sessions.py", "PROGRAM"],
     "demo": ["tools/demo.py", "--check", "PROGRAM"],
+    "edits": ["tests/edits.py", "PROGRAM"],
 }
 
 
@@ -79,7 +80,7 @@ def main():
     parser.add_argument("program")
     parser.add_argument("--jobs", type=int, default=len(os.sched_getaffinity(0)))
     parser.add_argument("parts", nargs="*")
-    given = parser.parse_args()
+    given = parser.parse_intermixed_args()
     program = os.path.abspath(given.program)
     if not os.access(program, os.X_OK):
         stop(f"there is no program {given.program}: build it with 'make quick'")

@@ -13,17 +13,18 @@ use Rattle.gr_causal.specs.Sequences.{In, Distinct}
 use Rattle.gr_causal.proofs.OrderLemmas.{reached}
 use Rattle.gr_rules.specs.States.{same}
 use Rattle.gr_laws.proofs.CellLemmas.{same_self}
-use Rattle.gr_step.specs.declared.record.Record.{Record}
-use Rattle.gr_step.specs.Conflicts.{written_by, touched_by, conflict_of}
-use Rattle.gr_depend.specs.declared.touch.Touch.{Touch}
+use Rattle.gr_record.specs.declared.record.Record.{Record}
+use Rattle.gr_record.specs.Conflicts.{written_by, touched_by, conflict_of}
+use Rattle.gr_touches.specs.declared.touch.Touch.{Touch}
 use Rattle.gr_depend.specs.declared.log.Log.{Log}
 use Rattle.gr_depend.specs.Logs.{records_of}
 use Rattle.gr_depend.specs.Ordering.{elements_at, AreBelow}
 use Rattle.gr_depend.specs.Turned.{place_at}
-use Rattle.gr_depend.specs.Marks.{wanted}
-use Rattle.gr_depend.specs.Room.{Fits, CanTake}
-use Rattle.gr_depend.specs.Touches.{is_among, touch_at, touches_in, none_twice}
-use Rattle.gr_depend.proofs.LaneLemmas.{all_wanted}
+use Rattle.gr_touches.specs.Marks.{wanted}
+use Rattle.gr_touches.specs.Room.{Fits}
+use Rattle.gr_depend.specs.Room.{CanTake}
+use Rattle.gr_touches.specs.Touches.{is_among, touch_at, touches_in, none_twice}
+use Rattle.gr_touches.proofs.LaneLemmas.{all_wanted}
 use Rattle.gr_depend.proofs.OrderingLemmas.{element_at, as_many_at, one_place}
 
 -- the last steps are taken out, and could be put back

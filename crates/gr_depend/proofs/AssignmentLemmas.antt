@@ -28,15 +28,15 @@ use Rattle.gr_contents.specs.Standing.{AllStand, ContentsStand}
 use Rattle.gr_contents.proofs.AttemptLemmas.{attempt_is_of_the_deed, step_is_of_the_machine}
 use Rattle.gr_lower.specs.Lowered.{lowered, meaning}
 use Rattle.gr_goros.specs.declared.undo.Spot.{Spot}
-use Rattle.gr_step.specs.declared.record.Record.{Record}
-use Rattle.gr_step.specs.Kept.{Kept, Tells}
-use Rattle.gr_step.specs.Listings.{frame_in, state_in}
-use Rattle.gr_step.specs.Premises.{Running}
-use Rattle.gr_step.specs.Records.{event_of, is_go, begun_by, go_back, goroutines_changed}
-use Rattle.gr_step.specs.Taking.{IsRecord}
-use Rattle.gr_kept.specs.Pairs.{id_of}
-use Rattle.gr_kept.proofs.ChainLemmas.{Chain, chain_of}
-use Rattle.gr_kept.proofs.RecordLemmas.{goes}
+use Rattle.gr_record.specs.declared.record.Record.{Record}
+use Rattle.gr_record.specs.Kept.{Kept, Tells}
+use Rattle.gr_record.specs.Listings.{frame_in, state_in}
+use Rattle.gr_record.specs.Running.{Running}
+use Rattle.gr_record.specs.Records.{event_of, is_go, begun_by, go_back, goroutines_changed}
+use Rattle.gr_record.specs.Taking.{IsRecord}
+use Rattle.gr_record.specs.Pairs.{id_of}
+use Rattle.gr_record.proofs.ChainLemmas.{Chain, chain_of}
+use Rattle.gr_record.proofs.RecordLemmas.{goes}
 use Rattle.type_safety.proofs.CodeOfPrograms.{checked_fits}
 use Rattle.gr_depend.specs.Given.{given_at, given_there, given_from, stood, gave, any_called, gave_to, last_given}
 use Rattle.gr_depend.specs.Histories.{is_fault}

@@ -6,18 +6,18 @@ use Rattle.std.proofs.lemmas.List.Folds.{list_any-append}
 use Rattle.gr_base.specs.declared.objects.Object.{Object}
 use Rattle.gr_causal.specs.Machine.{meets}
 use Rattle.gr_rules.specs.States.{same}
-use Rattle.gr_step.specs.declared.record.Record.{Record}
-use Rattle.gr_step.specs.Conflicts.{written_by, read_by, touched_by, conflict_of}
-use Rattle.gr_depend.specs.declared.touch.Touch.{Touch}
-use Rattle.gr_depend.specs.declared.lanes.Lanes.{Lanes}
-use Rattle.gr_depend.specs.declared.marks.Origin.{Origin}
-use Rattle.gr_depend.specs.Touches.{is_among, touch_at, touches_in}
-use Rattle.gr_depend.specs.Lists.{list_of}
-use Rattle.gr_depend.specs.Marks.{hits, is_beyond, IsAscending, InReach, has_mark, Marks}
-use Rattle.gr_depend.specs.Walks.{AreInReach, meets_step}
+use Rattle.gr_record.specs.declared.record.Record.{Record}
+use Rattle.gr_record.specs.Conflicts.{written_by, read_by, touched_by, conflict_of}
+use Rattle.gr_touches.specs.declared.touch.Touch.{Touch}
+use Rattle.gr_touches.specs.declared.lanes.Lanes.{Lanes}
+use Rattle.gr_touches.specs.declared.marks.Origin.{Origin}
+use Rattle.gr_touches.specs.Touches.{is_among, touch_at, touches_in}
+use Rattle.gr_touches.specs.Lists.{list_of}
+use Rattle.gr_touches.specs.Marks.{hits, is_beyond, IsAscending, InReach, has_mark, Marks}
+use Rattle.gr_touches.specs.Walks.{AreInReach, meets_step}
 use Rattle.gr_depend.specs.Marked.{conflict_at}
-use Rattle.gr_depend.proofs.KeyLemmas.{same_sym}
-use Rattle.gr_depend.proofs.MarkLemmas.{hits_first, hits_not, none_below}
+use Rattle.gr_touches.proofs.KeyLemmas.{same_sym}
+use Rattle.gr_touches.proofs.MarkLemmas.{hits_first, hits_not, none_below}
 use Rattle.gr_depend.proofs.SpreadLemmas.{there}
 use Rattle.std.proofs.lemmas.Option.{slice_get-get_or}
 

@@ -17,13 +17,13 @@ use Rattle.gr_rules.specs.Operators.{same_channel}
 use Rattle.gr_rules.specs.States.{same_go, same}
 use Rattle.gr_rules.specs.Steps.{attempt}
 use Rattle.gr_laws.specs.Reached.{Logged}
-use Rattle.gr_step.specs.declared.record.Record.{Record}
-use Rattle.gr_step.specs.Kept.{Tells}
-use Rattle.gr_step.specs.Listings.{state_in}
-use Rattle.gr_step.specs.Records.{event_of, operation_in}
-use Rattle.gr_kept.specs.Pairs.{id_of}
-use Rattle.gr_kept.proofs.ChainLemmas.{Chain}
-use Rattle.gr_kept.proofs.RecordLemmas.{report_is, writes_are}
+use Rattle.gr_record.specs.declared.record.Record.{Record}
+use Rattle.gr_record.specs.Kept.{Tells}
+use Rattle.gr_record.specs.Listings.{state_in}
+use Rattle.gr_record.specs.Records.{event_of, operation_in}
+use Rattle.gr_record.specs.Pairs.{id_of}
+use Rattle.gr_record.proofs.ChainLemmas.{Chain}
+use Rattle.gr_record.proofs.RecordLemmas.{report_is, writes_are}
 use Rattle.gr_depend.specs.Histories.{starts, is_fault, sends_to, receives_of}
 use Rattle.gr_depend.proofs.ReportLemmas.{Fits, Picked, IsTold, told_of, attempt_told}
 

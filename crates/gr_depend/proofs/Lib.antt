@@ -1,13 +1,5 @@
-pub mod KeyLemmas
-pub mod LaneLemmas
-pub mod NoteLemmas
-pub mod ToldLemmas
-pub mod TouchLemmas
-pub mod StretchLemmas
+pub mod AppendLemmas
 pub mod RoomLemmas
-pub mod AddingLemmas
-pub mod MarkLemmas
-pub mod WalkLemmas
 pub mod ConflictLemmas
 pub mod MarkedLemmas
 pub mod SpreadLemmas

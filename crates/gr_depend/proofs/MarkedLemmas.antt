@@ -2,7 +2,7 @@
 use Rattle.std.proofs.Common.{◌≡◌, ℕ, zero, suc, Bool, List, [], ◌∷◌, ◌++◌, drop, refl, sym, ap, ◌∙◌, append_assoc, append-nil, inl, inr}
 use Rattle.std.proofs.lemmas.Bool.{cases_Bool}
 use Rattle.gr_causal.specs.Dependence.{hits, collect, left_by, dependents, kept, causes}
-use Rattle.gr_kept.specs.Back.{marked, unmarked}
+use Rattle.gr_record.specs.Back.{marked, unmarked}
 use Rattle.gr_depend.specs.Marked.{marks_after, dependent_marks, cause_marks}
 
 module _ {A : Type 0} (clash : A → A → Bool) where

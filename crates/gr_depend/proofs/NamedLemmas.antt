@@ -9,14 +9,14 @@ use Rattle.gr_base.specs.declared.objects.Object.TheVariants.{Go}
 use Rattle.gr_base.specs.declared.names.StepId.{StepId}
 use Rattle.gr_rules.specs.States.{same}
 use Rattle.gr_laws.proofs.CellLemmas.{same_self}
-use Rattle.gr_step.specs.declared.record.Record.{Record}
-use Rattle.gr_step.specs.Conflicts.{read_by, written_by, touched_by}
-use Rattle.gr_depend.specs.declared.touch.Touch.{Touch}
-use Rattle.gr_depend.specs.Marks.{hits, IsAscending}
+use Rattle.gr_record.specs.declared.record.Record.{Record}
+use Rattle.gr_record.specs.Conflicts.{read_by, written_by, touched_by}
+use Rattle.gr_touches.specs.declared.touch.Touch.{Touch}
+use Rattle.gr_touches.specs.Marks.{hits, IsAscending}
 use Rattle.gr_depend.specs.Named.{IsNamed, NoneFrom, IsLastOf}
-use Rattle.gr_depend.specs.Touches.{is_among, touches_in}
-use Rattle.gr_depend.proofs.LaneLemmas.{all_wanted}
-use Rattle.gr_depend.proofs.MarkLemmas.{cut_later}
+use Rattle.gr_touches.specs.Touches.{is_among, touches_in}
+use Rattle.gr_touches.proofs.LaneLemmas.{all_wanted}
+use Rattle.gr_touches.proofs.MarkLemmas.{cut_later}
 use Rattle.gr_depend.proofs.ConflictLemmas.{hits_touched, touches_ascend}
 
 abbrev pub is_at : ℕ → List Touch → Bool

@@ -9,8 +9,8 @@ use Rattle.gr_causal.specs.Orders.{IsOrder}
 use Rattle.gr_causal.specs.Sequences.{In, Distinct, Before, Rearranges}
 use Rattle.gr_causal.proofs.ListLemmas.{some_is, none_not, either, In-map, In-of_map, Distinct-by_name, Before-left, Before-right}
 use Rattle.gr_causal.proofs.PlaceLemmas.{In-at, place_of, Before-at, places_of, IsAt-get, get-IsAt}
-use Rattle.gr_step.specs.declared.record.Record.{Record}
-use Rattle.gr_step.specs.Conflicts.{conflict_of}
+use Rattle.gr_record.specs.declared.record.Record.{Record}
+use Rattle.gr_record.specs.Conflicts.{conflict_of}
 use Rattle.gr_depend.specs.Named.{IsNamed}
 use Rattle.gr_depend.specs.Ordering.{name, elements_at, AreBelow, AreInverse, AreMoves, BreaksAt}
 use Rattle.gr_depend.specs.Turned.{place_at, AreTurned, TurnedFrom, AreFirstTurned}

@@ -5,16 +5,16 @@ use Rattle.std.proofs.lemmas.Bool.Decides.{nat_tests}
 use Rattle.std.proofs.lemmas.List.{take_more, drop_all, take_all, length-replicate, length-set}
 use Rattle.std.proofs.lemmas.List.Folds.{list_any-append}
 use Rattle.gr_causal.specs.Dependence.{hits}
-use Rattle.gr_step.specs.declared.record.Record.{Record}
-use Rattle.gr_step.specs.Conflicts.{conflict_of}
-use Rattle.gr_depend.specs.declared.lanes.Lanes.{Lanes}
-use Rattle.gr_depend.specs.declared.marks.Side.TheVariants.{Later}
-use Rattle.gr_depend.specs.declared.marks.Origin.{Origin}
-use Rattle.gr_depend.specs.Lists.{list_numbered}
-use Rattle.gr_depend.specs.Marks as marks
-use Rattle.gr_depend.specs.Marks.{is_beyond, has_mark, Marks}
+use Rattle.gr_record.specs.declared.record.Record.{Record}
+use Rattle.gr_record.specs.Conflicts.{conflict_of}
+use Rattle.gr_touches.specs.declared.lanes.Lanes.{Lanes}
+use Rattle.gr_touches.specs.declared.marks.Side.TheVariants.{Later}
+use Rattle.gr_touches.specs.declared.marks.Origin.{Origin}
+use Rattle.gr_touches.specs.Lists.{list_numbered}
+use Rattle.gr_touches.specs.Marks as marks
+use Rattle.gr_touches.specs.Marks.{is_beyond, has_mark, Marks}
 use Rattle.gr_depend.specs.Marked.{marks_after, dependent_marks, hits_at, conflict_at, IsSpread}
-use Rattle.gr_depend.specs.Walks.{AreWalked, HasMarks}
+use Rattle.gr_touches.specs.Walks.{AreWalked, HasMarks}
 
 pub lt_true : (a b : ℕ) → a < b → nat_lt a b ≡ true
 lt_true a b h = grind (arith, nat_tests)

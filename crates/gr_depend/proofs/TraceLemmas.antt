@@ -2,13 +2,13 @@
 use Rattle.std.proofs.Common.{◌≡◌, ◌<◌, ◌≤◌, ◌+◌, ◌-◌, ◌||◌, ◌&&◌, ℕ, suc, Bool, true, false, nat_lt, cond, List, [], ◌∷◌, length, drop, set as list_set, replicate, slice_get, Some, refl, sym, ap, ◌∙◌, zero-add, arith}
 use Rattle.std.proofs.lemmas.List.{drop_more, drop_all, length-set}
 use Rattle.gr_causal.specs.Dependence.{hits, causes}
-use Rattle.gr_step.specs.declared.record.Record.{Record}
-use Rattle.gr_step.specs.Conflicts.{conflict_of}
-use Rattle.gr_depend.specs.declared.marks.Side.TheVariants.{Earlier}
-use Rattle.gr_depend.specs.declared.marks.Origin.{Origin}
-use Rattle.gr_depend.specs.declared.lanes.Lanes.{Lanes}
-use Rattle.gr_depend.specs.Walks.{AreWalked}
-use Rattle.gr_depend.specs.Marks.{has_mark, Marks}
+use Rattle.gr_record.specs.declared.record.Record.{Record}
+use Rattle.gr_record.specs.Conflicts.{conflict_of}
+use Rattle.gr_touches.specs.declared.marks.Side.TheVariants.{Earlier}
+use Rattle.gr_touches.specs.declared.marks.Origin.{Origin}
+use Rattle.gr_touches.specs.declared.lanes.Lanes.{Lanes}
+use Rattle.gr_touches.specs.Walks.{AreWalked}
+use Rattle.gr_touches.specs.Marks.{has_mark, Marks}
 use Rattle.gr_depend.specs.Marked.{cause_marks, hits_at, conflict_at, IsTraced}
 use Rattle.gr_depend.proofs.SpreadLemmas.{lt_true, lt_false, true_lt, count_of, set_here, set_elsewhere, walked_on, there, drop_there, drop_same, hits_before, hits_there, conflict_there}
 

@@ -11,17 +11,17 @@ use Rattle.gr_causal.specs.Sequences.{In, Before}
 use Rattle.gr_causal.proofs.ListLemmas.{or_true, or_left, or_right, some_is, none_not, In-append_right}
 use Rattle.gr_rules.specs.States.{same}
 use Rattle.gr_laws.proofs.CellLemmas.{same_self}
-use Rattle.gr_step.specs.declared.record.Record.{Record}
-use Rattle.gr_step.specs.Conflicts.{written_by, read_by, touched_by, conflict_of}
-use Rattle.gr_depend.specs.declared.key.Key.{Key}
-use Rattle.gr_depend.specs.declared.lanes.Lanes.{Lanes}
-use Rattle.gr_depend.specs.declared.touch.Touch.{Touch}
-use Rattle.gr_depend.specs.Keys.{key_of, object_of, same_key}
-use Rattle.gr_depend.specs.Lists.{list_of, list_numbered}
-use Rattle.gr_depend.specs.Touches.{is_among, touch_at, touches_in}
+use Rattle.gr_record.specs.declared.record.Record.{Record}
+use Rattle.gr_record.specs.Conflicts.{written_by, read_by, touched_by, conflict_of}
+use Rattle.gr_touches.specs.declared.key.Key.{Key}
+use Rattle.gr_touches.specs.declared.lanes.Lanes.{Lanes}
+use Rattle.gr_touches.specs.declared.touch.Touch.{Touch}
+use Rattle.gr_touches.specs.Keys.{key_of, object_of, same_key}
+use Rattle.gr_touches.specs.Lists.{list_of, list_numbered}
+use Rattle.gr_touches.specs.Touches.{is_among, touch_at, touches_in}
 use Rattle.gr_depend.specs.Turned.{place_at, AreTurned, TouchesTurnedFrom}
-use Rattle.gr_depend.proofs.KeyLemmas.{key_is, key_back}
-use Rattle.gr_depend.proofs.LaneLemmas.{list_by_number, run_at, within_keys}
+use Rattle.gr_touches.proofs.KeyLemmas.{key_is, key_back}
+use Rattle.gr_touches.proofs.LaneLemmas.{list_by_number, run_at, within_keys}
 
 -- an object that the two steps touched, and that one of them wrote
 pub record IsShared (x y : Record) (o : Object) : Type 0 where

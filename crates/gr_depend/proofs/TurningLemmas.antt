@@ -5,7 +5,7 @@ use Rattle.std.proofs.lemmas.Bool.{cases_Bool, lt-ltb}
 use Rattle.std.proofs.lemmas.List.{take_more}
 use Rattle.gr_causal.specs.Sequences.{In, Before}
 use Rattle.gr_causal.proofs.ListLemmas.{In-append_cases}
-use Rattle.gr_depend.specs.declared.touch.Touch.{Touch}
+use Rattle.gr_touches.specs.declared.touch.Touch.{Touch}
 use Rattle.gr_depend.specs.declared.turning.Latest.{Latest}
 use Rattle.gr_depend.specs.Turned.{place_at, TouchesTurnedFrom}
 

@@ -19,8 +19,8 @@ use Rattle.gr_code.specs.Programs.{ProgramFits, Stands, frame_of}
 use Rattle.gr_goros.specs.declared.undo.Spot.{Spot}
 use Rattle.gr_goros.specs.declared.undo.GoUndo.{GoUndo}
 use Rattle.gr_goros.specs.declared.undo.GoUndo.TheVariants as undos
-use Rattle.gr_step.specs.declared.record.Record.{Record}
-use Rattle.gr_step.specs.Records.{goroutines_changed}
+use Rattle.gr_record.specs.declared.record.Record.{Record}
+use Rattle.gr_record.specs.Records.{goroutines_changed}
 use Rattle.gr_depend.specs.Histories.{is_fault}
 
 -- the parameters of a function

@@ -10,9 +10,9 @@ use Rattle.gr_rules.specs.Attempts.{sends_on, receives_from}
 use Rattle.gr_rules.specs.History.{is_go, numbered_step}
 use Rattle.gr_rules.specs.Operators.{same_channel}
 use Rattle.gr_rules.specs.States.{same_go, same}
-use Rattle.gr_step.specs.declared.record.Record.{Record}
-use Rattle.gr_step.specs.Records.{operation_in}
-use Rattle.gr_step.specs.Conflicts.{written_by}
+use Rattle.gr_record.specs.declared.record.Record.{Record}
+use Rattle.gr_record.specs.Records.{operation_in}
+use Rattle.gr_record.specs.Conflicts.{written_by}
 
 -- whether the step started the goroutine
 abbrev pub starts : List ℕ → Record → Bool

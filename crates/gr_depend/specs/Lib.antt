@@ -1,13 +1,7 @@
--- What a log keeps of the touches of each object.
-pub mod Keys
-pub mod Touches
-pub mod Told
-pub mod Lists
+-- A log of records, and what depends on what in it.
 pub mod Logs
 pub mod Room
 pub mod Aside
-pub mod Marks
-pub mod Walks
 pub mod Marked
 pub mod Named
 pub mod Histories

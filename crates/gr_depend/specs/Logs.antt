@@ -1,6 +1,6 @@
 -- A log as the list of its records.
 use Rattle.std.specs.Prelude.{◌≡◌, ℕ, List, None}
-use Rattle.gr_step.specs.declared.record.Record.{Record}
+use Rattle.gr_record.specs.declared.record.Record.{Record}
 use Rattle.gr_depend.specs.declared.log.Log.{Log}
 
 abbrev pub records_of : Log → List Record

@@ -2,8 +2,8 @@
 use Rattle.std.specs.Prelude.{◌≡◌, ◌<◌, ◌≤◌, ◌+◌, ◌-◌, ℕ, zero, suc, Bool, true, false, cond, List, [], ◌∷◌, ◌++◌, length, take, drop, slice_get, slice_index_or}
 use Rattle.std.specs.Option.{option_map_or}
 use Rattle.gr_causal.specs.Dependence.{hits, causes}
-use Rattle.gr_step.specs.declared.record.Record.{Record}
-use Rattle.gr_step.specs.Conflicts.{conflict_of}
+use Rattle.gr_record.specs.declared.record.Record.{Record}
+use Rattle.gr_record.specs.Conflicts.{conflict_of}
 
 module _ {A : Type 0} (clash : A → A → Bool) where
   -- of these elements, a mark for each that conflicts with one collected before, where ds are collected

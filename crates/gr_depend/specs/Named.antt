@@ -1,7 +1,7 @@
 -- Steps of a log by their names.
 use Rattle.std.specs.Prelude.{◌≡◌, ◌≤◌, ◌+◌, ℕ, List, slice_get, Some}
 use Rattle.gr_base.specs.declared.names.StepId.{StepId}
-use Rattle.gr_step.specs.declared.record.Record.{Record}
+use Rattle.gr_record.specs.declared.record.Record.{Record}
 
 -- the step at the place has this name
 pub record IsNamed (rs : List Record) (place : ℕ) (id : StepId) : Type 0 where

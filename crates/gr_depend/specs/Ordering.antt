@@ -4,8 +4,8 @@ use Rattle.std.specs.Option.{option_map_or}
 use Rattle.gr_base.specs.declared.names.StepId.{StepId}
 use Rattle.gr_causal.specs.OrderByNames.{NamesEach, FirstToChange}
 use Rattle.gr_causal.specs.Sequences.{Rearranges}
-use Rattle.gr_step.specs.declared.record.Record.{Record}
-use Rattle.gr_step.specs.Conflicts.{conflict_of}
+use Rattle.gr_record.specs.declared.record.Record.{Record}
+use Rattle.gr_record.specs.Conflicts.{conflict_of}
 use Rattle.gr_depend.specs.declared.order.OrderRefused.{OrderRefused}
 use Rattle.gr_depend.specs.declared.order.OrderRefused.TheVariants.{NotTheSteps, Breaks, NoMemory}
 use Rattle.gr_depend.specs.Named.{IsNamed}

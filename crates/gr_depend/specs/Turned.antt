@@ -1,9 +1,9 @@
 -- Steps of a log that another order turns round.
 use Rattle.std.specs.Prelude.{◌≡◌, ◌<◌, ◌≤◌, ◌||◌, ℕ, true, List, Some, slice_index_or, slice_get}
 use Rattle.gr_causal.specs.Sequences.{Before}
-use Rattle.gr_step.specs.declared.record.Record.{Record}
-use Rattle.gr_step.specs.Conflicts.{conflict_of}
-use Rattle.gr_depend.specs.declared.touch.Touch.{Touch}
+use Rattle.gr_record.specs.declared.record.Record.{Record}
+use Rattle.gr_record.specs.Conflicts.{conflict_of}
+use Rattle.gr_touches.specs.declared.touch.Touch.{Touch}
 
 -- the place that a list of places has for one
 abbrev pub place_at : List ℕ → ℕ → ℕ

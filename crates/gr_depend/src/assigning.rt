@@ -11,13 +11,13 @@ ghost use Rattle.gr_laws.specs.Reached.{Logged};
 ghost use Rattle.gr_code.specs.CodeViews.{action_of, instruction_of, program_code_of};
 ghost use Rattle.gr_lower.specs.Lowered.{lowered};
 ghost use Rattle.gr_contents.specs.Contents.{Contents};
-ghost use Rattle.gr_step.specs.declared.record.Record as steps;
-ghost use Rattle.gr_step.specs.Kept.{Kept};
-ghost use Rattle.gr_step.specs.Listings.{state_in};
-ghost use Rattle.gr_step.specs.Premises.{Running};
-ghost use Rattle.gr_step.specs.Records.{event_of};
-ghost use Rattle.gr_step.specs.Taking.{IsRecord};
-ghost use Rattle.gr_kept.specs.Pairs.{id_of};
+ghost use Rattle.gr_record.specs.declared.record.Record as steps;
+ghost use Rattle.gr_record.specs.Kept.{Kept};
+ghost use Rattle.gr_record.specs.Listings.{state_in};
+ghost use Rattle.gr_record.specs.Running.{Running};
+ghost use Rattle.gr_record.specs.Records.{event_of};
+ghost use Rattle.gr_record.specs.Taking.{IsRecord};
+ghost use Rattle.gr_record.specs.Pairs.{id_of};
 ghost use Rattle.gr_depend.specs.Given.{GivenByInstruction, is_called, any_called, parameters_named, assigned_by, given_at, given_there, spot_in, spot_before};
 ghost use Rattle.gr_depend.specs.Given.{stood, gave, last_given};
 
@@ -27,8 +27,8 @@ use gr_base::{GoName, StepId};
 use gr_code::code::{Action, Ask, Code, FunctionCode, Instruction};
 use gr_goros::{GoUndo, Spot};
 use gr_program::program::{Function, Program, Variable};
-use gr_step::Record;
-use gr_step::record::Form;
+use gr_record::Record;
+use gr_record::record::Form;
 
 /// Where the innermost frame of a goroutine stood before a change, if that keeps it.
 fn kept_spot(undo: &GoUndo) -> Option<Spot>

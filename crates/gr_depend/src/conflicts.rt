@@ -2,16 +2,15 @@
 
 ghost use Rattle.std.specs.Prelude.{◌≡◌, ◌<◌, length, slice_get, Some};
 ghost use Rattle.std.specs.List.{list_any};
-ghost use Rattle.gr_step.specs.Conflicts.{written_by, read_by, touched_by, conflict_of};
-ghost use Rattle.gr_depend.specs.Keys.{seen};
-ghost use Rattle.gr_depend.specs.Told.{seen_in};
-ghost use Rattle.gr_depend.specs.Touches.{is_among};
+ghost use Rattle.gr_record.specs.Conflicts.{written_by, read_by, touched_by, conflict_of};
+ghost use Rattle.gr_touches.specs.Keys.{seen};
+ghost use Rattle.gr_touches.specs.Told.{seen_in};
+ghost use Rattle.gr_touches.specs.Touches.{is_among};
 
-use crate::key::ObjectRef;
 use crate::log::Log;
-use crate::objects::{Objects, reads, writes};
 use gr_base::Object;
-use gr_step::Record;
+use gr_record::Record;
+use gr_touches::{ObjectRef, Objects, reads, writes};
 
 /// Whether the object is one of these.
 fn is_one_of(object: &ObjectRef<'_>, objects: Objects<'_>) -> bool
@@ -105,7 +104,7 @@ pub(crate) fn conflict(first: &Record, second: &Record) -> bool
 
 impl Log {
     ghost use Rattle.gr_depend.specs.Logs.{records_of};
-    ghost use Rattle.gr_step.specs.declared.record.Record.{Record};
+    ghost use Rattle.gr_record.specs.declared.record.Record.{Record};
 
     /// Whether the steps at two places conflict.
     pub fn conflicts(&self, first: usize, second: usize) -> bool

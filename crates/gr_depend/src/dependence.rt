@@ -3,15 +3,15 @@
 ghost use Rattle.std.specs.Prelude.{◌≡◌, ◌<◌, ◌≤◌, ◌+◌, ◌-◌, length, drop, true, false, IfOk, replicate};
 ghost use Rattle.gr_causal.specs.Dependence.{dependents, kept, causes};
 ghost use Rattle.indexmap.specs.IndexMap.{keys};
-ghost use Rattle.gr_step.specs.Conflicts.{conflict_of};
-ghost use Rattle.gr_kept.specs.Back.{marked, unmarked};
+ghost use Rattle.gr_record.specs.Conflicts.{conflict_of};
+ghost use Rattle.gr_record.specs.Back.{marked, unmarked};
 ghost use Rattle.gr_depend.specs.Marked.{dependent_marks, cause_marks, conflict_at};
-ghost use Rattle.gr_depend.specs.Marks.{Marks};
-ghost use Rattle.gr_depend.specs.Walks.{AreWalked, HasMarks};
+ghost use Rattle.gr_touches.specs.Marks.{Marks};
+ghost use Rattle.gr_touches.specs.Walks.{AreWalked, HasMarks};
 
 use crate::log::Log;
-use crate::marks::{Origin, Side};
 use gr_base::NoMemory;
+use gr_touches::{Origin, Side};
 use std::alloc::Global;
 
 /// As many marks, none of which is set.

@@ -5,19 +5,19 @@ ghost use Rattle.gr_contents.specs.Contents.{Contents};
 ghost use Rattle.gr_program.specs.Programs.{Program};
 ghost use Rattle.gr_rules.specs.History as rules;
 ghost use Rattle.gr_laws.specs.Reached.{Logged};
-ghost use Rattle.gr_step.specs.Kept.{Kept};
-ghost use Rattle.gr_kept.specs.Pairs.{id_of};
+ghost use Rattle.gr_record.specs.Kept.{Kept};
+ghost use Rattle.gr_record.specs.Pairs.{id_of};
 ghost use Rattle.gr_base.specs.declared.names.ChName.{ChName};
-ghost use Rattle.gr_step.specs.declared.record.Record.{Record};
-ghost use Rattle.gr_step.specs.Records.{operation_in, operation_of as operation_ruled};
+ghost use Rattle.gr_record.specs.declared.record.Record.{Record};
+ghost use Rattle.gr_record.specs.Records.{operation_in, operation_of as operation_ruled};
 ghost use Rattle.gr_depend.specs.Histories.{starts, start_of, is_fault, sends_to, receives_of, sent, received};
 
 use crate::conflicts::has_written;
-use crate::key::ObjectRef;
 use crate::log::Log;
 use gr_base::{ChName, GoName, Kind, StepId};
-use gr_step::record::Form;
-use gr_step::{Operation, Record};
+use gr_record::record::Form;
+use gr_record::{Operation, Record};
+use gr_touches::ObjectRef;
 
 /// Whether a step started the goroutine.
 fn has_started(step: &Record, go: &GoName) -> bool

@@ -5,15 +5,13 @@ ghost use Rattle.std.specs.List.{list_all};
 ghost use Rattle.std.proofs.Props.{props};
 ghost use Rattle.gr_base.specs.declared.objects.Object.{Object};
 ghost use Rattle.gr_causal.specs.Sequences.{Distinct};
-ghost use Rattle.gr_step.specs.Conflicts.{touched_by};
-ghost use Rattle.gr_depend.specs.Lists.{list_of};
-ghost use Rattle.gr_depend.specs.Touches.{touches_in, none_twice, if_any};
+ghost use Rattle.gr_record.specs.Conflicts.{touched_by};
+ghost use Rattle.gr_touches.specs.Lists.{list_of};
+ghost use Rattle.gr_touches.specs.Touches.{touches_in, none_twice, if_any};
 
-use crate::key::ObjectRef;
-use crate::lanes::Lanes;
-use crate::touch::Touch;
 use gr_base::{GoName, NoMemory, Object};
-use gr_step::Record;
+use gr_record::Record;
+use gr_touches::{Lanes, ObjectRef, Touch};
 use std::alloc::Global;
 
 /// The most steps of a log: a touch keeps the place of its step in 32 bits.
@@ -33,7 +31,7 @@ impl Log {
     ghost use Rattle.gr_depend.specs.Logs.{IsAlone, records_of};
     ghost use Rattle.gr_depend.specs.Room.{CanTake};
     ghost use Rattle.gr_depend.specs.Aside.{IsLaidAside};
-    ghost use Rattle.gr_step.specs.declared.record.Record.{Record};
+    ghost use Rattle.gr_record.specs.declared.record.Record.{Record};
 
     /// A log without steps. It takes no memory.
     pub fn new(alloc: Global) -> Log

@@ -4,14 +4,13 @@ ghost use Rattle.std.specs.Prelude.{◌≡◌, ◌==◌, ◌↔◌, ℕ, true, S
 ghost use Rattle.std.specs.List.{list_any};
 ghost use Rattle.gr_depend.specs.Named.{IsNamed, NoneFrom, IsLastOf};
 
-use crate::key::ObjectRef;
 use crate::log::Log;
-use crate::touch::Touch;
 use gr_base::{GoName, StepId};
+use gr_touches::{ObjectRef, Touch};
 
 impl Log {
     ghost use Rattle.gr_depend.specs.Logs.{records_of};
-    ghost use Rattle.gr_step.specs.declared.record.Record.{Record};
+    ghost use Rattle.gr_record.specs.declared.record.Record.{Record};
 
     /// The place of the step of a name. The time is logarithmic in the steps of its goroutine where that took one of any two
     /// touches of it that follow each other.

@@ -4,7 +4,7 @@ ghost use Rattle.std.specs.Prelude.{◌≡◌, ◌<◌, ◌≤◌, ℕ, List, []
 ghost use Rattle.gr_causal.specs.Orders.{IsOrder};
 ghost use Rattle.gr_causal.specs.OrderByNames.{NamesEach};
 ghost use Rattle.gr_causal.specs.Sequences.{Distinct};
-ghost use Rattle.gr_step.specs.Conflicts.{conflict_of};
+ghost use Rattle.gr_record.specs.Conflicts.{conflict_of};
 ghost use Rattle.gr_depend.specs.declared.order.OrderRefused.TheVariants as refusals;
 ghost use Rattle.gr_depend.specs.Ordering.{name, elements_at, AreBelow, AreInverse, AreMoves, IsWhy};
 ghost use Rattle.gr_depend.specs.Turned.{place_at, AreTurned, AreFirstTurned, TurnedFrom};
@@ -12,7 +12,7 @@ ghost use Rattle.gr_depend.specs.Turned.{place_at, AreTurned, AreFirstTurned, Tu
 use crate::log::Log;
 use crate::turning::first_turned;
 use gr_base::{NoMemory, StepId};
-use gr_step::Record;
+use gr_record::Record;
 use std::alloc::Global;
 
 /// Why the steps of a log are not put in an order.
@@ -71,7 +71,7 @@ fn room_for(alloc: Global, count: usize) -> Result<Vec<Option<Record>>, NoMemory
 impl Log {
     ghost use Rattle.gr_depend.specs.Logs.{records_of};
     ghost use Rattle.gr_depend.specs.Room.{CanTake};
-    ghost use Rattle.gr_step.specs.declared.record.Record.{Record};
+    ghost use Rattle.gr_record.specs.declared.record.Record.{Record};
 
     /// Puts the steps in the order of these names. No two steps of the log may have one name.
     ///

@@ -4,7 +4,7 @@ ghost use Rattle.std.specs.Prelude.{◌≡◌, ◌≤◌, nat_lt, min, max, if�
 ghost use Rattle.gr_depend.specs.Turned.{place_at, TouchesTurnedFrom};
 ghost use Rattle.gr_depend.specs.declared.turning.Latest.{Latest};
 
-use crate::touch::Touch;
+use gr_touches::Touch;
 
 /// The last places of an order among some touches of an object.
 #[derive(Clone, Copy)]

@@ -5,10 +5,10 @@ use Rattle.gr_causal.specs.Dependence.{dependents, causes}
 use Rattle.gr_program.specs.Programs.{Program}
 use Rattle.gr_laws.specs.Dependence.{clash}
 use Rattle.gr_laws.specs.Reached.{Logged}
-use Rattle.gr_step.specs.declared.record.Record.{Record}
-use Rattle.gr_step.specs.Conflicts.{conflict_of}
+use Rattle.gr_record.specs.declared.record.Record.{Record}
+use Rattle.gr_record.specs.Conflicts.{conflict_of}
 use Rattle.gr_step.specs.Stores.{contents_at}
-use Rattle.gr_kept.specs.Back.{marked}
+use Rattle.gr_record.specs.Back.{marked}
 use Rattle.gr_depend.specs.Named as records
 use Rattle.gr_rollback.specs.declared.machine.Machine.{Machine}
 use Rattle.gr_rollback.specs.Asking.{TellsSteps}

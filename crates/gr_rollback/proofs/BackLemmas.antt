@@ -11,19 +11,19 @@ use Rattle.gr_rules.specs.Steps.{machine}
 use Rattle.gr_laws.specs.Dependence.{clash}
 use Rattle.gr_laws.specs.Reached.{Logged, IsRun}
 use Rattle.gr_contents.specs.Contents.{Contents}
-use Rattle.gr_step.specs.declared.record.Record.{Record}
-use Rattle.gr_step.specs.Conflicts.{touched_by, conflict_of}
-use Rattle.gr_step.specs.Kept.{Kept}
-use Rattle.gr_step.specs.Listings.{state_in}
-use Rattle.gr_step.specs.Premises.{Running}
+use Rattle.gr_record.specs.declared.record.Record.{Record}
+use Rattle.gr_record.specs.Conflicts.{touched_by, conflict_of}
+use Rattle.gr_record.specs.Kept.{Kept}
+use Rattle.gr_record.specs.Listings.{state_in}
+use Rattle.gr_record.specs.Running.{Running}
 use Rattle.gr_step.specs.declared.store.Store.{Store}
 use Rattle.gr_step.specs.Stores.{contents_at, SameListing}
-use Rattle.gr_kept.specs.Back.{all_back, marked, unmarked}
-use Rattle.gr_kept.proofs.ChainLemmas.{Chain, chain_of}
-use Rattle.gr_kept.proofs.FreeLemmas.{others_of_marked, others_stay}
-use Rattle.gr_kept.proofs.KeptLemmas.{kept_is_log, kept_is_run, runs_on}
-use Rattle.gr_kept.proofs.RecordLemmas.{no_object_twice}
-use Rattle.gr_kept.proofs.RollbackLemmas.{each_goes_back, may_stop, all_go_back}
+use Rattle.gr_record.specs.Back.{all_back, marked, unmarked}
+use Rattle.gr_record.proofs.ChainLemmas.{Chain, chain_of}
+use Rattle.gr_record.proofs.FreeLemmas.{others_of_marked, others_stay}
+use Rattle.gr_record.proofs.KeptLemmas.{kept_is_log, kept_is_run, runs_on}
+use Rattle.gr_record.proofs.RecordLemmas.{no_object_twice}
+use Rattle.gr_record.proofs.RollbackLemmas.{each_goes_back, may_stop, all_go_back}
 use Rattle.gr_depend.specs.Logs.{records_of}
 use Rattle.gr_depend.specs.Named as records
 use Rattle.gr_rollback.specs.declared.TheConstants.{LOG_LIMIT}

@@ -12,9 +12,9 @@ use Rattle.gr_pool.specs.Goroutines as pools
 use Rattle.gr_pool.specs.Goroutines.{is_among, with_name, without_name}
 use Rattle.gr_rules.specs.Goroutines.{ready}
 use Rattle.gr_rules.specs.States.{same_go}
-use Rattle.gr_step.specs.declared.record.Form.{Form}
-use Rattle.gr_step.specs.Effects.{Effect, effect_in}
-use Rattle.gr_step.specs.Records.{begun_by, go_back, go_undone, is_go, taken_back, goroutines_changed, GoesFit, CanGoBack}
+use Rattle.gr_record.specs.declared.record.Form.{Form}
+use Rattle.gr_record.specs.Effects.{Effect, effect_in}
+use Rattle.gr_record.specs.Records.{begun_by, go_back, go_undone, is_go, taken_back, goroutines_changed, GoesFit, CanGoBack}
 use Rattle.gr_rollback.specs.Prior.{changes_back, BringsBack, BringsStepBack, Loses}
 use Rattle.gr_rollback.specs.Readiness.{IsAsIn, HasAllReady, KnowsThere, HasReady, Settles, AllKnown, met_by, others_of}
 use Rattle.gr_rollback.proofs.Basics.{some_inj, or_right, true_not_false, neither}

@@ -6,14 +6,14 @@ use Rattle.gr_pool.specs.Goroutines as pools
 use Rattle.gr_pool.specs.Goroutines.{is_among}
 use Rattle.gr_program.specs.Programs.{Program}
 use Rattle.gr_rules.specs.Steps.{refusal}
-use Rattle.gr_step.specs.Effects.{Effect}
-use Rattle.gr_step.specs.declared.record.Record.{Record}
+use Rattle.gr_record.specs.Effects.{Effect}
+use Rattle.gr_record.specs.declared.record.Record.{Record}
 use Rattle.gr_step.specs.declared.refusal.StepRefused.{StepRefused}
 use Rattle.gr_step.specs.declared.store.Store.{Store}
-use Rattle.gr_step.specs.Records.{begun_by, event_of}
+use Rattle.gr_record.specs.Records.{begun_by, event_of}
 use Rattle.gr_step.specs.Stores as stores
 use Rattle.gr_step.specs.Stores.{program_at, contents_at, SameListing}
-use Rattle.gr_step.specs.Taking.{IsRecord}
+use Rattle.gr_record.specs.Taking.{IsRecord}
 use Rattle.gr_rollback.specs.declared.course.Course.{Course}
 use Rattle.gr_rollback.specs.Courses.{Holds}
 use Rattle.gr_rollback.specs.Joined.{IsLast, IsTakenBack, Joined}

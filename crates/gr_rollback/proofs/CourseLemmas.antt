@@ -21,16 +21,17 @@ use Rattle.gr_code.specs.Goroutines.{CodeGoroutine}
 use Rattle.gr_contents.specs.Contents.{Contents, goroutine_of}
 use Rattle.gr_contents.specs.Machines.{note_of}
 use Rattle.gr_contents.proofs.AttemptLemmas.{step_is_of_the_machine}
-use Rattle.gr_step.specs.declared.record.Record.{Record}
+use Rattle.gr_record.specs.declared.record.Record.{Record}
 use Rattle.gr_step.specs.declared.store.Store.{Store}
-use Rattle.gr_step.specs.Listings.{program_in, frame_in, state_in, IsCoded}
-use Rattle.gr_step.specs.Premises.{CanCount, Running}
-use Rattle.gr_step.specs.Records.{event_of, begun_by, is_go}
+use Rattle.gr_record.specs.Listings.{program_in, frame_in, state_in, IsCoded}
+use Rattle.gr_step.specs.Premises.{CanCount}
+use Rattle.gr_record.specs.Running.{Running}
+use Rattle.gr_record.specs.Records.{event_of, begun_by, is_go}
 use Rattle.gr_depend.specs.Logs.{records_of}
 use Rattle.gr_step.specs.Stores.{program_at, contents_at, SameListing}
 use Rattle.gr_step.specs.Stores as stores
-use Rattle.gr_step.specs.Taking.{IsRecord}
-use Rattle.gr_step.specs.Kept.{one_more, Tells}
+use Rattle.gr_record.specs.Taking.{IsRecord}
+use Rattle.gr_record.specs.Kept.{one_more, Tells}
 use Rattle.gr_rollback.specs.declared.TheConstants.{LOG_LIMIT}
 use Rattle.gr_rollback.specs.declared.course.Course.{Course}
 use Rattle.gr_rollback.specs.Pasts.{Past}
@@ -38,7 +39,7 @@ use Rattle.gr_rollback.specs.Courses.{Holds, IsCourse}
 use Rattle.gr_rollback.specs.Readiness.{IsReadyIn, IsAsIn, HasReady, Settles, Follows, KnowsMore, AllKnown, KeepsStatus, met_by, others_of}
 use Rattle.gr_rollback.specs.Retracting.{SameCourse}
 use Rattle.gr_rollback.specs.Steps.{Keeps}
-use Rattle.gr_kept.proofs.KeptLemmas.{kept_is_run}
+use Rattle.gr_record.proofs.KeptLemmas.{kept_is_run}
 use Rattle.gr_rollback.proofs.Basics.{or_left, neither}
 use Rattle.gr_rollback.proofs.KeptLemmas.{kept_length}
 use Rattle.gr_rollback.proofs.OwnLemmas.{own_is_ready, others_stay, met_was_there, stays_ready}

@@ -21,14 +21,14 @@ use Rattle.gr_contents.specs.Contents.{Contents, with_goroutine}
 use Rattle.gr_contents.proofs.NameLemmas.{go_is}
 use Rattle.gr_lower.specs.Lowered.{lowered}
 use Rattle.gr_step.specs.declared.leasing.Lease.{Lease}
-use Rattle.gr_step.specs.declared.record.Record.{Record}
+use Rattle.gr_record.specs.declared.record.Record.{Record}
 use Rattle.gr_step.specs.declared.store.Store.{Store}
-use Rattle.gr_step.specs.Kept.{Kept, one_more}
+use Rattle.gr_record.specs.Kept.{Kept, one_more}
 use Rattle.gr_step.specs.Leasing.{AreRecords, no_record, one_more_record, Walk, IsLease, IsAsLent, loan_of, name_lent, goroutine_lent, goroutine_led_to, records_led}
 use Rattle.gr_step.specs.Leasing as leases
-use Rattle.gr_step.specs.Listings.{state_in}
-use Rattle.gr_step.specs.Premises.{Running}
-use Rattle.gr_step.specs.Records.{event_of}
+use Rattle.gr_record.specs.Listings.{state_in}
+use Rattle.gr_record.specs.Running.{Running}
+use Rattle.gr_record.specs.Records.{event_of}
 use Rattle.gr_step.specs.Stores.{contents_at, SameListing}
 use Rattle.gr_step.proofs.LeasingLemmas.{Led, walk_leads, store_has_channels}
 use Rattle.gr_depend.specs.Logs.{IsAlone, records_of}

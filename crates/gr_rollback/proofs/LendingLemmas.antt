@@ -21,7 +21,7 @@ use Rattle.gr_contents.specs.Contents.{Contents, goroutine_of}
 use Rattle.gr_step.specs.declared.store.Store.{Store}
 use Rattle.gr_step.specs.declared.leasing.Lease.{Lease}
 use Rattle.gr_step.specs.Leasing.{IsUp, IsLease, IsAsLent, IsLoanOf, goes_alone, loan_of}
-use Rattle.gr_step.specs.Listings.{frame_in, state_in}
+use Rattle.gr_record.specs.Listings.{frame_in, state_in}
 use Rattle.gr_step.specs.Stores.{contents_at, program_at, state_at}
 use Rattle.gr_rollback.specs.declared.machine.Machine.{Machine}
 use Rattle.gr_rollback.specs.Leasing.{GoAlone, IsLentAt, SomeGoesAlone}

@@ -24,10 +24,10 @@ use Rattle.gr_laws.specs.Reached.{Logged, IsRun}
 use Rattle.gr_laws.proofs.CellLemmas.{machine_laws}
 use Rattle.gr_laws.proofs.RefusalLemmas.{refused_is_no_step}
 use Rattle.gr_laws.proofs.RunLemmas.{distinct_log}
-use Rattle.gr_step.specs.declared.record.Record.{Record}
+use Rattle.gr_record.specs.declared.record.Record.{Record}
 use Rattle.gr_step.specs.declared.refusal.StepRefused.{StepRefused}
 use Rattle.gr_step.specs.declared.refusal.StepRefused.TheVariants as refusals
-use Rattle.gr_step.specs.Kept.{Kept}
+use Rattle.gr_record.specs.Kept.{Kept}
 use Rattle.gr_step.specs.Stores.{contents_at}
 use Rattle.gr_depend.specs.Logs.{records_of}
 use Rattle.gr_rollback.specs.declared.TheConstants.{LOG_LIMIT}

@@ -9,12 +9,12 @@ use Rattle.gr_causal.specs.Sequences.{Distinct}
 use Rattle.gr_causal.proofs.ListLemmas.{some_is, none_not}
 use Rattle.gr_program.specs.Programs.{Program}
 use Rattle.gr_laws.specs.Reached.{IsRun}
-use Rattle.gr_step.specs.declared.record.Record.{Record}
-use Rattle.gr_step.specs.Conflicts.{conflict_of}
-use Rattle.gr_step.specs.Listings.{state_in}
-use Rattle.gr_step.specs.Premises.{Running}
+use Rattle.gr_record.specs.declared.record.Record.{Record}
+use Rattle.gr_record.specs.Conflicts.{conflict_of}
+use Rattle.gr_record.specs.Listings.{state_in}
+use Rattle.gr_record.specs.Running.{Running}
 use Rattle.gr_step.specs.Stores.{contents_at}
-use Rattle.gr_kept.proofs.KeptLemmas.{kept_is_run}
+use Rattle.gr_record.proofs.KeptLemmas.{kept_is_run}
 use Rattle.gr_depend.specs.declared.log.Log.{Log}
 use Rattle.gr_depend.specs.Logs.{records_of}
 use Rattle.gr_depend.specs.Named.{IsNamed}

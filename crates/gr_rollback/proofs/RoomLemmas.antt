@@ -4,14 +4,15 @@ use Rattle.std.proofs.lemmas.Bool.{cases_Bool}
 use Rattle.std.specs.Prelude.{vec_capacity}
 use Rattle.gr_base.specs.declared.objects.Object.{Object}
 use Rattle.gr_base.specs.declared.objects.Object.TheVariants as objects
-use Rattle.gr_step.specs.declared.record.Record.{Record}
-use Rattle.gr_step.specs.Conflicts.{written_by, touched_by}
+use Rattle.gr_record.specs.declared.record.Record.{Record}
+use Rattle.gr_record.specs.Conflicts.{written_by, touched_by}
 use Rattle.gr_depend.specs.declared.log.Log.{Log}
-use Rattle.gr_depend.specs.declared.touch.Touch.{Touch}
+use Rattle.gr_touches.specs.declared.touch.Touch.{Touch}
 use Rattle.gr_depend.specs.Logs.{records_of}
-use Rattle.gr_depend.specs.Marks.{wanted}
-use Rattle.gr_depend.specs.Room.{CanTake, capacity_of}
-use Rattle.gr_depend.specs.Touches.{is_among, touch_at, touches_in}
+use Rattle.gr_touches.specs.Marks.{wanted}
+use Rattle.gr_depend.specs.Room.{CanTake}
+use Rattle.gr_touches.specs.Room.{capacity_of}
+use Rattle.gr_touches.specs.Touches.{is_among, touch_at, touches_in}
 
 module _ (all : Bool) (o : Object) where
   -- how many of the touches are wanted

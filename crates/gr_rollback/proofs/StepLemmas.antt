@@ -4,14 +4,15 @@ use Rattle.gr_base.specs.declared.events.Event.{Event}
 use Rattle.gr_program.specs.Programs.{Program}
 use Rattle.gr_rules.specs.Steps.{refusal}
 use Rattle.gr_contents.specs.Contents.{Contents}
-use Rattle.gr_step.specs.declared.record.Record.{Record}
+use Rattle.gr_record.specs.declared.record.Record.{Record}
 use Rattle.gr_step.specs.declared.refusal.StepRefused.{StepRefused}
 use Rattle.gr_step.specs.declared.refusal.StepRefused.TheVariants as refusals
-use Rattle.gr_step.specs.Listings.{frame_in, state_in}
-use Rattle.gr_step.specs.Premises.{Running}
-use Rattle.gr_step.specs.Records.{event_of}
+use Rattle.gr_record.specs.Listings.{frame_in, state_in}
+use Rattle.gr_record.specs.Running.{Running}
+use Rattle.gr_record.specs.Records.{event_of}
 use Rattle.gr_step.specs.Stores.{program_at, contents_at}
-use Rattle.gr_step.specs.Taking.{IsRecord, SaysWhy}
+use Rattle.gr_record.specs.Taking.{IsRecord}
+use Rattle.gr_step.specs.Refusals.{SaysWhy}
 use Rattle.gr_rollback.specs.declared.course.Course.{Course}
 use Rattle.gr_rollback.specs.Courses.{Holds}
 use Rattle.gr_rollback.specs.Pasts.{Past}

@@ -6,13 +6,13 @@ use Rattle.gr_base.specs.declared.names.StepId.{StepId}
 use Rattle.gr_causal.specs.Machine.{IsLog}
 use Rattle.gr_program.specs.Programs.{Program}
 use Rattle.gr_rules.specs.Steps.{machine}
-use Rattle.gr_step.specs.declared.record.Record.{Record}
-use Rattle.gr_step.specs.Kept.{Kept}
-use Rattle.gr_step.specs.Listings.{state_in}
-use Rattle.gr_step.specs.Premises.{Running}
+use Rattle.gr_record.specs.declared.record.Record.{Record}
+use Rattle.gr_record.specs.Kept.{Kept}
+use Rattle.gr_record.specs.Listings.{state_in}
+use Rattle.gr_record.specs.Running.{Running}
 use Rattle.gr_step.specs.Stores.{contents_at, SameListing}
-use Rattle.gr_kept.proofs.KeptLemmas.{kept_is_run, runs_on}
-use Rattle.gr_kept.proofs.RecordLemmas.{no_object_twice}
+use Rattle.gr_record.proofs.KeptLemmas.{kept_is_run, runs_on}
+use Rattle.gr_record.proofs.RecordLemmas.{no_object_twice}
 use Rattle.gr_depend.specs.Logs.{records_of}
 use Rattle.gr_rollback.specs.declared.TheConstants.{LOG_LIMIT}
 use Rattle.gr_rollback.specs.declared.course.Course.{Course}

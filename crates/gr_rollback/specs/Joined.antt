@@ -1,9 +1,9 @@
 -- The record of a step that was taken joins the log, or the step is taken back.
 use Rattle.std.specs.Prelude.{◌≡◌, ◌≤◌, [], ◌∷◌, ◌++◌, length, Result, Ok, Err}
-use Rattle.gr_step.specs.declared.record.Record.{Record}
+use Rattle.gr_record.specs.declared.record.Record.{Record}
 use Rattle.gr_step.specs.declared.refusal.StepRefused.{StepRefused}
 use Rattle.gr_step.specs.declared.refusal.StepRefused.TheVariants as refusals
-use Rattle.gr_step.specs.Records.{taken_back}
+use Rattle.gr_record.specs.Records.{taken_back}
 use Rattle.gr_step.specs.Stores.{contents_at, SameListing}
 use Rattle.gr_depend.specs.Logs.{records_of}
 use Rattle.gr_rollback.specs.declared.TheConstants.{LOG_LIMIT}

@@ -11,10 +11,10 @@ use Rattle.gr_rules.specs.States.{State}
 use Rattle.gr_rules.specs.Steps.{machine}
 use Rattle.gr_laws.specs.Reached.{Logged}
 use Rattle.gr_contents.specs.Contents.{Contents}
-use Rattle.gr_step.specs.declared.record.Record.{Record}
-use Rattle.gr_step.specs.Kept.{Kept}
+use Rattle.gr_record.specs.declared.record.Record.{Record}
+use Rattle.gr_record.specs.Kept.{Kept}
 use Rattle.gr_step.specs.Leasing.{goes_alone}
-use Rattle.gr_step.specs.Listings.{state_in}
+use Rattle.gr_record.specs.Listings.{state_in}
 use Rattle.gr_step.specs.Stores.{contents_at}
 use Rattle.gr_depend.specs.Logs.{records_of}
 use Rattle.gr_rollback.specs.declared.course.Course.{Course}

@@ -6,7 +6,7 @@ use Rattle.gr_program.specs.Programs.{Program}
 use Rattle.gr_rules.specs.States.{State}
 use Rattle.gr_rules.specs.Steps.{machine}
 use Rattle.gr_laws.specs.Reached.{Logged}
-use Rattle.gr_step.specs.declared.record.Record.{Record}
+use Rattle.gr_record.specs.declared.record.Record.{Record}
 use Rattle.gr_step.specs.declared.store.Store.{Store}
 use Rattle.gr_step.specs.Stores.{program_at}
 use Rattle.gr_depend.specs.declared.log.Log.{Log}

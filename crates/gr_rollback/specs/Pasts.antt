@@ -6,7 +6,7 @@ use Rattle.gr_base.specs.declared.names.StepId.{StepId}
 use Rattle.gr_program.specs.Programs.{Program}
 use Rattle.gr_rules.specs.States.{State, start}
 use Rattle.gr_laws.specs.Reached.{Logged}
-pub use Rattle.gr_kept.specs.Pairs.{id_of}
+pub use Rattle.gr_record.specs.Pairs.{id_of}
 
 -- the steps that are kept, the oldest first, and the state to which they lead
 pub record Past (p : Program) : Type 0 where

@@ -7,7 +7,7 @@ use Rattle.gr_goros.specs.declared.undo.GoUndo.{GoUndo}
 use Rattle.gr_pool.specs.Goroutines as pools
 use Rattle.gr_pool.specs.Goroutines.{is_among}
 use Rattle.gr_rules.specs.Goroutines.{Status, ready}
-use Rattle.gr_step.specs.Records.{go_back, is_go, GoesFit}
+use Rattle.gr_record.specs.Records.{go_back, is_go, GoesFit}
 use Rattle.gr_rollback.specs.declared.bringing.Prior.{Prior}
 use Rattle.gr_rollback.specs.declared.bringing.Prior.TheVariants as priors
 use Rattle.gr_rollback.specs.Readiness.{HasAllReady}

@@ -4,15 +4,15 @@ ghost use Rattle.std.specs.Prelude.{◌≡◌, ◌<◌, length, map, IfOk};
 ghost use Rattle.gr_causal.specs.Dependence.{dependents, causes};
 ghost use Rattle.gr_program.specs.Programs.{Program};
 ghost use Rattle.gr_laws.specs.Dependence.{clash};
-ghost use Rattle.gr_step.specs.Conflicts.{conflict_of};
-ghost use Rattle.gr_kept.specs.Back.{marked};
+ghost use Rattle.gr_record.specs.Conflicts.{conflict_of};
+ghost use Rattle.gr_record.specs.Back.{marked};
 ghost use Rattle.gr_depend.specs.Logs.{records_of};
 ghost use Rattle.gr_rollback.specs.Asking.{Tells};
 
 use crate::machine::Machine;
 use gr_base::{NoMemory, StepId};
 use gr_depend::Log;
-use gr_step::Record;
+use gr_record::Record;
 use std::alloc::Global;
 
 /// The names of the steps that are marked.

@@ -3,8 +3,8 @@
 ghost use Rattle.std.specs.Prelude.{◌≡◌, ◌<◌, ◌+◌, ◌++◌, [], length, vec_len, vec_capacity, reverse, IfOk, OnOk, OnErr};
 ghost use Rattle.gr_causal.specs.Sequences.{In, Distinct};
 ghost use Rattle.gr_program.specs.Programs.{Program};
-ghost use Rattle.gr_step.specs.declared.record.Record.{Record as RecordSeen};
-ghost use Rattle.gr_step.specs.Conflicts.{touched_by};
+ghost use Rattle.gr_record.specs.declared.record.Record.{Record as RecordSeen};
+ghost use Rattle.gr_record.specs.Conflicts.{touched_by};
 ghost use Rattle.gr_step.specs.Stores.{taken_at, SameListing};
 ghost use Rattle.gr_depend.specs.Logs.{records_of};
 ghost use Rattle.gr_depend.specs.Room.{CanTake};
@@ -15,7 +15,7 @@ use crate::machine::Machine;
 use crate::refusal::BackRefused;
 use gr_base::{Event, NoMemory, StepId};
 use gr_depend::Log;
-use gr_step::Record;
+use gr_record::Record;
 use std::alloc::Global;
 
 /// A rollback on its way from the end of the log: each list begins with what was last in the log.

@@ -4,17 +4,17 @@ ghost use Rattle.std.specs.Prelude.{◌≡◌, ◌∷◌, [], true, option_copie
 ghost use Rattle.gr_goros.specs.Views.{status_of};
 ghost use Rattle.gr_pool.specs.Goroutines.{is_among};
 ghost use Rattle.gr_rules.specs.Goroutines.{Status as StatusSeen};
-ghost use Rattle.gr_step.specs.Fews.{members};
-ghost use Rattle.gr_step.specs.Parts.{begun_in};
-ghost use Rattle.gr_step.specs.Records.{begun_by, goroutines_changed};
+ghost use Rattle.gr_record.specs.Fews.{members};
+ghost use Rattle.gr_record.specs.Parts.{begun_in};
+ghost use Rattle.gr_record.specs.Records.{begun_by, goroutines_changed};
 ghost use Rattle.gr_rollback.specs.Readiness.{AllKnown, names_met, met_by};
 ghost use Rattle.gr_rollback.specs.Prior.{IsPrior, TellsPrior, BringsBack, BringsStepBack, Loses};
 
 use gr_base::GoName;
 use gr_goros::{GoUndo, Status};
 use gr_pool::Pool;
-use gr_step::Record;
-use gr_step::record::{Beyond, Form};
+use gr_record::Record;
+use gr_record::record::{Beyond, Form};
 
 /// Whether a goroutine was ready before a change.
 #[derive(Clone, Copy)]

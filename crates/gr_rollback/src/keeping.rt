@@ -4,8 +4,8 @@ ghost use Rattle.std.specs.Prelude.{◌≡◌, ◌≤◌, ◌++◌, ◌∷◌, [
 ghost use Rattle.std.specs.Option.{option_to_list};
 ghost use Rattle.gr_causal.specs.Sequences.{Distinct};
 ghost use Rattle.gr_program.specs.Programs.{Program};
-ghost use Rattle.gr_step.specs.Conflicts.{touched_by};
-ghost use Rattle.gr_step.specs.Records.{begun_by, event_of, taken_back, CanGoBack};
+ghost use Rattle.gr_record.specs.Conflicts.{touched_by};
+ghost use Rattle.gr_record.specs.Records.{begun_by, event_of, taken_back, CanGoBack};
 ghost use Rattle.gr_step.specs.Stores.{contents_at, taken_at, SameListing, HasRoomFor};
 ghost use Rattle.gr_depend.specs.Logs.{records_of};
 ghost use Rattle.gr_rollback.specs.Readiness.{HasReady, KnowsMore, AllKnown};
@@ -17,7 +17,8 @@ use crate::readiness::{know_child, settle_again, settle_taken};
 use gr_base::{Event, NoMemory};
 use gr_depend::Log;
 use gr_pool::Pool;
-use gr_step::{Record, StepRefused, Store};
+use gr_record::Record;
+use gr_step::{StepRefused, Store};
 
 /// Takes a step back directly after it, which takes no memory.
 #[inline(never)]

@@ -4,7 +4,7 @@ ghost use Rattle.std.specs.Prelude.{◌≡◌, length, IfOk, OnOk, OnErr, option
 ghost use Rattle.gr_program.specs.Programs.{Program as ProgramSeen};
 ghost use Rattle.gr_program.specs.Views.{program_of};
 ghost use Rattle.gr_rules.specs.Turns.{IsTurn, last_owner};
-ghost use Rattle.gr_step.specs.Premises.{IsChecked};
+ghost use Rattle.gr_record.specs.Running.{IsChecked};
 ghost use Rattle.gr_step.specs.Stores.{taken_at, SameListing};
 
 use crate::course::Course;

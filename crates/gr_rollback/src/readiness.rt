@@ -3,7 +3,7 @@
 ghost use Rattle.std.specs.Prelude.{◌≡◌, ◌∷◌, [], None, true, ◌↔◌, IsTrue, OnOk, option_copied};
 ghost use Rattle.std.specs.Option.{option_to_list};
 ghost use Rattle.gr_pool.specs.Goroutines.{is_among};
-ghost use Rattle.gr_step.specs.Records.{begun_by};
+ghost use Rattle.gr_record.specs.Records.{begun_by};
 ghost use Rattle.gr_step.specs.Stores.{contents_at};
 ghost use Rattle.gr_rollback.specs.Readiness.{IsReadyIn, KeepsStatus, KnowsReady, KnowsThere, Settles, KnowsMore, AllKnown, names_met, others_of, met_by};
 
@@ -11,8 +11,9 @@ use crate::bringing::{Prior, prior_to};
 use gr_base::{GoName, NoMemory};
 use gr_goros::{GoUndo, Status};
 use gr_pool::Pool;
-use gr_step::record::{Change, Form};
-use gr_step::{Record, Store};
+use gr_record::Record;
+use gr_record::record::{Change, Form};
+use gr_step::Store;
 
 // Whether a goroutine is there, and ready.
 #[inline(always)]

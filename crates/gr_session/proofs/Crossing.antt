@@ -34,7 +34,7 @@ use Rattle.gr_code.specs.contracts.code.Arm as Arm
 use Rattle.gr_code.specs.contracts.code.Instruction as Instruction
 use Rattle.gr_code.specs.contracts.code.FunctionCode as FunctionCode
 use Rattle.gr_code.specs.contracts.code.Code as Code
-use Rattle.gr_step.specs.contracts.listing.Listing as Listing
+use Rattle.gr_record.specs.contracts.listing.Listing as Listing
 use Rattle.gr_step.specs.contracts.store.Store as Store
 use Rattle.gr_step.specs.contracts.leasing.Batch as Batch
 use Rattle.gr_rollback.specs.contracts.course.Course as Course

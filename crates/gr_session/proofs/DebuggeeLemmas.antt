@@ -6,8 +6,8 @@ use Rattle.gr_rollback.proofs.KeptLemmas.{kept_length}
 use Rattle.gr_depend.specs.Logs.{records_of}
 use Rattle.gr_rules.specs.Turns.{line_of}
 use Rattle.gr_step.specs.declared.store.Store.{Store}
-use Rattle.gr_step.specs.Listings.{state_in}
-use Rattle.gr_step.specs.Premises.{Running}
+use Rattle.gr_record.specs.Listings.{state_in}
+use Rattle.gr_record.specs.Running.{Running}
 use Rattle.gr_step.specs.Stores.{program_at, contents_at, state_at, IsRun}
 use Rattle.gr_session.specs.declared.debuggee.Debuggee.{Debuggee}
 use Rattle.gr_session.specs.Journal.{World, course_of}

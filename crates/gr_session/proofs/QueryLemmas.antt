@@ -15,9 +15,9 @@ use Rattle.gr_depend.specs.Logs.{records_of}
 use Rattle.gr_rollback.specs.Asking.{TellsSteps}
 use Rattle.gr_rollback.specs.Backs.{IsNamed}
 use Rattle.gr_rollback.specs.Pasts.{ids_of}
-use Rattle.gr_step.specs.declared.record.Record.{Record}
+use Rattle.gr_record.specs.declared.record.Record.{Record}
 use Rattle.gr_step.specs.declared.store.Store.{Store}
-use Rattle.gr_step.specs.Kept.{Kept}
+use Rattle.gr_record.specs.Kept.{Kept}
 use Rattle.gr_step.specs.Stores.{program_at, contents_at, state_at}
 use Rattle.gr_show.specs.Said.{goroutine_said, channel_said, text_said, console_said, log_said}
 use Rattle.gr_show.specs.Consoles.{OfEachLog}

@@ -15,9 +15,9 @@ use Rattle.gr_command.specs.declared.command.Command.TheVariants.{Step}
 use Rattle.gr_command.specs.declared.refusal.Refusal.{Refusal}
 use Rattle.gr_command.specs.declared.refusal.Refusal.TheVariants as refusals
 use Rattle.gr_command.specs.Replies.{Stepped, No, refusal_told}
-use Rattle.gr_step.specs.Listings.{frame_in, state_in}
-use Rattle.gr_step.specs.declared.record.Record.{Record}
-use Rattle.gr_step.specs.Kept.{Tells}
+use Rattle.gr_record.specs.Listings.{frame_in, state_in}
+use Rattle.gr_record.specs.declared.record.Record.{Record}
+use Rattle.gr_record.specs.Kept.{Tells}
 use Rattle.gr_step.specs.Stores.{program_at, contents_at, state_at}
 use Rattle.type_safety.proofs.CheckedRuns.{checked_goes}
 use Rattle.gr_depend.specs.Logs.{records_of}

@@ -7,9 +7,9 @@ use Rattle.gr_rules.specs.Assigned.{last_assignment}
 use Rattle.gr_rules.specs.States.{State}
 use Rattle.gr_code.specs.CodeFrames.{ProgramCode}
 use Rattle.gr_lower.specs.Lowered.{lowered}
-use Rattle.gr_step.specs.Kept.{Kept}
-use Rattle.gr_step.specs.Listings.{state_in}
-use Rattle.gr_step.specs.Premises.{Running}
+use Rattle.gr_record.specs.Kept.{Kept}
+use Rattle.gr_record.specs.Listings.{state_in}
+use Rattle.gr_record.specs.Running.{Running}
 use Rattle.gr_step.specs.Stores.{program_at, contents_at}
 use Rattle.gr_depend.specs.declared.log.Log.{Log}
 use Rattle.gr_depend.specs.Given.{last_given}

@@ -14,7 +14,7 @@ use Rattle.gr_command.specs.declared.refusal.Refusal.{Refusal}
 use Rattle.gr_command.specs.declared.refusal.Refusal.TheVariants as refusals
 use Rattle.gr_command.specs.Replies.{refusal_told}
 use Rattle.gr_step.specs.declared.refusal.StepRefused.{StepRefused}
-use Rattle.gr_step.specs.Listings.{state_in}
+use Rattle.gr_record.specs.Listings.{state_in}
 use Rattle.gr_rollback.specs.Readiness.{IsReadyIn}
 use Rattle.gr_rollback.specs.Steps as rollback
 use Rattle.gr_rollback.specs.Steps.{Joins, with_step}

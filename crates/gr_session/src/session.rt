@@ -7,7 +7,7 @@ ghost use Rattle.gr_command.specs.Replies.{said_of};
 ghost use Rattle.gr_step.specs.Leasing.{loan_of};
 ghost use Rattle.gr_session.specs.Entries.{EntersCommand, EntersBatch, IsLegal, InItsWorld};
 ghost use Rattle.gr_session.specs.Granting.{IsTurnDue, CanLend, IsLoan};
-ghost use Rattle.gr_step.specs.Premises.{IsChecked};
+ghost use Rattle.gr_record.specs.Running.{IsChecked};
 
 use crate::carry::carry_out;
 use crate::committing::commit;

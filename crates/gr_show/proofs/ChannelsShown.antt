@@ -15,7 +15,7 @@ use Rattle.gr_rules.specs.States.{State}
 use Rattle.gr_rules.specs.Tells.{ChannelShown, items_from}
 use Rattle.gr_contents.specs.Contents.{Contents}
 use Rattle.gr_command.specs.Replies as said
-use Rattle.gr_step.specs.Listings.{state_in}
+use Rattle.gr_record.specs.Listings.{state_in}
 use Rattle.gr_show.specs.Said.{channel_said}
 
 -- the values of these slots

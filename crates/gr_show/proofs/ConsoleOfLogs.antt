@@ -16,10 +16,10 @@ use Rattle.gr_laws.proofs.CellLemmas.{go_self}
 use Rattle.gr_laws.proofs.RunLemmas.{tally_of_run}
 use Rattle.gr_code.specs.Goroutines.{CodeGoroutine}
 use Rattle.gr_contents.specs.Contents.{Contents, goroutine_of}
-use Rattle.gr_step.specs.declared.record.Record.{Record}
-use Rattle.gr_step.specs.Listings.{frame_in, state_in}
-use Rattle.gr_step.specs.Records.{is_printed}
-use Rattle.gr_step.specs.Kept.{Kept, none, one_more}
+use Rattle.gr_record.specs.declared.record.Record.{Record}
+use Rattle.gr_record.specs.Listings.{frame_in, state_in}
+use Rattle.gr_record.specs.Records.{is_printed}
+use Rattle.gr_record.specs.Kept.{Kept, none, one_more}
 use Rattle.gr_show.specs.Consoles.{texts_of, passed, line_of, lines_after, lines_told}
 use Rattle.gr_show.proofs.Logs.{kept_is_log}
 use Rattle.gr_show.proofs.NextLines.{Texts}

@@ -24,8 +24,8 @@ use Rattle.gr_lower.specs.Lowered.{lowered, meaning}
 use Rattle.type_safety.proofs.CodeOfPrograms.{checked_fits}
 use Rattle.gr_command.specs.Replies.{told, without_waits}
 use Rattle.gr_command.specs.Replies as said
-use Rattle.gr_step.specs.Listings.{frame_in, state_in}
-use Rattle.gr_step.specs.Premises.{IsChecked}
+use Rattle.gr_record.specs.Listings.{frame_in, state_in}
+use Rattle.gr_record.specs.Running.{IsChecked}
 use Rattle.gr_show.specs.Frames.{code_frame_shown}
 use Rattle.gr_show.specs.Said.{goroutine_said, text_said}
 use Rattle.gr_show.proofs.Copying.{some_inj, is_within}

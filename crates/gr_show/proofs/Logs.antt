@@ -8,10 +8,10 @@ use Rattle.gr_program.specs.Programs.{Program}
 use Rattle.gr_rules.specs.Steps.{machine}
 use Rattle.gr_laws.specs.Reached.{Logged}
 use Rattle.gr_contents.specs.Contents.{Contents}
-use Rattle.gr_step.specs.declared.record.Record.{Record}
-use Rattle.gr_step.specs.Listings.{state_in}
-use Rattle.gr_step.specs.Kept.{Kept, none, one_more, Tells}
-use Rattle.gr_kept.specs.Pairs.{id_of}
+use Rattle.gr_record.specs.declared.record.Record.{Record}
+use Rattle.gr_record.specs.Listings.{state_in}
+use Rattle.gr_record.specs.Kept.{Kept, none, one_more, Tells}
+use Rattle.gr_record.specs.Pairs.{id_of}
 use Rattle.gr_show.specs.Said.{step_kind}
 use Rattle.gr_show.proofs.Copying.{map_last}
 

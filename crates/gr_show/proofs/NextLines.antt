@@ -11,8 +11,8 @@ use Rattle.gr_laws.proofs.CellLemmas.{go_is, go_self}
 use Rattle.gr_code.specs.Goroutines.{CodeGoroutine}
 use Rattle.gr_contents.specs.Contents.{Contents}
 use Rattle.gr_goros.specs.Views.{lines_of}
-use Rattle.gr_step.specs.declared.record.Record.{Record}
-use Rattle.gr_step.specs.Records.{is_printed}
+use Rattle.gr_record.specs.declared.record.Record.{Record}
+use Rattle.gr_record.specs.Records.{is_printed}
 use Rattle.gr_show.specs.Consoles as consoles
 use Rattle.gr_show.specs.Consoles.{texts_of, count_in, untold, passed, lines_after, lines_told}
 use Rattle.gr_show.proofs.Copying.{some_inj, is_there, map_last}

@@ -6,10 +6,10 @@ use Rattle.gr_program.specs.Programs.{Program}
 use Rattle.gr_rules.specs.States.{same_go, start}
 use Rattle.gr_laws.specs.Reached.{Logged}
 use Rattle.gr_contents.specs.Contents.{Contents}
-use Rattle.gr_step.specs.declared.record.Record.{Record}
-use Rattle.gr_step.specs.Listings.{state_in}
-use Rattle.gr_step.specs.Records.{is_printed}
-use Rattle.gr_step.specs.Kept.{Kept}
+use Rattle.gr_record.specs.declared.record.Record.{Record}
+use Rattle.gr_record.specs.Listings.{state_in}
+use Rattle.gr_record.specs.Records.{is_printed}
+use Rattle.gr_record.specs.Kept.{Kept}
 
 -- the lines that each goroutine printed
 abbrev pub texts_of : Contents → List ℕ → List (List ℕ)

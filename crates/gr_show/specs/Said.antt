@@ -12,8 +12,8 @@ use Rattle.gr_laws.specs.Reached.{Logged}
 use Rattle.gr_command.specs.declared.refusal.Refusal.TheVariants as refusals
 use Rattle.gr_command.specs.Replies.{Said, told}
 use Rattle.gr_command.specs.Replies as said
-use Rattle.gr_step.specs.declared.record.Record.{Record}
-use Rattle.gr_kept.specs.Pairs.{id_of}
+use Rattle.gr_record.specs.declared.record.Record.{Record}
+use Rattle.gr_record.specs.Pairs.{id_of}
 
 -- the kind of a step
 abbrev pub step_kind : (p : Program) → Logged p → Kind

@@ -5,17 +5,18 @@ ghost use Rattle.gr_program.specs.Programs.{Program};
 ghost use Rattle.gr_laws.specs.Reached.{Logged};
 ghost use Rattle.gr_contents.specs.Contents.{Contents};
 ghost use Rattle.gr_command.specs.Replies.{lines_in, said_of};
-ghost use Rattle.gr_step.specs.Records.{is_printed as printed_by};
+ghost use Rattle.gr_record.specs.Records.{is_printed as printed_by};
 ghost use Rattle.gr_step.specs.Stores.{program_at, contents_at};
-ghost use Rattle.gr_step.specs.Kept.{Kept};
+ghost use Rattle.gr_record.specs.Kept.{Kept};
 ghost use Rattle.gr_show.specs.Said.{console_said, log_said, records_said};
 ghost use Rattle.gr_show.specs.Consoles.{OfEachLog, count_in, lines_told, passed, texts_of, untold};
 
 use gr_base::{GoName, Kind, NoMemory, StepId};
 use gr_command::Reply;
 use gr_goros::GoUndo;
-use gr_step::record::{Change, Form};
-use gr_step::{Record, Store};
+use gr_record::Record;
+use gr_record::record::{Change, Form};
+use gr_step::Store;
 use indexmap::IndexMap;
 use std::alloc::Global;
 

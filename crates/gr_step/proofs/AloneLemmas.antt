@@ -24,8 +24,8 @@ use Rattle.gr_contents.specs.Contents.{Contents, goroutine_of, with_goroutine, w
 use Rattle.gr_contents.specs.Gates.{with_gates, withdrawing}
 use Rattle.gr_contents.specs.Meetings.{thinned, moved_up, met_in}
 use Rattle.gr_contents.proofs.MeetingLemmas.{nobody_leaves, one_wait_is_here, withdrawing_is_meeting, meeting_here_alone}
-use Rattle.gr_step.specs.Listings.{frame_in, state_in}
-use Rattle.gr_step.specs.Premises.{Running}
+use Rattle.gr_record.specs.Listings.{frame_in, state_in}
+use Rattle.gr_record.specs.Running.{Running}
 use Rattle.gr_step.specs.Preparing.{AreToLeave}
 use Rattle.gr_step.proofs.RunningLemmas.{waits_sound}
 

@@ -17,9 +17,9 @@ use Rattle.gr_contents.specs.Performing.{StepsTo}
 use Rattle.gr_contents.specs.Partners.{AreChannels}
 use Rattle.gr_contents.specs.Standing.{AllStand, ContentsStand}
 use Rattle.gr_lower.specs.Lowered.{lowered, meaning}
-use Rattle.gr_step.specs.Listings.{frame_in, state_in}
-use Rattle.gr_step.specs.Records.{is_printed}
-use Rattle.gr_step.specs.Taking.{Takes}
+use Rattle.gr_record.specs.Listings.{frame_in, state_in}
+use Rattle.gr_record.specs.Records.{is_printed}
+use Rattle.gr_record.specs.Taking.{Takes}
 use Rattle.gr_step.proofs.OwnSteps.{own_takes, count_is}
 use Rattle.gr_step.proofs.Reaching.{alone}
 

@@ -7,17 +7,17 @@ use Rattle.gr_tables.specs.NamedGoroutines.{goroutines_of}
 use Rattle.gr_tables.specs.declared.channels.Channels.{Channels}
 use Rattle.gr_step.specs.declared.objects.Objects.{Objects}
 use Rattle.gr_step.specs.declared.objects.Run.TheVariants.{Live}
-use Rattle.gr_step.specs.declared.record.Beyond.{Beyond}
+use Rattle.gr_record.specs.declared.record.Beyond.{Beyond}
 use Rattle.gr_base.specs.declared.kinds.Kind.{Kind}
 use Rattle.gr_channels.specs.declared.changes.ChanUndo.{ChanUndo}
 use Rattle.gr_goros.specs.declared.undo.GoUndo.{GoUndo}
-use Rattle.gr_step.specs.declared.record.Passage.{Passage}
-use Rattle.gr_step.specs.Effects.{Effect, one_or_none, reached_by_passage}
+use Rattle.gr_record.specs.declared.record.Passage.{Passage}
+use Rattle.gr_record.specs.Effects.{Effect, one_or_none, reached_by_passage}
 use Rattle.gr_step.specs.Objects.{run_of, contents_in}
-use Rattle.gr_step.specs.Fews.{members}
-use Rattle.gr_step.specs.Parts.{begun_in, made_in, channel_in}
+use Rattle.gr_record.specs.Fews.{members}
+use Rattle.gr_record.specs.Parts.{begun_in, made_in, channel_in}
 use Rattle.gr_step.specs.Unstepping.{after_back, GoBack, IsForgotten, AreUndone}
-use Rattle.gr_step.specs.Records.{taken_back, go_back, is_go, is_channel}
+use Rattle.gr_record.specs.Records.{taken_back, go_back, is_go, is_channel}
 
 live_or : (b : Bool) (old : _) → run_of (if b then Live else old) ≡ (if b then rules.live else run_of old)
 live_or true old = refl

@@ -19,7 +19,7 @@ use Rattle.gr_lower.specs.Lowered.{lowered, meaning}
 use Rattle.gr_tables.proofs.Validity.{contents_valid}
 use Rattle.gr_step.specs.declared.objects.Objects.{Objects}
 use Rattle.gr_step.specs.Objects.{contents_in}
-use Rattle.gr_step.specs.Premises.{Running}
+use Rattle.gr_record.specs.Running.{Running}
 use Rattle.gr_step.proofs.RunningLemmas.{never_unsound}
 use Rattle.gr_step.proofs.MayLemmas.{acts_at, chosen_by}
 

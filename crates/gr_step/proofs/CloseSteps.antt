@@ -49,16 +49,16 @@ use Rattle.gr_tables.specs.NamedGoroutines.{At, Arrives, CanArrive, ChangesBy, g
 use Rattle.gr_tables.specs.declared.channels.Channels.{Channels}
 use Rattle.gr_tables.specs.declared.goroutines.Goroutines.{Goroutines}
 use Rattle.gr_step.specs.declared.objects.Objects.{Objects}
-use Rattle.gr_step.specs.Effects.{Effect}
-use Rattle.gr_step.specs.declared.record.Operation.TheVariants as operations
+use Rattle.gr_record.specs.Effects.{Effect}
+use Rattle.gr_record.specs.declared.record.Operation.TheVariants as operations
 use Rattle.gr_step.specs.Beyonds.{Stops}
-use Rattle.gr_step.specs.Listings.{frame_in, state_in}
+use Rattle.gr_record.specs.Listings.{frame_in, state_in}
 use Rattle.gr_step.specs.Objects.{contents_in, run_of}
 use Rattle.gr_step.specs.Passing.{ArrivesAt}
 use Rattle.gr_step.specs.Premises.{Acting, OfGoroutine}
-use Rattle.gr_step.specs.Records.{HasRoom}
-use Rattle.gr_step.specs.Taking.{Takes}
-use Rattle.gr_step.specs.Within.{IsAmong}
+use Rattle.gr_step.specs.Room.{HasRoom}
+use Rattle.gr_record.specs.Taking.{Takes}
+use Rattle.gr_record.specs.Within.{IsAmong}
 use Rattle.gr_step.specs.Wakes.{all_waits_known, without_each, is_live_there, with_each_woken, written_by_close, left_by_close, Closing}
 use Rattle.gr_step.proofs.ArrivedLemmas.{can_arrive}
 use Rattle.gr_step.proofs.FaultSteps.{fault_takes, task_faults}

@@ -36,14 +36,15 @@ use Rattle.gr_contents.proofs.TaskLemmas.{rule_is_sound}
 use Rattle.gr_lower.specs.Lowered.{lowered, meaning}
 use Rattle.gr_step.specs.Beyonds.{ChangesObjects, ReachesBeyond}
 use Rattle.gr_step.specs.declared.objects.Objects.{Objects}
-use Rattle.gr_step.specs.Effects.{Effect}
-use Rattle.gr_step.specs.declared.record.Operation.{Operation}
-use Rattle.gr_step.specs.declared.record.Operation.TheVariants.{TakesLenOf, TakesCapOf}
-use Rattle.gr_step.specs.Listings.{frame_in, state_in}
+use Rattle.gr_record.specs.Effects.{Effect}
+use Rattle.gr_record.specs.declared.record.Operation.{Operation}
+use Rattle.gr_record.specs.declared.record.Operation.TheVariants.{TakesLenOf, TakesCapOf}
+use Rattle.gr_record.specs.Listings.{frame_in, state_in}
 use Rattle.gr_step.specs.Objects.{contents_in, run_of}
 use Rattle.gr_step.specs.Premises.{Acting}
-use Rattle.gr_step.specs.Records.{operation_of, stops, HasRoom}
-use Rattle.gr_step.specs.Taking.{Takes}
+use Rattle.gr_record.specs.Records.{operation_of, stops}
+use Rattle.gr_step.specs.Room.{HasRoom}
+use Rattle.gr_record.specs.Taking.{Takes}
 use Rattle.gr_step.proofs.ArrivedLemmas.{Arrived, arrived_here, can_arrive}
 use Rattle.gr_step.proofs.ChoosingLemmas.{are_channels}
 use Rattle.gr_step.proofs.OwnSteps.{own_takes, count_is}

@@ -20,12 +20,13 @@ use Rattle.gr_tables.specs.NamedGoroutines.{At, ChangesBy, KeepsContents, name_a
 use Rattle.gr_tables.specs.declared.goroutines.Goroutines.{Goroutines}
 use Rattle.gr_lower.specs.Lowered.{lowered}
 use Rattle.gr_step.specs.declared.objects.Objects.{Objects}
-use Rattle.gr_step.specs.Effects.{Effect}
-use Rattle.gr_step.specs.Listings.{state_in}
+use Rattle.gr_record.specs.Effects.{Effect}
+use Rattle.gr_record.specs.Listings.{state_in}
 use Rattle.gr_step.specs.Objects.{contents_in, run_of}
-use Rattle.gr_step.specs.Premises.{Acting, CanCount, Running}
-use Rattle.gr_step.specs.Records.{HasRoom}
-use Rattle.gr_step.specs.Taking.{Takes}
+use Rattle.gr_step.specs.Premises.{Acting, CanCount}
+use Rattle.gr_record.specs.Running.{Running}
+use Rattle.gr_step.specs.Room.{HasRoom}
+use Rattle.gr_record.specs.Taking.{Takes}
 use Rattle.gr_step.proofs.ChoosingLemmas.{task_there}
 use Rattle.gr_step.proofs.LocalTakes.{local_takes, local_room}
 use Rattle.gr_step.proofs.PlacedLemmas.{at_named, was_content}

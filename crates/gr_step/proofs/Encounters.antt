@@ -34,11 +34,11 @@ use Rattle.gr_tables.proofs.Joining.{changes_join, changes_go_back}
 use Rattle.gr_tables.proofs.RoomLemmas.{within_self}
 use Rattle.gr_step.specs.declared.objects.Objects.{Objects}
 use Rattle.gr_step.specs.declared.partners.Prepared.{Prepared}
-use Rattle.gr_step.specs.Effects.{Effect}
-use Rattle.gr_step.specs.Listings.{frame_in}
+use Rattle.gr_record.specs.Effects.{Effect}
+use Rattle.gr_record.specs.Listings.{frame_in}
 use Rattle.gr_step.specs.Objects.{contents_in, run_of}
 use Rattle.gr_step.specs.Premises.{Acting, OfGoroutine}
-use Rattle.gr_step.specs.Records.{HasRoom}
+use Rattle.gr_step.specs.Room.{HasRoom}
 use Rattle.gr_step.specs.Passing.{CanArriveAt}
 use Rattle.gr_step.specs.Preparing.{WaitsFor, IsPrepared, CanPass, IsPass, CanExchange, IsExchange}
 use Rattle.gr_step.proofs.MetLemmas.{some_is}

@@ -26,13 +26,13 @@ use Rattle.gr_contents.specs.Contents.{goroutine_of}
 use Rattle.gr_contents.proofs.CodeStepLemmas.{finish_of_code, exit_of_code}
 use Rattle.gr_lower.specs.Lowered.{lowered, meaning}
 use Rattle.gr_step.specs.declared.objects.Objects.{Objects}
-use Rattle.gr_step.specs.Effects.{Effect}
+use Rattle.gr_record.specs.Effects.{Effect}
 use Rattle.gr_step.specs.Beyonds.{HasEnded}
-use Rattle.gr_step.specs.Listings.{frame_in, state_in}
+use Rattle.gr_record.specs.Listings.{frame_in, state_in}
 use Rattle.gr_step.specs.Objects.{contents_in, run_of}
 use Rattle.gr_step.specs.Premises.{Acting}
-use Rattle.gr_step.specs.Records.{HasRoom}
-use Rattle.gr_step.specs.Taking.{Takes}
+use Rattle.gr_step.specs.Room.{HasRoom}
+use Rattle.gr_record.specs.Taking.{Takes}
 use Rattle.gr_step.proofs.AloneSteps.{alone_takes}
 use Rattle.gr_step.proofs.FrameNeeds.{need_none_done}
 use Rattle.gr_step.proofs.ChoosingLemmas.{are_channels}

@@ -30,7 +30,7 @@ use Rattle.gr_tables.proofs.ByNumber.{seen_named}
 use Rattle.gr_lower.specs.Lowered.{lowered, meaning}
 use Rattle.type_safety.specs.Standing.{StandsAs, is_ready, waits}
 use Rattle.gr_step.specs.declared.objects.Objects.{Objects}
-use Rattle.gr_step.specs.Listings.{frame_in, state_in}
+use Rattle.gr_record.specs.Listings.{frame_in, state_in}
 use Rattle.gr_step.specs.Objects.{contents_in}
 use Rattle.gr_step.specs.Premises.{Acting}
 use Rattle.gr_step.proofs.RunningLemmas.{never_unsound, stands_as, ActsHere, acts_here}

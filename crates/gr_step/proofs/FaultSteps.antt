@@ -31,14 +31,14 @@ use Rattle.gr_contents.proofs.TaskLemmas.{deed_is, task_is_a_step}
 use Rattle.gr_contents.proofs.GoingLemmas.{evaluating_faults}
 use Rattle.gr_lower.specs.Lowered.{lowered, meaning}
 use Rattle.gr_step.specs.declared.objects.Objects.{Objects}
-use Rattle.gr_step.specs.declared.record.Operation.{Operation}
-use Rattle.gr_step.specs.Effects.{Effect}
+use Rattle.gr_record.specs.declared.record.Operation.{Operation}
+use Rattle.gr_record.specs.Effects.{Effect}
 use Rattle.gr_step.specs.Beyonds.{Stops}
-use Rattle.gr_step.specs.Listings.{frame_in, state_in}
+use Rattle.gr_record.specs.Listings.{frame_in, state_in}
 use Rattle.gr_step.specs.Objects.{contents_in}
 use Rattle.gr_step.specs.Premises.{Acting}
-use Rattle.gr_step.specs.Records.{operation_of, stops}
-use Rattle.gr_step.specs.Taking.{Takes}
+use Rattle.gr_record.specs.Records.{operation_of, stops}
+use Rattle.gr_record.specs.Taking.{Takes}
 use Rattle.gr_step.proofs.FrameNeeds.{need_none}
 use Rattle.gr_step.proofs.ChoosingLemmas.{are_channels}
 use Rattle.gr_step.proofs.OwnSteps.{after_own, own_takes, count_is}

@@ -29,10 +29,10 @@ use Rattle.gr_contents.proofs.NameLemmas.{channel_is, channel_self, go_self}
 use Rattle.gr_contents.proofs.WrittenLemmas.{written_parts_are_named, full_slots_meet}
 use Rattle.gr_goros.specs.declared.undo.GoUndo.{GoUndo}
 use Rattle.gr_tables.specs.NamedChannels.{chan_back, is_at_gate, AreAtGates, MoreAtGates}
-use Rattle.gr_step.specs.Effects.{Effect}
+use Rattle.gr_record.specs.Effects.{Effect}
 use Rattle.gr_step.specs.Preparing.{AreToLeave}
-use Rattle.gr_step.specs.Records.{writes_of}
-use Rattle.gr_step.specs.Within.{IsAmong, EachIsAmong, PartsAreAmong}
+use Rattle.gr_record.specs.Records.{writes_of}
+use Rattle.gr_record.specs.Within.{IsAmong, EachIsAmong, PartsAreAmong}
 
 -- what a step changed beyond its goroutine is among what it touched
 pub record Inside (n : List ℕ) (reads writes : List Object) (met : List (List ℕ × GoUndo)) (us : List (ChName × ChanUndo)) (t : Contents) : Type 0 where

@@ -28,15 +28,15 @@ use Rattle.gr_tables.specs.declared.goroutines.Goroutines.{Goroutines}
 use Rattle.gr_lower.specs.Lowered.{lowered, meaning}
 use Rattle.gr_step.specs.declared.leasing.Lease.{Lease}
 use Rattle.gr_step.specs.declared.objects.Objects.{Objects}
-use Rattle.gr_step.specs.Effects.{Effect}
-use Rattle.gr_step.specs.declared.record.Record.{Record}
+use Rattle.gr_record.specs.Effects.{Effect}
+use Rattle.gr_record.specs.declared.record.Record.{Record}
 use Rattle.gr_step.specs.declared.store.Store.{Store}
 use Rattle.gr_step.specs.Leasing.{AreRecords, no_record, one_more_record, GoesAlone, IsOwnRecord, CanBe, Walk, no_step, one_more, IsLease, IsLoanOf, loan_of, program_lent, name_lent, goroutine_lent, goroutine_led_to, records_led}
-use Rattle.gr_step.specs.Listings.{frame_in, state_in}
+use Rattle.gr_record.specs.Listings.{frame_in, state_in}
 use Rattle.gr_step.specs.Objects.{contents_in, run_of}
-use Rattle.gr_step.specs.Premises.{Running}
+use Rattle.gr_record.specs.Running.{Running}
 use Rattle.gr_step.specs.Stores.{IsRun, contents_at, program_at}
-use Rattle.gr_step.specs.Taking.{Takes, IsRecord}
+use Rattle.gr_record.specs.Taking.{Takes, IsRecord}
 use Rattle.gr_step.proofs.AloneSteps.{alone_takes}
 use Rattle.gr_step.proofs.ChoosingLemmas.{are_channels, task_there}
 use Rattle.gr_step.proofs.LocalSteps.{locally_is, plain_kind}

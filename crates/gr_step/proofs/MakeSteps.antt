@@ -39,16 +39,16 @@ use Rattle.gr_contents.proofs.StandingLemmas.{change_keeps_standing}
 use Rattle.gr_lower.specs.Lowered.{lowered, meaning}
 use Rattle.gr_step.specs.Beyonds.{ReachesChannel, IsBadSize, Stops}
 use Rattle.gr_step.specs.declared.objects.Objects.{Objects}
-use Rattle.gr_step.specs.declared.record.Beyond.{Beyond}
-use Rattle.gr_step.specs.Effects.{Effect}
-use Rattle.gr_step.specs.Listings.{frame_in, state_in}
+use Rattle.gr_record.specs.declared.record.Beyond.{Beyond}
+use Rattle.gr_record.specs.Effects.{Effect}
+use Rattle.gr_record.specs.Listings.{frame_in, state_in}
 use Rattle.gr_step.specs.Objects.{contents_in, run_of}
 use Rattle.gr_step.specs.Premises.{Acting}
-use Rattle.gr_step.specs.Parts.{reads_in}
-use Rattle.gr_step.specs.Records.{operation_of, beyond, stops, go_back, goroutines_changed, channels_changed, made_by, is_go, is_channel, writes_of, reads_of}
-use Rattle.gr_step.specs.Records.{taken_back, GoesFit, NeedNoFrame, CanGoBack}
-use Rattle.gr_step.specs.Within.{IsAmong, EachIsAmong, PartsAreAmong, IsUnused, ChangesWithin}
-use Rattle.gr_step.specs.Taking.{Takes}
+use Rattle.gr_record.specs.Parts.{reads_in}
+use Rattle.gr_record.specs.Records.{operation_of, beyond, stops, go_back, goroutines_changed, channels_changed, made_by, is_go, is_channel, writes_of, reads_of}
+use Rattle.gr_record.specs.Records.{taken_back, GoesFit, NeedNoFrame, CanGoBack}
+use Rattle.gr_record.specs.Within.{IsAmong, EachIsAmong, PartsAreAmong, IsUnused, ChangesWithin}
+use Rattle.gr_record.specs.Taking.{Takes}
 use Rattle.gr_step.proofs.ArrivedLemmas.{Arrived, can_arrive}
 use Rattle.gr_step.proofs.FaultSteps.{task_faults}
 use Rattle.gr_tables.proofs.Validity.{fresh_valid}

@@ -33,8 +33,8 @@ use Rattle.gr_contents.proofs.PresenceLemmas.{enqueued_is_there}
 use Rattle.gr_contents.proofs.SelectLemmas.{none_ready_is_made, picking_communicates, picking_faults, picking_cannot, picking_has_values, default_is_none, default_is_late, parking_has_default, parking_is_late}
 use Rattle.gr_contents.proofs.TaskLemmas.{attempt_is_of_the_task, deed_is}
 use Rattle.gr_lower.specs.Lowered.{lowered, meaning}
-use Rattle.gr_step.specs.Listings.{frame_in, state_in}
-use Rattle.gr_step.specs.Premises.{Running}
+use Rattle.gr_record.specs.Listings.{frame_in, state_in}
+use Rattle.gr_record.specs.Running.{Running}
 use Rattle.gr_step.specs.Choices.{Selects, ready_from, choice_without, first_of}
 use Rattle.gr_step.proofs.RunningLemmas.{ActsHere, code_fits, never_unsound}
 use Rattle.gr_step.proofs.ProceedLemmas.{is_step, Goes, goes_alike, given_goes, communicates}

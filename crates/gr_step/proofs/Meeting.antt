@@ -33,12 +33,12 @@ use Rattle.gr_tables.specs.NamedChannels.{At, contents_of, seen_of, GoesBack, Ta
 use Rattle.gr_tables.specs.declared.channels.Channels.{Channels}
 use Rattle.gr_step.specs.declared.objects.Objects.{Objects}
 use Rattle.gr_step.specs.declared.partners.Prepared.{Prepared}
-use Rattle.gr_step.specs.Effects.{Effect}
-use Rattle.gr_step.specs.Listings.{frame_in}
+use Rattle.gr_record.specs.Effects.{Effect}
+use Rattle.gr_record.specs.Listings.{frame_in}
 use Rattle.gr_step.specs.Objects.{contents_in, run_of}
 use Rattle.gr_step.specs.Premises.{Acting, OfActor}
-use Rattle.gr_step.specs.Records.{HasRoom}
-use Rattle.gr_step.specs.Taking.{Takes}
+use Rattle.gr_step.specs.Room.{HasRoom}
+use Rattle.gr_record.specs.Taking.{Takes}
 use Rattle.gr_step.specs.Communicating.{TrialIsSound}
 use Rattle.gr_step.specs.Preparing.{IsPrepared, CanExchange, IsExchange}
 use Rattle.gr_step.proofs.RunningLemmas.{acts_here}

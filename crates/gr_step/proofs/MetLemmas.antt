@@ -23,8 +23,8 @@ use Rattle.gr_contents.proofs.StandingLemmas.{arrival_keeps_standing, change_kee
 use Rattle.gr_lower.specs.Lowered.{lowered, meaning}
 use Rattle.gr_goros.specs.declared.undo.GoUndo.{GoUndo}
 use Rattle.gr_tables.specs.NamedChannels.{withdrawn}
-use Rattle.gr_step.specs.Listings.{frame_in}
-use Rattle.gr_step.specs.Premises.{Running}
+use Rattle.gr_record.specs.Listings.{frame_in}
+use Rattle.gr_record.specs.Running.{Running}
 use Rattle.gr_step.specs.Passing.{ArrivesAt}
 use Rattle.gr_step.specs.Preparing.{AreToLeave}
 use Rattle.gr_step.proofs.AloneLemmas.{WaitsNoMore, left_is_met}

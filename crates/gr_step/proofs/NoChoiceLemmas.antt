@@ -29,8 +29,8 @@ use Rattle.gr_contents.proofs.LookLemmas.{over_is_refused, unknown_is_refused, d
 use Rattle.gr_contents.proofs.TaskLemmas.{task_has_no_choice}
 use Rattle.gr_goros.specs.Needs.{is_choice, is_select_in}
 use Rattle.gr_lower.specs.Lowered.{lowered, meaning}
-use Rattle.gr_step.specs.Listings.{frame_in, state_in}
-use Rattle.gr_step.specs.Premises.{Running}
+use Rattle.gr_record.specs.Listings.{frame_in, state_in}
+use Rattle.gr_record.specs.Running.{Running}
 use Rattle.gr_step.specs.Choices.{HasNoChoice}
 use Rattle.gr_step.proofs.ProceedLemmas.{is_step}
 use Rattle.gr_step.proofs.MayLemmas.{acts_at, chosen_by, step_at_leaf}

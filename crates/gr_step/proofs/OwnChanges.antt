@@ -13,10 +13,10 @@ use Rattle.gr_contents.proofs.NameLemmas.{go_is, go_self}
 use Rattle.gr_tables.specs.NamedGoroutines.{seen_at, seen_of, goroutines_of, room_or_none, go_rooms_of, Changes, At}
 use Rattle.gr_tables.proofs.ByNumber.{seen_named}
 use Rattle.gr_step.specs.declared.objects.Objects.{Objects}
-use Rattle.gr_step.specs.declared.record.Beyond.{Beyond}
-use Rattle.gr_step.specs.Effects.{Effect}
+use Rattle.gr_record.specs.declared.record.Beyond.{Beyond}
+use Rattle.gr_record.specs.Effects.{Effect}
 use Rattle.gr_step.specs.Objects.{contents_in}
-use Rattle.gr_step.specs.Records.{go_back, GoesFit, NeedNoFrame, FramesStay, goroutines_changed}
+use Rattle.gr_record.specs.Records.{go_back, GoesFit, NeedNoFrame, FramesStay, goroutines_changed}
 use Rattle.gr_step.specs.Premises.{Acting}
 use Rattle.gr_step.proofs.ObjectLemmas.{change_was, change_is}
 

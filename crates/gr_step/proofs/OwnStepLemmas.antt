@@ -25,9 +25,9 @@ use Rattle.gr_lower.specs.Lowered.{lowered, meaning}
 use Rattle.gr_step.specs.declared.objects.Run as runs
 use Rattle.gr_step.specs.declared.objects.Run.TheVariants.{Live, Ended, Faulted}
 use Rattle.gr_step.specs.Leasing.{goes_alone}
-use Rattle.gr_step.specs.Listings.{frame_in, state_in}
+use Rattle.gr_record.specs.Listings.{frame_in, state_in}
 use Rattle.gr_step.specs.Objects.{run_of}
-use Rattle.gr_step.specs.Premises.{Running}
+use Rattle.gr_record.specs.Running.{Running}
 use Rattle.gr_step.proofs.MayLemmas.{acts_at, chosen_by}
 
 -- by the run, and by what the rules say of the goroutine

@@ -21,13 +21,13 @@ use Rattle.gr_contents.specs.Partners.{AreChannels}
 use Rattle.gr_contents.specs.Standing.{AllStand, ContentsStand}
 use Rattle.gr_contents.proofs.StandingLemmas.{change_keeps_standing}
 use Rattle.gr_lower.specs.Lowered.{lowered, meaning}
-use Rattle.gr_step.specs.Effects.{Effect}
-use Rattle.gr_step.specs.Listings.{frame_in, state_in}
-use Rattle.gr_step.specs.Records.{operation_in, is_printed, stops, writes_of, reads_of, goroutines_changed, channels_changed, begun_by}
-use Rattle.gr_step.specs.Records.{made_by}
-use Rattle.gr_step.specs.Records.{go_back, go_undone, GoesFit, is_go, is_channel, taken_back, FramesStay, CanGoBack}
-use Rattle.gr_step.specs.Within.{EachIsAmong, PartsAreAmong, ChangesWithin}
-use Rattle.gr_step.specs.Taking.{Takes}
+use Rattle.gr_record.specs.Effects.{Effect}
+use Rattle.gr_record.specs.Listings.{frame_in, state_in}
+use Rattle.gr_record.specs.Records.{operation_in, is_printed, stops, writes_of, reads_of, goroutines_changed, channels_changed, begun_by}
+use Rattle.gr_record.specs.Records.{made_by}
+use Rattle.gr_record.specs.Records.{go_back, go_undone, GoesFit, is_go, is_channel, taken_back, FramesStay, CanGoBack}
+use Rattle.gr_record.specs.Within.{EachIsAmong, PartsAreAmong, ChangesWithin}
+use Rattle.gr_record.specs.Taking.{Takes}
 use Rattle.gr_step.proofs.InsideLemmas.{own_is_written}
 
 -- a name is itself

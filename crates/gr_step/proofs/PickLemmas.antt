@@ -34,13 +34,13 @@ use Rattle.gr_tables.specs.NamedGoroutines.{seen_at}
 use Rattle.gr_lower.specs.Lowered.{lowered}
 use Rattle.gr_step.specs.declared.objects.Objects.{Objects}
 use Rattle.gr_step.specs.declared.picking.Picked.{Picked}
-use Rattle.gr_step.specs.Listings.{frame_in, state_in}
+use Rattle.gr_record.specs.Listings.{frame_in, state_in}
 use Rattle.gr_step.specs.Objects.{contents_in}
 use Rattle.gr_step.specs.Picks.{is_send, PicksArm, PicksReceive}
 use Rattle.gr_step.specs.Possible.{arm_at, arm_given, channel_given}
 use Rattle.gr_step.specs.Premises.{Acting, OfActor}
 use Rattle.gr_step.specs.Communicating.{TrialIsSound, Tried, Chosen}
-use Rattle.gr_step.specs.Effects.{Effect}
+use Rattle.gr_record.specs.Effects.{Effect}
 use Rattle.gr_contents.specs.Contents.{Contents}
 use Rattle.gr_step.proofs.EventLemmas.{some_is, found_is}
 use Rattle.gr_step.proofs.PossibleLemmas.{AreClauses, no_clause, clause, have, innermost, task_of_arms, plain_at_fault, arms_at}

@@ -19,8 +19,9 @@ use Rattle.gr_tables.specs.NamedGoroutines.{ComesTo, TakenBack}
 use Rattle.gr_tables.specs.declared.goroutines.Goroutines.{Goroutines}
 use Rattle.gr_tables.proofs.ByNumber.{seen_named}
 use Rattle.gr_step.specs.declared.objects.Objects.{Objects}
-use Rattle.gr_step.specs.Effects.{Effect}
-use Rattle.gr_step.specs.Records.{channels_changed, HasRoom}
+use Rattle.gr_record.specs.Effects.{Effect}
+use Rattle.gr_record.specs.Records.{channels_changed}
+use Rattle.gr_step.specs.Room.{HasRoom}
 use Rattle.gr_step.specs.Premises.{Acting}
 use Rattle.gr_step.proofs.ObjectLemmas.{change_was, change_is}
 use Rattle.gr_step.proofs.OwnSteps.{same_name}

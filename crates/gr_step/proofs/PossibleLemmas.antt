@@ -38,10 +38,11 @@ use Rattle.gr_tables.specs.NamedGoroutines.{seen_at}
 use Rattle.gr_lower.specs.Lowered.{lowered, meaning}
 use Rattle.gr_step.specs.declared.objects.Objects.{Objects}
 use Rattle.gr_step.specs.Choices.{Selects}
-use Rattle.gr_step.specs.Listings.{frame_in, state_in}
+use Rattle.gr_record.specs.Listings.{frame_in, state_in}
 use Rattle.gr_step.specs.Objects.{contents_in}
 use Rattle.gr_step.specs.Possible.{is_given, choice_goes, arm_given, goes_by, arm_goes, is_default, arm_at, arms_go}
-use Rattle.gr_step.specs.Premises.{Running, Acting}
+use Rattle.gr_record.specs.Running.{Running}
+use Rattle.gr_step.specs.Premises.{Acting}
 use Rattle.gr_step.proofs.EventLemmas.{some_is, found_is, plain_goes, others_refused}
 use Rattle.gr_step.proofs.ChoosingLemmas.{are_channels}
 use Rattle.gr_step.proofs.NoChoiceLemmas.{no_select}

@@ -7,11 +7,11 @@ use Rattle.gr_base.specs.declared.objects.Object.TheVariants.{Go}
 use Rattle.gr_base.specs.declared.objects.Object.TheVariants as objects
 use Rattle.gr_goros.specs.Undoing.{need}
 use Rattle.gr_goros.specs.declared.undo.GoUndo.{GoUndo}
-use Rattle.gr_step.specs.declared.record.Operation.{Operation}
-use Rattle.gr_step.specs.declared.record.Beyond.{Beyond}
-use Rattle.gr_step.specs.Effects.{Effect}
-use Rattle.gr_step.specs.Records.{operation_of, operation_in, stops, writes_of, reads_of, NeedNoFrame}
-use Rattle.gr_step.specs.Parts.{reads_in}
+use Rattle.gr_record.specs.declared.record.Operation.{Operation}
+use Rattle.gr_record.specs.declared.record.Beyond.{Beyond}
+use Rattle.gr_record.specs.Effects.{Effect}
+use Rattle.gr_record.specs.Records.{operation_of, operation_in, stops, writes_of, reads_of, NeedNoFrame}
+use Rattle.gr_record.specs.Parts.{reads_in}
 use Rattle.gr_step.specs.Beyonds.{Reaches, ReachesBeyond}
 use Rattle.gr_step.proofs.OwnSteps.{IsOwn}
 

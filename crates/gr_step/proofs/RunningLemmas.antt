@@ -21,9 +21,10 @@ use Rattle.type_safety.specs.Standing.{StandsAs, AreFresh}
 use Rattle.type_safety.proofs.CheckedRuns.{checked_sounds, checked_stands, checked_names}
 use Rattle.type_safety.proofs.CodeOfPrograms.{checked_fits}
 use Rattle.gr_step.specs.declared.objects.Objects.{Objects}
-use Rattle.gr_step.specs.Listings.{frame_in, state_in}
+use Rattle.gr_record.specs.Listings.{frame_in, state_in}
 use Rattle.gr_step.specs.Objects.{contents_in}
-use Rattle.gr_step.specs.Premises.{Running, Acting}
+use Rattle.gr_record.specs.Running.{Running}
+use Rattle.gr_step.specs.Premises.{Acting}
 
 module _ (p : Program) (s : Contents) (run : Running p s) where
   -- the code is that of the program

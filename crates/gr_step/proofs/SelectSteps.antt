@@ -44,14 +44,14 @@ use Rattle.gr_goros.specs.Views.{outcome_of}
 use Rattle.gr_lower.specs.Lowered.{lowered, meaning}
 use Rattle.gr_step.specs.Beyonds.{ChangesObjects, ReachesBeyond, Stops}
 use Rattle.gr_step.specs.declared.objects.Objects.{Objects}
-use Rattle.gr_step.specs.Effects.{Effect}
+use Rattle.gr_record.specs.Effects.{Effect}
 use Rattle.gr_step.specs.Choices.{IsFaultOf}
 use Rattle.gr_step.specs.Communicating.{Trial, TrialIsSound, Tried, Chosen}
-use Rattle.gr_step.specs.Listings.{frame_in, state_in}
+use Rattle.gr_record.specs.Listings.{frame_in, state_in}
 use Rattle.gr_step.specs.Objects.{contents_in, run_of}
 use Rattle.gr_step.specs.Premises.{Acting, OfGoroutine, OfActor}
-use Rattle.gr_step.specs.Records.{HasRoom}
-use Rattle.gr_step.specs.Taking.{Takes}
+use Rattle.gr_step.specs.Room.{HasRoom}
+use Rattle.gr_record.specs.Taking.{Takes}
 use Rattle.gr_step.proofs.ArrivedLemmas.{Arrived, arrived_here, can_arrive}
 use Rattle.gr_step.proofs.ChoosingLemmas.{are_channels}
 use Rattle.gr_step.proofs.FaultSteps.{FaultRow, fault_takes}

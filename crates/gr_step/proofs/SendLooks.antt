@@ -19,13 +19,13 @@ use Rattle.gr_contents.proofs.SendLemmas.{sending_faults, sending_cannot}
 use Rattle.gr_tables.specs.NamedChannels.{seen_of}
 use Rattle.gr_tables.specs.NamedGoroutines.{At, IsCounted, seen_at}
 use Rattle.gr_step.specs.declared.objects.Objects.{Objects}
-use Rattle.gr_step.specs.declared.record.Operation.TheVariants.{SendsOn}
-use Rattle.gr_step.specs.Effects.{Effect}
+use Rattle.gr_record.specs.declared.record.Operation.TheVariants.{SendsOn}
+use Rattle.gr_record.specs.Effects.{Effect}
 use Rattle.gr_step.specs.Beyonds.{Stops}
-use Rattle.gr_step.specs.Listings.{frame_in}
+use Rattle.gr_record.specs.Listings.{frame_in}
 use Rattle.gr_step.specs.Objects.{contents_in}
 use Rattle.gr_step.specs.Premises.{Acting, OfActor}
-use Rattle.gr_step.specs.Taking.{Takes}
+use Rattle.gr_record.specs.Taking.{Takes}
 use Rattle.gr_step.specs.Communicating.{TrialIsSound}
 use Rattle.gr_step.proofs.ArriveLemmas.{at_number}
 use Rattle.gr_step.proofs.FaultSteps.{fault_takes}

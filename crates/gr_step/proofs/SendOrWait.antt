@@ -21,11 +21,11 @@ use Rattle.gr_contents.proofs.PerformingLemmas.{same_end_same_step}
 use Rattle.gr_contents.proofs.TaskLemmas.{attempt_is_of_the_rule}
 use Rattle.gr_lower.specs.Lowered.{lowered, meaning}
 use Rattle.gr_step.specs.declared.objects.Objects.{Objects}
-use Rattle.gr_step.specs.Effects.{Effect}
-use Rattle.gr_step.specs.Listings.{frame_in}
+use Rattle.gr_record.specs.Effects.{Effect}
+use Rattle.gr_record.specs.Listings.{frame_in}
 use Rattle.gr_step.specs.Objects.{contents_in}
 use Rattle.gr_step.specs.Premises.{Acting, OfGoroutine, OfActor}
-use Rattle.gr_step.specs.Taking.{Takes}
+use Rattle.gr_record.specs.Taking.{Takes}
 use Rattle.gr_step.specs.Communicating.{Trial, TrialIsSound, Tried}
 use Rattle.gr_step.proofs.RunningLemmas.{code_fits, never_unsound, acts_here}
 use Rattle.gr_step.proofs.EventLemmas.{some_is}

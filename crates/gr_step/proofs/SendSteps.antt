@@ -30,10 +30,10 @@ use Rattle.gr_contents.proofs.MeetingLemmas.{leaving_receivers_is_thin}
 use Rattle.gr_lower.specs.Lowered.{lowered}
 use Rattle.gr_goros.specs.declared.undo.GoUndo.{GoUndo}
 use Rattle.gr_tables.specs.NamedChannels.{chan_back, ChansFit, withdrawn}
-use Rattle.gr_step.specs.Effects.{Effect}
-use Rattle.gr_step.specs.Listings.{frame_in, state_in}
-use Rattle.gr_step.specs.Premises.{Running}
-use Rattle.gr_step.specs.Taking.{Takes}
+use Rattle.gr_record.specs.Effects.{Effect}
+use Rattle.gr_record.specs.Listings.{frame_in, state_in}
+use Rattle.gr_record.specs.Running.{Running}
+use Rattle.gr_record.specs.Taking.{Takes}
 use Rattle.gr_step.specs.Passing.{ArrivesAt, Tells}
 use Rattle.gr_step.specs.Preparing.{AreToLeave}
 use Rattle.gr_step.proofs.AloneLemmas.{receiver_alone}

@@ -26,8 +26,8 @@ use Rattle.gr_contents.specs.Standing.{AllStand}
 use Rattle.gr_lower.specs.Lowered.{lowered, meaning}
 use Rattle.type_safety.specs.Standing.{ClausesSend, WorkSends, FrameSends}
 use Rattle.type_safety.proofs.CheckedRuns.{checked_sends}
-use Rattle.gr_step.specs.Listings.{frame_in, state_in}
-use Rattle.gr_step.specs.Premises.{Running}
+use Rattle.gr_record.specs.Listings.{frame_in, state_in}
+use Rattle.gr_record.specs.Running.{Running}
 use Rattle.gr_step.proofs.RunningLemmas.{code_fits}
 
 -- an instruction at a spot, whose variables and temporaries stand in one vector

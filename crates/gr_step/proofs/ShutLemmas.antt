@@ -26,8 +26,8 @@ use Rattle.gr_contents.specs.Partners.{is_waiting, known_as, waiters_in}
 use Rattle.gr_contents.proofs.NameLemmas.{go_is, channel_self}
 use Rattle.gr_contents.proofs.MeetingLemmas.{named, nobody_leaves}
 use Rattle.gr_contents.proofs.OrderLemmas.{waking_in_turn}
-use Rattle.gr_step.specs.Listings.{frame_in, state_in}
-use Rattle.gr_step.specs.Premises.{Running}
+use Rattle.gr_record.specs.Listings.{frame_in, state_in}
+use Rattle.gr_record.specs.Running.{Running}
 use Rattle.gr_step.specs.Wakes.{waits_known, all_waits_known, without_one, without_each, is_live_there, with_each_woken}
 use Rattle.gr_step.proofs.RunningLemmas.{waits_sound}
 

@@ -22,8 +22,8 @@ use Rattle.gr_tables.specs.declared.goroutines.Goroutines.{Goroutines}
 use Rattle.gr_lower.specs.Lowered.{lowered, meaning}
 use Rattle.type_safety.proofs.CheckedRuns.{checked_begins}
 use Rattle.type_safety.proofs.CodeOfPrograms.{checked_fits}
-use Rattle.gr_step.specs.Listings.{state_in}
-use Rattle.gr_step.specs.Premises.{IsChecked, Running}
+use Rattle.gr_record.specs.Listings.{state_in}
+use Rattle.gr_record.specs.Running.{IsChecked, Running}
 use Rattle.gr_step.proofs.ObjectLemmas.{set_goroutines}
 
 some_not : {X : Type 0} {x : X} → Some x ≡ None → ⊥

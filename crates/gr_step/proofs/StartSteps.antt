@@ -36,16 +36,16 @@ use Rattle.gr_contents.proofs.StartingLemmas.{entered_is_ruled}
 use Rattle.gr_lower.specs.Lowered.{lowered, meaning}
 use Rattle.gr_step.specs.Beyonds.{ReachesChild, Stops}
 use Rattle.gr_step.specs.declared.objects.Objects.{Objects}
-use Rattle.gr_step.specs.declared.record.Beyond.{Beyond}
-use Rattle.gr_step.specs.Effects.{Effect}
-use Rattle.gr_step.specs.Listings.{frame_in, state_in}
+use Rattle.gr_record.specs.declared.record.Beyond.{Beyond}
+use Rattle.gr_record.specs.Effects.{Effect}
+use Rattle.gr_record.specs.Listings.{frame_in, state_in}
 use Rattle.gr_step.specs.Objects.{contents_in, run_of}
 use Rattle.gr_step.specs.Premises.{Acting}
-use Rattle.gr_step.specs.Parts.{reads_in}
-use Rattle.gr_step.specs.Records.{operation_of, beyond, stops, go_back, goroutines_changed, channels_changed, is_go, writes_of, reads_of}
-use Rattle.gr_step.specs.Records.{is_channel, taken_back, GoFitsAt, GoesFit, NeedNoFrame, CanGoBack}
-use Rattle.gr_step.specs.Within.{IsAmong, EachIsAmong, PartsAreAmong, ChangesWithin}
-use Rattle.gr_step.specs.Taking.{Takes}
+use Rattle.gr_record.specs.Parts.{reads_in}
+use Rattle.gr_record.specs.Records.{operation_of, beyond, stops, go_back, goroutines_changed, channels_changed, is_go, writes_of, reads_of}
+use Rattle.gr_record.specs.Records.{is_channel, taken_back, GoFitsAt, GoesFit, NeedNoFrame, CanGoBack}
+use Rattle.gr_record.specs.Within.{IsAmong, EachIsAmong, PartsAreAmong, ChangesWithin}
+use Rattle.gr_record.specs.Taking.{Takes}
 use Rattle.gr_step.proofs.ArrivedLemmas.{Arrived, arrived_from}
 use Rattle.gr_step.proofs.FaultSteps.{task_faults}
 use Rattle.gr_step.proofs.InsideLemmas.{some_is, own_is_written, first_among, more_before}

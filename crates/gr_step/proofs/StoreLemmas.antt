@@ -9,10 +9,10 @@ use Rattle.gr_rules.specs.Steps.{attempt, machine}
 use Rattle.gr_contents.specs.Contents.{Contents}
 use Rattle.gr_contents.specs.Machines.{note_of}
 use Rattle.gr_contents.proofs.AttemptLemmas.{step_is_of_the_machine}
-use Rattle.gr_step.specs.Effects.{Effect}
-use Rattle.gr_step.specs.Listings.{frame_in, state_in}
-use Rattle.gr_step.specs.Premises.{Running}
-use Rattle.gr_step.specs.Taking.{Takes}
+use Rattle.gr_record.specs.Effects.{Effect}
+use Rattle.gr_record.specs.Listings.{frame_in, state_in}
+use Rattle.gr_record.specs.Running.{Running}
+use Rattle.gr_record.specs.Taking.{Takes}
 
 pub runs_on : (p : Program) (e : Event) (s t : Contents) (c : Effect) → Running p s → Takes p e (attempt p e) s c t → Running p t
 runs_on p e s t c run takes =

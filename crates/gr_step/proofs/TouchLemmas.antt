@@ -17,7 +17,7 @@ use Rattle.gr_laws.specs.Touched.{each_once}
 use Rattle.gr_code.specs.Goroutines.{CodeGoroutine}
 use Rattle.gr_contents.specs.Contents.{Contents, goroutine_of}
 use Rattle.gr_contents.proofs.NameLemmas.{channel_self}
-use Rattle.gr_step.specs.Listings.{frame_in, state_in}
+use Rattle.gr_record.specs.Listings.{frame_in, state_in}
 
 -- an object of another sort stands among no gates, and among no slots
 no_run_gates : (cs : List ChName) → list_any (same Run) (map Gate cs) ≡ false

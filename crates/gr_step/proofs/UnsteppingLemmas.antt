@@ -16,7 +16,7 @@ use Rattle.gr_tables.specs.declared.channels.Channels.{Channels}
 use Rattle.gr_tables.specs.declared.goroutines.Goroutines.{Goroutines}
 use Rattle.gr_tables.proofs.BackInOrder.{back_at-append, AllFit-first, AllFit-second}
 use Rattle.gr_tables.proofs.ByNumber.{seen_named}
-use Rattle.gr_step.specs.Records.{go_undone, go_back, GoFitsAt, GoesFit, NeedNoFrame, is_go, is_channel}
+use Rattle.gr_record.specs.Records.{go_undone, go_back, GoFitsAt, GoesFit, NeedNoFrame, is_go, is_channel}
 use Rattle.gr_step.proofs.ObjectLemmas.{set_goroutines, change_was, change_is}
 
 -- what is true of the content of a goroutine that is there

@@ -19,9 +19,9 @@ use Rattle.gr_contents.specs.Tasks.{chooses}
 use Rattle.gr_goros.specs.Needs.{SelectsIn}
 use Rattle.gr_lower.specs.Lowered.{lowered}
 use Rattle.gr_step.specs.Choices.{IsAtSelect, HasNoChoice, ready_from, choice_without, first_of}
-use Rattle.gr_step.specs.Listings.{state_in}
+use Rattle.gr_record.specs.Listings.{state_in}
 use Rattle.gr_step.specs.Possible.{arm_given, goes_by, is_default, first_going, usual_of}
-use Rattle.gr_step.specs.Premises.{Running}
+use Rattle.gr_record.specs.Running.{Running}
 use Rattle.gr_step.proofs.MayLemmas.{usual_is}
 use Rattle.gr_step.proofs.NoChoiceLemmas.{none_other}
 use Rattle.gr_step.proofs.PossibleLemmas.{AreClauses, no_clause, clause, have, has_default, all_given, no_clauses, innermost, task_of_arms}

@@ -28,9 +28,9 @@ use Rattle.gr_contents.specs.Looks.{actor_of}
 use Rattle.gr_contents.specs.Performing.{reported}
 use Rattle.gr_contents.proofs.TaskLemmas.{deed_is}
 use Rattle.gr_lower.specs.Lowered.{lowered, meaning}
-use Rattle.gr_step.specs.Listings.{frame_in, state_in}
+use Rattle.gr_record.specs.Listings.{frame_in, state_in}
 use Rattle.gr_step.specs.Parks.{with_channels, gates_of}
-use Rattle.gr_step.specs.Premises.{Running}
+use Rattle.gr_record.specs.Running.{Running}
 use Rattle.gr_step.proofs.EachOnce.{AlikeFor, alike_after}
 use Rattle.gr_step.proofs.RunningLemmas.{code_fits}
 

@@ -27,8 +27,8 @@ use Rattle.gr_contents.proofs.ArrivingLemmas.{here, at_here}
 use Rattle.gr_contents.proofs.StartingLemmas.{meeting_arrives, meeting_can_arrive}
 use Rattle.gr_lower.specs.Lowered.{lowered, meaning}
 use Rattle.type_safety.specs.Standing.{StandsAt, at_operation, at_select, StandsAs, waits}
-use Rattle.gr_step.specs.Listings.{frame_in}
-use Rattle.gr_step.specs.Premises.{Running}
+use Rattle.gr_record.specs.Listings.{frame_in}
+use Rattle.gr_record.specs.Running.{Running}
 use Rattle.gr_step.proofs.RunningLemmas.{code_fits, waits_sound, stands_as}
 
 -- the clause of a wait

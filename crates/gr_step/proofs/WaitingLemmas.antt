@@ -47,23 +47,24 @@ use Rattle.gr_lower.specs.Lowered.{lowered, meaning}
 use Rattle.gr_tables.specs.NamedGoroutines.{seen_at, goroutines_of, At, CanPark, ChangesBy, ComesTo}
 use Rattle.gr_tables.specs.NamedChannels.{contents_of, chan_back, GoesBack}
 use Rattle.gr_step.specs.declared.objects.Objects.{Objects}
-use Rattle.gr_step.specs.Effects.{Effect}
-use Rattle.gr_step.specs.declared.record.Operation.{Operation}
-use Rattle.gr_step.specs.declared.record.Operation.TheVariants.{SendsOn, ReceivesFrom}
-use Rattle.gr_step.specs.declared.record.Touched.{Touched}
-use Rattle.gr_step.specs.declared.record.Parts.TheVariants as parts
-use Rattle.gr_step.specs.declared.record.Form.TheVariants.{Waits}
-use Rattle.gr_step.specs.Effects.{effect_in}
-use Rattle.gr_step.specs.Parts.{channel_on, AreTouched}
+use Rattle.gr_record.specs.Effects.{Effect}
+use Rattle.gr_record.specs.declared.record.Operation.{Operation}
+use Rattle.gr_record.specs.declared.record.Operation.TheVariants.{SendsOn, ReceivesFrom}
+use Rattle.gr_record.specs.declared.record.Touched.{Touched}
+use Rattle.gr_record.specs.declared.record.Parts.TheVariants as parts
+use Rattle.gr_record.specs.declared.record.Form.TheVariants.{Waits}
+use Rattle.gr_record.specs.Effects.{effect_in}
+use Rattle.gr_record.specs.Parts.{channel_on, AreTouched}
 use Rattle.gr_goros.specs.declared.undo.GoUndo.TheVariants.{Parked}
 use Rattle.gr_goros.specs.declared.undo.Spot.{Spot}
 use Rattle.gr_channels.specs.declared.changes.ChanUndo.TheVariants.{ParkedSender, ParkedReceiver}
-use Rattle.gr_step.specs.Listings.{frame_in, state_in}
+use Rattle.gr_record.specs.Listings.{frame_in, state_in}
 use Rattle.gr_step.specs.Objects.{run_of, contents_in}
-use Rattle.gr_step.specs.Records.{operation_of, HasRoom, go_back, GoesFit, NeedNoFrame, CanGoBack, taken_back, is_go, is_channel, goroutines_changed, channels_changed, writes_of, reads_of}
+use Rattle.gr_record.specs.Records.{operation_of, go_back, GoesFit, NeedNoFrame, CanGoBack, taken_back, is_go, is_channel, goroutines_changed, channels_changed, writes_of, reads_of}
+use Rattle.gr_step.specs.Room.{HasRoom}
 use Rattle.gr_step.specs.Premises.{Acting, OfGoroutine, OfActor}
-use Rattle.gr_step.specs.Within.{IsAmong, EachIsAmong, ChangesWithin}
-use Rattle.gr_step.specs.Taking.{Takes}
+use Rattle.gr_record.specs.Within.{IsAmong, EachIsAmong, ChangesWithin}
+use Rattle.gr_record.specs.Taking.{Takes}
 use Rattle.gr_step.specs.Parks.{pending_of, channels_awaited, with_channels, queued_for, queued, AreMade, gates_of, Parks}
 use Rattle.gr_step.proofs.InsideLemmas.{own_is_written, gate_of_name, named_in, gates_named, gates_inside, more_before}
 use Rattle.gr_step.proofs.ChoosingLemmas.{are_channels}

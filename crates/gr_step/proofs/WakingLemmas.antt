@@ -27,7 +27,7 @@ use Rattle.gr_channels.specs.declared.changes.ChanUndo.{ChanUndo}
 use Rattle.gr_contents.proofs.MeetingLemmas.{named}
 use Rattle.gr_step.proofs.InsideLemmas.{or_true, gates_widen}
 use Rattle.gr_tables.proofs.BackInOrder.{back_at-append, AllFit-join}
-use Rattle.gr_step.specs.Records.{go_undone, go_back, GoFitsAt, NeedNoFrame}
+use Rattle.gr_record.specs.Records.{go_undone, go_back, GoFitsAt, NeedNoFrame}
 use Rattle.gr_step.specs.Wakes.{waits_known, all_waits_known, left_by_close, without_one, without_each, is_live_there, with_one_woken, with_each_woken, LeadsOver}
 use Rattle.gr_step.proofs.Queueing.{first_left}
 

@@ -16,11 +16,11 @@ use Rattle.gr_tables.specs.declared.goroutines.Goroutines.{Goroutines}
 use Rattle.gr_step.specs.declared.objects.Objects.{Objects}
 use Rattle.gr_step.specs.declared.objects.Run.{Run}
 use Rattle.gr_step.specs.declared.objects.Run.TheVariants.{Ended, Faulted}
-use Rattle.gr_step.specs.declared.record.Operation.{Operation}
-use Rattle.gr_step.specs.declared.record.Beyond.{Beyond}
-use Rattle.gr_step.specs.Effects.{Effect}
-use Rattle.gr_step.specs.Fews.{members}
-use Rattle.gr_step.specs.Parts.{reads_in, writes_in, begun_in, made_in}
+use Rattle.gr_record.specs.declared.record.Operation.{Operation}
+use Rattle.gr_record.specs.declared.record.Beyond.{Beyond}
+use Rattle.gr_record.specs.Effects.{Effect}
+use Rattle.gr_record.specs.Fews.{members}
+use Rattle.gr_record.specs.Parts.{reads_in, writes_in, begun_in, made_in}
 
 -- it did this with a channel, read these and wrote these, started and made these, ended or stopped the program or not, and reached
 -- nothing else

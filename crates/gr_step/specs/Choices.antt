@@ -26,7 +26,7 @@ use Rattle.gr_goros.specs.Needs.{is_select_in, SelectsIn}
 use Rattle.gr_goros.specs.declared.needs.Clause.{Clause}
 use Rattle.gr_goros.specs.declared.needs.Clause.TheVariants as clauses
 use Rattle.gr_lower.specs.Lowered.{lowered}
-use Rattle.gr_step.specs.Listings.{frame_in, state_in}
+use Rattle.gr_record.specs.Listings.{frame_in, state_in}
 
 -- in a program that runs, the goroutine stands ready at a select with these clauses
 pub record Selects (p : Program) (s : Contents) (n : List ℕ) (ws : List Communication) : Type 0 where

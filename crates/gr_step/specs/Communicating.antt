@@ -15,10 +15,10 @@ use Rattle.gr_contents.specs.Contents.{Contents}
 use Rattle.gr_contents.specs.Leaves.{Refuses}
 use Rattle.gr_contents.specs.Looks.{Ends}
 use Rattle.gr_contents.specs.Presence.{Sound}
-use Rattle.gr_step.specs.Effects.{Effect}
-use Rattle.gr_step.specs.Listings.{frame_in, state_in}
+use Rattle.gr_record.specs.Effects.{Effect}
+use Rattle.gr_record.specs.Listings.{frame_in, state_in}
 use Rattle.gr_step.specs.Premises.{OfActor}
-use Rattle.gr_step.specs.Taking.{Takes}
+use Rattle.gr_record.specs.Taking.{Takes}
 
 -- what is attempted, and what else where that cannot proceed
 abbrev pub Trial : Type 0

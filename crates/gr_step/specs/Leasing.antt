@@ -16,13 +16,13 @@ use Rattle.gr_goros.specs.Undoing.{undone, Fits}
 use Rattle.gr_lower.specs.Lowered.{lowered}
 use Rattle.gr_step.specs.declared.leasing.Batch.{Batch}
 use Rattle.gr_step.specs.declared.leasing.Lease.{Lease}
-use Rattle.gr_step.specs.Effects.{Effect}
-use Rattle.gr_step.specs.declared.record.Record.{Record}
+use Rattle.gr_record.specs.Effects.{Effect}
+use Rattle.gr_record.specs.declared.record.Record.{Record}
 use Rattle.gr_step.specs.declared.store.Store.{Store}
-use Rattle.gr_step.specs.Listings.{program_in, IsCoded}
-use Rattle.gr_step.specs.Premises.{Running}
+use Rattle.gr_record.specs.Listings.{program_in, IsCoded}
+use Rattle.gr_record.specs.Running.{Running}
 use Rattle.gr_step.specs.Stores.{program_at, contents_at}
-use Rattle.gr_step.specs.Taking.{IsRecord}
+use Rattle.gr_record.specs.Taking.{IsRecord}
 
 -- the goroutine goes on by a step that reaches no further than itself and is no fault; the change tells how it goes back
 pub record GoesAlone (code : ProgramCode) (g : CodeGoroutine) (c : Effect) (h : CodeGoroutine) : Type 0 where

@@ -1,15 +1,10 @@
--- What a store is, what its steps leave in records, and how they are taken back.
-pub mod Listings
+-- What a store is, when it takes a step, and how one is taken back.
 pub mod Objects
-pub mod Fews
-pub mod Parts
-pub mod Effects
-pub mod Records
+pub mod Room
+pub mod Refusals
 pub mod Premises
 pub mod Beyonds
 pub mod Passing
-pub mod Within
-pub mod Taking
 pub mod Communicating
 pub mod Parks
 pub mod Wakes
@@ -20,6 +15,4 @@ pub mod Stores
 pub mod Possible
 pub mod Picks
 pub mod Unstepping
-pub mod Kept
-pub mod Conflicts
 pub mod Leasing

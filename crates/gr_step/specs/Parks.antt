@@ -24,9 +24,9 @@ use Rattle.gr_contents.specs.Waiting.{parked_for}
 use Rattle.gr_tables.specs.NamedChannels.{contents_of, AreAtGates, GoesBack}
 use Rattle.gr_tables.specs.NamedGoroutines.{ChangesBy, ComesTo}
 use Rattle.gr_step.specs.declared.objects.Objects.{Objects}
-use Rattle.gr_step.specs.Effects.{Effect}
-use Rattle.gr_step.specs.declared.record.Operation.{Operation}
-use Rattle.gr_step.specs.Records.{operation_of, operation_in, writes_of, reads_of, stops, goroutines_changed, channels_changed, begun_by, made_by}
+use Rattle.gr_record.specs.Effects.{Effect}
+use Rattle.gr_record.specs.declared.record.Operation.{Operation}
+use Rattle.gr_record.specs.Records.{operation_of, operation_in, writes_of, reads_of, stops, goroutines_changed, channels_changed, begun_by, made_by}
 
 -- what is waited for, as the rules say it: each communication with the number of its clause, where it is one of a select
 abbrev pub pending_of : List (Option ℕ × Clause) → List (Option ℕ × Communication)

@@ -16,8 +16,8 @@ use Rattle.gr_tables.specs.NamedChannels as channels
 use Rattle.gr_tables.specs.NamedChannels.{contents_of, withdrawn, ChansFit, HasRooms, Follows, MoreAtGates}
 use Rattle.gr_tables.specs.NamedGoroutines.{At, goroutines_of}
 use Rattle.gr_step.specs.declared.objects.Objects.{Objects}
-use Rattle.gr_step.specs.Effects.{Effect}
-use Rattle.gr_step.specs.Records.{operation_in, stops, writes_of, reads_of, goroutines_changed, channels_changed, begun_by, made_by, NeedNoFrame, FramesStay}
+use Rattle.gr_record.specs.Effects.{Effect}
+use Rattle.gr_record.specs.Records.{operation_in, stops, writes_of, reads_of, goroutines_changed, channels_changed, begun_by, made_by, NeedNoFrame, FramesStay}
 
 -- what arrives fits the instruction of the goroutine that is there
 abbrev pub CanArriveAt : ProgramCode → Arrival → Option CodeGoroutine → Type 0

@@ -19,7 +19,7 @@ use Rattle.gr_contents.specs.Looks.{Ends}
 use Rattle.gr_goros.specs.Needs.{clause_by}
 use Rattle.gr_lower.specs.Lowered.{lowered}
 use Rattle.gr_step.specs.declared.picking.Picked.{Picked}
-use Rattle.gr_step.specs.Listings.{frame_in}
+use Rattle.gr_record.specs.Listings.{frame_in}
 use Rattle.gr_step.specs.Possible.{arm_at}
 use Rattle.gr_step.specs.Premises.{OfGoroutine, OfActor}
 

@@ -1,36 +1,21 @@
 -- What is asked of a store and of what takes a step.
-use Rattle.std.specs.Prelude.{◌≡◌, ◌+◌, ◌<◌, ◌^◌, ℕ, List, [], ◌∷◌, Some}
+use Rattle.std.specs.Prelude.{◌≡◌, ◌+◌, ◌<◌, ◌^◌, ℕ, List, ◌∷◌, Some}
 use Rattle.gr_base.specs.declared.names.ChName.{ChName}
 use Rattle.gr_base.specs.declared.events.Event.{Event}
 use Rattle.gr_channels.specs.Channels.{Content, CanEnter}
-use Rattle.gr_tree.specs.Files.{FileTree}
 use Rattle.gr_program.specs.Programs.{Program}
-use Rattle.gr_typing.specs.FileChecks.{ProgramOf}
 use Rattle.gr_rules.specs.Goroutines.{ready}
 use Rattle.gr_rules.specs.States.{live}
 use Rattle.gr_rules.specs.Actors.{Actor}
-use Rattle.gr_laws.specs.Reached.{Reached}
 use Rattle.gr_code.specs.CodeFrames.{CodeFrame}
 use Rattle.gr_code.specs.Goroutines.{CodeGoroutine}
 use Rattle.gr_contents.specs.Contents.{Contents}
 use Rattle.gr_contents.specs.Looks.{actor_of}
-use Rattle.gr_contents.specs.Standing.{ContentsStand}
-use Rattle.gr_lower.specs.Lowered.{lowered, meaning}
 use Rattle.gr_tables.specs.NamedGoroutines.{name_at}
 use Rattle.gr_step.specs.declared.objects.Objects.{Objects}
-use Rattle.gr_step.specs.Listings.{frame_in, state_in}
+use Rattle.gr_record.specs.Listings.{frame_in}
 use Rattle.gr_step.specs.Objects.{contents_in}
-
--- the program of a file that meets the rules of the language
-pub record IsChecked (p : Program) : Type 0 where
-  pub file : FileTree
-  pub checked : ProgramOf file p
-
--- contents to which some run of a checked program leads, in frames of its code
-pub record Running (p : Program) (s : Contents) : Type 0 where
-  pub program : IsChecked p
-  pub reached : Reached p (state_in p s)
-  pub stand : ContentsStand (meaning p) (lowered p) s
+use Rattle.gr_record.specs.Running.{Running}
 
 -- no count of steps, and of values that entered or left a buffer, passes the greatest number of 64 bits in one more step
 pub record CanCount (s : Contents) : Type 0 where

@@ -17,12 +17,12 @@ use Rattle.gr_goros.specs.declared.undo.GoUndo.{GoUndo}
 use Rattle.gr_tables.specs.NamedChannels.{contents_of, rooms_of, ChansFit, HasRooms}
 use Rattle.gr_tables.specs.NamedGoroutines.{At, goroutines_of, name_at}
 use Rattle.gr_step.specs.declared.objects.Objects.{Objects}
-use Rattle.gr_step.specs.declared.record.Beyond.{Beyond}
-use Rattle.gr_step.specs.Effects.{Effect}
+use Rattle.gr_record.specs.declared.record.Beyond.{Beyond}
+use Rattle.gr_record.specs.Effects.{Effect}
 use Rattle.gr_step.specs.declared.partners.Prepared.{Prepared}
-use Rattle.gr_step.specs.Fews.{members}
-use Rattle.gr_step.specs.Parts.{reads_in, writes_in, begun_in, made_in}
-use Rattle.gr_step.specs.Records.{operation_of}
+use Rattle.gr_record.specs.Fews.{members}
+use Rattle.gr_record.specs.Parts.{reads_in, writes_in, begun_in, made_in}
+use Rattle.gr_record.specs.Records.{operation_of}
 use Rattle.gr_step.specs.Passing.{CanArriveAt, ArrivesAt, Tells, Exchanges}
 
 -- it tells of these, and of no change yet

@@ -13,15 +13,16 @@ use Rattle.gr_goros.specs.Needs.{NeedIs}
 use Rattle.gr_goros.specs.declared.needs.Need.{Need}
 use Rattle.gr_lower.specs.Lowered.{lowered}
 use Rattle.gr_tables.specs.NamedGoroutines.{name_at}
-use Rattle.gr_step.specs.declared.listing.Listing.{Listing}
+use Rattle.gr_record.specs.declared.listing.Listing.{Listing}
 use Rattle.gr_step.specs.declared.objects.Objects.{Objects}
-use Rattle.gr_step.specs.Effects.{Effect}
+use Rattle.gr_record.specs.Effects.{Effect}
 use Rattle.gr_step.specs.declared.refusal.StepRefused.{StepRefused}
 use Rattle.gr_step.specs.declared.stepping.Ready.{Ready}
-use Rattle.gr_step.specs.Listings.{program_in, state_in}
+use Rattle.gr_record.specs.Listings.{program_in, state_in}
 use Rattle.gr_step.specs.Objects.{contents_in}
 use Rattle.gr_step.specs.Premises.{OfGoroutine}
-use Rattle.gr_step.specs.Taking.{SaysWhy, Takes}
+use Rattle.gr_step.specs.Refusals.{SaysWhy}
+use Rattle.gr_record.specs.Taking.{Takes}
 
 -- the goroutine of an event is ready, in a program that runs; this is its number, and the ordinal of its next step
 pub record IsReady (e : Event) (o : Objects) (r : Ready) : Type 0 where

@@ -4,14 +4,14 @@ use Rattle.gr_base.specs.declared.events.Event.{Event}
 use Rattle.gr_program.specs.Programs.{Program}
 use Rattle.gr_rules.specs.States.{State, start}
 use Rattle.gr_contents.specs.Contents.{Contents}
-use Rattle.gr_step.specs.declared.listing.Listing.{Listing}
+use Rattle.gr_record.specs.declared.listing.Listing.{Listing}
 use Rattle.gr_step.specs.declared.objects.Objects.{Objects}
 use Rattle.gr_step.specs.declared.store.Store.{Store}
-use Rattle.gr_step.specs.declared.record.Record.{Record}
-use Rattle.gr_step.specs.Listings.{program_in, state_in, IsCoded}
+use Rattle.gr_record.specs.declared.record.Record.{Record}
+use Rattle.gr_record.specs.Listings.{program_in, state_in, IsCoded}
 use Rattle.gr_step.specs.Objects.{contents_in}
-use Rattle.gr_step.specs.Records.{HasRoom}
-use Rattle.gr_step.specs.Premises.{Running}
+use Rattle.gr_step.specs.Room.{HasRoom}
+use Rattle.gr_record.specs.Running.{Running}
 
 -- the program that runs, what the store contains, and the state of the rules that this is
 abbrev pub program_at : Store → Program

@@ -9,9 +9,9 @@ use Rattle.gr_tables.specs.NamedGoroutines.{goroutines_of}
 use Rattle.gr_tables.specs.declared.channels.Channels.{Channels}
 use Rattle.gr_tables.specs.declared.goroutines.Goroutines.{Goroutines}
 use Rattle.gr_step.specs.declared.objects.Objects.{Objects}
-use Rattle.gr_step.specs.Effects.{Effect}
+use Rattle.gr_record.specs.Effects.{Effect}
 use Rattle.gr_step.specs.Objects.{contents_in}
-use Rattle.gr_step.specs.Records.{taken_back, go_back, is_go, is_channel}
+use Rattle.gr_record.specs.Records.{taken_back, go_back, is_go, is_channel}
 
 -- the goroutines with these changes taken back
 abbrev pub after_back : List (List ℕ × GoUndo) → Goroutines → List ℕ → Option CodeGoroutine

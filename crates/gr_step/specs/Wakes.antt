@@ -23,9 +23,9 @@ use Rattle.gr_contents.specs.Partners.{waits_in}
 use Rattle.gr_tables.specs.NamedChannels.{contents_of, withdrawn, once_closed, AreAtGates, GoesBack}
 use Rattle.gr_tables.specs.NamedGoroutines.{goroutines_of}
 use Rattle.gr_step.specs.declared.objects.Objects.{Objects}
-use Rattle.gr_step.specs.Effects.{Effect}
+use Rattle.gr_record.specs.Effects.{Effect}
 use Rattle.gr_step.specs.Passing.{ArrivesAt, Tells}
-use Rattle.gr_step.specs.Records.{go_back, GoesFit, NeedNoFrame}
+use Rattle.gr_record.specs.Records.{go_back, GoesFit, NeedNoFrame}
 
 -- what a goroutine waits for, and what these wait for, one after the other
 abbrev pub waits_known : Option CodeGoroutine → List Wait

@@ -7,18 +7,18 @@ ghost use Rattle.gr_rules.specs.Steps.{refusal};
 ghost use Rattle.gr_code.specs.CodeViews.{arm_of, arms_of, operand_of};
 ghost use Rattle.gr_contents.specs.Attempting.{is_plain as is_no_choice};
 ghost use Rattle.gr_goros.specs.Needs.{one_channel};
-ghost use Rattle.gr_step.specs.Listings.{program_in, state_in, IsCoded};
+ghost use Rattle.gr_record.specs.Listings.{program_in, state_in, IsCoded};
 ghost use Rattle.gr_step.specs.Objects.{contents_in};
 ghost use Rattle.gr_step.specs.Possible.{is_given, channel_given, arm_given, arm_goes, is_default, arm_at, arms_go};
 ghost use Rattle.gr_step.specs.Premises.{Acting};
 
 use crate::choosing::{can_receive, can_send};
-use crate::listing::Listing;
 use crate::objects::Objects;
 use gr_base::{ChName, Choice, Event, Value};
 use gr_code::code::{Arm, Operand};
 use gr_eval::settles;
 use gr_program::Literal;
+use gr_record::Listing;
 
 /// Whether it is no choice.
 fn is_plain(choice: Choice) -> bool

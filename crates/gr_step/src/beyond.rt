@@ -1,17 +1,17 @@
 //! What steps reach beyond their goroutine.
 
-ghost use Rattle.std.specs.Prelude.{◌≡◌, ◌++◌, ◌∷◌, [], List, Some, None, false, map, option_copied, option_map, IfOk};
+ghost use Rattle.std.specs.Prelude.{◌≡◌, ◌++◌, ◌∷◌, [], List, Some, None, false, map, option_map, IfOk};
 ghost use Rattle.gr_base.specs.declared.objects.Object.TheVariants as objects;
 ghost use Rattle.gr_step.specs.Beyonds.{Reaches, ReachesAll};
-ghost use Rattle.gr_step.specs.Effects.{reached_by_passage};
-ghost use Rattle.gr_step.specs.Parts.{begun_in, channel_in, read_by_more, written_by_more, begun_by_more, made_by_more, AreTouched};
+ghost use Rattle.gr_record.specs.Effects.{reached_by_passage};
+ghost use Rattle.gr_record.specs.Parts.{channel_in, read_by_more, written_by_more, begun_by_more, made_by_more, AreTouched};
 ghost use Rattle.gr_step.specs.Preparing.{IsReached};
-ghost use Rattle.gr_step.specs.Records.{operation_of};
+ghost use Rattle.gr_record.specs.Records.{operation_of};
 
-use crate::few::Few;
-use crate::record::{Beyond, Contact, More, Operation, Passage, Touched};
 use crate::touching::{push_gates, untouched};
 use gr_base::{ChName, GoName, NoMemory, Object};
+use gr_record::Few;
+use gr_record::record::{Beyond, Contact, More, Operation, Passage, Touched};
 use std::alloc::Global;
 
 /// What a step reached that did this with a channel, ended or stopped the program or not, met nobody, and changed no channel.
@@ -116,34 +116,22 @@ pub(crate) fn reached_with(
     Ok(Box::new(alloc, beyond)?)
 }
 
-impl Beyond {
-    /// What a step reached that did this with a channel, read these and wrote these, ended or stopped the program or not, and reached
-    /// nothing else.
-    pub(crate) fn new(
-        alloc: Global,
-        operation: Option<Operation>,
-        reads: Vec<Object>,
-        writes: Vec<Object>,
-        stops: bool,
-    ) -> Result<Box<Beyond>, NoMemory>
-        ensures { IfOk result (λ beyond. Reaches operation reads.items writes.items stops beyond.value) }
-    {
-        let more = More {
-            reads,
-            writes,
-            begins: None,
-            makes: None,
-        };
-        with_more(alloc, operation, more, stops)
-    }
-
-    /// The goroutine that it started.
-    pub fn begins(&self) -> Option<&GoName>
-        ensures { option_copied result ≡ begun_in self.now }
-    {
-        match &self.more {
-            Some(more) => more.begins.as_ref(),
-            None => None,
-        }
-    }
+/// What a step reached that did this with a channel, read these and wrote these, ended or stopped the program or not, and reached
+/// nothing else.
+pub(crate) fn reached(
+    alloc: Global,
+    operation: Option<Operation>,
+    reads: Vec<Object>,
+    writes: Vec<Object>,
+    stops: bool,
+) -> Result<Box<Beyond>, NoMemory>
+    ensures { IfOk result (λ beyond. Reaches operation reads.items writes.items stops beyond.value) }
+{
+    let more = More {
+        reads,
+        writes,
+        begins: None,
+        makes: None,
+    };
+    with_more(alloc, operation, more, stops)
 }

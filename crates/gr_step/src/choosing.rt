@@ -6,15 +6,15 @@ ghost use Rattle.gr_rules.specs.Tells.{ready_clauses};
 ghost use Rattle.gr_contents.specs.Partners.{can_send as may_send, can_receive as may_receive, can_proceed as may_proceed};
 ghost use Rattle.gr_goros.specs.Views.{communication_of, communications_of};
 ghost use Rattle.gr_step.specs.Choices.{Selects, IsAtSelect, HasNoChoice, ready_from};
-ghost use Rattle.gr_step.specs.Listings.{program_in, state_in, IsCoded};
+ghost use Rattle.gr_record.specs.Listings.{program_in, state_in, IsCoded};
 ghost use Rattle.gr_step.specs.Objects.{contents_in};
-ghost use Rattle.gr_step.specs.Premises.{Running};
+ghost use Rattle.gr_record.specs.Running.{Running};
 
-use crate::listing::Listing;
 use crate::objects::{Objects, Run};
 use gr_base::{GoName, NoMemory};
 use gr_channels::Channel;
 use gr_goros::{Clause, Goroutine, Need, Status};
+use gr_record::Listing;
 
 /// Whether a send on the channel can proceed, which it can on a closed channel: it is a fault.
 pub(crate) fn can_send(channel: &Channel) -> bool

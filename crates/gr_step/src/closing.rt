@@ -9,7 +9,7 @@ ghost use Rattle.gr_rules.specs.Steps.{attempt};
 ghost use Rattle.gr_code.specs.CodeFrames.{Wants};
 ghost use Rattle.gr_code.specs.Goroutines.{task_of};
 ghost use Rattle.gr_lower.specs.Lowered.{lowered};
-ghost use Rattle.gr_step.specs.Listings.{program_in, IsCoded};
+ghost use Rattle.gr_record.specs.Listings.{program_in, IsCoded};
 ghost use Rattle.gr_step.specs.Objects.{contents_in};
 ghost use Rattle.gr_base.specs.declared.kinds.Fault.TheVariants as faulted;
 ghost use Rattle.gr_base.specs.declared.objects.Object as objects_touched;
@@ -24,23 +24,23 @@ ghost use Rattle.gr_code.specs.Goroutines.{CodeGoroutine, Completion};
 ghost use Rattle.gr_contents.specs.Closing.{waiting_on};
 ghost use Rattle.gr_tables.specs.NamedChannels.{contents_of, At, IsOpen};
 ghost use Rattle.gr_tables.specs.NamedGoroutines.{goroutines_of, name_at, seen_at, CanArrive, IsCounted};
-ghost use Rattle.gr_step.specs.declared.record.Operation.TheVariants as Operation;
+ghost use Rattle.gr_record.specs.declared.record.Operation.TheVariants as Operation;
 ghost use Rattle.gr_step.specs.Beyonds.{Reaches, Stops};
 ghost use Rattle.gr_step.specs.Wakes.{is_live_there, written_by_close, Closing};
-ghost use Rattle.gr_step.specs.Records.{HasRoom};
+ghost use Rattle.gr_step.specs.Room.{HasRoom};
 ghost use Rattle.gr_step.specs.Premises.{Acting, OfGoroutine};
-ghost use Rattle.gr_step.specs.Taking.{Takes};
+ghost use Rattle.gr_record.specs.Taking.{Takes};
 
 use crate::awaiting::waiting_on;
-use crate::few::Few;
-use crate::listing::Listing;
+use crate::beyond::reached;
 use crate::objects::Objects;
-use crate::record::{Beyond, Change, Form, Operation};
 use crate::touching::{gate_side, push_gates};
 use crate::waking::{all_channels, shut, wake_each};
 use gr_base::{ChName, Event, Fault, GoName, Kind, NoMemory, Object};
 use gr_channels::ChanUndo;
 use gr_goros::{Arrival, GoUndo};
+use gr_record::record::{Beyond, Change, Form, Operation};
+use gr_record::{Few, Listing};
 use gr_tables::goroutines::Goroutines;
 use std::alloc::Global;
 
@@ -84,7 +84,7 @@ fn beyond_close(
     let channels = all_channels(alloc, goroutines, channel, names)?;
     let writes = written(alloc, names, &channels)?;
     let operation = Operation::Closes(channel.copy(alloc)?);
-    Beyond::new(alloc, Some(operation), Vec::new(alloc), writes, false)
+    reached(alloc, Some(operation), Vec::new(alloc), writes, false)
 }
 
 /// The change of a close, from what it reaches, with its changes of goroutines and of channels.

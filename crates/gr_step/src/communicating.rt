@@ -17,18 +17,18 @@ ghost use Rattle.gr_contents.specs.Presence.{Sound};
 ghost use Rattle.gr_goros.specs.Views.{communications_of};
 ghost use Rattle.gr_goros.specs.Needs.{NeedIs};
 ghost use Rattle.gr_lower.specs.Lowered.{lowered};
-ghost use Rattle.gr_step.specs.Listings.{program_in, frame_in, state_in, IsCoded};
+ghost use Rattle.gr_record.specs.Listings.{program_in, frame_in, state_in, IsCoded};
 ghost use Rattle.gr_step.specs.Objects.{contents_in};
-ghost use Rattle.gr_step.specs.Records.{HasRoom};
+ghost use Rattle.gr_step.specs.Room.{HasRoom};
 ghost use Rattle.gr_step.specs.Premises.{Acting, OfGoroutine, OfActor};
-ghost use Rattle.gr_step.specs.Taking.{Takes};
+ghost use Rattle.gr_record.specs.Taking.{Takes};
 ghost use Rattle.gr_step.specs.Communicating.{TrialIsSound, Tried};
 
-use crate::listing::Listing;
 use crate::objects::Objects;
-use crate::record::{Change, Operation};
 use crate::touching::gate_side;
 use gr_base::{ChName, Event, Fault, NoMemory, Value};
+use gr_record::Listing;
+use gr_record::record::{Change, Operation};
 
 impl Objects {
     /// Sends a value, as a statement or as the clause of a select with this number, if that can proceed; on a closed channel it is

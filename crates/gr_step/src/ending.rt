@@ -8,18 +8,18 @@ ghost use Rattle.gr_goros.specs.Needs.{NeedIs};
 ghost use Rattle.gr_tables.specs.NamedGoroutines.{At, CanEnd, seen_at};
 ghost use Rattle.gr_step.specs.Beyonds.{HasEnded};
 ghost use Rattle.gr_lower.specs.Lowered.{lowered};
-ghost use Rattle.gr_step.specs.Listings.{program_in, IsCoded};
+ghost use Rattle.gr_record.specs.Listings.{program_in, IsCoded};
 ghost use Rattle.gr_step.specs.Objects.{contents_in};
-ghost use Rattle.gr_step.specs.Records.{HasRoom};
+ghost use Rattle.gr_step.specs.Room.{HasRoom};
 ghost use Rattle.gr_step.specs.Premises.{Acting, OfGoroutine};
-ghost use Rattle.gr_step.specs.Taking.{Takes};
+ghost use Rattle.gr_record.specs.Taking.{Takes};
 
 use crate::faults::stopping;
-use crate::listing::Listing;
 use crate::objects::{Objects, Run};
-use crate::record::{Change, Form};
 use gr_base::{Event, Kind, NoMemory};
 use gr_goros::{Halt, Need};
+use gr_record::Listing;
+use gr_record::record::{Change, Form};
 
 impl Objects {
     /// The goroutine is done, and with that of `main` the program ends (Go: Program execution). Refused, nothing has changed.

@@ -6,13 +6,14 @@ ghost use Rattle.gr_code.specs.Goroutines.{CodeGoroutine};
 ghost use Rattle.gr_goros.specs.Undoing.{Fits, need};
 ghost use Rattle.gr_tables.specs.NamedGoroutines.{At, IsCounted, seen_at, name_at, ChangesBy, TakenBack};
 ghost use Rattle.gr_step.specs.Objects.{contents_in};
-ghost use Rattle.gr_step.specs.Records.{HasRoom};
+ghost use Rattle.gr_step.specs.Room.{HasRoom};
 ghost use Rattle.gr_step.specs.Beyonds.{Reaches, Stops, HasStopped, ChangesObjects};
 
+use crate::beyond::reached;
 use crate::objects::{Objects, Run};
-use crate::record::{Beyond, Change, Form, Operation};
 use gr_base::{Fault, Kind, NoMemory, Object};
 use gr_goros::{GoUndo, Halt};
+use gr_record::record::{Beyond, Change, Form, Operation};
 use std::alloc::Global;
 
 /// What a step that ends or stops the program reaches beyond its goroutine.
@@ -25,7 +26,7 @@ pub(crate) fn stopping(
 {
     let mut writes = Vec::new(alloc);
     writes.push(Object::Run)?;
-    Beyond::new(alloc, operation, reads, writes, true)
+    reached(alloc, operation, reads, writes, true)
 }
 
 impl Objects {

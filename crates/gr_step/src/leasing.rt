@@ -9,17 +9,17 @@ ghost use Rattle.gr_code.specs.Goroutines.{CodeGoroutine};
 ghost use Rattle.gr_contents.specs.Contents.{Contents};
 ghost use Rattle.gr_contents.specs.Partners.{AreChannels};
 ghost use Rattle.gr_lower.specs.Lowered.{lowered};
-ghost use Rattle.gr_step.specs.declared.record.Record.{Record as RecordSeen};
-ghost use Rattle.gr_step.specs.Premises.{Running};
+ghost use Rattle.gr_record.specs.declared.record.Record.{Record as RecordSeen};
+ghost use Rattle.gr_record.specs.Running.{Running};
 ghost use Rattle.gr_contents.specs.Contents.{with_goroutine};
 ghost use Rattle.gr_step.specs.Leasing.{IsLease, SameLoan, LeadsOn, Stays, HasOwnStep, CanCountOn, IsLoanOf, IsUp, IsAsLent, Walk, AreRecords, loan_of, loan_kept, name_lent, records_led, program_lent, goroutine_led_to, goes_alone};
 
-use crate::listing::Listing;
 use crate::objects::Run;
-use crate::record::{Change, Form, Record};
 use crate::store::Store;
 use gr_base::{Choice, GoName, Kind, NoMemory, StepId};
 use gr_goros::{Goroutine, Status};
+use gr_record::Listing;
+use gr_record::record::{Change, Form, Record};
 use std::alloc::Global;
 use std::mem;
 

@@ -1,4 +1,4 @@
-//! The store of a running program: its state, whose steps are those of the rules, and the records by which they are taken back.
+//! The store of a running program: its state, whose steps are those of the rules, and how they are taken back.
 #![tactic(auto)]
 
 mod allowing;
@@ -11,9 +11,7 @@ mod closing;
 mod communicating;
 mod ending;
 mod faults;
-pub mod few;
 pub mod leasing;
-pub mod listing;
 mod local;
 mod making;
 pub mod objects;
@@ -21,7 +19,6 @@ mod partners;
 mod picking;
 mod queues;
 mod receiving;
-pub mod record;
 pub mod refusal;
 mod selecting;
 mod sending;
@@ -34,10 +31,7 @@ mod usual;
 mod waiting;
 mod waking;
 
-pub use few::Few;
 pub use leasing::{Batch, Lease};
-pub use listing::Listing;
 pub use objects::Run;
-pub use record::{Operation, Record};
 pub use refusal::StepRefused;
 pub use store::Store;

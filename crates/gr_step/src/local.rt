@@ -6,16 +6,16 @@ ghost use Rattle.gr_rules.specs.Outcomes.{faults};
 ghost use Rattle.gr_rules.specs.Steps.{attempt};
 ghost use Rattle.gr_code.specs.Goroutines.{task_of, is_local};
 ghost use Rattle.gr_lower.specs.Lowered.{lowered};
-ghost use Rattle.gr_step.specs.Listings.{program_in, IsCoded};
+ghost use Rattle.gr_record.specs.Listings.{program_in, IsCoded};
 ghost use Rattle.gr_step.specs.Objects.{contents_in};
-ghost use Rattle.gr_step.specs.Records.{HasRoom};
+ghost use Rattle.gr_step.specs.Room.{HasRoom};
 ghost use Rattle.gr_step.specs.Premises.{Acting, OfGoroutine};
-ghost use Rattle.gr_step.specs.Taking.{Takes};
+ghost use Rattle.gr_record.specs.Taking.{Takes};
 
-use crate::listing::Listing;
 use crate::objects::Objects;
-use crate::record::{Change, Form};
 use gr_base::{Event, Fault, Kind, NoMemory};
+use gr_record::Listing;
+use gr_record::record::{Change, Form};
 
 impl Objects {
     /// A step that reaches no further than its goroutine; it may be a fault, which stops the program. Refused, nothing has

@@ -17,20 +17,20 @@ ghost use Rattle.gr_code.specs.Goroutines as arrivals;
 ghost use Rattle.gr_tables.specs.NamedGoroutines.{At, Arrives, CanArrive, ChangesBy, seen_at};
 ghost use Rattle.gr_step.specs.Beyonds.{Reaches, ReachesChannel, ReachesChild, IsBadSize, ChangesObjects};
 ghost use Rattle.gr_lower.specs.Lowered.{lowered};
-ghost use Rattle.gr_step.specs.Listings.{program_in, IsCoded};
+ghost use Rattle.gr_record.specs.Listings.{program_in, IsCoded};
 ghost use Rattle.gr_step.specs.Objects.{contents_in};
-ghost use Rattle.gr_step.specs.Records.{HasRoom};
+ghost use Rattle.gr_step.specs.Room.{HasRoom};
 ghost use Rattle.gr_step.specs.Premises.{Acting, OfGoroutine};
-ghost use Rattle.gr_step.specs.Taking.{Takes};
+ghost use Rattle.gr_record.specs.Taking.{Takes};
 
-use crate::beyond::with_more;
-use crate::listing::Listing;
+use crate::beyond::{reached, with_more};
 use crate::objects::Objects;
-use crate::record::{Beyond, Change, Form, More, Operation};
 use crate::touching::gate_side;
 use gr_base::{ChName, Event, Fault, GoName, Kind, NoMemory, Object, Value};
 use gr_channels::Channel;
 use gr_goros::{Arrival, Goroutine};
+use gr_record::Listing;
+use gr_record::record::{Beyond, Change, Form, More, Operation};
 use std::alloc::Global;
 
 /// How many places a channel may have.
@@ -108,7 +108,7 @@ fn read_for_len(alloc: Global, channel: &ChName) -> Result<Vec<Object>, NoMemory
 fn reading(alloc: Global, operation: Operation, reads: Vec<Object>) -> Result<Box<Beyond>, NoMemory>
     ensures { IfOk result (λ beyond. Reaches (Some operation) reads.items [] false beyond.value) }
 {
-    Beyond::new(alloc, Some(operation), reads, Vec::new(alloc), false)
+    reached(alloc, Some(operation), reads, Vec::new(alloc), false)
 }
 
 impl Objects {

@@ -6,21 +6,21 @@ ghost use Rattle.gr_base.specs.declared.events.Choice.TheVariants as choices;
 ghost use Rattle.gr_program.specs.TypeViews.{literal_of};
 ghost use Rattle.gr_rules.specs.Operands.{value_of};
 ghost use Rattle.gr_code.specs.CodeViews.{arm_of, arms_of};
-ghost use Rattle.gr_step.specs.Listings.{program_in, IsCoded};
+ghost use Rattle.gr_record.specs.Listings.{program_in, IsCoded};
 ghost use Rattle.gr_step.specs.Objects.{contents_in};
 ghost use Rattle.gr_step.specs.Picks.{is_send, PicksArm, PicksReceive};
 ghost use Rattle.gr_step.specs.Possible.{arm_at};
 ghost use Rattle.gr_step.specs.Premises.{Acting};
-ghost use Rattle.gr_step.specs.Records.{HasRoom};
+ghost use Rattle.gr_step.specs.Room.{HasRoom};
 ghost use Rattle.gr_step.specs.Stepping.{IsPossible, TakesStep};
 
 use crate::allowing::{arm_with, channel_at};
-use crate::listing::Listing;
 use crate::objects::Objects;
-use crate::record::Change;
 use gr_base::{ChName, Choice, Event, NoMemory, Value};
 use gr_code::code::Arm;
 use gr_program::Literal;
+use gr_record::Listing;
+use gr_record::record::Change;
 use std::alloc::Global;
 
 /// A clause that receives and is picked: its number, counted from 1, its channel, and the zero value of what it receives.

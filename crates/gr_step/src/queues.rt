@@ -10,13 +10,13 @@ ghost use Rattle.gr_rules.specs.Outcomes.{gives};
 ghost use Rattle.gr_goros.specs.Views.{communication_of, wait_of, waits_of};
 ghost use Rattle.gr_rules.specs.Communications as rules;
 ghost use Rattle.gr_tables.specs.NamedChannels.{contents_of, AreAtGates, GoesBack};
-ghost use Rattle.gr_step.specs.Fews.{members};
+ghost use Rattle.gr_record.specs.Fews.{members};
 ghost use Rattle.gr_step.specs.Parks.{pending_of, channels_awaited, queued, queued_for, AreMade, NeedNoRoom};
 
-use crate::few::Few;
 use gr_base::{ChName, GoName, NoMemory, Value};
 use gr_channels::{ChanUndo, Waiter};
 use gr_goros::{Clause, Wait};
+use gr_record::Few;
 use gr_tables::channels::Channels;
 use std::alloc::Global;
 

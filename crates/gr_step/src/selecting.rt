@@ -25,27 +25,28 @@ ghost use Rattle.gr_lower.specs.Lowered.{lowered};
 ghost use Rattle.gr_tables.specs.NamedGoroutines.{At, Arrives, CanArrive, ChangesBy, seen_at};
 ghost use Rattle.gr_step.specs.Beyonds.{ChangesObjects, Reaches, ReachesBeyond};
 ghost use Rattle.gr_step.specs.Choices.{IsFaultOf, LooksAt};
-ghost use Rattle.gr_step.specs.Listings.{program_in, frame_in, IsCoded};
+ghost use Rattle.gr_record.specs.Listings.{program_in, frame_in, IsCoded};
 ghost use Rattle.gr_step.specs.Objects.{contents_in};
-ghost use Rattle.gr_step.specs.Records.{HasRoom};
+ghost use Rattle.gr_step.specs.Room.{HasRoom};
 ghost use Rattle.gr_step.specs.Premises.{Acting, OfGoroutine, OfActor};
-ghost use Rattle.gr_step.specs.Taking.{Takes};
+ghost use Rattle.gr_record.specs.Taking.{Takes};
 ghost use Rattle.gr_step.specs.Communicating.{Chosen};
 
+use crate::beyond::reached;
 use crate::clauses::{default_clause, first_fault, take_clause};
-use crate::listing::Listing;
 use crate::objects::Objects;
-use crate::record::{Beyond, Change, Form};
 use crate::sides::{each_once, sides};
 use gr_base::{Choice, Event, Fault, Kind, NoMemory, Object};
 use gr_goros::{Arrival, Clause};
+use gr_record::Listing;
+use gr_record::record::{Beyond, Change, Form};
 use std::alloc::Global;
 
 /// What a step reaches beyond its goroutine that read these and wrote nothing.
 fn reading(alloc: Global, reads: Vec<Object>) -> Result<Box<Beyond>, NoMemory>
     ensures { IfOk result (λ beyond. Reaches None reads.items [] false beyond.value) }
 {
-    Beyond::new(alloc, None, reads, Vec::new(alloc), false)
+    reached(alloc, None, reads, Vec::new(alloc), false)
 }
 
 impl Objects {

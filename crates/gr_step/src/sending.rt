@@ -9,20 +9,20 @@ ghost use Rattle.gr_code.specs.Programs.{IsClause};
 ghost use Rattle.gr_contents.specs.Arriving.{HasClauseHere};
 ghost use Rattle.gr_lower.specs.Lowered.{lowered};
 ghost use Rattle.gr_tables.specs.NamedChannels.{At, contents_of};
-ghost use Rattle.gr_step.specs.Listings.{program_in, IsCoded};
+ghost use Rattle.gr_record.specs.Listings.{program_in, IsCoded};
 ghost use Rattle.gr_step.specs.Objects.{contents_in};
-ghost use Rattle.gr_step.specs.Records.{HasRoom};
+ghost use Rattle.gr_step.specs.Room.{HasRoom};
 ghost use Rattle.gr_step.specs.Premises.{Acting, OfGoroutine};
 ghost use Rattle.gr_step.specs.Communicating.{TrialIsSound, Tried};
 
 use crate::beyond::passage;
-use crate::listing::Listing;
 use crate::objects::Objects;
-use crate::record::{Change, Contact, Operation};
 use crate::touching::{entered, gate_written};
 use gr_base::{ChName, Event, Kind, NoMemory, Value};
 use gr_channels::Offered;
 use gr_goros::Arrival;
+use gr_record::Listing;
+use gr_record::record::{Change, Contact, Operation};
 
 /// The kind of a communication, which may be that of a clause.
 pub(crate) fn kind_by(clause: Option<u32>, kind: Kind) -> Kind

@@ -4,19 +4,19 @@ ghost use Rattle.std.specs.Prelude.{◌≡◌, true, false, IfOk, IfErr, OnErr};
 ghost use Rattle.gr_base.specs.declared.events.Choice.TheVariants as choices;
 ghost use Rattle.gr_rules.specs.Outcomes.{gives};
 ghost use Rattle.gr_rules.specs.Deeds as deeds;
-ghost use Rattle.gr_step.specs.Listings.{program_in, IsCoded};
+ghost use Rattle.gr_record.specs.Listings.{program_in, IsCoded};
 ghost use Rattle.gr_step.specs.Objects.{contents_in};
-ghost use Rattle.gr_step.specs.Records.{HasRoom};
+ghost use Rattle.gr_step.specs.Room.{HasRoom};
 ghost use Rattle.gr_step.specs.Premises.{Acting, CanCount};
 ghost use Rattle.gr_step.specs.Stepping.{IsReady, IsRefusedFor, AsksNothing, AsksFor, HasNeed, IsPossible, TakesStep};
-ghost use Rattle.gr_step.specs.Taking.{SaysWhy};
+ghost use Rattle.gr_step.specs.Refusals.{SaysWhy};
 
-use crate::listing::Listing;
 use crate::objects::{Objects, Run};
-use crate::record::Change;
 use crate::refusal::StepRefused;
 use gr_base::{ChName, Choice, Event, NoMemory, Value};
 use gr_goros::{Need, Status};
+use gr_record::Listing;
+use gr_record::record::Change;
 
 /// A goroutine that is ready: its number, and the ordinal of its next step.
 #[derive(Clone, Copy)]

@@ -4,11 +4,11 @@ ghost use Rattle.std.specs.Prelude.{◌≡◌, ◌∷◌, [], ◌++◌, List, So
 ghost use Rattle.gr_base.specs.declared.objects.Object.TheVariants as objects;
 ghost use Rattle.gr_channels.specs.Channels.{tail_of};
 ghost use Rattle.gr_rules.specs.Touches.{slot_numbered};
-ghost use Rattle.gr_step.specs.Parts.{slot_before, AreTouched};
+ghost use Rattle.gr_record.specs.Parts.{slot_before, AreTouched};
 
-use crate::record::{Parts, Touched};
 use gr_base::{ChName, NoMemory, Object};
 use gr_channels::Channel;
+use gr_record::record::{Parts, Touched};
 use std::alloc::Global;
 
 /// Adds the slot of a number, if the channel has any.

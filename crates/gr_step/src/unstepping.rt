@@ -4,20 +4,21 @@ ghost use Rattle.std.specs.Prelude.{◌≡◌, ◌≤◌, ◌∷◌, [], if◌th
 ghost use Rattle.gr_goros.specs.Undoing.{need};
 ghost use Rattle.gr_tables.specs.NamedChannels.{contents_of, rooms_of, ChansFit, HasRooms, TookBack, listed};
 ghost use Rattle.gr_tables.specs.NamedGoroutines.{goroutines_of, go_rooms_of};
-ghost use Rattle.gr_step.specs.Fews.{members};
-ghost use Rattle.gr_step.specs.Parts.{begun_in, made_in, begun_by_more, made_by_more};
+ghost use Rattle.gr_record.specs.Fews.{members};
+ghost use Rattle.gr_record.specs.Parts.{begun_in, made_in, begun_by_more, made_by_more};
 ghost use Rattle.gr_step.specs.Objects.{contents_in};
-ghost use Rattle.gr_step.specs.Effects.{effect_in};
-ghost use Rattle.gr_step.specs.declared.record.Form.TheVariants.{Waits, Passes};
-ghost use Rattle.gr_step.specs.Records.{GoesFit, NeedNoFrame, CanGoBack, HasRoom};
+ghost use Rattle.gr_record.specs.Effects.{effect_in};
+ghost use Rattle.gr_record.specs.declared.record.Form.TheVariants.{Waits, Passes};
+ghost use Rattle.gr_record.specs.Records.{GoesFit, NeedNoFrame, CanGoBack};
+ghost use Rattle.gr_step.specs.Room.{HasRoom};
 ghost use Rattle.gr_step.specs.Unstepping.{GoBack, after_back, IsForgotten, IsUnmade, AreUndone, IsTakenBack};
 
-use crate::few::Few;
 use crate::objects::{Objects, Run};
-use crate::record::{Beyond, Change, Form, More, Passage, Waiting};
 use gr_base::{ChName, GoName, Kind, NoMemory};
 use gr_channels::ChanUndo;
 use gr_goros::GoUndo;
+use gr_record::Few;
+use gr_record::record::{Beyond, Change, Form, More, Passage, Waiting};
 use gr_tables::channels::Channels;
 use gr_tables::goroutines::Goroutines;
 

@@ -3,17 +3,17 @@
 ghost use Rattle.std.specs.Prelude.{◌≡◌, ◌≤◌, ◌^◌, length, IfOk, OnErr};
 ghost use Rattle.gr_code.specs.CodeViews.{arms_of};
 ghost use Rattle.gr_rules.specs.Tells.{usual_choice as usual_by_rules};
-ghost use Rattle.gr_step.specs.Listings.{program_in, state_in, IsCoded};
+ghost use Rattle.gr_record.specs.Listings.{program_in, state_in, IsCoded};
 ghost use Rattle.gr_step.specs.Objects.{contents_in};
 ghost use Rattle.gr_step.specs.Choices.{HasManyClauses};
 ghost use Rattle.gr_step.specs.Possible.{usual_of as usual_by_arms};
-ghost use Rattle.gr_step.specs.Premises.{Running};
+ghost use Rattle.gr_record.specs.Running.{Running};
 
 use crate::allowing::{has_default, have_channels};
-use crate::listing::Listing;
 use crate::objects::Objects;
 use gr_base::{Choice, GoName, NoMemory, Value};
 use gr_code::code::Arm;
+use gr_record::Listing;
 
 impl Objects {
     /// The lowest clause that can proceed, else the default clause, else to wait.

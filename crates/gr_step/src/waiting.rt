@@ -16,7 +16,7 @@ ghost use Rattle.gr_contents.specs.Presence.{Sound};
 ghost use Rattle.gr_goros.specs.Views.{communication_of, communications_of, waits_of};
 ghost use Rattle.gr_goros.specs.Needs.{NeedIs};
 ghost use Rattle.gr_lower.specs.Lowered.{lowered};
-ghost use Rattle.gr_step.specs.Listings.{program_in, frame_in, state_in, IsCoded};
+ghost use Rattle.gr_record.specs.Listings.{program_in, frame_in, state_in, IsCoded};
 ghost use Rattle.gr_step.specs.Objects.{contents_in};
 ghost use Rattle.gr_base.specs.declared.objects.Object.TheVariants as objects;
 ghost use Rattle.gr_rules.specs.Actors as actors;
@@ -24,29 +24,30 @@ ghost use Rattle.gr_tables.specs.NamedChannels.{contents_of};
 ghost use Rattle.gr_tables.specs.NamedGoroutines.{seen_at, At, CanPark};
 ghost use Rattle.gr_step.specs.Parks.{pending_of, gates_of, with_channels, AreMade, Parks};
 ghost use Rattle.gr_step.specs.Beyonds.{Reaches};
-ghost use Rattle.gr_step.specs.Parts.{channel_on, AreTouched};
-ghost use Rattle.gr_step.specs.declared.record.Operation.TheVariants as operations;
+ghost use Rattle.gr_record.specs.Parts.{channel_on, AreTouched};
+ghost use Rattle.gr_record.specs.declared.record.Operation.TheVariants as operations;
 ghost use Rattle.gr_laws.specs.Touched.{each_once as each_read};
 ghost use Rattle.gr_rules.specs.Touches.{side as side_by};
 ghost use Rattle.gr_rules.specs.Frames.{Frame};
 ghost use Rattle.gr_code.specs.CodeFrames.{CodeFrame};
 ghost use Rattle.gr_contents.specs.Contents.{state_of};
 ghost use Rattle.gr_contents.specs.Partners.{is_made_for};
-ghost use Rattle.gr_step.specs.Records.{operation_of, HasRoom};
+ghost use Rattle.gr_record.specs.Records.{operation_of};
+ghost use Rattle.gr_step.specs.Room.{HasRoom};
 ghost use Rattle.gr_step.specs.Premises.{Acting, OfGoroutine, OfActor};
-ghost use Rattle.gr_step.specs.Taking.{Takes};
+ghost use Rattle.gr_record.specs.Taking.{Takes};
 ghost use Rattle.gr_step.specs.Communicating.{HasValues};
 
-use crate::beyond::waited;
+use crate::beyond::{reached, waited};
 use crate::channels_named::channels_but;
-use crate::listing::Listing;
 use crate::objects::Objects;
 use crate::queues::{all_waits, park_for_few, queue_to_receive, queue_to_send};
-use crate::record::{Beyond, Change, Contact, Form, Operation, Touched, Waiting};
 use crate::sides::{each_once, sides};
 use crate::touching::{entrance_read, exit_read, push_gates, untouched};
 use gr_base::{ChName, Event, Kind, NoMemory, Object, Value};
 use gr_goros::{Clause, Wait};
+use gr_record::Listing;
+use gr_record::record::{Beyond, Change, Contact, Form, Operation, Touched, Waiting};
 use gr_tables::channels::Channels;
 use std::alloc::Global;
 
@@ -144,7 +145,7 @@ impl Objects {
         let waits = all_waits(alloc, pending)?;
         let writes = gates(alloc, &waits)?;
         let reads = each_once(alloc, &writes, sides)?;
-        let beyond = Beyond::new(alloc, operation, reads, writes, false)?;
+        let beyond = reached(alloc, operation, reads, writes, false)?;
         self.begin_to_wait(event, number, kind, beyond, waits, pending)
     }
 

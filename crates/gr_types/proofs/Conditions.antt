@@ -5,7 +5,7 @@ use Rattle.gr_const.specs.declared.constant.Constant.TheVariants as constants
 use Rattle.gr_const.specs.Constants as constant
 use Rattle.gr_program.specs.Types.{BoolType}
 use Rattle.gr_typing.specs.Values.{Known}
-use Rattle.gr_types.specs.Finding.{◌>>=◌, int_typed, if_same, typed, of_kind}
+use Rattle.gr_exprs.specs.Finding.{◌>>=◌, int_typed, if_same, typed, of_kind}
 
 no_int : (o : Option ℤ) → ((o >>= λ m. Some (int_typed m)) >>= λ w. if_same BoolType w.0 w.1) ≡ None
 no_int (Some m) = refl

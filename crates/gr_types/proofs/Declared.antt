@@ -9,7 +9,7 @@ use Rattle.gr_typing.specs.Names.{among, is_blank, are_distinct, predeclared}
 use Rattle.gr_typing.specs.Scopes.{Block, Scope, In, in_block, is_free, declare}
 use Rattle.gr_typing.specs.Assignments.{may_declare}
 use Rattle.gr_types.specs.Declaring.{Declarable}
-use Rattle.gr_types.proofs.Basics.{same_name}
+use Rattle.gr_exprs.proofs.Basics.{same_name}
 
 among_last : (names : List (List ℕ)) (x : List ℕ) → among (names ++ (x ∷ [])) x ≡ true
 among_last [] x = rw (same_name x) refl

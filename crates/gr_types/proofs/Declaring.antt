@@ -7,7 +7,7 @@ use Rattle.gr_tree.specs.declared.expr.Expr as code_expr
 use Rattle.gr_tree.specs.Exprs as tree
 use Rattle.gr_tree.specs.Exprs.{Tree, Trees, tree_of, trees_of, names_of}
 use Rattle.gr_program.specs.declared.program.Expr as checked_expr
-use Rattle.gr_types.specs.declared.operands.Operand as code_operand
+use Rattle.gr_exprs.specs.declared.operands.Operand as code_operand
 use Rattle.gr_program.specs.Types.{Ty, BoolType}
 use Rattle.gr_typing.specs.Types.{assignable}
 use Rattle.gr_program.specs.Programs.{Exprs, none, more, Literally, zero_of}
@@ -15,14 +15,14 @@ use Rattle.gr_program.specs.Views.{expr_of, exprs_of}
 use Rattle.gr_typing.specs.Scopes.{Scope, Signature, declared, number_of}
 use Rattle.gr_typing.specs.Values.{Value}
 use Rattle.gr_typing.specs.Assignments.{zeros}
-use Rattle.gr_types.specs.Finding.{◌>>=◌, Typed, value_in}
-use Rattle.gr_types.specs.Calling.{values_in}
+use Rattle.gr_exprs.specs.Finding.{◌>>=◌, Typed, value_in}
+use Rattle.gr_exprs.specs.Calling.{values_in}
 use Rattle.gr_types.specs.FindingStatements.{Given, Defined, Done, with_defined, declared_as, all_declared_as, receive_in, pair_of, var_by, var_pair, assigned}
 use Rattle.gr_types.specs.Declaring.{Declarable, placed, all_placed, by_values, type_for, by_receive, both_received, both_declared}
-use Rattle.gr_types.specs.Checking.{meaning_of, meanings_of}
-use Rattle.gr_types.proofs.Arguments.{terms_before, before_push, before_none}
+use Rattle.gr_exprs.specs.Checking.{meaning_of, meanings_of}
+use Rattle.gr_exprs.proofs.Arguments.{terms_before, before_push, before_none}
 use Rattle.gr_types.proofs.Counts.{no_pair}
-use Rattle.gr_types.proofs.Finds.{some_inj}
+use Rattle.gr_exprs.proofs.Finds.{some_inj}
 use Rattle.gr_types.proofs.NameLists.{front_names}
 
 -- the values for names, each before those after it

@@ -12,7 +12,7 @@ use Rattle.gr_typing.specs.Types.{type_written}
 use Rattle.gr_program.specs.Programs.{Function, Program, ProgramIs}
 use Rattle.gr_program.specs.Order.{stands_in_order}
 use Rattle.gr_typing.specs.Scopes.{Block, Scope, In, Signature, Sign, function_in, signature, may_name}
-use Rattle.gr_types.specs.Finding.{◌>>=◌, where_true, has_text}
+use Rattle.gr_exprs.specs.Finding.{◌>>=◌, where_true, has_text}
 use Rattle.gr_typing.specs.Contexts.{Within}
 use Rattle.gr_typing.specs.Assignments.{IsWritten}
 use Rattle.gr_typing.specs.Statements.{IsBody}
@@ -21,7 +21,7 @@ use Rattle.gr_typing.specs.Labels.{labels_fit}
 use Rattle.gr_typing.specs.FileChecks as rules
 use Rattle.gr_typing.specs.FileChecks.{parameter_names, each, AreTypes, scope_with, parameters_with, empty_scope, AreSignatures, ends_well, AreFunctions, may_be_functions, ProgramOf}
 use Rattle.gr_types.specs.FindingFiles.{types_in, signature_in, signatures_in, variables_of, checked_function, function_checked, functions_in, is_bare, main_in, program_of, checked_signatures, program_in}
-use Rattle.gr_types.proofs.Finds.{some_inj, none_some, on_some, on_true, if_true, then_some}
+use Rattle.gr_exprs.proofs.Finds.{some_inj, none_some, on_some, on_true, if_true, then_some}
 use Rattle.gr_types.proofs.FindsStatements.{written_sound, body_sound}
 use Rattle.gr_types.proofs.FindsStatementsAll.{written_complete, body_complete}
 

@@ -15,7 +15,7 @@ use Rattle.gr_program.specs.Programs.{zero_of, Expr, Receive, Exprs, Printed, Ac
 use Rattle.gr_typing.specs.Names.{is_blank}
 use Rattle.gr_typing.specs.Scopes.{Scope, variable_named, type_of_variable, is_here, declare, declared, number_of, Signature, function_in}
 use Rattle.gr_typing.specs.Values.{Value, Made, HasType, Fits, binary_type, may_stand_right, IsPredeclared, IsValue}
-use Rattle.gr_types.specs.Finding.{◌>>=◌, where_true, Typed, typed, given, of_kind, as_channel, call_in, value_in, arguments_in, only_in}
+use Rattle.gr_exprs.specs.Finding.{◌>>=◌, where_true, Typed, typed, given, of_kind, as_channel, call_in, value_in, arguments_in, only_in}
 use Rattle.gr_typing.specs.Assignments as assigning
 use Rattle.gr_typing.specs.Communications as communicating
 use Rattle.gr_typing.specs.SimpleStatements as simple_rules
@@ -23,7 +23,7 @@ use Rattle.gr_typing.specs.Assignments.{HasVariable, IsGiven, AreGiven, IsDefine
 use Rattle.gr_typing.specs.Communications.{IsReceive, IsSend}
 use Rattle.gr_typing.specs.SimpleStatements.{ArePrinted, Runs, DoesSimple}
 use Rattle.gr_types.specs.FindingStatements.{Known, variable_in, Given, to_variable, to_blank, given_to, with_given, all_given, Defined, newly, in_scope, defined_by, with_defined, all_defined, declared_as, all_declared_as, receives, receive_in, taken_by, takes, takes_new, as_text, printable, printed_by, printed_in, closes, run_built_in, run_by, run_call, evaluated, runs_in, sent_on, send_in, Done, pair_of, assigned, assign_both, assign_by, define_both, define_by, if_int, number_variable, updated_by, updated, by_one, simple_in}
-use Rattle.gr_types.proofs.Finds.{some_inj, none_some, on_some, on_true, on_text, unhidden, typed_sound, given_sound, int_sound, channel_is, value_sound, arguments_sound, only_sound, OnlyIs, call_found}
+use Rattle.gr_exprs.proofs.Finds.{some_inj, none_some, on_some, on_true, on_text, unhidden, typed_sound, given_sound, int_sound, channel_is, value_sound, arguments_sound, only_sound, OnlyIs, call_found}
 
 pub on_cond : {A P : Type 0} (b : Bool) (x y : Option A) (z : A) → cond b x y ≡ Some z → (b ≡ true → x ≡ Some z → P) → (b ≡ false → y ≡ Some z → P) → P
 on_cond true x y z e k n = k refl e

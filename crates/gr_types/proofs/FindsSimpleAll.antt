@@ -15,7 +15,7 @@ use Rattle.gr_typing.specs.Names.{is_blank}
 use Rattle.gr_typing.specs.Scopes.{Scope, variable_named, type_of_variable, is_here, declare, declared, number_of, Signature, function_in}
 use Rattle.gr_typing.specs.Values as values
 use Rattle.gr_typing.specs.Values.{Value, Made, HasType, Fits, binary_type, may_stand_right, IsPredeclared, IsValue, IsCall}
-use Rattle.gr_types.specs.Finding.{◌>>=◌, Typed, typed, given, of_kind, as_channel, if_unknown, call_in, value_in, arguments_in, only_in}
+use Rattle.gr_exprs.specs.Finding.{◌>>=◌, Typed, typed, given, of_kind, as_channel, if_unknown, call_in, value_in, arguments_in, only_in}
 use Rattle.gr_typing.specs.Assignments as assigning
 use Rattle.gr_typing.specs.Communications as communicating
 use Rattle.gr_typing.specs.SimpleStatements as simple_rules
@@ -23,8 +23,8 @@ use Rattle.gr_typing.specs.Assignments.{HasVariable, IsGiven, AreGiven, IsDefine
 use Rattle.gr_typing.specs.Communications.{IsReceive, IsSend}
 use Rattle.gr_typing.specs.SimpleStatements.{ArePrinted, Runs, DoesSimple}
 use Rattle.gr_types.specs.FindingStatements.{variable_in, to_variable, to_blank, given_to, with_given, all_given, newly, in_scope, defined_by, with_defined, all_defined, declared_as, all_declared_as, receives, receive_in, taken_by, takes, newly_taken, takes_new, as_text, printable, printed_by, printed_in, closes, run_built_in, run_by, run_call, evaluated, runs_in, sent_on, send_in, pair_of, assigned, assign_both, assign_by, define_both, define_by, if_int, number_variable, updated_by, updated, by_one, simple_in}
-use Rattle.gr_types.proofs.Finds.{then_some, if_true, typed_complete, given_complete, int_complete}
-use Rattle.gr_types.proofs.FindsAll.{value_complete, call_complete, function_of_call}
+use Rattle.gr_exprs.proofs.Finds.{then_some, if_true, typed_complete, given_complete, int_complete}
+use Rattle.gr_exprs.proofs.FindsAll.{value_complete, call_complete, function_of_call}
 
 pub on_blank : {A : Type 0} (b : Bool) (x y : Option A) → b ≡ true → cond b x y ≡ x
 on_blank b x y e = ap (λ b. cond b x y) e

@@ -12,7 +12,7 @@ use Rattle.gr_program.specs.Programs.{zero_of, Expr, Call, Exprs, Act, Assign, A
 use Rattle.gr_program.specs.Programs as terms
 use Rattle.gr_typing.specs.Scopes.{Scope, number_of, entered, left, first_where, Signature}
 use Rattle.gr_typing.specs.Values.{Made, IsValue, IsCall}
-use Rattle.gr_types.specs.Finding.{◌>>=◌, where_true, Typed, given, of_kind, as_channel, call_in, value_in, arguments_in}
+use Rattle.gr_exprs.specs.Finding.{◌>>=◌, where_true, Typed, given, of_kind, as_channel, call_in, value_in, arguments_in}
 use Rattle.gr_typing.specs.Acts as act_rules
 use Rattle.gr_typing.specs.Assignments as assigning
 use Rattle.gr_typing.specs.Statements as rules
@@ -22,7 +22,7 @@ use Rattle.gr_typing.specs.Statements.{declares, defaults, at_most_one, IsOpenin
 use Rattle.gr_typing.specs.Communications.{IsReceive}
 use Rattle.gr_typing.specs.Acts.{Returns, DoesAct}
 use Rattle.gr_types.specs.FindingStatements.{in_scope, receives, receive_in, takes, takes_new, send_in, Done, pair_of, assigned, simple_in, returned_in, written_of, var_pair, var_by, go_with, var_zero, act_in, opening_in, post_in, condition_in, loop_condition_in, target_in, all_take, all_take_new, Checked, alone, if_head_in, Parts, for_parts, range_parts, Opened, received_case, comm_in, statement_in, body_in, clauses_in, all_declared_as}
-use Rattle.gr_types.proofs.Finds.{some_inj, none_some, on_some, on_true, given_sound, truth_sound, channel_is, value_sound, arguments_sound, call_found}
+use Rattle.gr_exprs.proofs.Finds.{some_inj, none_some, on_some, on_true, given_sound, truth_sound, channel_is, value_sound, arguments_sound, call_found}
 use Rattle.gr_types.proofs.FindsSimple.{on_cond, takes_sound, takes_new_sound, receive_found, send_sound, simple_sound, all_declared_sound, pair_is}
 
 returns_sound : (fs : List Signature) (s : Scope) (result : Option Ty) (e : Option Tree) (p : Option Expr) → returned_in fs s result e ≡ Some p → Returns fs s result e p

@@ -11,7 +11,7 @@ use Rattle.gr_typing.specs.Types.{type_written, assignable, may_receive}
 use Rattle.gr_program.specs.Programs.{zero_of, Expr, Call, Exprs, Act, AssignReceive, Go, Return, Break, Continue, Opening, Opens, Does, Block, If, For, Range, Select, Stmts, stop, joined, Cases, default_case, send_case, receive_case}
 use Rattle.gr_typing.specs.Scopes.{Scope, number_of, entered, left, first_where, Signature}
 use Rattle.gr_typing.specs.Values.{Made, IsValue}
-use Rattle.gr_types.specs.Finding.{◌>>=◌, where_true, given, of_kind, as_channel, call_in, value_in, arguments_in}
+use Rattle.gr_exprs.specs.Finding.{◌>>=◌, where_true, given, of_kind, as_channel, call_in, value_in, arguments_in}
 use Rattle.gr_typing.specs.Acts as act_rules
 use Rattle.gr_typing.specs.Assignments as assigning
 use Rattle.gr_typing.specs.Statements as rules
@@ -20,8 +20,8 @@ use Rattle.gr_typing.specs.Assignments.{may_define, may_declare, all_declared, z
 use Rattle.gr_typing.specs.Statements.{declares, defaults, at_most_one, IsOpening, IsCondition, IsLoopCondition, IsTarget, IsStatement, IsIfHead, IsBody, AreClauses}
 use Rattle.gr_typing.specs.Acts.{Returns, DoesAct}
 use Rattle.gr_types.specs.FindingStatements.{in_scope, receives, receive_in, takes, takes_new, send_in, pair_of, assigned, simple_in, returned_in, written_of, var_pair, var_by, go_with, var_zero, act_in, opening_in, post_in, condition_in, loop_condition_in, target_in, all_take, all_take_new, Checked, alone, if_head_in, for_parts, range_parts, Opened, received_case, comm_in, statement_in, body_in, clauses_in, all_declared_as}
-use Rattle.gr_types.proofs.Finds.{then_some, if_true, given_complete, truth_complete}
-use Rattle.gr_types.proofs.FindsAll.{value_complete, call_complete}
+use Rattle.gr_exprs.proofs.Finds.{then_some, if_true, given_complete, truth_complete}
+use Rattle.gr_exprs.proofs.FindsAll.{value_complete, call_complete}
 use Rattle.gr_types.proofs.FindsSimpleAll.{on_other, receive_complete, takes_complete, takes_new_complete, send_complete, simple_complete, all_declared_complete, declared_no_pair}
 
 returns_complete : {fs : List Signature} {s : Scope} {result : Option Ty} {e : Option Tree} {p : Option Expr} → Returns fs s result e p → returned_in fs s result e ≡ Some p

@@ -9,12 +9,12 @@ use Rattle.gr_program.specs.Types.{Ty}
 use Rattle.gr_typing.specs.Names.{among, predeclared, is_blank, are_distinct}
 use Rattle.gr_typing.specs.Scopes.{first_of, next_number, has_name, Signature, Sign, function_in, signature}
 use Rattle.gr_typing.specs.FileChecks.{names_of, may_be_functions}
-use Rattle.gr_types.specs.Finding.{◌>>=◌, where_true, has_text}
+use Rattle.gr_exprs.specs.Finding.{◌>>=◌, where_true, has_text}
 use Rattle.gr_types.specs.FindingFiles.{is_bare, main_in}
 use Rattle.gr_types.specs.Outlines.{fits_main}
-use Rattle.gr_types.proofs.Basics.{among_push}
-use Rattle.gr_types.proofs.Finds.{none_some, some_inj}
-use Rattle.gr_types.proofs.FunctionNumbers.{name_of, function_push, has_blank, has_other}
+use Rattle.gr_exprs.proofs.Basics.{among_push}
+use Rattle.gr_exprs.proofs.Finds.{none_some, some_inj}
+use Rattle.gr_exprs.proofs.FunctionNumbers.{name_of, function_push, has_blank, has_other}
 use Rattle.gr_types.proofs.Headed.{all_fit}
 
 -- names before, and the functions that have them

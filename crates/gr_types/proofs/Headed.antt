@@ -10,7 +10,7 @@ use Rattle.gr_tree.specs.Files.{Group}
 use Rattle.gr_program.specs.Types.{Ty}
 use Rattle.gr_typing.specs.Scopes.{Signature, Sign, may_name}
 use Rattle.gr_typing.specs.FileChecks.{parameter_names}
-use Rattle.gr_types.specs.Finding.{◌>>=◌, where_true}
+use Rattle.gr_exprs.specs.Finding.{◌>>=◌, where_true}
 use Rattle.gr_types.specs.FindingStatements.{written_of}
 use Rattle.gr_types.specs.FindingFiles.{types_in, signature_in, signatures_in}
 use Rattle.gr_types.specs.Outlines.{none_taken, take_groups, Outline, OutlineOf, name_fits, fits_main, Headed, headed, heading_in, headings_in}

@@ -12,7 +12,7 @@ use Rattle.gr_typing.specs.Labels.{uses_in, uses_among, labels_in, labels_among}
 use Rattle.gr_types.specs.StatementViews.{clause_body, clauses_of}
 use Rattle.gr_typing.specs.Names.{among, is_blank, are_distinct}
 use Rattle.gr_types.specs.LabelTables.{with_name, with_names, fit_after}
-use Rattle.gr_types.proofs.Basics.{among_push}
+use Rattle.gr_exprs.proofs.Basics.{among_push}
 
 pub among_keys : (ks : List (Bor (List ℕ))) (x : List ℕ) → list_any (λ k. pointwise nat_eq x k.now) ks ≡ among (map (λ k. k.now) ks) x
 among_keys [] x = refl

@@ -6,8 +6,8 @@ use Rattle.std.specs.Cmp.Lexicographic.{pointwise}
 use Rattle.gr_program.specs.Types.{Ty}
 use Rattle.gr_typing.specs.Names.{is_blank}
 use Rattle.gr_typing.specs.Scopes.{Block, Scope, In, in_block, in_blocks, first_of, variable_named, declare, declared, number_of}
-use Rattle.gr_types.specs.Finding.{◌>>=◌}
-use Rattle.gr_types.proofs.Basics.{same_name}
+use Rattle.gr_exprs.specs.Finding.{◌>>=◌}
+use Rattle.gr_exprs.proofs.Basics.{same_name}
 
 -- a name that was declared stands for a variable
 in_pushed : (here : Block) (x : List ℕ) (n : ℕ) → is_some (in_block (here ++ ((x, n) ∷ [])) x) ≡ true

@@ -4,8 +4,8 @@ use Rattle.std.specs.Prelude.{Option, Some, None}
 use Rattle.std.proofs.lemmas.List.{drop_all, nil_from_length}
 use Rattle.gr_tree.specs.Files as files
 use Rattle.gr_tree.specs.declared.file.Func.{Func}
-use Rattle.gr_types.specs.declared.fault.Fault.{Fault}
-use Rattle.gr_types.specs.declared.fault.Fault.TheVariants as faults
+use Rattle.gr_exprs.specs.declared.fault.Fault.{Fault}
+use Rattle.gr_exprs.specs.declared.fault.Fault.TheVariants as faults
 use Rattle.gr_types.specs.declared.fault.CheckError.{CheckError}
 use Rattle.gr_types.specs.declared.fault.CheckError.TheVariants as errors
 use Rattle.gr_types.specs.declared.outlines.Outline as code_outline
@@ -14,11 +14,12 @@ use Rattle.gr_scan.specs.declared.token.Place.{Place}
 use Rattle.gr_typing.specs.Scopes.{Signature}
 use Rattle.gr_program.specs.Programs.{Function}
 use Rattle.gr_program.specs.Views.{function_of, functions_of}
-use Rattle.gr_types.specs.Finding.{◌>>=◌}
-use Rattle.gr_types.specs.Checking.{Rejects, Denies, refused_at}
+use Rattle.gr_exprs.specs.Finding.{◌>>=◌}
+use Rattle.gr_exprs.specs.Checking.{Rejects}
+use Rattle.gr_types.specs.Checking.{Denies, refused_at}
 use Rattle.gr_types.specs.Outlines.{Outline, Headed, heading_in, headings_in, finished, finished_all}
 use Rattle.gr_types.specs.OutlineViews.{outline_of, outlines_of}
-use Rattle.gr_types.proofs.Finds.{then_some}
+use Rattle.gr_exprs.proofs.Finds.{then_some}
 
 pub outlines_push : (os : List code_outline.Outline) (o : code_outline.Outline) → outlines_of (os ++ (o ∷ [])) ≡ outlines_of os ++ (outline_of o ∷ [])
 outlines_push [] o = refl

@@ -10,7 +10,7 @@ use Rattle.gr_types.specs.FindingFiles.{is_bare}
 use Rattle.gr_program.specs.TypeViews.{ty_of, types_of}
 use Rattle.gr_program.specs.Views.{parameter_of, parameters_of}
 use Rattle.gr_types.specs.Outlines.{Taken, may_take, taken_with, take}
-use Rattle.gr_types.proofs.Finds.{if_true}
+use Rattle.gr_exprs.proofs.Finds.{if_true}
 
 types_push : (ts : List code_type.Type) (t : code_type.Type) → types_of (ts ++ (t ∷ [])) ≡ types_of ts ++ (ty_of t ∷ [])
 types_push [] t = refl

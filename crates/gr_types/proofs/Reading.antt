@@ -12,14 +12,14 @@ use Rattle.gr_program.specs.Order.{stands_in_order}
 use Rattle.gr_typing.specs.Scopes.{Signature, Sign, function_in}
 use Rattle.gr_typing.specs.Labels.{labels_fit}
 use Rattle.gr_typing.specs.FileChecks.{ends_well, may_be_functions, ProgramOf}
-use Rattle.gr_types.specs.Finding.{◌>>=◌, where_true, has_text}
+use Rattle.gr_exprs.specs.Finding.{◌>>=◌, where_true, has_text}
 use Rattle.gr_typing.specs.Contexts.{Within}
 use Rattle.gr_types.specs.FindingStatements.{body_in}
 use Rattle.gr_types.specs.FindingFiles.{signature_in, signatures_in, function_checked, functions_in, checked_function, main_in, program_of, checked_signatures, program_in}
 use Rattle.gr_types.specs.Refusals.{HasNoProgram}
 use Rattle.gr_types.specs.Checking.{Settles}
 use Rattle.gr_types.specs.Outlines.{headings_in, finished, finished_all, with_main, with_headings, program_read}
-use Rattle.gr_types.proofs.Finds.{on_some, some_inj, none_some}
+use Rattle.gr_exprs.proofs.Finds.{on_some, some_inj, none_some}
 use Rattle.gr_types.proofs.FindsFiles.{file_sound, file_complete}
 use Rattle.gr_types.proofs.TakenGroups.{made}
 use Rattle.gr_types.proofs.Headed.{outlined, outlined_all, all_fit, headings_are}

@@ -9,14 +9,14 @@ use Rattle.gr_program.specs.declared.program.Printed as code_printed
 use Rattle.gr_program.specs.Programs.{Printed}
 use Rattle.gr_typing.specs.Scopes.{Scope, Signature}
 use Rattle.gr_program.specs.Views.{printed_of, prints_of}
-use Rattle.gr_types.specs.Finding.{◌>>=◌, only_in}
+use Rattle.gr_exprs.specs.Finding.{◌>>=◌, only_in}
 use Rattle.gr_types.specs.FindingStatements.{printed_in, run_call, runs_in}
 use Rattle.gr_types.specs.Evaluating.{printed_one}
-use Rattle.gr_types.specs.declared.fault.Fault.{Fault}
-use Rattle.gr_types.specs.declared.fault.Fault.TheVariants as faults
-use Rattle.gr_types.specs.Checking.{Rejects}
-use Rattle.gr_types.proofs.Arguments.{front_trees}
-use Rattle.gr_types.proofs.Trees.{tree_call}
+use Rattle.gr_exprs.specs.declared.fault.Fault.{Fault}
+use Rattle.gr_exprs.specs.declared.fault.Fault.TheVariants as faults
+use Rattle.gr_exprs.specs.Checking.{Rejects}
+use Rattle.gr_exprs.proofs.Arguments.{front_trees}
+use Rattle.gr_exprs.proofs.Trees.{tree_call}
 
 pub not_only : (fs : List Signature) (s : Scope) (es : List code_expr.Expr) → (length es ≡ 1 → ⊥) → only_in fs s (trees_of es) ≡ None
 unfolding only_in

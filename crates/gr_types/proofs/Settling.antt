@@ -10,9 +10,9 @@ use Rattle.gr_typing.specs.Names.{among, predeclared, is_blank, are_distinct}
 use Rattle.gr_typing.specs.Scopes.{Block, Scope, In, in_block, is_here, is_old, is_free, declared}
 use Rattle.gr_typing.specs.Values.{Value}
 use Rattle.gr_typing.specs.Assignments.{may_define}
-use Rattle.gr_types.specs.Finding.{◌>>=◌, where_true, typed}
+use Rattle.gr_exprs.specs.Finding.{◌>>=◌, where_true, typed}
 use Rattle.gr_types.specs.Taking.{target, fit, accepts, Taker, Old, New, old_taker, taker, takers, old_share, new_share, share, with_share, shares, settled, may_settle, may_settle_all}
-use Rattle.gr_types.proofs.Finds.{some_inj, none_some, on_some, on_true}
+use Rattle.gr_exprs.proofs.Finds.{some_inj, none_some, on_some, on_true}
 use Rattle.gr_types.proofs.FindsSimple.{on_cond}
 
 -- tests

@@ -24,10 +24,10 @@ use Rattle.gr_types.specs.StatementViews.{clauses_of}
 use Rattle.gr_typing.specs.Contexts.{Choice, Context, Within, functions, inside}
 use Rattle.gr_typing.specs.Statements.{defaults, at_most_one}
 use Rattle.gr_types.specs.Checking.{Denies}
-use Rattle.gr_types.specs.Finding.{◌>>=◌, where_true}
+use Rattle.gr_exprs.specs.Finding.{◌>>=◌, where_true}
 use Rattle.gr_types.specs.FindingStatements.{Checked, alone, Opened, comm_in, if_head_in, statement_in, body_in, clauses_in}
 use Rattle.gr_types.specs.StatementParts.{only_stmt, block_in, Tested, tested_in, if_in, else_in, else_if_in, for_in, select_in, Cased, default_in, case_in, clause_in, case_before, stmts_before, with_cases, cases_before}
-use Rattle.gr_types.proofs.Basics.{bound_twice}
+use Rattle.gr_exprs.proofs.Basics.{bound_twice}
 use Rattle.gr_types.proofs.TreeRows.{drop_first, drop_clause, held, block_is, if_is, else_is, else_if_is, for_is, select_is}
 
 -- a body

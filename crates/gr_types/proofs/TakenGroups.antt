@@ -13,12 +13,12 @@ use Rattle.gr_program.specs.Programs.{Declared, Named, Parameter}
 use Rattle.gr_typing.specs.Names.{among, predeclared, is_blank, are_distinct}
 use Rattle.gr_typing.specs.Scopes.{Block, Scope, In, in_block, first_of, is_here, declared, may_name}
 use Rattle.gr_typing.specs.FileChecks.{parameter_names, each, scope_with, parameters_with, empty_scope}
-use Rattle.gr_types.specs.Finding.{◌>>=◌, where_true}
+use Rattle.gr_exprs.specs.Finding.{◌>>=◌, where_true}
 use Rattle.gr_types.specs.FindingFiles.{types_in}
 use Rattle.gr_types.specs.Outlines.{Taken, none_taken, may_take, taken_with, take, take_each, take_groups}
-use Rattle.gr_types.proofs.Basics.{then_none, among_push, bound_twice}
-use Rattle.gr_types.proofs.Finds.{on_some, some_inj}
-use Rattle.gr_types.proofs.FunctionNumbers.{block_push}
+use Rattle.gr_exprs.proofs.Basics.{then_none, among_push, bound_twice}
+use Rattle.gr_exprs.proofs.Finds.{on_some, some_inj}
+use Rattle.gr_exprs.proofs.FunctionNumbers.{block_push}
 
 -- parameters, each with its type
 abbrev take_list : Taken → List (List ℕ) → List Ty → Option Taken

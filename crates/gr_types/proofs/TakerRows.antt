@@ -4,18 +4,18 @@ use Rattle.std.specs.Prelude.{Option, Some, None, Vec}
 use Rattle.std.proofs.lemmas.List.{drop_all, nil_from_length}
 use Rattle.gr_tree.specs.Exprs.{names_of}
 use Rattle.gr_program.specs.declared.types.Type as code_type
-use Rattle.gr_types.specs.declared.definitions.Taker as code_taker
+use Rattle.gr_types.specs.declared.assigning.definition.Taker as code_taker
 use Rattle.gr_program.specs.declared.program.Expr as checked_expr
-use Rattle.gr_types.specs.declared.operands.Operand as code_operand
+use Rattle.gr_exprs.specs.declared.operands.Operand as code_operand
 use Rattle.gr_program.specs.Programs.{Exprs, none, more}
 use Rattle.gr_program.specs.TypeViews.{ty_of, types_of}
 use Rattle.gr_program.specs.Views.{expr_of, exprs_of}
 use Rattle.gr_typing.specs.Scopes.{Scope}
-use Rattle.gr_types.specs.Finding.{◌>>=◌}
+use Rattle.gr_exprs.specs.Finding.{◌>>=◌}
 use Rattle.gr_types.specs.Taking.{fit, fits, Taker, taker, takers, share, with_share, shares, all_accept}
 use Rattle.gr_types.specs.TakerViews.{taker_of, takers_of}
-use Rattle.gr_types.specs.Checking.{meaning_of, meanings_of}
-use Rattle.gr_types.proofs.Arguments.{terms_before, before_push, before_none, after_terms, front_types}
+use Rattle.gr_exprs.specs.Checking.{meaning_of, meanings_of}
+use Rattle.gr_exprs.proofs.Arguments.{terms_before, before_push, before_none, after_terms, front_types}
 use Rattle.gr_types.proofs.NameLists.{front_names}
 
 takers_push : (ks : List code_taker.Taker) (k : code_taker.Taker) (rest : List Taker) → takers_of (ks ++ (k ∷ [])) ++ rest ≡ takers_of ks ++ (taker_of k ∷ rest)

@@ -11,10 +11,10 @@ use Rattle.gr_program.specs.Programs.{zero_of, Expr, Exprs, more, AssignReceive}
 use Rattle.gr_typing.specs.Names.{is_blank}
 use Rattle.gr_typing.specs.Scopes.{Scope, variable_named, type_of_variable, is_here, Signature}
 use Rattle.gr_typing.specs.Values.{Value}
-use Rattle.gr_types.specs.Finding.{◌>>=◌, where_true, Typed, typed, given, value_in}
+use Rattle.gr_exprs.specs.Finding.{◌>>=◌, where_true, Typed, typed, given, value_in}
 use Rattle.gr_types.specs.FindingStatements.{variable_in, Given, to_variable, given_to, with_given, all_given, Defined, newly, in_scope, defined_by, with_defined, all_defined, receive_in, taken_by, takes, takes_new, all_take, all_take_new, Done, pair_of, assigned, assign_both, assign_by, define_both, define_by}
 use Rattle.gr_types.specs.Taking.{target, targets, fit, fits, is_wide, accepts, all_accept, Taker, Old, old_taker, taker, takers, new_share, share, with_share, shares, settled, all_settled, same_count, is_receive, values_for, assign_values, assign_received, shared_done, define_values, define_received}
-use Rattle.gr_types.proofs.Basics.{then_none}
+use Rattle.gr_exprs.proofs.Basics.{then_none}
 use Rattle.gr_types.proofs.NewNames.{named_after}
 
 -- a value that is given to a name

@@ -6,7 +6,7 @@ use Rattle.gr_typing.specs.Types.{type_written}
 use Rattle.gr_typing.specs.Scopes.{Scope, Signature}
 use Rattle.gr_typing.specs.Values.{Value}
 use Rattle.gr_typing.specs.Assignments.{may_define, may_declare}
-use Rattle.gr_types.specs.Finding.{◌>>=◌, where_true, Typed, as_channel}
+use Rattle.gr_exprs.specs.Finding.{◌>>=◌, where_true, Typed, as_channel}
 use Rattle.gr_types.specs.FindingStatements.{Done, receives, all_take_new, pair_of, define_by, var_zero, written_of, var_by}
 
 -- a value as a channel that values are received from

@@ -7,7 +7,7 @@ use Rattle.gr_types.specs.declared.context.Nest as code_nest
 use Rattle.gr_types.specs.declared.context.Nest.TheVariants as nests
 use Rattle.gr_types.specs.declared.context.Context as code_context
 use Rattle.gr_program.specs.TypeViews.{ty_of}
-use Rattle.gr_types.specs.FunctionTables.{functions_of}
+use Rattle.gr_exprs.specs.FunctionTables.{functions_of}
 use Rattle.gr_typing.specs.Contexts.{Around, Loop, Choice, Context, Within}
 
 abbrev pub around_of : code_around.Around → Around

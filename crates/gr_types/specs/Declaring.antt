@@ -6,8 +6,8 @@ use Rattle.gr_typing.specs.Types.{assignable}
 use Rattle.gr_program.specs.Programs.{Exprs, none, zero_of, AssignReceive}
 use Rattle.gr_typing.specs.Scopes.{Scope, Signature, is_free, declared, number_of}
 use Rattle.gr_typing.specs.Values.{Value}
-use Rattle.gr_types.specs.Finding.{◌>>=◌, where_true, Typed}
-use Rattle.gr_types.specs.Calling.{values_in}
+use Rattle.gr_exprs.specs.Finding.{◌>>=◌, where_true, Typed}
+use Rattle.gr_exprs.specs.Calling.{values_in}
 use Rattle.gr_types.specs.FindingStatements.{Done, Defined, with_defined, declared_as, receive_in, assigned}
 
 -- names that may be declared one after the other, whatever their types

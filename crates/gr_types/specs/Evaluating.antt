@@ -4,7 +4,7 @@ use Rattle.gr_tree.specs.Exprs.{Tree, Trees}
 use Rattle.gr_program.specs.Programs.{Act, Eval, Print, Printed}
 use Rattle.gr_typing.specs.Scopes.{Scope, Signature}
 use Rattle.gr_typing.specs.Values.{Value}
-use Rattle.gr_types.specs.Finding.{◌>>=◌, typed, as_channel, call_in, value_in, arguments_in, only_in}
+use Rattle.gr_exprs.specs.Finding.{◌>>=◌, typed, as_channel, call_in, value_in, arguments_in, only_in}
 use Rattle.gr_types.specs.FindingStatements.{receive_in, as_text, printable, printed_by, printed_in, closes, evaluated}
 
 -- `close` and `println` of arguments

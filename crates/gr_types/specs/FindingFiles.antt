@@ -8,7 +8,7 @@ use Rattle.gr_typing.specs.Types.{type_written}
 use Rattle.gr_program.specs.Programs.{Declared, Parameter, Function, FunctionIs, Program, ProgramIs}
 use Rattle.gr_program.specs.Order.{stands_in_order}
 use Rattle.gr_typing.specs.Scopes.{Scope, In, Signature, Sign, function_in, signature, may_name}
-use Rattle.gr_types.specs.Finding.{◌>>=◌, where_true, has_text}
+use Rattle.gr_exprs.specs.Finding.{◌>>=◌, where_true, has_text}
 use Rattle.gr_typing.specs.Contexts.{Within}
 use Rattle.gr_types.specs.FindingStatements.{Checked, written_of, body_in}
 use Rattle.gr_typing.specs.Labels.{labels_fit}

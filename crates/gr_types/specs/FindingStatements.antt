@@ -16,7 +16,7 @@ use Rattle.gr_program.specs.Programs.{Number, zero_of, Expr, Literally, Receive,
 use Rattle.gr_typing.specs.Names.{is_blank}
 use Rattle.gr_typing.specs.Scopes.{Scope, variable_named, type_of_variable, is_here, declare, declared, number_of, entered, left, first_where, Signature, function_in}
 use Rattle.gr_typing.specs.Values.{Value, binary_type, may_stand_right}
-use Rattle.gr_types.specs.Finding.{◌>>=◌, where_true, has_text, Typed, typed, given, of_kind, as_channel, if_unknown, call_in, value_in, arguments_in, only_in}
+use Rattle.gr_exprs.specs.Finding.{◌>>=◌, where_true, has_text, Typed, typed, given, of_kind, as_channel, if_unknown, call_in, value_in, arguments_in, only_in}
 use Rattle.gr_typing.specs.Contexts.{Loop, Choice, Context, Within, functions, inside, is_left, is_continued}
 use Rattle.gr_typing.specs.Assignments.{may_define, may_declare, all_declared, zeros}
 use Rattle.gr_typing.specs.Statements.{declares, defaults, at_most_one}

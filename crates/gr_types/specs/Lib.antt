@@ -1,10 +1,5 @@
-pub mod Signatures
-pub mod Finding
 pub mod FindingStatements
 pub mod FindingFiles
-pub mod Tables
-pub mod FunctionTables
-pub mod Calling
 pub mod Checking
 pub mod ContextViews
 pub mod Refusals
@@ -12,7 +7,6 @@ pub mod ActViews
 pub mod Acting
 pub mod Taking
 pub mod StatementParts
-pub mod FunctionNumbers
 pub mod Outlines
 pub mod OutlineViews
 pub mod TakerViews

@@ -5,7 +5,7 @@ use Rattle.gr_tree.specs.Statements.{optional}
 use Rattle.gr_types.specs.declared.parameters.Parameters as code_parameters
 use Rattle.gr_types.specs.declared.outlines.Outline as code_outline
 use Rattle.gr_program.specs.TypeViews.{ty_of, types_of}
-use Rattle.gr_types.specs.Tables.{scope_of}
+use Rattle.gr_exprs.specs.Tables.{scope_of}
 use Rattle.gr_program.specs.Views.{parameters_of}
 use Rattle.gr_types.specs.Outlines.{Taken, Outline, OutlineOf}
 

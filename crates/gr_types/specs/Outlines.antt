@@ -10,7 +10,7 @@ use Rattle.gr_typing.specs.Names.{predeclared, among}
 use Rattle.gr_program.specs.Order.{stands_in_order}
 use Rattle.gr_typing.specs.Scopes.{Scope, declared, number_of, is_free, Signature, Sign, function_in}
 use Rattle.gr_tree.specs.Statements.{Statements}
-use Rattle.gr_types.specs.Finding.{◌>>=◌, where_true, has_text}
+use Rattle.gr_exprs.specs.Finding.{◌>>=◌, where_true, has_text}
 use Rattle.gr_typing.specs.Contexts.{Context, Within}
 use Rattle.gr_types.specs.FindingStatements.{Checked, written_of, body_in}
 use Rattle.gr_types.specs.FindingFiles.{checked_function, is_bare}

@@ -17,7 +17,7 @@ use Rattle.gr_program.specs.Views.{expr_of, opening_of, stmt_of, stmts_of, case_
 use Rattle.gr_typing.specs.Scopes.{Scope, entered, left}
 use Rattle.gr_typing.specs.Contexts.{Loop, Choice, Context, functions, inside}
 use Rattle.gr_typing.specs.Statements.{defaults, at_most_one}
-use Rattle.gr_types.specs.Finding.{◌>>=◌, where_true}
+use Rattle.gr_exprs.specs.Finding.{◌>>=◌, where_true}
 use Rattle.gr_types.specs.FindingStatements.{Checked, alone, act_in, if_head_in, for_parts, range_parts, comm_in, statement_in, body_in, clauses_in}
 
 -- what stands between `if` or `for` and a block

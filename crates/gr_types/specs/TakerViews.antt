@@ -3,9 +3,9 @@ use Rattle.std.specs.Prelude.{ℕ, List, [], ◌∷◌, Vec}
 use Rattle.std.specs.declared.collections.vec_deque.VecDeque.{VecDeque}
 use Rattle.std.proofs.Common.{Global}
 use Rattle.gr_tree.specs.Exprs.{Tree, tree_of}
-use Rattle.gr_types.specs.declared.right_sides.ReceivePair as code_pair
-use Rattle.gr_types.specs.declared.definitions.Taker as code_taker
-use Rattle.gr_types.specs.declared.definitions.Taker.TheVariants as takers
+use Rattle.gr_types.specs.declared.assigning.right_sides.ReceivePair as code_pair
+use Rattle.gr_types.specs.declared.assigning.definition.Taker as code_taker
+use Rattle.gr_types.specs.declared.assigning.definition.Taker.TheVariants as takers
 use Rattle.gr_program.specs.declared.program.Expr as checked_expr
 use Rattle.gr_program.specs.Programs.{Expr, Exprs}
 use Rattle.gr_program.specs.TypeViews.{ty_of}

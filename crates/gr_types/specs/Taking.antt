@@ -12,8 +12,8 @@ use Rattle.gr_typing.specs.Names.{is_blank}
 use Rattle.gr_typing.specs.Scopes.{Scope, variable_named, type_of_variable, is_old, is_free, declared, number_of, Signature}
 use Rattle.gr_typing.specs.Values.{Value}
 use Rattle.gr_typing.specs.Assignments.{may_define}
-use Rattle.gr_types.specs.Finding.{◌>>=◌, where_true, Typed, typed, given}
-use Rattle.gr_types.specs.Calling.{values_in}
+use Rattle.gr_exprs.specs.Finding.{◌>>=◌, where_true, Typed, typed, given}
+use Rattle.gr_exprs.specs.Calling.{values_in}
 use Rattle.gr_types.specs.FindingStatements.{receive_in, takes_new, Done, assigned}
 
 -- what a name on the left of `=` stands for: a variable, or none for the blank identifier

@@ -8,8 +8,9 @@ ghost use Rattle.gr_types.specs.Outlines.{program_read};
 ghost use Rattle.gr_types.specs.Checking.{Settles};
 
 use crate::bodies::bodies;
-use crate::fault::{CheckError, Code};
+use crate::fault::CheckError;
 use crate::outlines::headings;
+use gr_exprs::fault::Code;
 use gr_program::Program;
 use gr_tree::File;
 use std::alloc::Global;

@@ -5,13 +5,13 @@ ghost use Rattle.gr_program.specs.TypeViews.{ty_of};
 ghost use Rattle.gr_typing.specs.Contexts as spec;
 ghost use Rattle.gr_typing.specs.Contexts.{has_label};
 ghost use Rattle.gr_typing.specs.Scopes.{first_where, next_number};
-ghost use Rattle.gr_types.specs.Checking.{Agrees};
+ghost use Rattle.gr_exprs.specs.Checking.{Agrees};
 ghost use Rattle.gr_types.specs.ContextViews.{around_of, nest_of, context_of};
-ghost use Rattle.gr_types.specs.Codes.{Tells};
-ghost use Rattle.gr_types.specs.declared.fault.Code.TheVariants as codes;
+ghost use Rattle.gr_exprs.specs.Codes.{Tells};
+ghost use Rattle.gr_exprs.specs.declared.fault.Code.TheVariants as codes;
 
-use crate::fault::{Code, Fault};
-use crate::functions::Functions;
+use gr_exprs::fault::{Code, Fault};
+use gr_exprs::functions::Functions;
 use gr_program::Type;
 
 /// A for or a select statement, with the label directly before it, if it has one.

@@ -2,30 +2,30 @@
 ghost use Rattle.std.specs.Prelude.{◌≡◌, None};
 ghost use Rattle.gr_tree.specs.Exprs.{tree_of, trees_of};
 ghost use Rattle.gr_program.specs.Programs as pure;
-ghost use Rattle.gr_types.specs.Tables.{scope_of};
-ghost use Rattle.gr_types.specs.FunctionTables.{functions_of};
+ghost use Rattle.gr_exprs.specs.Tables.{scope_of};
+ghost use Rattle.gr_exprs.specs.FunctionTables.{functions_of};
 ghost use Rattle.gr_program.specs.Views.{act_of, printed_of, prints_of};
-ghost use Rattle.gr_types.specs.Finding as finding;
+ghost use Rattle.gr_exprs.specs.Finding as finding;
 ghost use Rattle.gr_types.specs.FindingStatements as spec;
 ghost use Rattle.gr_types.specs.Evaluating as parts;
-ghost use Rattle.gr_types.specs.Checking.{Agrees, meaning_of, called_of};
+ghost use Rattle.gr_exprs.specs.Checking.{Agrees, meaning_of, called_of};
 
-use crate::calls::{Called, call, resolve};
 use crate::communications::receive_of;
-use crate::expressions::{call_in, find, find_all};
-use crate::fault::{Code, Fault};
-use crate::functions::Functions;
-use crate::names::copy;
-use crate::operands::{Operand, as_channel, with_type};
-use crate::scope::Scope;
-use crate::types::{may_send, zero};
+use gr_exprs::calls::{Called, call, resolve};
+use gr_exprs::expressions::{call_in, find, find_all};
+use gr_exprs::fault::{Code, Fault};
+use gr_exprs::functions::Functions;
+use gr_exprs::names::copy;
+use gr_exprs::operands::{Operand, as_channel, with_type};
+use gr_exprs::scope::Scope;
+use gr_exprs::types::{may_send, zero};
 use gr_program as checked;
 use gr_program::{Act, Printed, Type};
 use gr_tree::{Expr, UnaryOp};
 use std::alloc::Global;
 
 // The one argument of a call.
-#[tactic(auto, unfolding(crate::specs::Finding::only_in))]
+#[tactic(auto, unfolding(gr_exprs::specs::Finding::only_in))]
 fn only(
     alloc: Global,
     functions: &Functions,

@@ -1,61 +1,12 @@
-//! What a check finds wrong.
+//! Why a file has no program.
 ghost use Rattle.std.specs.Prelude.{◌≡◌};
-ghost use Rattle.gr_types.specs.declared.fault.Fault.TheVariants as faults;
 ghost use Rattle.gr_types.specs.declared.fault.CheckError.TheVariants as errors;
 ghost use Rattle.gr_types.specs.Checking.{refused_at};
-ghost use Rattle.gr_types.specs.Codes.{constant_code};
 
-use gr_const::ConstError;
+pub use gr_exprs::fault::Code;
+use gr_exprs::fault::Fault;
 use gr_scan::token::Place;
 use std::alloc::{AllocError, AllocFailed};
-
-/// Which rule of the language a file breaks.
-#[derive(Clone, Copy, Debug, PartialEq, Eq)]
-pub enum Code {
-    /// C1: a name that is not declared, or the blank identifier as a value.
-    UnknownName,
-    /// C2: a name or a label that is declared twice, or a name that may not be declared.
-    DeclaredTwice,
-    /// C3: a value of the wrong type, or something of the wrong form.
-    WrongForm,
-    /// C4: not as many values as are wanted.
-    WrongCount,
-    /// C5: a channel of the wrong direction.
-    WrongDirection,
-    /// C6: a function with a result whose end may be reached.
-    MissingReturn,
-    /// C7: a constant out of range, a divisor 0, or a negative shift count or size.
-    Constant,
-    /// C8: a label, a break or a continue out of place, or a label that is not used.
-    WrongLabel,
-    /// C9: the package is not `main`, or has no function `main` without parameters and result.
-    NoMain,
-    /// C10: `:=` that declares nothing.
-    NoNewVariable,
-}
-
-/// What stops the check of a statement.
-#[derive(Clone, Copy, Debug, PartialEq, Eq)]
-pub enum Fault {
-    Broken(Code),
-    Memory,
-}
-
-impl From<AllocError> for Fault {
-    ghost from_gives = { λ _ e. e ≡ faults.Memory };
-
-    fn from(_: AllocError) -> Self {
-        Fault::Memory
-    }
-}
-
-impl<T: Drop> From<AllocFailed<T>> for Fault {
-    ghost from_gives = { λ _ e. e ≡ faults.Memory };
-
-    fn from(_: AllocFailed<T>) -> Self {
-        Fault::Memory
-    }
-}
 
 /// Why a file has no program.
 #[derive(Clone, Copy, Debug, PartialEq, Eq)]
@@ -94,15 +45,5 @@ pub fn refused(fault: Fault, place: Place) -> CheckError
             at: place.start,
         },
         Fault::Memory => CheckError::Memory,
-    }
-}
-
-/// The rule that a constant expression without a value breaks.
-pub fn code_of(error: ConstError) -> Code
-    ensures { result ≡ constant_code error }
-{
-    match error {
-        ConstError::Form => Code::WrongForm,
-        ConstError::Range => Code::Constant,
     }
 }

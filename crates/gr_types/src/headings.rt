@@ -1,24 +1,26 @@
 //! What stands between `if` or `for` and a block.
 ghost use Rattle.gr_tree.specs.Exprs.{tree_of};
 ghost use Rattle.gr_tree.specs.Statements.{optional, simple_of, heading_of, if_of, target_of};
-ghost use Rattle.gr_types.specs.Tables.{scope_of};
+ghost use Rattle.gr_exprs.specs.Tables.{scope_of};
 ghost use Rattle.gr_program.specs.TypeViews.{ty_of};
-ghost use Rattle.gr_types.specs.FunctionTables.{functions_of};
+ghost use Rattle.gr_exprs.specs.FunctionTables.{functions_of};
 ghost use Rattle.gr_program.specs.Views.{expr_of, act_of, opening_of};
 ghost use Rattle.gr_types.specs.FindingStatements as spec;
 ghost use Rattle.gr_types.specs.StatementParts.{if_parts_of, loop_parts_of, range_parts_of};
-ghost use Rattle.gr_types.specs.Checking.{Agrees, Settles};
+ghost use Rattle.gr_exprs.specs.Checking.{Agrees};
+ghost use Rattle.gr_types.specs.Checking.{Settles};
 
 use crate::acts::simple;
-use crate::assignments::target_for;
+use crate::assigning::definition::define_target;
+use crate::assigning::targets::target_for;
 use crate::communications::received_from;
-use crate::definitions::define_target;
-use crate::expressions::find;
-use crate::fault::{CheckError, Code, Fault, refused};
-use crate::functions::Functions;
-use crate::operands::{Operand, of_kind};
-use crate::scope::Scope;
+use crate::fault::{CheckError, refused};
 use gr_const::Constant;
+use gr_exprs::expressions::find;
+use gr_exprs::fault::{Code, Fault};
+use gr_exprs::functions::Functions;
+use gr_exprs::operands::{Operand, of_kind};
+use gr_exprs::scope::Scope;
 use gr_program as checked;
 use gr_program::types::copy;
 use gr_program::{Act, Opening, Type};

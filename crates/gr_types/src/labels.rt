@@ -6,7 +6,7 @@ ghost use Rattle.gr_types.specs.LabelTables.{names_of, with_name, with_names, fi
 ghost use Rattle.gr_typing.specs.Names as name_specs;
 ghost use Rattle.gr_types.specs.StatementViews.{clause_body, clauses_of};
 
-use crate::names::is_blank;
+use gr_exprs::names::is_blank;
 use gr_scan::token::Place;
 use gr_tree::{Action, Clause, Stmt};
 use indexmap::IndexSet;

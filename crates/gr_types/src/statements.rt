@@ -1,7 +1,7 @@
 //! Statements.
 ghost use Rattle.gr_tree.specs.Statements.{act_of, comm_of, for_of, if_of, optional, statement_of, statements_of};
 ghost use Rattle.gr_types.specs.StatementViews.{clauses_of};
-ghost use Rattle.gr_types.specs.Tables.{scope_of};
+ghost use Rattle.gr_exprs.specs.Tables.{scope_of};
 ghost use Rattle.gr_types.specs.ContextViews.{context_of};
 ghost use Rattle.gr_program.specs.Views as programs;
 ghost use Rattle.gr_program.specs.Views.{stmts_of, case_on, cases_of};
@@ -11,11 +11,12 @@ ghost use Rattle.gr_types.specs.Checking.{Settles};
 
 use crate::acts::act;
 use crate::context::{Around, Context, Nest};
-use crate::fault::{CheckError, Code, Fault, refused};
+use crate::fault::{CheckError, refused};
 use crate::forms;
 use crate::headings::{IfParts, LoopParts, RangeParts, if_parts, loop_parts, range_parts};
-use crate::scope::Scope;
 use crate::selects::{first_error, has_at_most_one_default, placed_awaits};
+use gr_exprs::fault::{Code, Fault};
+use gr_exprs::scope::Scope;
 use gr_program as checked;
 use gr_program::{Act, Case};
 use gr_scan::token::Place;

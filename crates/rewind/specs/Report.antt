@@ -5,8 +5,8 @@ use Rattle.gr_scan.specs.declared.scan.ScanError.{ScanError}
 use Rattle.gr_scan.specs.declared.scan.ScanError.TheVariants as scanning
 use Rattle.gr_syntax.specs.declared.parse.ParseError.{ParseError}
 use Rattle.gr_syntax.specs.declared.parse.ParseError.TheVariants as parsing
-use Rattle.gr_types.specs.declared.fault.Code.{Code}
-use Rattle.gr_types.specs.declared.fault.Code.TheVariants as rules
+use Rattle.gr_exprs.specs.declared.fault.Code.{Code}
+use Rattle.gr_exprs.specs.declared.fault.Code.TheVariants as rules
 use Rattle.gr_types.specs.declared.fault.CheckError.{CheckError}
 use Rattle.gr_types.specs.declared.fault.CheckError.TheVariants as checking
 use Rattle.gr_session.specs.declared.open.OpenError.{OpenError}

@@ -1,4 +1,4 @@
-use Rattle.gr_depend.specs.Told.{count_in}
+use Rattle.gr_touches.specs.Told.{count_in}
 use Rattle.gr_depend.proofs.conflicts.+any_written.Given as goal
 
 abbrev pub decreases-any_written : goal.decreases-any_written

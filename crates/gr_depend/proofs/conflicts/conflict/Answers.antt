@@ -1,7 +1,7 @@
 use Rattle.std.proofs.Common.{◌||◌, sym, ap, ◌∙◌}
 use Rattle.std.specs.List.{list_any}
-use Rattle.gr_step.specs.Conflicts.{written_by, touched_by}
-use Rattle.gr_depend.specs.Touches.{is_among}
+use Rattle.gr_record.specs.Conflicts.{written_by, touched_by}
+use Rattle.gr_touches.specs.Touches.{is_among}
 use Rattle.gr_depend.proofs.ConflictLemmas.{conflict_split}
 use Rattle.gr_depend.proofs.conflicts.conflict.Goals as goal
 

@@ -1,4 +1,4 @@
-use Rattle.gr_kept.proofs.ChainLemmas.{chain_of}
+use Rattle.gr_record.proofs.ChainLemmas.{chain_of}
 use Rattle.gr_depend.proofs.HistoryLemmas.{started, sent_alike, received_alike}
 use Rattle.gr_depend.proofs.history.law_of_history.Goals as goal
 

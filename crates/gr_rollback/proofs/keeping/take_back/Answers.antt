@@ -1,5 +1,5 @@
 use Rattle.std.proofs.Common.{◌∷◌, sym, subst}
-use Rattle.gr_step.specs.declared.record.Record.{Record}
+use Rattle.gr_record.specs.declared.record.Record.{Record}
 use Rattle.gr_step.specs.Stores.{contents_at}
 use Rattle.gr_rollback.specs.Readiness.{HasReady, KnowsThere, Settles, others_of}
 use Rattle.gr_rollback.proofs.BringLemmas.{own_known, met_known, ready_before, ready_again, knows_still}

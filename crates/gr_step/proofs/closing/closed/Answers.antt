@@ -3,10 +3,10 @@ use Rattle.std.specs.Prelude.{option_map}
 use Rattle.gr_base.specs.declared.kinds.Kind.TheVariants as kinds
 use Rattle.gr_base.specs.declared.objects.Object.TheVariants as objects
 use Rattle.gr_rules.specs.Attempts.{closes}
-use Rattle.gr_step.specs.declared.record.Beyond.{Beyond}
-use Rattle.gr_step.specs.Parts.{reads_in}
+use Rattle.gr_record.specs.declared.record.Beyond.{Beyond}
+use Rattle.gr_record.specs.Parts.{reads_in}
 use Rattle.gr_step.specs.Passing.{Tells}
-use Rattle.gr_step.specs.Records.{operation_of, NeedNoFrame}
+use Rattle.gr_record.specs.Records.{operation_of, NeedNoFrame}
 use Rattle.gr_step.proofs.closing.closed.Goals as goal
 
 pub returns-clause-told : goal.returns-clause-told

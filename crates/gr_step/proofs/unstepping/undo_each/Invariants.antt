@@ -1,6 +1,6 @@
 use Rattle.std.proofs.Common.{◌≡◌, ℕ, List, vec_len}
 use Rattle.gr_tables.specs.NamedGoroutines.{goroutines_of}
-use Rattle.gr_step.specs.Records.{go_back, GoesFit, NeedNoFrame}
+use Rattle.gr_record.specs.Records.{go_back, GoesFit, NeedNoFrame}
 use Rattle.gr_step.proofs.unstepping.undo_each.Given as goal
 
 abbrev pub invariant-loop-name : goal.invariant-loop-name

@@ -1,7 +1,7 @@
 use Rattle.std.proofs.Common.{◌∙◌, ap, sym, arith, length}
 use Rattle.std.proofs.lemmas.Result.{err_from_is_err_and}
 use Rattle.std.specs.Vec.Iter.{into_iter_items}
-use Rattle.gr_types.specs.FunctionTables as tables
+use Rattle.gr_exprs.specs.FunctionTables as tables
 use Rattle.gr_types.specs.Outlines.{finished_all}
 use Rattle.gr_types.specs.OutlineViews.{outlines_of}
 use Rattle.gr_types.proofs.Outlining.{body_on, body_over, bodies_end}

@@ -1,9 +1,9 @@
 use Rattle.std.proofs.Common.{◌≡◌, ◌++◌, length}
 use Rattle.std.specs.Prelude.{Some}
 use Rattle.std.specs.Vec.Iter.{into_iter_items, into_iter_len}
-use Rattle.gr_types.specs.FunctionTables as tables
+use Rattle.gr_exprs.specs.FunctionTables as tables
 use Rattle.gr_program.specs.Views.{functions_of}
-use Rattle.gr_types.specs.Finding.{◌>>=◌}
+use Rattle.gr_exprs.specs.Finding.{◌>>=◌}
 use Rattle.gr_types.specs.Outlines.{finished_all}
 use Rattle.gr_types.specs.OutlineViews.{outlines_of}
 use Rattle.gr_types.proofs.bodies.bodies.Given as goal

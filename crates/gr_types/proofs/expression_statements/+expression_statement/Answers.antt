@@ -1,10 +1,10 @@
 use Rattle.std.proofs.Common.{sym, ap, ◌∙◌, subst}
 use Rattle.gr_tree.specs.Exprs.{tree_of, trees_of}
-use Rattle.gr_types.specs.Tables.{scope_of}
-use Rattle.gr_types.specs.FunctionTables.{functions_of}
+use Rattle.gr_exprs.specs.Tables.{scope_of}
+use Rattle.gr_exprs.specs.FunctionTables.{functions_of}
 use Rattle.gr_program.specs.Views.{act_of}
 use Rattle.gr_types.specs.FindingStatements.{run_call, runs_in}
-use Rattle.gr_types.specs.Checking.{Agrees}
+use Rattle.gr_exprs.specs.Checking.{Agrees}
 use Rattle.gr_types.proofs.Running.{runs_call}
 use Rattle.gr_types.proofs.expression_statements.+expression_statement.Goals as goal
 

@@ -1,6 +1,6 @@
 use Rattle.std.proofs.Common.{arith}
-use Rattle.gr_types.specs.Tables.{scope_of}
-use Rattle.gr_types.specs.FunctionTables.{functions_of}
+use Rattle.gr_exprs.specs.Tables.{scope_of}
+use Rattle.gr_exprs.specs.FunctionTables.{functions_of}
 use Rattle.gr_types.proofs.Running.{not_only}
 use Rattle.gr_types.proofs.expression_statements.only.Goals as goal
 

@@ -1,7 +1,7 @@
 use Rattle.std.proofs.lemmas.Result.{err_from_is_err_and}
-use Rattle.gr_types.specs.Tables.{scope_of}
+use Rattle.gr_exprs.specs.Tables.{scope_of}
 use Rattle.gr_tree.specs.Exprs.{trees_of}
-use Rattle.gr_types.specs.FunctionTables.{functions_of}
+use Rattle.gr_exprs.specs.FunctionTables.{functions_of}
 use Rattle.gr_types.specs.FindingStatements.{printed_in}
 use Rattle.gr_types.proofs.Running.{print_on, print_refused, all_printed}
 use Rattle.gr_types.proofs.expression_statements.print_all.Goals as goal

@@ -1,10 +1,10 @@
 use Rattle.std.proofs.Common.{◌≡◌, ◌++◌, drop}
 use Rattle.std.specs.Prelude.{Some}
 use Rattle.gr_tree.specs.Exprs.{trees_of}
-use Rattle.gr_types.specs.Tables.{scope_of}
-use Rattle.gr_types.specs.FunctionTables.{functions_of}
+use Rattle.gr_exprs.specs.Tables.{scope_of}
+use Rattle.gr_exprs.specs.FunctionTables.{functions_of}
 use Rattle.gr_program.specs.Views.{prints_of}
-use Rattle.gr_types.specs.Finding.{◌>>=◌}
+use Rattle.gr_exprs.specs.Finding.{◌>>=◌}
 use Rattle.gr_types.specs.FindingStatements.{printed_in}
 use Rattle.gr_types.proofs.expression_statements.print_all.Given as goal
 

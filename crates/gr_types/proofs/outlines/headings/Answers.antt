@@ -1,7 +1,7 @@
 use Rattle.std.proofs.Common.{◌∙◌, ap, []}
 use Rattle.gr_tree.specs.Files as files
-use Rattle.gr_types.specs.Signatures.{sign_of}
-use Rattle.gr_types.specs.FunctionTables.{functions_of}
+use Rattle.gr_exprs.specs.Signatures.{sign_of}
+use Rattle.gr_exprs.specs.FunctionTables.{functions_of}
 use Rattle.gr_types.specs.Outlines.{headings_in}
 use Rattle.gr_types.specs.OutlineViews.{outline_of, outlines_of}
 use Rattle.gr_types.proofs.Outlining.{heading_on, heading_over, headings_end, outlines_push}

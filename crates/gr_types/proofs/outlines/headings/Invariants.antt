@@ -1,6 +1,6 @@
 use Rattle.std.proofs.Common.{◌≡◌, [], drop}
 use Rattle.gr_tree.specs.Files as files
-use Rattle.gr_types.specs.FunctionTables.{functions_of}
+use Rattle.gr_exprs.specs.FunctionTables.{functions_of}
 use Rattle.gr_types.specs.Outlines.{headings_in}
 use Rattle.gr_types.specs.OutlineViews.{outlines_of}
 use Rattle.gr_types.proofs.outlines.headings.Given as goal

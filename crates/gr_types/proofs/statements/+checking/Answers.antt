@@ -3,11 +3,11 @@ use Rattle.std.specs.Prelude.{Some}
 use Rattle.std.proofs.lemmas.Result.{err_from_is_err_and}
 use Rattle.gr_tree.specs.Statements.{for_of, if_of, optional, statement_of, statements_of}
 use Rattle.gr_types.specs.StatementViews.{clauses_of}
-use Rattle.gr_types.specs.Tables.{scope_of}
+use Rattle.gr_exprs.specs.Tables.{scope_of}
 use Rattle.gr_types.specs.ContextViews.{context_of}
 use Rattle.gr_program.specs.Views.{stmts_of, case_on}
 use Rattle.gr_types.specs.FindingStatements.{statement_in, body_in, clauses_in}
-use Rattle.gr_types.specs.Finding.{◌>>=◌}
+use Rattle.gr_exprs.specs.Finding.{◌>>=◌}
 use Rattle.gr_types.specs.StatementParts.{made_of, block_in, tested_of, tested_in, if_in, else_in, else_if_in, for_in, select_in}
 use Rattle.gr_types.proofs.Stepping.{no_steps, step_on, none_on, stopped, all_steps, no_cases, case_on_next, case_stopped, all_cases, default_as, case_as, default_done, block_as, if_as, else_as, else_if_as, for_as, select_as, denied, denied_first, denied_then, select_refused}
 use Rattle.gr_types.proofs.statements.+checking.Goals as goal

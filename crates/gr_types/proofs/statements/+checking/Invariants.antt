@@ -1,7 +1,7 @@
 use Rattle.std.proofs.Common.{◌≡◌, drop}
 use Rattle.gr_tree.specs.Statements.{statements_of}
 use Rattle.gr_types.specs.StatementViews.{clauses_of}
-use Rattle.gr_types.specs.Tables.{scope_of}
+use Rattle.gr_exprs.specs.Tables.{scope_of}
 use Rattle.gr_types.specs.ContextViews.{context_of}
 use Rattle.gr_types.specs.FindingStatements.{body_in, clauses_in}
 use Rattle.gr_types.specs.StatementParts.{stmts_before, cases_before}

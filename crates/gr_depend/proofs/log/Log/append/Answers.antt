@@ -1,10 +1,10 @@
 use Rattle.std.proofs.Common.{◌≡◌, ◌≤◌, ◌^◌, ◌++◌, true, length, subst, sym, ap, ◌∙◌, length-append, arith}
 use Rattle.std.specs.List.{list_all}
 use Rattle.std.specs.Prelude.{if◌then◌else◌}
-use Rattle.gr_step.specs.Conflicts.{touched_by}
-use Rattle.gr_depend.specs.Lists.{list_of}
-use Rattle.gr_depend.specs.Touches.{touches_in, none_twice}
-use Rattle.gr_depend.proofs.StretchLemmas.{with_own, all_once_then}
+use Rattle.gr_record.specs.Conflicts.{touched_by}
+use Rattle.gr_touches.specs.Lists.{list_of}
+use Rattle.gr_touches.specs.Touches.{touches_in, none_twice}
+use Rattle.gr_depend.proofs.AppendLemmas.{with_own, all_once_then}
 use Rattle.gr_depend.proofs.log.Log.append.Goals as goal
 
 pub note_own-requires : goal.note_own-requires

@@ -1,7 +1,7 @@
 use Rattle.std.proofs.Common.{ap, ◌∙◌, arith}
 use Rattle.std.proofs.lemmas.List.{take_at}
-use Rattle.gr_step.specs.Conflicts.{conflict_of}
-use Rattle.gr_kept.specs.Back.{marked}
+use Rattle.gr_record.specs.Conflicts.{conflict_of}
+use Rattle.gr_record.specs.Back.{marked}
 use Rattle.gr_depend.proofs.MarkedLemmas.{causes_marked}
 use Rattle.gr_depend.proofs.log.Log.causes.Goals as goal
 

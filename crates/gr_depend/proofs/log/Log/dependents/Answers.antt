@@ -1,7 +1,7 @@
 use Rattle.std.proofs.Common.{drop, ap, ◌∙◌, arith}
 use Rattle.std.proofs.lemmas.List.{take_at}
-use Rattle.gr_step.specs.Conflicts.{conflict_of}
-use Rattle.gr_kept.specs.Back.{marked, unmarked}
+use Rattle.gr_record.specs.Conflicts.{conflict_of}
+use Rattle.gr_record.specs.Back.{marked, unmarked}
 use Rattle.gr_depend.proofs.MarkedLemmas.{dependents_marked, kept_unmarked}
 use Rattle.gr_depend.proofs.log.Log.dependents.Goals as goal
 

@@ -1,5 +1,5 @@
 use Rattle.std.proofs.Common.{◌<◌, ◌≤◌, ℕ}
-use Rattle.gr_depend.specs.Lists.{list_numbered}
+use Rattle.gr_touches.specs.Lists.{list_numbered}
 use Rattle.gr_depend.specs.Turned.{TouchesTurnedFrom}
 use Rattle.gr_depend.proofs.log.Log.first_turned.Given as goal
 

@@ -1,6 +1,6 @@
 use Rattle.std.proofs.Common.{◌≡◌, ◌+◌, ◌-◌, ◌∙◌, false, subst, arith}
 use Rattle.gr_base.specs.declared.objects.Object.TheVariants.{Go}
-use Rattle.gr_depend.specs.declared.touch.Touch.{Touch}
+use Rattle.gr_touches.specs.declared.touch.Touch.{Touch}
 use Rattle.gr_depend.proofs.NamedLemmas.{NoneAfter, none_more, none_at_all, last_there}
 use Rattle.gr_depend.proofs.log.Log.last_of.Goals as goal
 

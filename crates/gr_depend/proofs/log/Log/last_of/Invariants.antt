@@ -1,6 +1,6 @@
 use Rattle.std.proofs.Common.{◌≡◌, ◌≤◌, ◌==◌, ℕ, true, length, drop, slice_get, Some}
 use Rattle.std.specs.List.{list_any}
-use Rattle.gr_step.specs.declared.record.Record.{Record}
+use Rattle.gr_record.specs.declared.record.Record.{Record}
 use Rattle.gr_depend.proofs.log.Log.last_of.Given as goal
 
 abbrev pub invariant-loop-left : goal.invariant-loop-left

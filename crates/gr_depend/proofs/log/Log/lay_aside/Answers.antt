@@ -1,10 +1,10 @@
 use Rattle.std.proofs.Common.{◌≡◌, ◌+◌, ◌++◌, ◌∷◌, [], true, length, subst, sym, ap, ◌∙◌, append_assoc, length-append, arith}
 use Rattle.std.specs.List.{list_all}
 use Rattle.std.specs.Option.{option_to_list}
-use Rattle.gr_step.specs.Conflicts.{touched_by}
-use Rattle.gr_depend.specs.Touches.{touches_in, none_twice}
-use Rattle.gr_depend.specs.Lists.{list_of}
-use Rattle.gr_depend.proofs.TouchLemmas.{without_step, all_once_split}
+use Rattle.gr_record.specs.Conflicts.{touched_by}
+use Rattle.gr_touches.specs.Touches.{touches_in, none_twice}
+use Rattle.gr_touches.specs.Lists.{list_of}
+use Rattle.gr_touches.proofs.TouchLemmas.{without_step, all_once_split}
 use Rattle.gr_depend.proofs.RoomLemmas.{takes_on}
 use Rattle.gr_depend.proofs.log.Log.lay_aside.Goals as goal
 

@@ -1,7 +1,7 @@
 use Rattle.std.proofs.Common.{◌≤◌, false, true}
-use Rattle.gr_depend.specs.declared.marks.Side.TheVariants.{Earlier}
+use Rattle.gr_touches.specs.declared.marks.Side.TheVariants.{Earlier}
 use Rattle.gr_depend.specs.Marked.{IsTraced}
-use Rattle.gr_depend.specs.Walks.{AreWalked}
+use Rattle.gr_touches.specs.Walks.{AreWalked}
 use Rattle.gr_depend.proofs.log.Log.mark_causes.Given as goal
 
 abbrev pub invariant-loop-left : goal.invariant-loop-left

@@ -1,7 +1,7 @@
 use Rattle.std.proofs.Common.{◌-◌, false, true}
-use Rattle.gr_depend.specs.declared.marks.Side.TheVariants.{Later}
+use Rattle.gr_touches.specs.declared.marks.Side.TheVariants.{Later}
 use Rattle.gr_depend.specs.Marked.{IsSpread}
-use Rattle.gr_depend.specs.Walks.{AreWalked}
+use Rattle.gr_touches.specs.Walks.{AreWalked}
 use Rattle.gr_depend.proofs.log.Log.mark_dependents.Given as goal
 
 abbrev pub invariant-loop-place : goal.invariant-loop-place

@@ -1,6 +1,6 @@
 use Rattle.std.proofs.Common.{◌∙◌, ℕ, map, subst, sym, ap}
 use Rattle.gr_causal.specs.Orders.{IsOrder}
-use Rattle.gr_step.specs.Conflicts.{conflict_of}
+use Rattle.gr_record.specs.Conflicts.{conflict_of}
 use Rattle.gr_depend.specs.Ordering.{name, elements_at}
 use Rattle.gr_depend.specs.Turned.{AreTurned, AreFirstTurned}
 use Rattle.gr_depend.proofs.OrderingLemmas.{once, keeps, breaks_at, names_in_order}

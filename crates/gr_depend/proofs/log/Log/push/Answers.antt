@@ -2,13 +2,14 @@ use Rattle.std.proofs.Common.{◌≡◌, ◌≤◌, ◌^◌, ℕ, List, [], ◌�
 use Rattle.std.proofs.Math.Seq.{take-append_seam}
 use Rattle.std.proofs.lemmas.List.{get_or_push}
 use Rattle.std.specs.List.{list_all}
-use Rattle.gr_step.specs.declared.record.Record.{Record}
-use Rattle.gr_step.specs.Conflicts.{touched_by}
-use Rattle.gr_depend.specs.Room.{Fits}
-use Rattle.gr_depend.specs.Touches.{touches_in, kept_for, none_twice}
-use Rattle.gr_depend.specs.Lists.{list_of}
-use Rattle.gr_depend.proofs.TouchLemmas.{distinct_once, with_step, all_once_last}
-use Rattle.gr_depend.proofs.RoomLemmas.{fits_step, takes_on}
+use Rattle.gr_record.specs.declared.record.Record.{Record}
+use Rattle.gr_record.specs.Conflicts.{touched_by}
+use Rattle.gr_touches.specs.Room.{Fits}
+use Rattle.gr_touches.specs.Touches.{touches_in, kept_for, none_twice}
+use Rattle.gr_touches.specs.Lists.{list_of}
+use Rattle.gr_touches.proofs.TouchLemmas.{distinct_once, with_step, all_once_last}
+use Rattle.gr_touches.proofs.RoomLemmas.{fits_step}
+use Rattle.gr_depend.proofs.RoomLemmas.{takes_on}
 use Rattle.gr_depend.proofs.log.Log.push.Goals as goal
 
 -- what stands at the place of a step that was put behind others is that step

@@ -2,11 +2,12 @@ use Rattle.std.proofs.Common.{◌≡◌, [], ◌∷◌, ◌++◌, true, length, 
 use Rattle.std.specs.List.{list_all}
 use Rattle.std.specs.Prelude.{OnOk}
 use Rattle.gr_base.specs.declared.objects.Object.{Object}
-use Rattle.gr_step.specs.Conflicts.{touched_by}
-use Rattle.gr_depend.specs.Touches.{touches_in, none_twice, kept_for}
-use Rattle.gr_depend.specs.Lists.{list_of}
-use Rattle.gr_depend.proofs.TouchLemmas.{distinct_once, with_step, all_once_last}
-use Rattle.gr_depend.proofs.RoomLemmas.{fits_step, takes_on}
+use Rattle.gr_record.specs.Conflicts.{touched_by}
+use Rattle.gr_touches.specs.Touches.{touches_in, none_twice, kept_for}
+use Rattle.gr_touches.specs.Lists.{list_of}
+use Rattle.gr_touches.proofs.TouchLemmas.{distinct_once, with_step, all_once_last}
+use Rattle.gr_touches.proofs.RoomLemmas.{fits_step}
+use Rattle.gr_depend.proofs.RoomLemmas.{takes_on}
 use Rattle.gr_depend.proofs.log.Log.push_reserved.Goals as goal
 
 pub unwrap-requires : goal.unwrap-requires

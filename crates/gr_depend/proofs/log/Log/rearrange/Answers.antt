@@ -1,7 +1,7 @@
 use Rattle.std.proofs.Common.{◌≡◌, ◌+◌, ◌∙◌, drop, ◌∷◌, ◌++◌, [], OnOk, is_some, slice_set, subst, sym, ap}
 use Rattle.gr_causal.specs.Sequences.{Distinct}
 use Rattle.gr_causal.proofs.ListLemmas.{some_is}
-use Rattle.gr_step.specs.Conflicts.{touched_by}
+use Rattle.gr_record.specs.Conflicts.{touched_by}
 use Rattle.gr_depend.specs.Logs.{records_of}
 use Rattle.gr_depend.specs.Ordering.{elements_at}
 use Rattle.gr_depend.specs.Room.{CanTake}

@@ -2,10 +2,10 @@ use Rattle.std.proofs.Common.{◌≡◌, true, ◌∷◌, None, refl, sym, ap, s
 use Rattle.std.proofs.lemmas.Result.{err_from_is_err_and}
 use Rattle.gr_pool.specs.Goroutines.{is_among}
 use Rattle.gr_rules.specs.Steps.{refusal}
-use Rattle.gr_step.specs.declared.record.Record.{Record}
-use Rattle.gr_step.specs.Records.{taken_back}
+use Rattle.gr_record.specs.declared.record.Record.{Record}
+use Rattle.gr_record.specs.Records.{taken_back}
 use Rattle.gr_step.specs.Stores.{program_at, contents_at}
-use Rattle.gr_kept.proofs.RecordLemmas.{no_object_twice}
+use Rattle.gr_record.proofs.RecordLemmas.{no_object_twice}
 use Rattle.gr_depend.specs.Logs.{records_of}
 use Rattle.gr_rollback.specs.declared.course.Course.{Course}
 use Rattle.gr_rollback.specs.Readiness.{AllKnown, IsReadyIn, KeepsStatus, Settles, met_by, others_of}

@@ -7,7 +7,7 @@ use Rattle.gr_code.specs.Goroutines.{is_local, local, task_of}
 use Rattle.gr_rules.specs.Outcomes.{wrong}
 use Rattle.gr_goros.specs.Tasks.{IsStep}
 use Rattle.gr_lower.specs.Lowered.{lowered}
-use Rattle.gr_step.specs.declared.record.Record.{Record}
+use Rattle.gr_record.specs.declared.record.Record.{Record}
 use Rattle.gr_step.specs.Leasing.{IsOwnRecord, Walk, name_lent, program_lent, goroutine_lent, goroutine_led_to, records_led}
 use Rattle.gr_step.proofs.LeasingLemmas.{has_task, has_step, lease_goes}
 use Rattle.gr_step.proofs.leasing.Lease.step.Goals as goal

@@ -5,7 +5,7 @@ use Rattle.gr_code.specs.CodeViews.{program_code_of}
 use Rattle.gr_goros.specs.Needs.{is_select_in}
 use Rattle.gr_goros.specs.Views.{status_of}
 use Rattle.gr_lower.specs.Lowered.{lowered}
-use Rattle.gr_step.specs.Listings.{program_in}
+use Rattle.gr_record.specs.Listings.{program_in}
 use Rattle.gr_step.specs.Objects.{contents_in, run_of}
 use Rattle.gr_step.proofs.ChoosingLemmas.{task_there}
 use Rattle.gr_step.proofs.NoChoiceLemmas.{no_select, none_other}

@@ -3,8 +3,8 @@ use Rattle.std.specs.Prelude.{option_copied}
 use Rattle.gr_base.specs.declared.objects.Object.TheVariants as objects
 use Rattle.gr_channels.specs.Channels.{Content}
 use Rattle.gr_step.specs.Beyonds.{Reaches}
-use Rattle.gr_step.specs.declared.record.Operation.TheVariants.{TakesCapOf}
-use Rattle.gr_step.specs.Listings.{program_in}
+use Rattle.gr_record.specs.declared.record.Operation.TheVariants.{TakesCapOf}
+use Rattle.gr_record.specs.Listings.{program_in}
 use Rattle.gr_step.proofs.CountSteps.{cap_there, cap_takes, cap_room, nil_cap_there, nil_cap_takes, nil_room}
 use Rattle.gr_step.proofs.Reaching.{reaches_some}
 use Rattle.gr_step.proofs.ChannelThere.{some_there, some_found, same_there}

@@ -1,7 +1,7 @@
 use Rattle.std.proofs.Common.{◌≡◌, ap, ◌∙◌}
 use Rattle.gr_code.specs.CodeViews.{program_code_of}
 use Rattle.gr_lower.specs.Lowered.{lowered}
-use Rattle.gr_step.specs.Listings.{program_in}
+use Rattle.gr_record.specs.Listings.{program_in}
 use Rattle.gr_step.specs.Objects.{contents_in}
 use Rattle.gr_step.proofs.ChoosingLemmas.{other_need, task_there}
 use Rattle.gr_step.proofs.NoChoiceLemmas.{none_other}

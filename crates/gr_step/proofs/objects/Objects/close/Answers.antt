@@ -12,12 +12,12 @@ use Rattle.gr_rules.specs.Outcomes.{gives}
 use Rattle.gr_rules.specs.Steps.{attempt}
 use Rattle.gr_tables.specs.NamedChannels.{contents_of, seen_of}
 use Rattle.gr_tables.specs.NamedGoroutines.{name_at, seen_at, At, CanArrive}
-use Rattle.gr_step.specs.declared.record.Operation.TheVariants.{Closes}
+use Rattle.gr_record.specs.declared.record.Operation.TheVariants.{Closes}
 use Rattle.gr_step.specs.Beyonds.{Stops}
-use Rattle.gr_step.specs.Listings.{program_in}
+use Rattle.gr_record.specs.Listings.{program_in}
 use Rattle.gr_step.specs.Objects.{contents_in}
-use Rattle.gr_step.specs.Records.{HasRoom}
-use Rattle.gr_step.specs.Taking.{Takes}
+use Rattle.gr_step.specs.Room.{HasRoom}
+use Rattle.gr_record.specs.Taking.{Takes}
 use Rattle.gr_step.specs.Wakes.{Closing}
 use Rattle.gr_step.proofs.ChannelThere.{some_there, some_found}
 use Rattle.gr_step.proofs.CloseSteps.{nil_takes, twice_takes, channel_there, can_complete, waiters_live, closing_takes, closing_has_room, content_is, content_seen}

@@ -8,7 +8,7 @@ use Rattle.gr_contents.specs.Closing.{waiting_on}
 use Rattle.gr_rules.specs.Attempts.{closes}
 use Rattle.gr_tables.specs.NamedChannels.{contents_of, seen_of, AreAtGates}
 use Rattle.gr_tables.specs.NamedGoroutines.{Arrives, ChangesBy, goroutines_of}
-use Rattle.gr_step.specs.declared.record.Operation.TheVariants.{Closes}
+use Rattle.gr_record.specs.declared.record.Operation.TheVariants.{Closes}
 use Rattle.gr_step.specs.Beyonds.{Reaches}
 use Rattle.gr_step.specs.Passing.{ArrivesAt, Tells}
 use Rattle.gr_step.specs.Wakes.{left_by_close, is_live_there, with_each_woken, written_by_close, IsShut}

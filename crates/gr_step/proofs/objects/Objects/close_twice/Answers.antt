@@ -5,7 +5,7 @@ use Rattle.gr_base.specs.declared.names.ChName.{ChName}
 use Rattle.gr_base.specs.declared.objects.Object.TheVariants.{Gate}
 use Rattle.gr_code.specs.Goroutines.{CodeGoroutine}
 use Rattle.gr_tables.specs.NamedGoroutines.{name_at}
-use Rattle.gr_step.specs.declared.record.Operation.TheVariants.{Closes}
+use Rattle.gr_record.specs.declared.record.Operation.TheVariants.{Closes}
 use Rattle.gr_step.specs.Beyonds.{Stops}
 use Rattle.gr_step.specs.Objects.{contents_in}
 use Rattle.gr_step.proofs.objects.Objects.close_twice.Goals as goal

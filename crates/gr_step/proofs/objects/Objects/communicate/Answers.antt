@@ -2,7 +2,7 @@ use Rattle.std.proofs.Common.{Some, refl}
 use Rattle.std.proofs.lemmas.Result.{IfOk-weaker}
 use Rattle.gr_rules.specs.Attempts.{no_such_choice, refuse}
 use Rattle.gr_rules.specs.Communications.{receive, send}
-use Rattle.gr_step.specs.Listings.{program_in}
+use Rattle.gr_record.specs.Listings.{program_in}
 use Rattle.gr_step.specs.Objects.{contents_in}
 use Rattle.gr_step.proofs.SelectSteps.{no_fault_sent, refused_here, trial_sound, trial_chosen}
 use Rattle.gr_step.proofs.objects.Objects.communicate.Goals as goal

@@ -2,7 +2,7 @@ use Rattle.std.proofs.Common.{◌∙◌, ◌∷◌, [], ap, subst}
 use Rattle.gr_tables.specs.NamedChannels.{contents_of, rooms_of, withdrawn, MoreAtGates}
 use Rattle.gr_tables.proofs.RoomLemmas.{within_self}
 use Rattle.gr_tables.proofs.Withdrawals.{still_fit, still_have_rooms, took_all}
-use Rattle.gr_step.specs.Fews.{members}
+use Rattle.gr_record.specs.Fews.{members}
 use Rattle.gr_step.proofs.objects.Objects.exchange.Goals as goal
 
 pub put_back-requires-clause-fits : goal.put_back-requires-clause-fits

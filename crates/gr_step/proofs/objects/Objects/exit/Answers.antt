@@ -1,6 +1,6 @@
 use Rattle.std.proofs.Common.{sym, ◌∙◌}
 use Rattle.std.proofs.lemmas.Bool.{false≢true}
-use Rattle.gr_step.specs.Listings.{program_in}
+use Rattle.gr_record.specs.Listings.{program_in}
 use Rattle.gr_code.specs.Goroutines.{finished}
 use Rattle.gr_step.proofs.EndSteps.{can_finish, exit_takes, exit_room, return_takes}
 use Rattle.gr_step.proofs.PlacedLemmas.{placed}

@@ -1,4 +1,4 @@
-use Rattle.gr_step.specs.Listings.{program_in}
+use Rattle.gr_record.specs.Listings.{program_in}
 use Rattle.gr_step.specs.Objects.{contents_in}
 use Rattle.gr_step.proofs.PlacedLemmas.{counted_there}
 use Rattle.gr_step.proofs.FaultSteps.{operands_fault}

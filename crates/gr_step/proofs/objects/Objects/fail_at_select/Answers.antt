@@ -1,6 +1,6 @@
 use Rattle.std.proofs.lemmas.Result.{IfOk-weaker}
 use Rattle.gr_goros.specs.Views.{communications_of}
-use Rattle.gr_step.specs.Listings.{frame_in, program_in}
+use Rattle.gr_record.specs.Listings.{frame_in, program_in}
 use Rattle.gr_step.specs.Objects.{contents_in}
 use Rattle.gr_step.proofs.PlacedLemmas.{counted_there}
 use Rattle.gr_step.proofs.SelectSteps.{value_fault_takes}

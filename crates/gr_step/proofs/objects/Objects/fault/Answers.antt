@@ -2,7 +2,7 @@ use Rattle.std.proofs.Common.{refl, ap, length, arith}
 use Rattle.gr_goros.specs.declared.arrivals.Halt.TheVariants.{Faulted}
 use Rattle.gr_goros.specs.Views.{halted}
 use Rattle.gr_rules.specs.States.{faulted}
-use Rattle.gr_step.specs.Fews.{members}
+use Rattle.gr_record.specs.Fews.{members}
 use Rattle.gr_step.proofs.FrameNeeds.{need_none}
 use Rattle.gr_step.proofs.PlacedLemmas.{placed, no_rooms}
 use Rattle.gr_tables.specs.NamedChannels.{contents_of, rooms_of}

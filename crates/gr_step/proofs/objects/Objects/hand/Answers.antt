@@ -3,7 +3,7 @@ use Rattle.gr_base.specs.declared.objects.Object.TheVariants.{Go, Gate}
 use Rattle.gr_rules.specs.Attempts.{sends_on}
 use Rattle.gr_rules.specs.Actors.{channels_but}
 use Rattle.gr_code.specs.CodeViews.{program_code_of}
-use Rattle.gr_step.specs.Listings.{program_in}
+use Rattle.gr_record.specs.Listings.{program_in}
 use Rattle.gr_step.proofs.Encounters.{as_before}
 use Rattle.gr_step.proofs.Handing.{its_receiver, can_hand_over, was_handed, hand_room}
 use Rattle.gr_step.proofs.Results.{if_ok, if_err}

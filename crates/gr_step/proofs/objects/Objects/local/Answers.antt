@@ -2,7 +2,7 @@ use Rattle.std.proofs.Common.{sym, ap, subst, ◌∙◌}
 use Rattle.gr_code.specs.CodeViews.{program_code_of}
 use Rattle.gr_code.specs.CodeFrames.{ProgramCode}
 use Rattle.gr_tables.specs.NamedGoroutines.{At, StepsAlone, seen_at}
-use Rattle.gr_step.specs.Listings.{program_in}
+use Rattle.gr_record.specs.Listings.{program_in}
 use Rattle.gr_step.proofs.LocalTakes.{steps_alone, step_fits, step_room, step_taken_back, local_takes, local_room, local_fault_takes}
 use Rattle.gr_step.proofs.LocalTakes.{local_fault_room}
 use Rattle.gr_tables.proofs.ByNumber.{if_ok, on_err}

@@ -3,7 +3,7 @@ use Rattle.std.proofs.lemmas.Int.{to_z-of_z}
 use Rattle.std.specs.Prelude.{option_copied}
 use Rattle.gr_code.specs.Goroutines.{CodeGoroutine}
 use Rattle.gr_rules.specs.Limits.{greatest_count}
-use Rattle.gr_step.specs.Listings.{program_in}
+use Rattle.gr_record.specs.Listings.{program_in}
 use Rattle.gr_step.specs.Objects.{contents_in}
 use Rattle.gr_step.proofs.MakeSteps.{size_takes, many_takes}
 use Rattle.gr_step.proofs.PlacedLemmas.{counted_there, found_content}

@@ -5,7 +5,7 @@ use Rattle.gr_code.specs.CodeViews.{program_code_of}
 use Rattle.gr_code.specs.Goroutines.{Channel}
 use Rattle.gr_contents.specs.CodeSteps.{next_channel}
 use Rattle.gr_tables.specs.NamedChannels.{contents_of}
-use Rattle.gr_step.specs.Listings.{program_in}
+use Rattle.gr_record.specs.Listings.{program_in}
 use Rattle.gr_step.specs.Objects.{run_of}
 use Rattle.gr_step.proofs.ArrivedLemmas.{arrived_here}
 use Rattle.gr_step.proofs.MakeSteps.{make_arrives, next_is_new, make_takes}

@@ -4,7 +4,7 @@ use Rattle.gr_rules.specs.Attempts.{receives_from}
 use Rattle.gr_rules.specs.Actors.{channels_but}
 use Rattle.gr_rules.specs.Touches.{slot_numbered}
 use Rattle.gr_code.specs.CodeViews.{program_code_of}
-use Rattle.gr_step.specs.Listings.{program_in}
+use Rattle.gr_record.specs.Listings.{program_in}
 use Rattle.gr_step.proofs.Encounters.{as_before, same_seen}
 use Rattle.gr_step.proofs.Meeting.{its_sender, can_meet_sender, sender_was_met, meeting_room}
 use Rattle.gr_step.proofs.Results.{if_ok, if_err, on_err}

@@ -11,7 +11,7 @@ use Rattle.gr_contents.specs.Looks.{Ends}
 use Rattle.gr_goros.specs.Views.{communication_of, communications_of}
 use Rattle.gr_lower.specs.Lowered.{lowered}
 use Rattle.gr_step.specs.Choices.{IsFaultOf, LooksAt, fault_in}
-use Rattle.gr_step.specs.Listings.{frame_in, program_in}
+use Rattle.gr_record.specs.Listings.{frame_in, program_in}
 use Rattle.gr_step.specs.Objects.{contents_in}
 use Rattle.gr_step.proofs.SelectLists.{values_given, value_faults}
 use Rattle.gr_step.proofs.SelectSteps.{of_actor, of_actor_now, pick_of_none, pick_communicates, pick_faults, pick_cannot, pick_looks, pick_has_clause}

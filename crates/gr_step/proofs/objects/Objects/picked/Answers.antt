@@ -1,7 +1,7 @@
 use Rattle.std.proofs.Common.{sym, ap, ◌∙◌}
 use Rattle.std.proofs.lemmas.Result.{IfOk-weaker}
 use Rattle.gr_code.specs.CodeViews.{arms_of, program_code_of}
-use Rattle.gr_step.specs.Listings.{program_in}
+use Rattle.gr_record.specs.Listings.{program_in}
 use Rattle.gr_step.proofs.EventLemmas.{found_right}
 use Rattle.gr_step.proofs.PickLemmas.{if_some, receives}
 use Rattle.gr_step.proofs.objects.Objects.picked.Goals as goal

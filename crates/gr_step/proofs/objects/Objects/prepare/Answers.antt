@@ -6,7 +6,7 @@ use Rattle.gr_contents.specs.Partners.{waits_in}
 use Rattle.gr_goros.specs.Views.{status_of}
 use Rattle.std.specs.Prelude.{map}
 use Rattle.gr_step.specs.Preparing.{IsReached}
-use Rattle.gr_step.specs.Records.{operation_of}
+use Rattle.gr_record.specs.Records.{operation_of}
 use Rattle.gr_step.proofs.PreparingLemmas.{waits_there}
 use Rattle.gr_step.proofs.objects.Objects.prepare.Goals as goal
 

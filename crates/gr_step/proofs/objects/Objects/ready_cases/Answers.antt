@@ -3,7 +3,7 @@ use Rattle.std.proofs.lemmas.Result.{IfOk-weaker}
 use Rattle.gr_rules.specs.Tells.{ready_clauses}
 use Rattle.gr_goros.specs.Views.{communications_of}
 use Rattle.gr_step.specs.Choices.{ready_from}
-use Rattle.gr_step.specs.Listings.{program_in, state_in}
+use Rattle.gr_record.specs.Listings.{program_in, state_in}
 use Rattle.gr_step.specs.Objects.{contents_in}
 use Rattle.gr_step.proofs.ChoosingLemmas.{are_channels}
 use Rattle.gr_step.proofs.MayLemmas.{ready_is}

@@ -3,7 +3,7 @@ use Rattle.std.specs.Prelude.{IsTrue}
 use Rattle.gr_channels.specs.Channels.{Content}
 use Rattle.gr_channels.specs.Objects.{has_any}
 use Rattle.gr_tables.specs.NamedChannels.{At}
-use Rattle.gr_step.specs.Listings.{program_in}
+use Rattle.gr_record.specs.Listings.{program_in}
 use Rattle.gr_step.proofs.OfferLemmas.{was_seen, none_in}
 use Rattle.gr_step.proofs.TakingItems.{receive_finds, cannot_receive}
 use Rattle.gr_step.proofs.objects.Objects.receive.Goals as goal

@@ -8,9 +8,9 @@ use Rattle.gr_rules.specs.Attempts.{Attempt, receives_from}
 use Rattle.gr_rules.specs.Actors.{Actor}
 use Rattle.gr_rules.specs.Communications.{receive, wait}
 use Rattle.gr_step.specs.Communicating.{Trial, TrialIsSound}
-use Rattle.gr_step.specs.Listings.{program_in}
+use Rattle.gr_record.specs.Listings.{program_in}
 use Rattle.gr_step.specs.Premises.{Acting}
-use Rattle.gr_step.specs.Effects.{Effect}
+use Rattle.gr_record.specs.Effects.{Effect}
 use Rattle.gr_step.specs.Objects.{contents_in}
 use Rattle.gr_step.proofs.SendOrWait.{task_at, tried_as, trial_is_sound, took, rest_is_sound, waited}
 use Rattle.gr_step.proofs.objects.Objects.receive_or_wait.Goals as goal

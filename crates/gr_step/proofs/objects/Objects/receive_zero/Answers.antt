@@ -3,7 +3,7 @@ use Rattle.gr_base.specs.declared.objects.Object.TheVariants.{Gate, Head}
 use Rattle.gr_rules.specs.Attempts.{receives_from}
 use Rattle.gr_rules.specs.Touches.{slot_numbered}
 use Rattle.gr_code.specs.CodeViews.{program_code_of}
-use Rattle.gr_step.specs.Listings.{program_in}
+use Rattle.gr_record.specs.Listings.{program_in}
 use Rattle.gr_step.proofs.TakingItems.{can_end, was_ended, end_room, nothing}
 use Rattle.gr_step.proofs.Encounters.{before_these}
 use Rattle.gr_step.proofs.Results.{if_ok, if_err}

@@ -1,6 +1,6 @@
 use Rattle.std.proofs.Common.{refl}
 use Rattle.gr_goros.specs.Views.{communications_of}
-use Rattle.gr_step.specs.Listings.{program_in}
+use Rattle.gr_record.specs.Listings.{program_in}
 use Rattle.gr_step.proofs.SelectSteps.{plain_is_none}
 use Rattle.gr_step.proofs.objects.Objects.select.Goals as goal
 

@@ -1,7 +1,7 @@
 use Rattle.std.proofs.Common.{◌≡◌, ◌<◌, ◌∙◌, false, true, length, [], refl, sym, subst}
 use Rattle.gr_channels.specs.Channels.{Content}
 use Rattle.gr_tables.specs.NamedChannels.{At}
-use Rattle.gr_step.specs.Listings.{program_in}
+use Rattle.gr_record.specs.Listings.{program_in}
 use Rattle.gr_step.proofs.OfferLemmas.{was_seen, none_in}
 use Rattle.gr_step.proofs.SendLooks.{counts_on, send_finds, closed_faults, cannot_send}
 use Rattle.gr_step.proofs.objects.Objects.send.Goals as goal

@@ -2,7 +2,7 @@ use Rattle.std.proofs.Common.{◌≤◌, ◌<◌, length, sym, ap, ◌∙◌, ar
 use Rattle.std.specs.Prelude.{option_copied}
 use Rattle.gr_code.specs.Goroutines.{CodeGoroutine}
 use Rattle.gr_rules.specs.Limits.{most_counts, greatest_count}
-use Rattle.gr_step.specs.Listings.{program_in}
+use Rattle.gr_record.specs.Listings.{program_in}
 use Rattle.gr_step.specs.Objects.{contents_in}
 use Rattle.gr_step.proofs.PlacedLemmas.{counted_there, found_content}
 use Rattle.gr_step.proofs.StartSteps.{deep_takes, many_takes}

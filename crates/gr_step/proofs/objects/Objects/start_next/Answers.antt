@@ -7,7 +7,7 @@ use Rattle.gr_goros.specs.Views.{IsStarted}
 use Rattle.gr_rules.specs.Outcomes.{wrong}
 use Rattle.gr_tables.specs.NamedChannels.{contents_of}
 use Rattle.gr_tables.specs.NamedGoroutines.{names_of}
-use Rattle.gr_step.specs.Listings.{program_in}
+use Rattle.gr_record.specs.Listings.{program_in}
 use Rattle.gr_step.specs.Objects.{run_of}
 use Rattle.gr_step.proofs.PlacedLemmas.{same_seen}
 use Rattle.gr_step.proofs.StartSteps.{can_enter, known_arrives, within_names, start_takes}

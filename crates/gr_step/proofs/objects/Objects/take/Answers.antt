@@ -1,6 +1,6 @@
 use Rattle.std.proofs.Common.{sym, ap, ◌∙◌}
 use Rattle.gr_code.specs.CodeViews.{program_code_of}
-use Rattle.gr_step.specs.Listings.{program_in}
+use Rattle.gr_record.specs.Listings.{program_in}
 use Rattle.gr_step.proofs.EventLemmas.{found_right}
 use Rattle.gr_step.proofs.objects.Objects.take.Goals as goal
 

@@ -1,5 +1,5 @@
 use Rattle.std.proofs.Common.{rules}
-use Rattle.gr_step.specs.Listings.{program_in}
+use Rattle.gr_record.specs.Listings.{program_in}
 use Rattle.gr_step.proofs.EventLemmas.{others_refused, plain_goes, local_leaves_none}
 use Rattle.gr_step.proofs.objects.Objects.take_alone.Goals as goal
 

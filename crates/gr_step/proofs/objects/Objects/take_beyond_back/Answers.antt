@@ -1,5 +1,5 @@
 use Rattle.std.proofs.Common.{Some, refl}
-use Rattle.gr_step.specs.Effects.{Effect}
+use Rattle.gr_record.specs.Effects.{Effect}
 use Rattle.gr_step.proofs.BeyondLemmas.{taken}
 use Rattle.gr_step.proofs.objects.Objects.take_beyond_back.Goals as goal
 

@@ -4,7 +4,7 @@ use Rattle.gr_rules.specs.Selects.{default_from}
 use Rattle.gr_contents.specs.Partners.{can_proceed}
 use Rattle.gr_goros.specs.Views.{communications_of}
 use Rattle.gr_step.specs.Choices.{IsFaultOf, LooksAt}
-use Rattle.gr_step.specs.Listings.{frame_in, program_in}
+use Rattle.gr_record.specs.Listings.{frame_in, program_in}
 use Rattle.gr_step.specs.Objects.{contents_in}
 use Rattle.gr_step.proofs.SelectLists.{values_given, value_faults}
 use Rattle.gr_step.proofs.SelectSteps.{of_actor, no_default, default_looks, default_late, default_made, default_at_fault, default_arrives, default_takes, default_room}

@@ -4,8 +4,8 @@ use Rattle.gr_rules.specs.Attempts.{receives_from}
 use Rattle.gr_rules.specs.Touches.{slot_numbered}
 use Rattle.gr_code.specs.CodeViews.{program_code_of}
 use Rattle.gr_tables.specs.NamedChannels.{GoesBack}
-use Rattle.gr_step.specs.Listings.{program_in}
-use Rattle.gr_step.specs.Parts.{channel_in}
+use Rattle.gr_record.specs.Listings.{program_in}
+use Rattle.gr_record.specs.Parts.{channel_in}
 use Rattle.gr_step.proofs.TakingItems.{can_take, was_taken, take_room}
 use Rattle.gr_step.proofs.Encounters.{before_these, same_seen}
 use Rattle.gr_step.proofs.Results.{if_ok, if_err, on_err}

@@ -8,7 +8,7 @@ use Rattle.gr_code.specs.Goroutines.{task_of}
 use Rattle.gr_contents.specs.Tasks.{chooses}
 use Rattle.gr_goros.specs.Needs.{NeedIs}
 use Rattle.gr_lower.specs.Lowered.{lowered}
-use Rattle.gr_step.specs.Listings.{program_in}
+use Rattle.gr_record.specs.Listings.{program_in}
 use Rattle.gr_step.specs.Objects.{contents_in}
 use Rattle.gr_step.specs.Communicating.{Chosen}
 use Rattle.gr_step.proofs.EventLemmas.{is_plain, plain_by, never_refused}

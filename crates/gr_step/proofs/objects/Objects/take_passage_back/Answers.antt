@@ -1,7 +1,7 @@
 use Rattle.std.proofs.Common.{◌≡◌, ◌∙◌, refl, ap, subst}
 use Rattle.gr_tables.specs.NamedChannels.{listed, TookBack}
-use Rattle.gr_step.specs.declared.record.Passage.{Passage}
-use Rattle.gr_step.specs.Parts.{channel_in}
+use Rattle.gr_record.specs.declared.record.Passage.{Passage}
+use Rattle.gr_record.specs.Parts.{channel_in}
 use Rattle.gr_step.proofs.BeyondLemmas.{passage_taken}
 use Rattle.gr_step.proofs.objects.Objects.take_passage_back.Goals as goal
 

@@ -5,7 +5,7 @@ use Rattle.gr_code.specs.declared.code.Arm as declared
 use Rattle.gr_goros.specs.Needs.{SelectsIn}
 use Rattle.gr_rules.specs.Tells.{usual_choice}
 use Rattle.gr_lower.specs.Lowered.{lowered}
-use Rattle.gr_step.specs.Listings.{program_in, state_in}
+use Rattle.gr_record.specs.Listings.{program_in, state_in}
 use Rattle.gr_step.specs.Objects.{contents_in}
 use Rattle.gr_step.specs.Possible.{usual_of}
 use Rattle.gr_step.proofs.ChoosingLemmas.{are_channels, task_there}

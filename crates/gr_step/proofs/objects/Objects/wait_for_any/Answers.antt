@@ -8,7 +8,7 @@ use Rattle.gr_contents.specs.Partners.{can_proceed}
 use Rattle.gr_contents.specs.Presence.{Sound}
 use Rattle.gr_goros.specs.Views.{communications_of}
 use Rattle.gr_step.specs.Choices.{IsFaultOf, LooksAt, fault_in}
-use Rattle.gr_step.specs.Listings.{frame_in, program_in}
+use Rattle.gr_record.specs.Listings.{frame_in, program_in}
 use Rattle.gr_step.specs.Objects.{contents_in}
 use Rattle.gr_step.proofs.RunningLemmas.{never_unsound}
 use Rattle.gr_step.proofs.SelectLists.{values_given, value_faults}

@@ -9,12 +9,12 @@ use Rattle.gr_contents.specs.Contents.{state_of}
 use Rattle.gr_contents.specs.Partners.{is_made_for}
 use Rattle.gr_goros.specs.Views.{communications_of}
 use Rattle.gr_tables.specs.NamedChannels.{contents_of}
-use Rattle.gr_step.specs.Listings.{program_in, frame_in}
+use Rattle.gr_record.specs.Listings.{program_in, frame_in}
 use Rattle.gr_step.specs.Objects.{contents_in}
 use Rattle.gr_step.specs.Parks.{pending_of, with_channels, AreMade, Parks}
 use Rattle.gr_step.specs.Premises.{OfActor}
-use Rattle.gr_step.specs.Records.{HasRoom}
-use Rattle.gr_step.specs.Taking.{Takes}
+use Rattle.gr_step.specs.Room.{HasRoom}
+use Rattle.gr_record.specs.Taking.{Takes}
 use Rattle.gr_step.proofs.WaitingLemmas.{can_park, waits_made, each_made, waits_in_select, parks_with_room}
 use Rattle.gr_step.proofs.objects.Objects.wait_in_select.Goals as goal
 

@@ -6,16 +6,16 @@ use Rattle.gr_rules.specs.Communications as rules
 use Rattle.gr_rules.specs.Deeds.{Sending}
 use Rattle.gr_rules.specs.Outcomes.{gives}
 use Rattle.gr_tables.specs.NamedChannels.{contents_of}
-use Rattle.gr_step.specs.Listings.{program_in, frame_in}
+use Rattle.gr_record.specs.Listings.{program_in, frame_in}
 use Rattle.gr_step.specs.Objects.{contents_in}
 use Rattle.gr_rules.specs.Touches.{side}
 use Rattle.gr_contents.specs.Contents.{state_of}
 use Rattle.gr_step.specs.Parks.{Parks, with_channels}
 use Rattle.gr_step.specs.Premises.{OfActor}
-use Rattle.gr_step.specs.Records.{HasRoom}
-use Rattle.gr_step.specs.Taking.{Takes}
-use Rattle.gr_step.specs.declared.record.Operation.{Operation}
-use Rattle.gr_step.specs.declared.record.Operation.TheVariants.{SendsOn}
+use Rattle.gr_step.specs.Room.{HasRoom}
+use Rattle.gr_record.specs.Taking.{Takes}
+use Rattle.gr_record.specs.declared.record.Operation.{Operation}
+use Rattle.gr_record.specs.declared.record.Operation.TheVariants.{SendsOn}
 use Rattle.gr_step.proofs.WaitingLemmas.{sends_on_each, can_park, waits_made, waits_to_send, parks_with_room}
 use Rattle.gr_step.proofs.objects.Objects.wait_to_send.Goals as goal
 

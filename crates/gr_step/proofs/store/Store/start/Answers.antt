@@ -4,9 +4,9 @@ use Rattle.gr_rules.specs.States as rules
 use Rattle.gr_code.specs.CodeViews.{program_code_of}
 use Rattle.gr_code.specs.declared.code.Code.{Code}
 use Rattle.gr_lower.specs.Lowered.{lowered}
-use Rattle.gr_step.specs.Listings.{state_in}
+use Rattle.gr_record.specs.Listings.{state_in}
 use Rattle.gr_step.specs.Objects.{contents_in}
-use Rattle.gr_step.specs.Premises.{Running}
+use Rattle.gr_record.specs.Running.{Running}
 use Rattle.gr_step.specs.declared.objects.Objects.{Objects}
 use Rattle.gr_step.specs.declared.objects.Run.TheVariants.{Live}
 use Rattle.gr_step.proofs.StartLemmas.{main_right, begins, one_there, no_channel}

@@ -1,6 +1,6 @@
 use Rattle.std.proofs.Common.{sym, ap, ◌∙◌}
 use Rattle.gr_typing.specs.Scopes.{declared}
-use Rattle.gr_types.specs.Tables.{scope_of}
+use Rattle.gr_exprs.specs.Tables.{scope_of}
 use Rattle.gr_types.proofs.ParameterScopes.{taken_is}
 use Rattle.gr_types.proofs.parameters.Parameters.take.Goals as goal
 

@@ -1,5 +1,0 @@
-use Rattle.gr_depend.specs.Told.{count_in}
-use Rattle.gr_depend.proofs.lanes.Lanes.+forget_list.Given as goal
-
-abbrev pub decreases-forget_list : goal.decreases-forget_list
-decreases-forget_list l = count_in l.objects.now

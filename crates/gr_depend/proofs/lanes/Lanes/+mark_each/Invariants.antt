@@ -1,5 +1,0 @@
-use Rattle.gr_depend.specs.Told.{count_in}
-use Rattle.gr_depend.proofs.lanes.Lanes.+mark_each.Given as goal
-
-abbrev pub decreases-mark_each : goal.decreases-mark_each
-decreases-mark_each l = count_in l.objects.now

@@ -1,5 +1,0 @@
-use Rattle.gr_depend.specs.Told.{count_in}
-use Rattle.gr_depend.proofs.lanes.Lanes.+note_list.Given as goal
-
-abbrev pub decreases-note_list : goal.decreases-note_list
-decreases-note_list l = count_in l.objects.now

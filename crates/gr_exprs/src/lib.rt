@@ -1,0 +1,12 @@
+//! What an expression is, where variables and functions are in scope: its type and its term, or the rule that it breaks.
+#![tactic(auto)]
+
+pub mod calls;
+pub mod expressions;
+pub mod fault;
+pub mod functions;
+pub mod names;
+pub mod operands;
+pub mod operators;
+pub mod scope;
+pub mod types;

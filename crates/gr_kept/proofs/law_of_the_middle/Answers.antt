@@ -1,8 +1,0 @@
-use Rattle.gr_kept.proofs.OrderLemmas.{middle_goes_back, middle_goes_back_by_records}
-use Rattle.gr_kept.proofs.law_of_the_middle.Goals as goal
-
-pub returns-clause-records : goal.returns-clause-records
-returns-clause-records c = middle_goes_back_by_records
-
-pub returns-clause-steps : goal.returns-clause-steps
-returns-clause-steps c = middle_goes_back

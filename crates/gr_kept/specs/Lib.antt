@@ -1,3 +1,0 @@
--- Records and their steps together, and records taken back.
-pub mod Pairs
-pub mod Back

@@ -1,0 +1,11 @@
+//! Records, what they touch, and what kept records are to each other.
+#![tactic(auto)]
+
+pub mod few;
+pub mod laws;
+pub mod listing;
+pub mod record;
+
+pub use few::Few;
+pub use listing::Listing;
+pub use record::{Operation, Record};

@@ -1,0 +1,209 @@
+//! Records of steps.
+
+ghost use Rattle.std.specs.Prelude.{◌≡◌, option_copied};
+ghost use Rattle.gr_record.specs.Effects.{effect_in, kind_of_wait, queue_left_by};
+ghost use Rattle.gr_record.specs.Parts.{begun_in, channel_in};
+
+use crate::few::Few;
+use gr_base::{ChName, Choice, GoName, Kind, Object, StepId};
+use gr_channels::ChanUndo;
+use gr_goros::{GoUndo, Spot};
+use std::marker::Model;
+
+/// What a step did with a channel.
+#[derive(Debug, Drop)]
+pub enum Operation {
+    SendsOn(ChName),
+    ReceivesFrom(ChName),
+    TakesLenOf(ChName),
+    TakesCapOf(ChName),
+    Closes(ChName),
+}
+
+impl Operation {
+    /// The channel.
+    #[inline]
+    pub fn channel(&self) -> &ChName
+        ensures { result.now ≡ channel_in self.now }
+    {
+        match self {
+            Operation::SendsOn(channel) => channel,
+            Operation::ReceivesFrom(channel) => channel,
+            Operation::TakesLenOf(channel) => channel,
+            Operation::TakesCapOf(channel) => channel,
+            Operation::Closes(channel) => channel,
+        }
+    }
+}
+
+/// Parts of one channel, in the order of gate, head, tail and slot.
+#[derive(Clone, Copy, Debug, PartialEq, Eq)]
+pub enum Parts {
+    Nothing,
+    Gate,
+    /// The tail, and the slot that the next value enters.
+    Entrance,
+    /// The head, and the slot of the front item.
+    Exit,
+    /// The gate, the head, and the slot of the front item.
+    GateAndExit,
+    /// The gate, the head, the tail, and the slot of the front item.
+    All,
+}
+
+/// What a step touched of the channel with which it did something.
+#[derive(Clone, Copy, Debug)]
+pub struct Touched {
+    /// What it read and did not write.
+    pub read: Parts,
+    pub written: Parts,
+    /// The place of the slot, counted from 0; none at capacity 0.
+    pub slot: Option<u32>,
+}
+
+/// What few steps reach.
+#[derive(Debug, Drop)]
+pub struct More {
+    /// What it read and did not write beside its channel, but for whether the program runs.
+    pub reads: Vec<Object>,
+    /// What it wrote beside its channel, but for its goroutine and the one that it met.
+    pub writes: Vec<Object>,
+    /// The goroutine that it started.
+    pub begins: Option<GoName>,
+    /// The channel that it made.
+    pub makes: Option<ChName>,
+}
+
+/// What a step reached beyond its goroutine.
+#[derive(Debug, Drop)]
+pub struct Beyond {
+    pub operation: Option<Operation>,
+    /// What it touched of the channel of the operation.
+    pub touched: Touched,
+    /// Whether it ended or stopped the program.
+    pub stops: bool,
+    /// The goroutine that it met, which it wrote.
+    pub partner: Option<GoName>,
+    /// The goroutines that it met or woke, with their changes.
+    pub met: Few<(GoName, GoUndo)>,
+    /// Its changes of channels, in their order.
+    pub channels: Few<(ChName, ChanUndo)>,
+    pub more: Option<Box<More>>,
+}
+
+impl Beyond {
+    /// The goroutine that it started.
+    pub fn begins(&self) -> Option<&GoName>
+        ensures { option_copied result ≡ begun_in self.now }
+    {
+        match &self.more {
+            Some(more) => more.begins.as_ref(),
+            None => None,
+        }
+    }
+}
+
+/// What a step did with one channel, and what it touched of it.
+#[derive(Debug, Drop)]
+pub struct Contact {
+    pub operation: Operation,
+    pub touched: Touched,
+}
+
+/// What a step did whose goroutine came to wait for one communication on a channel, outside a select.
+#[derive(Debug, Drop)]
+pub struct Waiting {
+    /// The send or the receive.
+    pub contact: Contact,
+    /// Where the innermost frame stands.
+    pub spot: Spot,
+}
+
+/// What a step reached that communicated over one channel, and met nobody.
+#[derive(Debug, Drop)]
+pub struct Passage {
+    pub contact: Contact,
+    /// What it replaced in the channel, if it changed that.
+    pub undo: Option<ChanUndo>,
+}
+
+/// How what a step did is kept, in as little memory as there is need for.
+#[derive(Debug, Drop)]
+pub enum Form {
+    /// It reached no further than its goroutine: its kind, and what it replaced there.
+    Alone(Kind, GoUndo),
+    /// Its goroutine came to wait.
+    Waits(Waiting),
+    /// It communicated over a channel, and met nobody: its kind, what it replaced in its goroutine, and what it did with the channel.
+    Passes(Kind, GoUndo, Box<Passage>),
+    /// It reached further: its kind, what it replaced in its goroutine, and what it reached.
+    Further(Kind, GoUndo, Box<Beyond>),
+}
+
+/// What a step did, and what it replaced.
+#[derive(Debug, Drop)]
+pub struct Change {
+    pub form: Form,
+}
+
+impl Model for Change {
+    ghost use Rattle.gr_record.specs.Effects.{Effect, effect_in};
+
+    ghost Value = { Effect };
+
+    ghost view = { λ c. effect_in c.form };
+}
+
+impl Change {
+    /// How it is kept.
+    #[inline(always)]
+    pub fn form(&self) -> &Form
+        ensures { effect_in result.now ≡ self.now }
+    {
+        &self.form
+    }
+
+    /// The kind of the step.
+    #[inline(always)]
+    pub fn kind(&self) -> Kind
+        ensures { result ≡ self.now.kind }
+    {
+        match &self.form {
+            Form::Alone(kind, _) => *kind,
+            Form::Waits(waiting) => waiting.kind(),
+            Form::Passes(kind, _, _) => *kind,
+            Form::Further(kind, _, _) => *kind,
+        }
+    }
+}
+
+impl Waiting {
+    /// The kind of the step.
+    #[inline(always)]
+    pub fn kind(&self) -> Kind
+        ensures { result ≡ kind_of_wait self.now.contact.operation }
+    {
+        match &self.contact.operation {
+            Operation::SendsOn(_) => Kind::SendWait,
+            _ => Kind::RecvWait,
+        }
+    }
+
+    /// What it replaced in the channel.
+    pub fn undo(&self) -> ChanUndo
+        ensures { result ≡ queue_left_by self.now.contact.operation }
+    {
+        match &self.contact.operation {
+            Operation::SendsOn(_) => ChanUndo::ParkedSender,
+            _ => ChanUndo::ParkedReceiver,
+        }
+    }
+}
+
+/// A step that was taken, by which it can be taken back.
+#[derive(Debug, Drop)]
+pub struct Record {
+    pub id: StepId,
+    pub choice: Choice,
+    pub change: Change,
+}

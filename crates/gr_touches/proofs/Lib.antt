@@ -1,0 +1,10 @@
+pub mod KeyLemmas
+pub mod LaneLemmas
+pub mod NoteLemmas
+pub mod ToldLemmas
+pub mod TouchLemmas
+pub mod StretchLemmas
+pub mod RoomLemmas
+pub mod AddingLemmas
+pub mod MarkLemmas
+pub mod WalkLemmas

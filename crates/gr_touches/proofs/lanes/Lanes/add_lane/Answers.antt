@@ -1,0 +1,18 @@
+use Rattle.std.proofs.Common.{◌≡◌, cond, Some, [], ◌∷◌, ◌++◌, ap, subst, ◌∙◌}
+use Rattle.std.specs.Option.{unwrap_or}
+use Rattle.indexmap.specs.IndexMap.{get}
+use Rattle.gr_touches.specs.declared.key.Key.{Key}
+use Rattle.gr_touches.specs.Keys.{same_key}
+use Rattle.gr_touches.specs.Lists.{nothing}
+use Rattle.gr_touches.proofs.LaneLemmas.{changed, on_ok, with_run}
+use Rattle.gr_touches.specs.Keys.{seen}
+use Rattle.gr_touches.proofs.lanes.Lanes.add_lane.Goals as goal
+
+pub returns-clause-ok : goal.returns-clause-ok
+returns-clause-ok c =
+    on_ok c.insert.result _ _
+    (λ all q. with_run c.args.self.now c.insert.new.self (λ ts. ts ++ c.args.touch ∷ []) (seen c.args.object.now) c.insert.ensures.run
+    (changed (λ k. k.0) c.args.self.now.run.items c.args.self.now.map c.insert.new.self.map (λ ts. ts ++ c.args.touch ∷ []) (seen c.args.object.now) c.requires.other
+    nothing c.push.new.self (ap (λ o. unwrap_or o nothing) c.requires.absent) (c.in_ok-push.ensures.ok ∙ ap (λ ts. ts ++ c.args.touch ∷ []) c.new-lane.ensures)
+    (subst (λ k. (p : Key) → get same_key c.insert.new.self.map p ≡ cond (same_key k p) (Some c.push.new.self) (get same_key c.args.self.now.map p)) c.in_ok-key.ensures all)) q)
+    c.insert.ensures.ok

@@ -1,0 +1,36 @@
+use Rattle.std.proofs.Common.{◌≡◌, true, false, [], ◌∷◌, Some, None, ap}
+use Rattle.gr_base.specs.declared.objects.Object.TheVariants.{Go}
+use Rattle.gr_record.specs.Effects.{reached_on}
+use Rattle.gr_record.specs.Parts.{parts_before, writes_in}
+use Rattle.gr_touches.proofs.NoteLemmas.{added_after}
+use Rattle.gr_touches.proofs.RoomLemmas.{fits_rest}
+use Rattle.gr_touches.proofs.AddingLemmas.{as_listed, fits_as, first_fits, keeps_one}
+use Rattle.gr_touches.proofs.lanes.Lanes.note_written_in.Goals as goal
+
+pub returns-in_err-add_to_lane-clause-succeeds : goal.returns-in_err-add_to_lane-clause-succeeds
+returns-in_err-add_to_lane-clause-succeeds c fits =
+    let no : false ≡ true = c.in_err-add_to_lane.ensures.succeeds
+    (first_fits c.args.self.now c.args.touch (Go c.args.go.now) (writes_in (reached_on c.args.contact.now None)) fits) in
+    absurd (let never : false ≡ true = no in cc)
+
+pub returns-in-Err-clause-err : goal.returns-in-Err-clause-err
+returns-in-Err-clause-err c =
+    keeps_one c.args.self.now c.add_to_lane.new.self c.note_parts-noted.new.self c.take_from_lane.new.self c.args.touch (Go c.args.go.now)
+    c.in_ok-add_to_lane.ensures.ok c.in-Err.ensures.err c.take_from_lane.ensures.lists
+
+pub returns-in-Err-clause-succeeds : goal.returns-in-Err-clause-succeeds
+returns-in-Err-clause-succeeds c fits =
+    let touched = c.args.contact.now.touched in
+    let told = parts_before touched.written touched.slot (Some c.channel.result.now) [] in
+    c.in-Err.ensures.succeeds
+    (fits_rest c.args.self.now c.add_to_lane.new.self c.args.touch (Go c.args.go.now) told c.in_ok-add_to_lane.ensures.ok c.in_ok-add_to_lane.ensures.room
+    (fits_as c.args.self.now c.args.touch (Go c.args.go.now ∷ told) _ (ap (λ n. Go c.args.go.now ∷ parts_before touched.written touched.slot (Some n) []) c.channel.ensures) fits))
+
+pub returns-clause-ok : goal.returns-clause-ok
+returns-clause-ok c =
+    let touched = c.args.contact.now.touched in
+    let told = parts_before touched.written touched.slot (Some c.channel.result.now) [] in
+    as_listed c.args.self.now c.note_parts-noted.new.self c.args.touch (Go c.args.go.now ∷ told) _
+    (ap (λ n. Go c.args.go.now ∷ parts_before touched.written touched.slot (Some n) []) c.channel.ensures)
+    (added_after c.args.self.now c.add_to_lane.new.self c.note_parts-noted.new.self c.args.touch (Go c.args.go.now) told
+    c.in_ok-add_to_lane.ensures.ok c.in_default.ensures.ok)

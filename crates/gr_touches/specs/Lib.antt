@@ -1,0 +1,8 @@
+-- The touches of each object, and the marks that are set by them.
+pub mod Keys
+pub mod Touches
+pub mod Told
+pub mod Marks
+pub mod Lists
+pub mod Room
+pub mod Walks

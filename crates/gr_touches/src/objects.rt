@@ -1,0 +1,276 @@
+//! The objects that a step touched, by its record.
+
+ghost use Rattle.std.specs.Prelude.{◌≡◌, ◌∷◌, ◌<◌, [], List, Some, None, if◌then◌else◌, MatchOption, IfSome, option_copied, option_map};
+ghost use Rattle.gr_base.specs.declared.objects.Object.TheVariants as variants;
+ghost use Rattle.gr_record.specs.Conflicts.{written_by, read_by};
+ghost use Rattle.gr_record.specs.Effects.{reached_on};
+ghost use Rattle.gr_record.specs.Parts.{channel_in, parts_before, partner_before, slot_before, read_by_more, written_by_more, reads_in, writes_in};
+ghost use Rattle.gr_touches.specs.Keys.{seen};
+ghost use Rattle.gr_touches.specs.Told.{named, seen_in, count_in};
+
+use crate::key::ObjectRef;
+use gr_base::{ChName, GoName, Object};
+use gr_record::Record;
+use gr_record::record::{Beyond, Contact, Form, Parts};
+
+/// Objects that a step read, or that it wrote, by their names where they are: `Run` or its goroutine, parts of one channel, a
+/// goroutine that it met, and others, in this order.
+#[derive(Clone, Copy)]
+pub struct Objects<'a> {
+    front: Option<ObjectRef<'a>>,
+    gate: Option<&'a ChName>,
+    head: Option<&'a ChName>,
+    tail: Option<&'a ChName>,
+    slot: Option<(&'a ChName, u32)>,
+    partner: Option<&'a GoName>,
+    pub others: &'a [Object],
+}
+
+/// The slot of a channel at a place, if there is one.
+fn slot_at(channel: &ChName, place: Option<u32>) -> Option<(&ChName, u32)>
+    ensures { (os : List Object) → named (λ s. variants.Slot s.0.now s.1) result os ≡ slot_before channel.now place os }
+{
+    match place {
+        Some(place) => Some((channel, place)),
+        None => None,
+    }
+}
+
+impl<'a> Objects<'a> {
+    /// Those that belong to no channel.
+    fn without_channel(
+        front: Option<ObjectRef<'a>>,
+        partner: Option<&'a GoName>,
+        others: &'a [Object],
+    ) -> Objects<'a>
+        ensures { seen_in result ≡ named seen front.entry (partner_before (option_copied partner.entry) others.now) }
+    {
+        Objects {
+            front,
+            gate: None,
+            head: None,
+            tail: None,
+            slot: None,
+            partner,
+            others,
+        }
+    }
+
+    /// Those with parts of a channel.
+    fn with_channel(
+        front: Option<ObjectRef<'a>>,
+        parts: Parts,
+        channel: &'a ChName,
+        place: Option<u32>,
+        partner: Option<&'a GoName>,
+        others: &'a [Object],
+    ) -> Objects<'a>
+        ensures { seen_in result ≡ named seen front.entry (parts_before parts place (Some channel.now) (partner_before (option_copied partner.entry) others.now)) }
+    {
+        let named = Some(channel);
+        let slot = slot_at(channel, place);
+        let rest = Objects {
+            front,
+            gate: None,
+            head: None,
+            tail: None,
+            slot: None,
+            partner,
+            others,
+        };
+        match parts {
+            Parts::Nothing => rest,
+            Parts::Gate => Objects {
+                gate: named,
+                ..rest
+            },
+            Parts::Entrance => Objects {
+                tail: named,
+                slot,
+                ..rest
+            },
+            Parts::Exit => Objects {
+                head: named,
+                slot,
+                ..rest
+            },
+            Parts::GateAndExit => Objects {
+                gate: named,
+                head: named,
+                slot,
+                ..rest
+            },
+            Parts::All => Objects {
+                gate: named,
+                head: named,
+                tail: named,
+                slot,
+                ..rest
+            },
+        }
+    }
+
+    /// Takes the first of them off; none where only the others are left.
+    #[inline]
+    pub(crate) fn next(&mut self) -> Option<ObjectRef<'a>>
+        ensures first { MatchOption result (seen_in self.old ≡ self.new.others.now) (λ first. seen_in self.old ≡ seen first ∷ seen_in self.new) }
+        ensures fewer { IfSome result (λ _. count_in self.new < count_in self.old) }
+        ensures others { self.new.others ≡ self.old.others }
+    {
+        if let Some(front) = self.front {
+            self.front = None;
+            return Some(front);
+        }
+        if let Some(channel) = self.gate {
+            self.gate = None;
+            return Some(ObjectRef::Gate(channel));
+        }
+        if let Some(channel) = self.head {
+            self.head = None;
+            return Some(ObjectRef::Head(channel));
+        }
+        if let Some(channel) = self.tail {
+            self.tail = None;
+            return Some(ObjectRef::Tail(channel));
+        }
+        if let Some((channel, place)) = self.slot {
+            self.slot = None;
+            return Some(ObjectRef::Slot(channel, place));
+        }
+        let partner = self.partner?;
+        self.partner = None;
+        Some(ObjectRef::Go(partner))
+    }
+
+    /// The first of them, and the rest; none where only the others are left.
+    #[inline]
+    pub fn split_first(self) -> Option<(ObjectRef<'a>, Objects<'a>)>
+        ensures first { MatchOption result (seen_in self.entry ≡ self.entry.others.now) (λ r. seen_in self.entry ≡ seen r.0 ∷ seen_in r.1) }
+        ensures fewer { IfSome result (λ r. count_in r.1 < count_in self.entry) }
+    {
+        let mut rest = self;
+        let first = rest.next()?;
+        Some((first, rest))
+    }
+}
+
+/// `Run`, which a step reads that does not write it.
+fn run_unless<'a>(stops: bool) -> Option<ObjectRef<'a>>
+    ensures { (os : List Object) → named seen result os ≡ (if stops then os else variants.Run ∷ os) }
+{
+    if stops { None } else { Some(ObjectRef::Run) }
+}
+
+/// What a step read beside its channel.
+#[inline]
+pub(crate) fn others_read(beyond: &Beyond) -> &[Object]
+    ensures { result.now ≡ read_by_more beyond.now.more }
+{
+    match &beyond.more {
+        Some(more) => more.reads.as_slice(),
+        None => &[],
+    }
+}
+
+/// What a step wrote beside its channel.
+#[inline]
+pub(crate) fn others_written(beyond: &Beyond) -> &[Object]
+    ensures { result.now ≡ written_by_more beyond.now.more }
+{
+    match &beyond.more {
+        Some(more) => more.writes.as_slice(),
+        None => &[],
+    }
+}
+
+/// These parts of the channel of a step, with other objects.
+#[tactic(auto, using(crate::proofs::ToldLemmas::no_channel))]
+fn told<'a>(
+    front: Option<ObjectRef<'a>>,
+    beyond: &'a Beyond,
+    parts: Parts,
+    partner: Option<&'a GoName>,
+    others: &'a [Object],
+) -> Objects<'a>
+    ensures { seen_in result ≡ named seen front.entry (parts_before parts beyond.now.touched.slot (option_map channel_in beyond.now.operation) (partner_before (option_copied partner.entry) others.now)) }
+{
+    let Some(operation) = &beyond.operation else {
+        return Objects::without_channel(front, partner, others);
+    };
+    let place = beyond.touched.slot;
+    Objects::with_channel(front, parts, operation.channel(), place, partner, others)
+}
+
+/// Parts of a channel.
+pub(crate) fn parts_of(channel: &ChName, parts: Parts, slot: Option<u32>) -> Objects<'_>
+    ensures { seen_in result ≡ parts_before parts slot (Some channel.now) [] }
+{
+    Objects::with_channel(None, parts, channel, slot, None, &[])
+}
+
+/// The parts of its channel that a step wrote.
+pub(crate) fn parts_written(beyond: &Beyond) -> Objects<'_>
+    ensures { seen_in result ≡ parts_before beyond.now.touched.written beyond.now.touched.slot (option_map channel_in beyond.now.operation) [] }
+{
+    told(None, beyond, beyond.touched.written, None, &[])
+}
+
+/// These parts of the channel with which a step did something, that touched no other.
+fn in_contact<'a>(front: ObjectRef<'a>, contact: &'a Contact, parts: Parts) -> Objects<'a>
+    ensures { seen_in result ≡ seen front.entry ∷ parts_before parts contact.now.touched.slot (Some (channel_in contact.now.operation)) [] }
+{
+    let channel = contact.operation.channel();
+    let place = contact.touched.slot;
+    Objects::with_channel(Some(front), parts, channel, place, None, &[])
+}
+
+/// What a step read that did something with one channel, and touched no other.
+#[inline]
+pub(crate) fn read_in(contact: &Contact) -> Objects<'_>
+    ensures { seen_in result ≡ variants.Run ∷ reads_in (reached_on contact.now None) }
+{
+    in_contact(ObjectRef::Run, contact, contact.touched.read)
+}
+
+/// What a step wrote of which this is the goroutine, that did something with one channel, and met nobody.
+#[inline]
+fn written_in<'a>(own: ObjectRef<'a>, contact: &'a Contact) -> Objects<'a>
+    ensures { seen_in result ≡ seen own.entry ∷ writes_in (reached_on contact.now None) }
+{
+    in_contact(own, contact, contact.touched.written)
+}
+
+/// What a step read and did not write.
+#[inline]
+pub fn reads(step: &Record) -> Objects<'_>
+    ensures { seen_in result ≡ read_by step.now }
+{
+    match step.change.form() {
+        Form::Alone(_, _) => Objects::without_channel(Some(ObjectRef::Run), None, &[]),
+        Form::Waits(waiting) => read_in(&waiting.contact),
+        Form::Passes(_, _, passage) => read_in(&passage.contact),
+        Form::Further(_, _, beyond) => {
+            let front = run_unless(beyond.stops);
+            let parts = beyond.touched.read;
+            told(front, beyond, parts, None, others_read(beyond))
+        }
+    }
+}
+
+/// What a step wrote.
+#[inline]
+pub fn writes(step: &Record) -> Objects<'_>
+    ensures { seen_in result ≡ written_by step.now }
+{
+    let own = ObjectRef::Go(&step.id.go);
+    match step.change.form() {
+        Form::Alone(_, _) => Objects::without_channel(Some(own), None, &[]),
+        Form::Waits(waiting) => written_in(own, &waiting.contact),
+        Form::Passes(_, _, passage) => written_in(own, &passage.contact),
+        Form::Further(_, _, beyond) => {
+            let partner = beyond.partner.as_ref();
+            let parts = beyond.touched.written;
+            told(Some(own), beyond, parts, partner, others_written(beyond))
+        }
+    }
+}

@@ -1,8 +1,0 @@
-use Rattle.std.proofs.Common.{sym, ◌∙◌}
-use Rattle.gr_types.specs.Tables.{scope_of}
-use Rattle.gr_types.proofs.TakerRows.{no_acceptance}
-use Rattle.gr_types.proofs.assignments.all_accept.Goals as goal
-
-pub returns-in-None : goal.returns-in-None
-returns-in-None c =
-    sym c.loop-index.invariant ∙ no_acceptance (scope_of c.args.scope.now) c.args.targets.now c.args.types.now c.loop-index.index c.loop-index-test.true c.in-None.ensures.lookup.3

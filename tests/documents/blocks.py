@@ -1,0 +1,50 @@
+"""Runs the code blocks of the documents. The kind of a block is seen by what is in it; a block of no known kind is
+a failure, so that none stands untested. A comment `<!-- not run: REASON -->` before a block says why it is not run."""
+
+from . import diagrams, editors, fragments, repository, shell, stories
+from .markdown import page
+
+
+def first_line(block):
+    return next((line for line in block.lines if line.strip()), "")
+
+
+def begins(block, start):
+    return any(line.startswith(start) for line in block.lines)
+
+
+def kind_of(block):
+    """The function that checks blocks of this kind, if one does."""
+    if fragments.is_go_file(block):
+        return fragments.check_source
+    if begins(block, "$ "):
+        return shell.check_transcript
+    if begins(block, "> "):
+        return stories.check_session
+    if begins(block, "(rewind) "):
+        return stories.check_terminal
+    if editors.kind_of(block):
+        return editors.check_settings
+    if diagrams.is_diagram(block):
+        return diagrams.check_diagram
+    if shell.is_commands(block):
+        return shell.check_commands
+    return fragments.check_fragment if block.info == "go" else None
+
+
+def check_block(checks, program, block):
+    if block.reason:
+        checks.skip(block.place(), block.reason)
+        return
+    check = kind_of(block)
+    if check is None:
+        checks.fail(block.place(), f"a block of a kind that no check knows: {first_line(block)!r}")
+    else:
+        check(checks, program, block)
+
+
+def check(checks, program):
+    for name in repository.documents():
+        program.shown.clear()
+        for block in page(name).blocks:
+            check_block(checks, program, block)

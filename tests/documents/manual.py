@@ -1,0 +1,98 @@
+"""The manual page and `--help`: their examples and their lists are those of the program."""
+
+import re
+
+from . import repository
+from .markdown import Block
+from .shell import EXAMPLE, check_transcript
+
+MANUAL = "docs/rewind.1"
+FIRST = "package main\n\nfunc main() {\n\tx := 1\n\tprintln(x)\n}\n"
+
+
+def plain(text):
+    """A text of the manual page without its marks."""
+    text = re.sub(r"\\f[BIRP]", "", text)
+    return text.replace("\\&", "").replace("\\-", "-").replace("\\e", "\\")
+
+
+def examples(name, text):
+    """The blocks between `.nf` and `.fi`."""
+    found, first = [], None
+    lines = text.split("\n")
+    for number, line in enumerate(lines):
+        if line == ".nf":
+            first = number + 1
+        elif line == ".fi":
+            found.append(Block(name, first + 1, [plain(it) for it in lines[first:number]], "", "EXAMPLE", None))
+    return found
+
+
+def example_of_help(text):
+    """The example of `--help`, without its margin."""
+    after = text.split("Example:\n")[1].split("\n\n")[0]
+    return Block("--help", 1, [line[2:] for line in after.splitlines()], "", "", None)
+
+
+def tagged(section, text):
+    """(line, tag, text) of each `.TP` of a section."""
+    found, here = [], ""
+    lines = text.split("\n")
+    for number, line in enumerate(lines):
+        here = line[4:] if line.startswith(".SH ") else here
+        if line == ".TP" and here == section:
+            found.append((number + 2, plain(lines[number + 1]), plain(lines[number + 2])))
+    return found
+
+
+def check_synopsis(checks, program, text):
+    """Whether the program takes each form of the synopsis, with and without what stands in brackets."""
+    forms = re.findall(r"^\.B rewind\n(.+)$", text, re.M)
+    checks.holds(MANUAL, forms, "no synopsis")
+    values = {"N": "2", "FILE": EXAMPLE, "CODE": "N1"}
+    for form in map(plain, forms):
+        for reading in {re.sub(r"\[[^\]]*\] ", "", form), form.replace("[", "").replace("]", "")}:
+            ran = program.run([values.get(it, it) for it in reading.split()])
+            checks.same(MANUAL, f"status of rewind {reading}", 0, ran.status)
+
+
+def check_options(checks, program, text):
+    help_text = program.run(["--help"]).out
+    told = set(re.findall(r"--[a-z]+", help_text.split("\nCommands")[0]))
+    options = {word for _, tag, _ in tagged("OPTIONS", text) for word in tag.split() if word.startswith("--")}
+    checks.same_sets(MANUAL, "the options of the manual page", told, options)
+
+
+def check_commands(checks, program, text):
+    """Whether the manual page and `--help` have the same commands."""
+    listed = program.run(["--help"]).out.split("Commands")[1].split("\n\n")[0]
+    helped = [re.split(r"\s{2,}", line.strip())[0] for line in listed.splitlines()[1:] if re.match(r"  \S", line)]
+    named = [tag for _, tag, _ in tagged("COMMANDS", text)]
+    checks.same_sets(MANUAL, "the commands of the manual page", helped, named)
+
+
+def check_meanings(checks, program, text):
+    """Whether each code of the manual page has the meaning there that `--explain` gives."""
+    sections = [it for it in re.findall(r"^\.SH (.+)$", text, re.M) if re.match(r"CODES|KINDS|ENDS|FAULTS|FAILURES", it)]
+    checks.holds(MANUAL, sections, "no sections of codes")
+    for section in sections:
+        for line, tag, meaning in tagged(section, text):
+            code = tag.split()[0]
+            told = program.run(["--explain", code]).out.split("\n")[0].replace("'", "")
+            checks.same(f"{MANUAL}:{line}", f"--explain {code}", f"{code}: {meaning}", told)
+
+
+def check_version(checks, program, text):
+    """The version in the head of the manual page is that of the program."""
+    told = re.findall(r'^\.TH .* "Rewind ([^"]*)"', text, re.M)
+    checks.same(f"{MANUAL}:2", "the version", [program.run(["--version"]).out.strip()], [f"rewind {it}" for it in told])
+
+
+def check(checks, program):
+    text = repository.read(MANUAL)
+    program.write("first.go", FIRST)
+    blocks = examples(MANUAL, text) + [example_of_help(program.run(["--help"]).out)]
+    for block in blocks:
+        check_transcript(checks, program, block)
+    for part in (check_version, check_synopsis, check_options, check_commands, check_meanings):
+        part(checks, program, text)

@@ -1,0 +1,216 @@
+"""Functions and crates that documents name in code font: they are there, and what is promised of a crate is public."""
+
+import re
+
+from . import repository, sources
+from .markdown import SPAN, page, spans
+
+# Documents that tell what a crate promises: what they name beside it can be called from other crates.
+PROMISING = ("README.md", "docs/THEOREMS.md")
+MAP = "docs/ARCHITECTURE.md"
+JOINT = re.compile(r"( \(\*laws?\*\))?([,;]? (and |or |to )?|,|;)$")
+# Types of the standard library.
+STANDARD = {"Arc", "BTreeMap", "Box", "Cell", "Mutex", "Option", "Result", "String", "Vec"}
+COUNTS = "zero one two three four five six seven eight nine ten eleven twelve".split()
+GO_WORDS = {"int", "bool", "println"}
+
+
+def is_crate(text):
+    return text in repository.crates()
+
+
+def is_name(text):
+    """Whether a text may be the name of a function, a type or a module."""
+    return bool(re.fullmatch(r"(?!gr_)[A-Za-z_]\w*(::\w+)?", text)) and not is_crate(text)
+
+
+def lists_of(line):
+    """The lists of parts in code font: (text, start, end) of each, joined by commas and the like alone."""
+    found = []
+    for part in SPAN.finditer(line):
+        if found and JOINT.fullmatch(line[found[-1][-1][2]:part.start()]):
+            found[-1].append((part[2], part.start(), part.end()))
+        else:
+            found.append([(part[2], part.start(), part.end())])
+    return found
+
+
+def beside_crates(line, crate=None):
+    """(crate, names) of each list of names that stands directly behind a crate's name, or before it: `a`, `b` in `gr_x`."""
+    found, lists = [], lists_of(line)
+    for here, parts in enumerate(lists):
+        current, names = crate, {}
+        for at, (text, _, end) in enumerate(parts):
+            follows = at + 1 < len(parts) and line[end:parts[at + 1][1]] == " "
+            if is_crate(text):
+                current = text if follows else crate
+            elif text.startswith("gr_"):
+                current = None
+            elif is_name(text):
+                names.setdefault(current, []).append(text)
+        follower = lists[here + 1][0] if here + 1 < len(lists) else None
+        if None in names and follower and is_crate(follower[0]):
+            if re.fullmatch(r" (in |of |\()(the crate )?", line[parts[-1][2]:follower[1]]):
+                names.setdefault(follower[0], []).extend(names[None])
+        found += [(it, names[it]) for it in names if it]
+    return found
+
+
+def fault_of_function(crate, functions, text):
+    """What is wrong with a function that a document promises."""
+    if not functions:
+        return f"{crate.name} has no {text}"
+    if not any(crate.is_public(it) for it in functions):
+        return f"{text} of {crate.name} is not public"
+    return None
+
+
+def fault_of_promise(crate, text):
+    """What is wrong with a name that a document promises of a crate: a function, or else a public type or module."""
+    owner, _, name = text.rpartition("::")
+    if owner:
+        return fault_of_function(crate, crate.functions_of(name, owner), text)
+    if crate.types.get(text) == "pub" or crate.modules.get(text):
+        return None
+    return fault_of_function(crate, crate.functions_of(text), text)
+
+
+def check_list(checks, place, crate, names):
+    """Names beside a crate. A method without its type is of a type that is named before it in the list, if one is."""
+    owners = {it.rpartition("::")[0] for it in names} - {""}
+    for text in names:
+        fault = fault_of_promise(crate, text)
+        functions = crate.functions_of(text)
+        if not fault and owners and functions and all(it.owner and it.owner not in owners for it in functions):
+            fault = f"{text} of {crate.name} is no function of {' or '.join(sorted(owners))}"
+        checks.holds(place, fault is None, fault)
+
+
+def check_count(checks, place, crate, cell):
+    """The number of laws that a cell tells: `nine laws`, `five laws in` a module."""
+    told = re.search(r"\b(\w+) laws\b(?: in `(\w+)`)?", cell)
+    if not told or told[1] not in COUNTS:
+        return
+    inside = f"/src/{told[2]}.rt" if told[2] else "/src/"
+    laws = [it for it in crate.functions if inside in it.path and crate.is_public(it) and not it.owner]
+    checks.same(place, f"laws of {crate.name}", COUNTS.index(told[1]), len(laws))
+
+
+def check_row(checks, row, crate):
+    """The names in the column `Function` of a row. Gives the last crate that the row names, or the one before."""
+    cell = row.cells[row.heads.index("Function")]
+    if "Crate" in row.heads:
+        crate = row.cells[row.heads.index("Crate")].strip("`")
+        checks.holds(row.place, is_crate(crate), f"there is no crate {crate}")
+    named = [it for it in re.findall(r"`(\w+)`", cell) if is_crate(it)]
+    crate = named[0] if named else crate
+    if crate and is_crate(crate):
+        for name, names in beside_crates(cell, crate):
+            check_list(checks, row.place, sources.crate(name), names)
+        check_count(checks, row.place, sources.crate(named[-1] if named else crate), cell)
+    return named[-1] if named else crate
+
+
+def check_tables(checks, document):
+    """The tables with a column `Function`. A row that names no crate is of the crate that is named last in its section."""
+    crates = {}
+    for row in document.rows:
+        if "Function" not in row.heads:
+            continue
+        if row.section not in crates:
+            words = "\n".join(document.words_before(row.line))
+            named = [it for it in re.findall(r"`(\w+)`", words) if is_crate(it)]
+            crates[row.section] = named[0] if named else None
+        crates[row.section] = check_row(checks, row, crates[row.section])
+
+
+def check_prose(checks, document):
+    """Names beside a crate outside those tables. In a document that promises nothing they only have to be there."""
+    tables = {row.line for row in document.rows if "Function" in row.heads}
+    for number, line in enumerate(document.prose):
+        place = f"{document.name}:{number + 1}"
+        for name, names in beside_crates(line) if number + 1 not in tables else ():
+            if document.name in PROMISING:
+                check_list(checks, place, sources.crate(name), names)
+            for text in names if document.name not in PROMISING else ():
+                checks.holds(place, sources.crate(name).has(text.rpartition("::")[2]), f"{name} has no {text}")
+
+
+def is_part(text):
+    """Whether some crate has a law of this name, or a type with a part or method of this name."""
+    owner, _, name = text.rpartition("::")
+    for crate in map(sources.crate, repository.crates()):
+        if crate.functions_of(name, owner or None) or (owner in crate.types and name in crate.parts):
+            return True
+    return owner in STANDARD
+
+
+def check_everywhere(checks, document):
+    """In every document: a crate, a law or a method that is named in code font is there."""
+    known = set(repository.crates()) | set(kit_crates())
+    for number, line in enumerate(document.prose):
+        place = f"{document.name}:{number + 1}"
+        for text in spans(line):
+            if re.fullmatch(r"gr_\w+", text):
+                checks.holds(place, text in known, f"there is no crate {text}")
+            elif re.fullmatch(r"[A-Z]\w+::\w+|law_of_\w+", text):
+                checks.holds(place, is_part(text), f"no crate has {text}")
+
+
+def kit_crates():
+    """The crates of the kit that crates.txt names."""
+    words = re.findall(r"\w+", re.sub(r"#.*", "", repository.read("crates.txt")))
+    return sorted(set(words) - set(repository.crates()))
+
+
+def below(crate):
+    """The crates on which a crate stands, and itself."""
+    line = next((it for it in repository.read("crates.txt").splitlines() if re.match(rf"{crate}\b", it)), "")
+    return [crate] + [it for it in re.findall(r"\w+", line.partition(":")[2]) if is_crate(it)]
+
+
+def check_paragraph(checks, place, own, line):
+    """The paragraph of crates on the map: each name in code font is a part of them, or of a crate below them."""
+    for name in own:
+        checks.holds(place, is_crate(name), f"there is no crate {name}")
+    near = [sources.crate(it) for name in own for it in below(name) if is_crate(it)]
+    for text in spans(line):
+        if is_name(text) and "::" not in text and text not in GO_WORDS and text not in kit_crates():
+            known = any(it.has(text) or text in it.imported for it in near)
+            checks.holds(place, known, f"{' and '.join(own)}: no part is named {text}")
+
+
+def check_map(checks):
+    document = page(MAP)
+    for number, line in enumerate(document.prose):
+        head = re.match(r"\*\*([\w, ]+)\.\*\*", line)
+        own = [it.strip() for it in head[1].split(",")] if head else []
+        if any(is_crate(it) or it.startswith("gr_") for it in own):
+            check_paragraph(checks, f"{MAP}:{number + 1}", own, line)
+    missing = [it for it in repository.crates() if not re.search(rf"\b{it}\b", repository.read(MAP))]
+    checks.same(f"{MAP}:1", "crates that are not on the map", [], missing)
+
+
+def check_lemmas(checks, document):
+    """The table of theorems with their lemmas: functions and lemmas of the crate that its section names first."""
+    for row in [it for it in document.rows if it.heads[-1] == "Lemmas"]:
+        words = "\n".join(reversed(document.words_before(row.line)))
+        crate = next(it for it in re.findall(r"`(\w+)`", words) if is_crate(it))
+        for name in re.findall(r"\w+", row.cells[0]):
+            fault = fault_of_promise(sources.crate(crate), name)
+            checks.holds(row.place, fault is None, fault)
+        for module, several, one in re.findall(r"(\w+)\.(?:\{([^}]*)\}|([\w-]+))", row.cells[1]):
+            path = f"crates/{crate}/proofs/{module}.antt"
+            known = set(re.findall(r"[^\s(){}]+", repository.read(path))) if repository.exists(path) else set()
+            for name in re.findall(r"[\w-]+", several or one):
+                checks.holds(row.place, name in known, f"{path} has no {name}")
+
+
+def check(checks, program):
+    for name in PROMISING:
+        check_tables(checks, page(name))
+    for name in repository.documents():
+        check_prose(checks, page(name))
+        check_everywhere(checks, page(name))
+    check_map(checks)
+    check_lemmas(checks, page(MAP))

@@ -1,0 +1,135 @@
+"""Runs the program: with pipes, at a pseudo-terminal, and by a shell. All runs are in one scratch folder, which has
+the repository's folders, and the program as `rewind`, `bin/rewind` and `bin/rewind-quick`."""
+
+import os
+import pty
+import select
+import subprocess
+import termios
+import time
+
+from . import repository
+
+SECONDS = 50
+PROMPT = "(rewind) "
+UNPROVED = " (unproved build)"
+
+
+class Ran:
+    """What a run wrote, and its exit status."""
+
+    def __init__(self, status, out, err):
+        self.status, self.out, self.err = status, proved(out), proved(err)
+
+
+def proved(text):
+    """A text as the proved program writes it, which does not say that it is unproved."""
+    return text.replace(UNPROVED, "")
+
+
+def replies_of(lines):
+    """The replies among lines of output: each ends in a line of its own kind."""
+    found, lines_so_far = [], []
+    for line in lines:
+        lines_so_far.append(line)
+        if line == "ok" or line.startswith(("ok ", "no ", "? ")):
+            found.append(lines_so_far)
+            lines_so_far = []
+    return found + ([lines_so_far] if lines_so_far else [])
+
+
+class Terminal:
+    """A run whose standard streams are one terminal, without echo: `screen` has what was written and typed, in its order."""
+
+    def __init__(self, words, folder, prompt):
+        self.prompt = prompt
+        self.master, terminal = pty.openpty()
+        mode = termios.tcgetattr(terminal)
+        mode[0] &= ~(termios.ICRNL | termios.INLCR | termios.IGNCR)
+        mode[1] &= ~termios.OPOST
+        mode[3] &= ~(termios.ECHO | termios.ECHONL | termios.ISIG)
+        termios.tcsetattr(terminal, termios.TCSANOW, mode)
+        streams = {"stdin": terminal, "stdout": terminal, "stderr": terminal}
+        self.process = subprocess.Popen(words, cwd=folder, **streams)
+        os.close(terminal)
+        self.screen, self.end = "", time.monotonic() + SECONDS
+
+    def read(self):
+        """Takes what was written; false where there is no more."""
+        ready, _, _ = select.select([self.master], [], [], max(0, self.end - time.monotonic()))
+        try:
+            got = os.read(self.master, 65536) if ready else b""
+        except OSError:
+            got = b""
+        self.screen += got.decode("utf-8", "replace")
+        return bool(got)
+
+    def until_prompt(self):
+        while not self.screen.endswith(self.prompt):
+            if not self.read():
+                return False
+        return True
+
+    def type(self, lines):
+        """Types each line when it is asked for, and then ends the input."""
+        for line in lines:
+            if not self.until_prompt():
+                break
+            os.write(self.master, line.encode() + b"\n")
+            self.screen += line + "\n"
+        if lines and lines[-1].strip() != "quit" and self.until_prompt():
+            os.write(self.master, b"\4")
+        while self.read():
+            pass
+        self.process.kill()
+        os.close(self.master)
+        return Ran(self.process.wait(), self.screen, "")
+
+
+class Program:
+    """A built program, and the scratch folder of its runs. `shown` has the files there that a document shows, and `status`
+    is that of the last line for a shell."""
+
+    def __init__(self, path, folder):
+        self.path, self.folder = os.path.abspath(path), folder
+        self.shown, self.status = set(), 0
+        os.mkdir(os.path.join(folder, "bin"))
+        for name in ("rewind", "bin/rewind", "bin/rewind-quick"):
+            os.symlink(self.path, os.path.join(folder, name))
+        for name in sorted({it.split("/")[0] for it in repository.files()} - {"bin"}):
+            os.symlink(repository.path_of(name), os.path.join(folder, name))
+        self.environment = {**os.environ, "PATH": f"{folder}:{os.environ.get('PATH', '')}"}
+
+    def write(self, name, text):
+        """Makes a file of the scratch folder."""
+        with open(os.path.join(self.folder, name), "w", encoding="utf-8", errors="surrogateescape", newline="") as file:
+            file.write(text)
+        return name
+
+    def run(self, arguments, script=""):
+        how = {"input": script, "capture_output": True, "text": True, "cwd": self.folder}
+        ran = subprocess.run([self.path, *arguments], timeout=SECONDS, **how)
+        return Ran(ran.returncode, ran.stdout, ran.stderr)
+
+    def at_terminal(self, words, lines, prompt=PROMPT):
+        """What a terminal shows of a command that asks for lines; the first word is the command."""
+        return Terminal(words, self.folder, prompt).type(lines)
+
+    def shell(self, line):
+        """What a shell writes for a line, both streams together. `$?` is the status of the line before."""
+        how = {"stdin": subprocess.DEVNULL, "stdout": subprocess.PIPE, "stderr": subprocess.STDOUT, "text": True}
+        words = ["sh", "-c", line.replace("$?", str(self.status))]
+        ran = subprocess.run(words, cwd=self.folder, env=self.environment, timeout=SECONDS, **how)
+        self.status = ran.returncode
+        return Ran(ran.returncode, ran.stdout, "")
+
+    def check(self, source):
+        """What `--check` says of a source: '' where it is accepted, else the code with its place."""
+        ran = self.run(["--check", self.write("checked.go", source)])
+        told = ran.err.splitlines()[0] if ran.err else ""
+        return told[len("rewind: "):] if told.startswith("rewind: ") else told
+
+    def replies(self, source, commands):
+        """The replies of a session on a source."""
+        ran = self.run([self.write("source.go", source)], "".join(it + "\n" for it in commands))
+        return replies_of((ran.out + ran.err).splitlines())
