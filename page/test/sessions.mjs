@@ -1,19 +1,20 @@
-// Every example session in the page, byte for byte, with the engine as it is used there.
+// Every example session in the page, byte for byte, with the engine as it is used there; and with which status it ends.
 
 import { existsSync, readFileSync, readdirSync } from "node:fs";
-import { counts, failed, holds } from "./checks.mjs";
+import { counts, equal, failed, holds } from "./checks.mjs";
 
 const FOLDER = new URL("../../crates/sessions/data", import.meta.url).pathname;
 const base64 = (file) => (existsSync(file) ? readFileSync(file).toString("base64") : "");
 
-// Runs in the page: one session, and what it wrote as base64.
+// Runs in the page: one session. What it wrote as base64, whether its source was refused, and its exit status.
 async function sessionInPage(source, script, suspends) {
   const bytes = (text) => Uint8Array.from(atob(text), (letter) => letter.charCodeAt(0));
   const session = await window.rewind.Session.open(window.rewind.program, bytes(source), suspends);
   const said = [session.said];
   if (script && session.status === null) said.push(await session.exchange(bytes(script)));
   said.push(await session.close());
-  return btoa(said.map((piece) => Array.from(piece, (byte) => String.fromCharCode(byte)).join("")).join(""));
+  const text = btoa(said.map((piece) => Array.from(piece, (byte) => String.fromCharCode(byte)).join("")).join(""));
+  return { text, isRefused: session.said.length > 0, status: String(session.status) };
 }
 
 // The first line that differs, in words.
@@ -31,10 +32,10 @@ async function allOf(browser, suspends) {
   holds("there are example sessions", names.length);
   for (const name of names) {
     const given = [`${FOLDER}/${name}.go`, `${FOLDER}/${name}.script`].map((file) => JSON.stringify(base64(file)));
-    const said = await browser.run(`(${sessionInPage})(${given.join(",")},${suspends})`);
+    const { text, isRefused, status } = await browser.run(`(${sessionInPage})(${given.join(",")},${suspends})`);
     const wanted = base64(`${FOLDER}/${name}.expect`);
-    if (said === wanted) counts.passed++;
-    else failed(`session ${name}, ${how}, ${difference(wanted, said)}`);
+    if (text === wanted) equal(`the exit status of session ${name}, ${how}`, status, isRefused ? "1" : "0");
+    else failed(`session ${name}, ${how}, ${difference(wanted, text)}`);
   }
   console.log(`${names.length - counts.failed + before} of ${names.length} sessions are as expected, ${how}`);
 }
