@@ -108,7 +108,7 @@ class Core:
 
     def step(self, goroutine: str, clause: int = 0) -> Entry:
         """Takes a step of the goroutine: its name and its kind. A clause of a select may be chosen."""
-        return self.asked("step %s%s" % (goroutine, " %d" % clause if clause else ""), replies.stepped)
+        return self.asked(step_words(goroutine, clause), replies.stepped)
 
     def run(self, most: int) -> Ran:
         """Takes steps by turns."""
@@ -185,10 +185,13 @@ def first_word(command: str) -> str:
     return words[0] if words else ""
 
 
+def step_words(goroutine: str, clause: int = 0) -> str:
+    return "step %s %d" % (goroutine, clause) if clause else "step " + goroutine
+
+
 def step_command(entry: Entry) -> str:
     """The command that takes a kept step again."""
-    goroutine = entry.step.partition("#")[0]
-    return "step %s%s" % (goroutine, " %d" % entry.kind.clause if entry.kind.clause else "")
+    return step_words(entry.step.partition("#")[0], entry.kind.clause)
 
 
 def end_of_step(entry: Entry) -> Optional[Reason]:
