@@ -75,9 +75,10 @@ def explain(session: Session) -> Explanation:
 
 
 def standing_of(session: Session) -> Standing:
-    if session.core.end is Reason.FAULT:
+    end = session.stopped_by()
+    if end is Reason.FAULT:
         return Standing.FAULT
-    if session.core.end is Reason.ENDED:
+    if end is Reason.ENDED:
         return Standing.ENDED
     return Standing.RUNNING if session.ready() else Standing.DEADLOCK
 

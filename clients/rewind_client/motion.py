@@ -1,6 +1,7 @@
 """Movements through a program, in portions, so that they can be stopped between them.
 
-Each is a generator that yields between two portions, and returns where and why it stopped. What it did before it is left stays done.
+Each is a generator that yields between two portions how many steps it took, and returns where and why it stopped. What it did
+before it is left stays done.
 """
 from __future__ import annotations
 
@@ -45,7 +46,7 @@ class Stop(NamedTuple):
     ran: Optional[Ran] = None
 
 
-Motion = Generator[None, None, Stop]
+Motion = Generator[int, None, Stop]
 STOPS = {
     Reason.ENDED: StopReason.ENDED,
     Reason.FAULT: StopReason.FAULT,
@@ -70,7 +71,7 @@ def forward(session: Session, lines: Lines, goroutine: str, most: Optional[int] 
         taken += run.taken - again
         if run.reason is not Reason.COUNT or taken == most:
             return stop_of_run(session, Ran(taken, run.reason, run.line), goroutine)
-        yield
+        yield taken
         again = 1 if lines() else 0
         if again:
             session.undo()
@@ -108,12 +109,12 @@ def some_steps(session: Session, goroutine: str, times: int, clause: int = 0) ->
     """Steps of one goroutine, until one begins to wait or ends the program."""
     for number in range(1, times + 1):
         entry = session.step(goroutine, clause)
-        if session.core.end:
+        if session.stopped_by():
             return end(session)
         if entry.kind.waits or number == times:
             break
         if number % STEP_PORTION == 0:
-            yield
+            yield number
     return Stop(StopReason.WAITS if entry.kind.waits else StopReason.STEP, goroutine, entry)
 
 
@@ -125,7 +126,7 @@ def through(session: Session, start: Goroutine, lines: Lines, is_there: Callable
     depth = 0
     for number in count(1):
         entry = session.step(start.name)
-        if session.core.end:
+        if session.stopped_by():
             return end(session)
         depth += {KindWord.CALL: 1, KindWord.RETURN: -1}.get(entry.kind.word, 0)
         if entry.kind.waits:
@@ -139,7 +140,7 @@ def through(session: Session, start: Goroutine, lines: Lines, is_there: Callable
         if (depth > 0 or line != start.line) and line in lines():
             return Stop(StopReason.BREAKPOINT, start.name, entry, line)
         if number % STEP_PORTION == 0:
-            yield
+            yield number
     raise AssertionError("count has no end")
 
 
@@ -172,7 +173,7 @@ def backward(session: Session, lines: Lines) -> Motion:
         if shown is not None and shown.line in lines():
             return Stop(StopReason.BREAKPOINT, name, line=shown.line)
         if number % STEP_PORTION == 0:
-            yield
+            yield number
     raise AssertionError("count has no end")
 
 

@@ -8,13 +8,13 @@ from __future__ import annotations
 from typing import Callable, Dict, List, Optional, Sequence, TypeVar
 
 from . import replies
-from .core import MOVING, Core, Refused, first_word, step_words
+from .core import MOVING, Core, Refused, end_of_step, first_word, step_words
 from .errors import ProcessError
 from .follower import Follower
 from .names import channel_maker, channel_of, channel_order, child_of, name_order, step_owner
 from .notes import Note, Place
 from .program import Program
-from .replies import Channel, Entry, Goroutine, KindWord, Ran, State
+from .replies import Channel, Entry, Goroutine, KindWord, Ran, Reason, State
 
 MAX_GOROUTINES = 10_000
 MAX_CHANNELS = 10_000
@@ -33,6 +33,7 @@ class Session:
         self.program = program
         self.follower = Follower(begin, program)
         self.kept_log: Optional[List[Entry]] = []
+        self.is_end_known = True
         self.taken_back: Dict[str, Entry] = {}
         self.shown: Dict[str, Optional[Goroutine]] = {}
         self.channels_shown: Dict[str, Optional[Channel]] = {}
@@ -95,6 +96,7 @@ class Session:
         """Forgets all that was asked, where it is not known what became of a command."""
         self.forget_states()
         self.kept_log = None
+        self.is_end_known = False
 
     def moved(self, command: str, read: Callable[[Sequence[str]], Found]) -> Found:
         """What is read from the reply to a command that moves; Refused where it is."""
@@ -131,7 +133,16 @@ class Session:
         """The kept steps in their order."""
         if self.kept_log is None:
             self.kept_log = self.core.log()
+            if not self.is_end_known:
+                self.core.end = end_of_step(self.kept_log[-1]) if self.kept_log else None
+                self.is_end_known = True
         return self.kept_log
+
+    def stopped_by(self) -> Optional[Reason]:
+        """Why the program goes no further: its end, a fault, or nothing."""
+        if not self.is_end_known:
+            self.log()
+        return self.core.end
 
     def follow(self) -> Follower:
         """The second session, which stands where the first one does, with its notes."""
@@ -196,7 +207,7 @@ class Session:
 
     def ready(self) -> List[Goroutine]:
         """The goroutines of which one could take the next step."""
-        return [] if self.core.end else [it for it in self.goroutines() if it.state is State.READY]
+        return [] if self.stopped_by() else [it for it in self.goroutines() if it.state is State.READY]
 
     # What the source calls them, and where they stand.
 
