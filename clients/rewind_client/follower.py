@@ -38,7 +38,7 @@ class Follower:
         if self.core is not None:
             self.core.process.end()
         self.core = None
-        self.entries, self.notes, self.wakers, self.counts = [], {}, {}, {}
+        self.entries, self.notes, self.wakers, self.counts, self.channel_names = [], {}, {}, {}, {}
 
     def session(self) -> Core:
         """The session, which begins anew where it has ended."""
@@ -81,6 +81,8 @@ class Follower:
             note = self.notes.pop(entry.step, None)
             for wait in note.woke if note else ():
                 self.wakers.pop(wait, None)
+            for channel in note.named if note else ():
+                self.channel_names.pop(channel, None)
 
     def take_unnoted(self, entries: Sequence[Entry]) -> None:
         found = self.session().ask_all([step_command(entry) for entry in entries])
@@ -150,9 +152,9 @@ class Follower:
 
     def note(self, entry: Entry, shown: Goroutine, used: List[Use], states: Tuple[List[Channel], List[Channel]]) -> None:
         """Keeps what was found of the next step."""
-        self.keep_names(shown)
+        named = self.keep_names(shown)
         place = Place(shown.frames[0].function if shown.frames else "", shown.line)
-        note = Note(entry.step, entry.kind, place, self.callers_before(entry.step))
+        note = Note(entry.step, entry.kind, place, self.callers_before(entry.step), named=named)
         met = found_use(entry.kind, used, *states)
         if met:
             use, before, after = met
@@ -168,12 +170,15 @@ class Follower:
         """The last step of a goroutine so far, with which it began to wait."""
         return step_of(goroutine, self.counts.get(goroutine, 0))
 
-    def keep_names(self, shown: Goroutine) -> None:
-        """Keeps the first variable that was seen to hold each channel."""
+    def keep_names(self, shown: Goroutine) -> Tuple[str, ...]:
+        """Keeps the first variable that was seen to hold each channel: the channels that are new."""
+        new = []
         for frame in reversed(shown.frames):
             for variable in frame.variables:
-                if "/c" in variable.value:
-                    self.channel_names.setdefault(variable.value, variable.name)
+                if "/c" in variable.value and variable.value not in self.channel_names:
+                    self.channel_names[variable.value] = variable.name
+                    new.append(variable.value)
+        return tuple(new)
 
     def callers_before(self, step: str) -> Tuple[Place, ...]:
         """The places of the outer frames before a step, from those of the step before it."""

@@ -20,7 +20,7 @@ class Note(NamedTuple):
 
     `callers` are the places of the outer frames, the innermost first. `channel` is empty where the step uses none or it is not known,
     and `value` where no value went over the channel or it is not known. `woke` are the steps that had begun the waits that this
-    step ended.
+    step ended, and `named` the channels that a variable was first seen to hold before the step.
     """
 
     step: str
@@ -31,6 +31,7 @@ class Note(NamedTuple):
     channel: str = ""
     value: str = ""
     woke: Tuple[str, ...] = ()
+    named: Tuple[str, ...] = ()
 
     @property
     def line(self) -> int:

@@ -26,8 +26,8 @@ class Program:
         self.statements: List[int] = sorted(walk.lines)
 
     def line(self, number: int) -> str:
-        """The text of a line without the space around it; an empty text where there is no such line."""
-        return self.lines[number - 1].strip() if 0 < number <= len(self.lines) else ""
+        """The text of a line with single spaces in it; an empty text where there is no such line."""
+        return " ".join(self.lines[number - 1].split()) if 0 < number <= len(self.lines) else ""
 
     def statement_at(self, line: int) -> Optional[int]:
         """The line, or the next one, on which a statement begins; none where no statement comes after it."""

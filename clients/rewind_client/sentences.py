@@ -120,7 +120,7 @@ class Sentences:
 
     def at_called(self, note: Note) -> str:
         """The place of a step, with the one that called it where it has callers."""
-        called = ", called at line %d" % note.callers[0].line if note.callers else ""
+        called = ", called at " + self.at(note.callers[0]) if note.callers else ""
         return self.at(note.place) + called
 
     def cycle(self, names: Sequence[str]) -> Iterator[str]:

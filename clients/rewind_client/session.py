@@ -10,7 +10,7 @@ from typing import Callable, Dict, List, Optional, Sequence, TypeVar
 from . import replies
 from .core import MOVING, Core, Refused, end_of_step, first_word, step_words
 from .errors import ProcessError
-from .follower import Follower
+from .follower import NOTED, Follower
 from .names import channel_maker, channel_of, channel_order, child_of, name_order, step_owner
 from .notes import Note, Place
 from .program import Program
@@ -218,6 +218,8 @@ class Session:
 
     def variable_of(self, channel: str) -> str:
         """The variable that held a channel first, else one that holds it now."""
+        if len(self.log()) <= NOTED:
+            self.follow()
         first = self.follower.channel_names.get(channel)
         if first:
             return first

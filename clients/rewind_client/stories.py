@@ -3,6 +3,7 @@ from __future__ import annotations
 
 from typing import Dict, Optional
 
+from .direct import Edge, EdgeKind
 from .meanings import FAULTS
 from .names import channel_of, child_of, step_owner
 from .notes import Note
@@ -111,6 +112,14 @@ def made_by(session: Session) -> Dict[str, str]:
     return made
 
 
-def waker_of(session: Session, step: str) -> Optional[str]:
-    """The step that ended a wait, where one did."""
-    return session.follower.wakers.get(step)
+def relation(edge: Edge, source: Optional[Note], step: Optional[Note]) -> str:
+    """What a direct cause was to a step, in words."""
+    if edge.kind is not EdgeKind.ORDER or source is None or step is None or source.channel != step.channel or not source.channel:
+        return "which " + edge.kind.value
+    if step.verb is Verb.RECEIVE and step.kind.waits and source.receives():
+        return "which took the last value before it"
+    if step.verb is Verb.SEND and step.kind.waits and source.sends():
+        return "which filled the buffer before it"
+    if source.kind.waits:
+        return "which was in the queue of the channel before it"
+    return "which used the channel before it"

@@ -16,17 +16,15 @@ class Interrupts:
         self.is_busy = False
         self.came_at = 0.0
 
-    def install(self) -> None:
-        signal.signal(signal.SIGINT, self.handle)
-
     def handle(self, _number: int, _frame: Any) -> None:
         if not self.is_busy:
             raise KeyboardInterrupt
         self.came_at = self.came_at or time.monotonic()
 
     def begin(self) -> None:
-        """A command is obeyed from now on."""
+        """A command is obeyed from now on. The handler is set each time, since who reads lines may set another."""
         self.came_at, self.is_busy = 0.0, True
+        signal.signal(signal.SIGINT, self.handle)
 
     def end(self) -> None:
         self.is_busy = False

@@ -3,13 +3,13 @@ from __future__ import annotations
 
 from typing import TYPE_CHECKING, Callable, Dict, List, Optional
 
-from rewind_client.direct import DirectCauses, EdgeKind
+from rewind_client.direct import DirectCauses
 from rewind_client.explanations import explain
 from rewind_client.names import is_channel, is_goroutine, is_step, step_number, step_of, step_owner
 from rewind_client.notes import Note
 from rewind_client.replies import Goroutine
 from rewind_client.sentences import Sentences
-from rewind_client.stories import Stories
+from rewind_client.stories import Stories, relation
 
 from .words import GROUPS, HINTS, BY_NAME, Word, word_of
 
@@ -47,7 +47,7 @@ class Looking:
     def help(self, words: List[str]) -> None:
         if not words:
             for title, group in GROUPS.items():
-                self.screen.line(title, "strong")
+                self.screen.say(title, "strong")
                 for word in group:
                     self.screen.say("  %-28s %s" % (used(word), word.does))
             self.screen.say("'help WORD' tells more of a word, and 'help CODE' of a code such as N3 or SendOnClosed.")
@@ -59,7 +59,7 @@ class Looking:
             self.explained(words[0])
 
     def one_word(self, word: Word) -> None:
-        self.screen.line(used(word), "strong")
+        self.screen.say(used(word), "strong")
         self.screen.say("  " + word.does)
         if word.more:
             self.screen.say("  " + word.more)
@@ -217,18 +217,18 @@ class Looking:
         self.about(stories, step, notes, "")
         edges = finder.of(step)
         for edge in edges:
-            self.about(stories, edge.source, notes, edge.kind.value if edge.kind is not EdgeKind.ORDER else "came first")
+            self.about(stories, edge.source, notes, relation(edge, notes.get(edge.source), notes.get(step)))
         if not edges:
             own = "; its own step before it is %s" % step_of(step_owner(step), step_number(step) - 1) if step_number(step) > 1 else ""
             self.screen.say("    it depends directly on no step of another goroutine%s" % own)
 
-    def about(self, stories: Stories, step: str, notes: Dict[str, Note], relation: str) -> None:
+    def about(self, stories: Stories, step: str, notes: Dict[str, Note], related: str) -> None:
         """A step, and what it was to another one."""
         note = notes.get(step)
         told = row(stories, self.shell.program.line(note.line), note) if note else step
-        self.screen.row("%s%s" % ("    " if relation else "", told))
-        if relation:
-            self.screen.say("        which " + relation, "faint")
+        self.screen.row("%s%s" % ("    " if related else "", told))
+        if related:
+            self.screen.say("        " + related, "faint")
 
 
 def used(word: Word) -> str:

@@ -66,7 +66,7 @@ def main(words: List[str]) -> int:
         error(str(fault))
         return 2
     try:
-        return converse(shell, interrupts, given.load)
+        return converse(shell, given.load)
     except BrokenPipeError:
         os.dup2(os.open(os.devnull, os.O_WRONLY), sys.stdout.fileno())
         return 3
@@ -104,7 +104,7 @@ def reader_for(shell: Shell) -> Reader:
     return PlainReader()
 
 
-def converse(shell: Shell, interrupts: Interrupts, script: Optional[str]) -> int:
+def converse(shell: Shell, script: Optional[str]) -> int:
     """Reads lines and obeys them, until the session is over or there are no more."""
     is_terminal = sys.stdin.isatty()
     reader = reader_for(shell)
@@ -112,13 +112,12 @@ def converse(shell: Shell, interrupts: Interrupts, script: Optional[str]) -> int
         shell.screen.say("Rewind on %s: 'help' lists the commands, 'quit' leaves." % shell.program.path)
         shell.script.begin()
         shell.tell_saved()
-    interrupts.install()
     if script:
         shell.obey("load " + script)
     before = ""
     while not shell.is_over:
         try:
-            line = reader.read("(rewind %s) " % shell.chosen)
+            before = obey_next(shell, reader, before, is_terminal)
         except EOFError:
             if is_terminal:
                 shell.screen.line()
@@ -127,14 +126,18 @@ def converse(shell: Shell, interrupts: Interrupts, script: Optional[str]) -> int
             if not is_terminal:
                 return 130
             shell.screen.say("('quit' or Ctrl-D leaves)")
-            continue
-        if not is_terminal and line.strip():
-            shell.screen.line("> " + line)
-        elif is_terminal and not line.strip():
-            line = before
-        shell.obey(line)
-        words = line.split()
-        before = line if words and word_of(words[0]) in REPEATED else ""
         if shell.is_lost and not is_terminal:
             return 3
     return 0
+
+
+def obey_next(shell: Shell, reader: Reader, before: str, is_terminal: bool) -> str:
+    """Reads a line and obeys it; an empty one stands for the one before. The line that an empty one after it stands for."""
+    line = reader.read("(rewind %s) " % shell.chosen)
+    if not is_terminal and line.strip():
+        shell.screen.line("> " + line)
+    elif is_terminal and not line.strip():
+        line = before
+    shell.obey(line)
+    words = line.split()
+    return line if words and word_of(words[0]) in REPEATED else ""
