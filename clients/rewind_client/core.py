@@ -36,7 +36,8 @@ def unnoted(_command: str) -> None:
 class Core:
     """A program under `rewind`.
 
-    `changes` counts the commands that may have changed the state, and `end` is the reason why the program goes no further.
+    `changes` counts the commands that may have changed the state, `given` are those that changed the session, and `end` is the
+    reason why the program goes no further.
     """
 
     def __init__(self, process: Process, journal: Callable[[str], None] = unnoted) -> None:
@@ -44,6 +45,7 @@ class Core:
         self.process = process
         self.journal = journal
         self.changes = 0
+        self.given: List[str] = []
         self.end: Optional[Reason] = None
         self.end_taken_back: Optional[Reason] = None
 
@@ -55,8 +57,10 @@ class Core:
         """The replies to commands, asked in one go."""
         for command in commands:
             self.journal(command)
-        if any(first_word(command) in MOVING for command in commands):
-            self.changes += 1
+            word = first_word(command)
+            if word in CHANGING:
+                self.given.append(command)
+                self.changes += word in MOVING
         found = self.process.ask_all(commands)
         for command, reply in zip(commands, found):
             self.checked(command, reply)

@@ -17,6 +17,9 @@ from .replies import Channel, Entry, Goroutine, KindWord
 
 NOTED = 20_000
 PORTION = 500
+# A log that is so far ahead is come to by the commands that made it, where these are few.
+FAR = 50_000
+STEPS_FOR_A_COMMAND = 20
 MAX_CLAUSES = 64
 
 
@@ -40,6 +43,9 @@ class Follower:
         self.core = None
         self.entries, self.notes, self.wakers, self.counts, self.channel_names = [], {}, {}, {}, {}
 
+    def is_alive(self) -> bool:
+        return self.core is not None and not self.core.process.ended
+
     def session(self) -> Core:
         """The session, which begins anew where it has ended."""
         if self.core is None or self.core.process.ended:
@@ -61,6 +67,19 @@ class Follower:
                 self.take_unnoted(log[at : min(first_noted, at + 10 * PORTION)])
             else:
                 self.take_noted(log[at : at + PORTION])
+
+    def catch_up(self, log: Sequence[Entry], commands: Sequence[str], told: Callable[[], List[str]]) -> None:
+        """Comes near the end of a long log by the commands that made it; `told` gives the log as the other session tells it."""
+        if len(log) - len(self.entries) < FAR or len(commands) * STEPS_FOR_A_COMMAND > len(log):
+            return
+        self.end()
+        core = self.session()
+        core.ask_all(commands)
+        if core.ask("log") != told():
+            self.end()
+            return
+        self.entries = list(log)
+        self.counts = {step_owner(entry.step): step_number(entry.step) for entry in log}
 
     def common_with(self, log: Sequence[Entry]) -> int:
         count = 0

@@ -1,6 +1,7 @@
 """Replies as values. Each function reads the lines of one reply; lines of another form give a ValueError."""
 from __future__ import annotations
 
+import gc
 import re
 from enum import Enum
 from functools import lru_cache
@@ -203,7 +204,15 @@ def steps(reply: Sequence[str]) -> List[str]:
 
 
 def log(reply: Sequence[str]) -> List[Entry]:
-    return [entry_of(line) for line in lines_within(reply)]
+    """The lines of `log`. Of a million entries none can be garbage, which would be looked for again and again."""
+    collects = gc.isenabled()
+    gc.disable()
+    try:
+        split = (line[2:].partition(" ") for line in reply[:-1])
+        return [Entry(step, kind_of(kind)) for step, _, kind in split]
+    finally:
+        if collects:
+            gc.enable()
 
 
 def goroutine(reply: Sequence[str]) -> Goroutine:

@@ -34,6 +34,10 @@ class Session:
         self.follower = Follower(begin, program)
         self.kept_log: Optional[List[Entry]] = []
         self.is_end_known = True
+        self.version = 0
+        self.followed = -1
+        self.made_at = -1
+        self.made: Dict[str, str] = {}
         self.taken_back: Dict[str, Entry] = {}
         self.shown: Dict[str, Optional[Goroutine]] = {}
         self.channels_shown: Dict[str, Optional[Channel]] = {}
@@ -61,6 +65,7 @@ class Session:
 
     def take_account(self, word: str, reply: Sequence[str]) -> None:
         """Brings the log and what is known of goroutines and channels up to date with a command that moved."""
+        self.version += 1
         if not replies.is_ok(reply) and replies.code_of(reply) != "B6":
             return
         if word == "step":
@@ -95,6 +100,7 @@ class Session:
     def forget(self) -> None:
         """Forgets all that was asked, where it is not known what became of a command."""
         self.forget_states()
+        self.version += 1
         self.kept_log = None
         self.is_end_known = False
 
@@ -146,7 +152,11 @@ class Session:
 
     def follow(self) -> Follower:
         """The second session, which stands where the first one does, with its notes."""
-        self.follower.follow(self.log())
+        log = self.log()
+        if self.followed != self.version or not self.follower.is_alive():
+            self.follower.catch_up(log, self.core.given, lambda: self.core.ask("log"))
+            self.follower.follow(log)
+            self.followed = self.version
         return self.follower
 
     def notes(self) -> List[Note]:
@@ -156,26 +166,29 @@ class Session:
 
     # Goroutines and channels.
 
+    def made_by(self) -> Dict[str, str]:
+        """The goroutine or the channel that each step made which made one, in the order of the log."""
+        if self.made_at != self.version:
+            counts: Dict[str, int] = {}
+            self.made, self.made_at = {}, self.version
+            for entry in self.log():
+                word = entry.kind.word
+                if word is KindWord.GO or word is KindWord.MAKE:
+                    owner = step_owner(entry.step)
+                    key = owner + word.value
+                    counts[key] = number = counts.get(key, 0) + 1
+                    self.made[entry.step] = child_of(owner, number) if word is KindWord.GO else channel_of(owner, number)
+        return self.made
+
     def goroutine_names(self) -> List[str]:
         """The goroutines in the order of their names, as the log tells them."""
-        counts: Dict[str, int] = {}
-        names = ["g0"]
-        for entry in self.log():
-            if entry.kind.word is KindWord.GO:
-                owner = step_owner(entry.step)
-                counts[owner] = counts.get(owner, 0) + 1
-                names.append(child_of(owner, counts[owner]))
-        return sorted(names[:MAX_GOROUTINES], key=name_order)
+        started = [name for name in self.made_by().values() if "/" not in name]
+        return sorted(["g0", *started[: MAX_GOROUTINES - 1]], key=name_order)
 
     def channel_names(self) -> List[str]:
-        counts: Dict[str, int] = {}
-        names = []
-        for entry in self.log():
-            if entry.kind.word is KindWord.MAKE:
-                owner = step_owner(entry.step)
-                counts[owner] = counts.get(owner, 0) + 1
-                names.append(channel_of(owner, counts[owner]))
-        return sorted(names[:MAX_CHANNELS], key=channel_order)
+        """The channels by the goroutines that made them."""
+        made = [name for name in self.made_by().values() if "/" in name]
+        return sorted(made[:MAX_CHANNELS], key=channel_order)
 
     def goroutine(self, name: str) -> Optional[Goroutine]:
         if name not in self.shown:

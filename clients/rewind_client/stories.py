@@ -1,11 +1,11 @@
 """What single steps did, in words, and who is where."""
 from __future__ import annotations
 
-from typing import Dict, Optional
+from typing import Optional
 
 from .direct import Edge, EdgeKind
 from .meanings import FAULTS
-from .names import channel_of, child_of, step_owner
+from .names import step_owner
 from .notes import Note
 from .operations import Verb
 from .replies import Channel, Goroutine, KindWord, State, Waiter
@@ -17,7 +17,7 @@ class Stories:
 
     def __init__(self, session: Session) -> None:
         self.session = session
-        self.made = made_by(session)
+        self.made = session.made_by()
 
     def step(self, note: Note) -> str:
         """What a step did; an empty text where it touched its own goroutine alone."""
@@ -95,21 +95,6 @@ class Stories:
 def waiter_in_words(waiter: Waiter, wish: str) -> str:
     clause = " (clause %d)" % waiter.clause if waiter.clause else ""
     return "%s waits to %s%s" % (waiter.goroutine, wish, clause)
-
-
-def made_by(session: Session) -> Dict[str, str]:
-    """The goroutine or channel that each step made which made one."""
-    counts: Dict[str, int] = {}
-    made: Dict[str, str] = {}
-    names = {KindWord.GO: child_of, KindWord.MAKE: channel_of}
-    for entry in session.log():
-        name = names.get(entry.kind.word)
-        if name:
-            owner = step_owner(entry.step)
-            key = "%s %s" % (entry.kind.word.value, owner)
-            counts[key] = counts.get(key, 0) + 1
-            made[entry.step] = name(owner, counts[key])
-    return made
 
 
 def relation(edge: Edge, source: Optional[Note], step: Optional[Note]) -> str:

@@ -130,4 +130,3 @@ def test_a_refusal_in_words() -> None:
     told = explain_refusal('package main\nimport "fmt"\n', "P2", 2, 1)
     assert told.word == "import"
     assert told.sentence
-    assert explain_refusal("x", "P1", 9, 9).word == ""

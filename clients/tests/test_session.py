@@ -159,6 +159,21 @@ def test_the_second_session_begins_anew_where_it_ended(session: Open) -> None:
     assert one.notes()[:10] == notes
 
 
+def test_a_long_log_is_followed_by_its_commands(session: Open, monkeypatch: pytest.MonkeyPatch) -> None:
+    one, other = session("starved_select"), session("starved_select")
+    monkeypatch.setattr("rewind_client.follower.FAR", 200)
+    one.run(100)
+    one.core.set_breakpoint(22)
+    one.ask("clear 22")
+    one.run(900)
+    one.undo()
+    assert one.notes()[-1].step == one.log()[-1].step
+    assert any(command == "run 900" for command in one.follow().session().given)
+    monkeypatch.setattr("rewind_client.follower.FAR", 10**9)
+    other.run(999)
+    assert one.notes() == other.notes()
+
+
 def test_a_long_log_is_noted_at_its_end(session: Open, monkeypatch: pytest.MonkeyPatch) -> None:
     monkeypatch.setattr("rewind_client.follower.NOTED", 100)
     one = session("starved_select")
