@@ -5,11 +5,12 @@ they differ, and steps on from there. Steps far back in a long log are taken wit
 """
 from __future__ import annotations
 
-from typing import Callable, Dict, List, Optional, Sequence, Tuple
+from contextlib import contextmanager
+from typing import Callable, Dict, Iterator, List, Optional, Sequence, Tuple
 
 from . import replies
 from .core import Core, step_command
-from .errors import ProcessError
+from .errors import Cancelled, ProcessError, RewindError
 from .names import step_number, step_of, step_owner
 from .notes import Note, Place, Use, found_use, uses_of, value_over, woken
 from .program import Program
@@ -55,13 +56,28 @@ class Follower:
 
     def follow(self, log: Sequence[Entry]) -> None:
         """Comes to stand behind the last step of a log, with its last steps noted."""
-        self.session()
+        with self.whole():
+            self.come_behind(log)
+
+    @contextmanager
+    def whole(self) -> Iterator[None]:
+        """Ends the session where something is left half done in it; it begins anew when it is wanted."""
+        try:
+            yield
+        except RewindError:
+            self.end()
+            raise
+
+    def come_behind(self, log: Sequence[Entry]) -> None:
+        core = self.session()
         first_noted = max(0, len(log) - NOTED)
         common = self.common_with(log)
         if any(entry.step not in self.notes for entry in log[first_noted:common]):
             common = first_noted
         self.undo_to(common)
         while len(self.entries) < len(log):
+            if core.process.cancelled():
+                raise Cancelled("the steps were not followed to the end")
             at = len(self.entries)
             if at < first_noted:
                 self.take_unnoted(log[at : min(first_noted, at + 10 * PORTION)])
@@ -74,12 +90,14 @@ class Follower:
             return
         self.end()
         core = self.session()
-        core.ask_all(commands)
-        if core.ask("log") != told():
-            self.end()
-            return
+        with self.whole():
+            core.ask_all(commands)
+            if core.ask("log") != told():
+                self.end()
+                return
         self.entries = list(log)
-        self.counts = {step_owner(entry.step): step_number(entry.step) for entry in log}
+        last = dict(entry.step.split("#") for entry in log)
+        self.counts = {owner: int(number) for owner, number in last.items()}
 
     def common_with(self, log: Sequence[Entry]) -> int:
         count = 0

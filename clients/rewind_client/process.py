@@ -6,6 +6,7 @@ answer the user stopped waiting for is still owed its reply, which is read befor
 from __future__ import annotations
 
 import os
+import re
 import select
 import subprocess
 import time
@@ -18,6 +19,7 @@ TIMEOUT = 30.0
 TICK_MS = 100
 PART = 1 << 16
 MAX_REPLY = 1 << 27
+LAST_LINE = re.compile(rb"^(?!\| ).*\n", re.MULTILINE)
 # Commands sent in one exchange: their replies are read while the next ones are written.
 MAX_BATCH = 2000
 
@@ -103,17 +105,13 @@ class Process:
 
     def taken_reply(self) -> Optional[List[str]]:
         """The first whole reply of what was read: it ends in the first line that does not begin with `| `."""
-        at = self.last_line_at
-        while True:
-            end = self.unread.find(b"\n", at)
-            if end < 0:
-                self.last_line_at = at
-                return None
-            if not self.unread.startswith(b"| ", at):
-                text = self.unread[self.start : end].decode("utf-8", "replace")
-                self.start = self.last_line_at = end + 1
-                return text.split("\n")
-            at = end + 1
+        found = LAST_LINE.search(self.unread, self.last_line_at)
+        if found is None:
+            self.last_line_at = max(self.last_line_at, self.unread.rfind(b"\n") + 1)
+            return None
+        text = self.unread[self.start : found.end() - 1].decode("utf-8", "replace")
+        self.start = self.last_line_at = found.end()
+        return text.split("\n")
 
     def write_some(self, rest: memoryview) -> memoryview:
         try:

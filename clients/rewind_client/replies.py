@@ -141,8 +141,8 @@ class Channel(NamedTuple):
 
 
 def is_reply(reply: Sequence[str]) -> bool:
-    """Whether lines have the form of a reply: each but the last begins with `| `."""
-    return LAST_LINE.match(reply[-1]) is not None and all(line.startswith("| ") for line in reply[:-1])
+    """Whether the last line is that of a reply. Those before it begin with `| `, else one of them were the last."""
+    return LAST_LINE.match(reply[-1]) is not None
 
 
 def is_ok(reply: Sequence[str]) -> bool:

@@ -129,9 +129,12 @@ class Session:
     def preview(self, target: str) -> List[str]:
         """The steps that `back` would take back, as the second session does and takes again; Refused where it would be."""
         core = self.follow().session()
-        gone = core.back(target)
-        core.redo()
-        return gone
+        reply = core.ask("back " + target)
+        if not replies.is_ok(reply):
+            raise Refused("back " + target, reply)
+        with self.follower.whole():
+            core.redo()
+        return replies.steps(reply)
 
     # The log.
 
