@@ -112,7 +112,8 @@ def starved(session: Session, waits: Tuple[Wait, ...]) -> List[Starved]:
         if goroutine is None or goroutine.state is State.DONE or goroutine.frames[0].function != place.function:
             continue
         for operation in session.program.operations(place.function, place.line):
-            channel = goroutine.frames[0].value_of(operation.channel)
+            values = goroutine.frames[0].values_of(operation.channel)
+            channel = next((value for value in values if value in wishes), "")
             wait, verb = wishes.get(channel, (None, None))
             meets = verb is not None and verb is not operation.verb and Verb.CLOSE is not operation.verb
             if operation.clause and operation.clause not in taken and wait and meets:

@@ -11,6 +11,7 @@ from typing import Callable, Dict, Iterator, List, Optional, Sequence, Tuple
 from . import replies
 from .core import Core, step_command
 from .errors import Cancelled, ProcessError, RewindError
+from .handed import handed_value
 from .names import step_number, step_of, step_owner
 from .notes import Note, Place, Use, found_use, uses_of, value_over, woken
 from .program import Program
@@ -37,12 +38,15 @@ class Follower:
         self.wakers: Dict[str, str] = {}
         self.channel_names: Dict[str, str] = {}
         self.counts: Dict[str, int] = {}
+        self.fault_command = ""
+        self.unvalued: List[int] = []
 
     def end(self) -> None:
         if self.core is not None:
             self.core.process.end()
         self.core = None
         self.entries, self.notes, self.wakers, self.counts, self.channel_names = [], {}, {}, {}, {}
+        self.unvalued = []
 
     def is_alive(self) -> bool:
         return self.core is not None and not self.core.process.ended
@@ -152,6 +156,23 @@ class Follower:
         core.ask_all(["undo"] * len(entries))
         for entry, one, used, states in zip(entries, shown, uses, self.taken_again(entries, uses)):
             self.note(entry, one, used, states)
+        for place in reversed(self.unvalued):
+            self.find_value(place)
+        self.unvalued = []
+
+    def find_value(self, place: int) -> None:
+        """Finds the value that a step handed to a receiver, where its text does not tell it; the session ends where it was."""
+        note, core = self.notes[self.entries[place].step], self.session()
+        core.ask_all(["undo"] * (len(self.entries) - place))
+        value, gone = handed_value(core, note)
+        first = next(at for at in range(place, -1, -1) if self.entries[at].step == note.woke[0])
+        core.ask_all(["undo"] * (place - first - gone))
+        core.ask_all([self.command(entry) for entry in self.entries[first:]])
+        self.notes[note.step] = note._replace(value=value)
+
+    def command(self, entry: Entry) -> str:
+        """The command that takes a step of the log again."""
+        return self.fault_command if entry.kind.word is KindWord.FAULT else step_command(entry)
 
     def uses(self, entry: Entry, shown: Goroutine) -> List[Use]:
         function = shown.frames[0].function if shown.frames else ""
@@ -162,7 +183,6 @@ class Follower:
         core, owner = self.session(), step_owner(entry.step)
         shown = core.show(owner)
         assert shown is not None
-        self.fault_command = ""
         for command in ["step " + owner] + ["step %s %d" % (owner, clause) for clause in range(1, MAX_CLAUSES)]:
             reply = core.ask(command)
             if replies.is_ok(reply):
@@ -177,8 +197,7 @@ class Follower:
         asked: List[str] = []
         for entry, used in zip(entries, uses):
             queries = ["chan " + use.channel for use in used]
-            command = self.fault_command if entry.kind.word is KindWord.FAULT else step_command(entry)
-            asked += [*queries, command, *queries]
+            asked += [*queries, self.command(entry), *queries]
         found = iter(self.session().ask_all(asked))
         states = []
         for used in uses:
@@ -198,6 +217,8 @@ class Follower:
             value = value_over(shown, entry.kind, use, before, after)
             waits = tuple(self.wait_of(it.goroutine) for it in woken(entry.kind, use, before))
             note = note._replace(verb=use.operation.verb, channel=use.channel, value=value, woke=waits)
+            if waits and note.sends() and not value:
+                self.unvalued.append(len(self.entries))
         self.notes[entry.step] = note
         for wait in note.woke:
             self.wakers[wait] = entry.step

@@ -77,7 +77,7 @@ def uses_of(kind: Kind, shown: Goroutine, operations: List[Operation]) -> List[U
         fitting = [it for it in operations if it.verb is FAULTS.get(kind.fault)]
     else:
         fitting = [it for it in operations if it.verb is VERBS.get(kind.word) and not it.clause]
-    named = [Use(it, shown.frames[0].value_of(it.channel)) for it in fitting if it.channel]
+    named = [Use(it, value) for it in fitting for value in shown.frames[0].values_of(it.channel)]
     return [it for it in named if "/c" in it.channel]
 
 

@@ -102,9 +102,14 @@ class Frame(NamedTuple):
     function: str
     variables: Tuple[Variable, ...]
 
+    def values_of(self, name: str) -> Tuple[str, ...]:
+        """The values of the variables of a name, each once. There may be several in blocks of their own."""
+        return tuple(dict.fromkeys(it.value for it in self.variables if it.name == name))
+
     def value_of(self, name: str) -> str:
-        """The value of the innermost variable of a name, or an empty text where none has one."""
-        return next((it.value for it in reversed(self.variables) if it.name == name), "")
+        """The value of the variable of a name; an empty text where none has one, or several have different ones."""
+        values = self.values_of(name)
+        return values[0] if len(values) == 1 else ""
 
 
 class Goroutine(NamedTuple):

@@ -161,11 +161,13 @@ class Looking:
             return
         goroutine = self.shell.session.goroutine(self.shell.chosen)
         for frame in goroutine.frames if goroutine else ():
-            value = frame.value_of(name)
-            if value:
-                self.screen.say("%s = %s   (in %s)" % (name, stories.value(value), frame.function))
+            values = frame.values_of(name)
+            for value in values:
+                blocks = ", in one of %d blocks" % len(values) if len(values) > 1 else ""
+                self.screen.say("%s = %s   (in %s%s)" % (name, stories.value(value), frame.function, blocks))
                 if is_channel(value):
                     self.one_channel(value)
+            if values:
                 return
         self.screen.say("%s has no variable '%s' with a value here; 'bt' shows those it has" % (self.shell.chosen, name[:40]), "error")
 

@@ -95,6 +95,39 @@ def test_the_channel_is_told_where_two_stand_on_a_line(session: Open) -> None:
     assert [(it.channel, it.value) for it in one.notes() if it.receives()] == [("g0/c1", "1"), ("g0/c2", "2")]
 
 
+SHADOWED = """package main
+func f(c chan int) {
+	x := 1
+	if true {
+		x := 2
+		c <- x
+	}
+	c <- x + 100
+	c <- g(7)
+}
+func g(n int) int {
+	return n * n
+}
+func main() {
+	c := make(chan int)
+	go f(c)
+	println(<-c, <-c, <-c)
+}
+"""
+
+
+def test_values_that_the_text_does_not_tell(session: Open) -> None:
+    """Two variables have one name, and a value is that of a call; whoever comes first, the values are told."""
+    orders: List[List[str]] = [["g0"], ["g0.1", "g0"], []]
+    for order in orders:
+        one = session(SHADOWED)
+        while one.stopped_by() is None:
+            ready = [it.name for it in one.ready()]
+            one.step(next((name for name in order if name in ready), ready[-1]))
+        assert [it.value for it in one.notes() if it.sends() and it.woke or it.receives() and it.woke] == ["2", "101", "49"]
+        assert one.core.log() == one.follow().session().log()
+
+
 def test_a_fault_in_a_clause_of_a_select(session: Open) -> None:
     one = session(
         "package main\nfunc main() {\n\tc, d := make(chan int), make(chan int, 1)\n\tclose(c)\n\tselect {\n\tcase d <- 1:\n\tcase c <- 2:\n\t}\n}\n"
