@@ -6,6 +6,7 @@
 It wants mypy, pytest and prompt_toolkit of Debian. Where they are missing it installs them; where that can't be had it skips, but
 not where the variable CI is set.
 """
+import glob
 import os
 import re
 import subprocess
@@ -16,7 +17,6 @@ CLIENTS = os.path.join(TOP, "clients")
 SYSTEM = "/usr/bin/python3"
 MODULES = ["mypy", "pytest", "prompt_toolkit"]
 PACKAGES = ["mypy", "python3-pytest", "python3-prompt-toolkit"]
-TYPED = ["rewind_client", "rewind_shell", "tests"]
 OLDEST = "3.9"
 INSTALL = 200
 SECONDS = 300
@@ -64,7 +64,8 @@ def run(words, program):
 
 def types(python, program):
     """Checks the types: how many checks passed and failed."""
-    words = [python, "-m", "mypy", "--strict", "--python-version", OLDEST, *TYPED]
+    packages = sorted(os.path.basename(os.path.dirname(path)) for path in glob.glob(os.path.join(CLIENTS, "*", "__init__.py")))
+    words = [python, "-m", "mypy", "--strict", "--python-version", OLDEST, *packages, "tests"]
     status, said = run(words, program)
     print(said.rstrip())
     if status:
@@ -76,7 +77,10 @@ def tests(python, program):
     """Runs pytest: how many tests passed, failed and were skipped."""
     status, said = run([python, "-m", "pytest", "-q", "-p", "no:cacheprovider", "tests"], program)
     print(said.rstrip())
-    counts = {what.rstrip("s"): int(number) for number, what in re.findall(r"(\d+) (passed|failed|errors?|skipped)", said.splitlines()[-1] if said else "")}
+    counts = {
+        what.rstrip("s"): int(number)
+        for number, what in re.findall(r"(\d+) (passed|failed|errors?|skipped)", said.splitlines()[-1] if said else "")
+    }
     failed = counts.get("failed", 0) + counts.get("error", 0)
     if status and not failed:
         failed = 1

@@ -41,7 +41,9 @@ class Breakpoints:
         if wanted.isdigit():
             place = program.statement_at(int(wanted))
             if place is None:
-                raise NoPlace("no statement begins on line %s or after it: the source has %d lines" % (wanted, len(program.lines)))
+                raise NoPlace(
+                    "no statement begins on line %s or after it: the source has %d lines" % (wanted, len(program.lines))
+                )
             return Breakpoint(place, wanted)
         function = program.functions.get(wanted)
         if function is None:

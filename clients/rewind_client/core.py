@@ -56,6 +56,9 @@ class Core:
     def ask_all(self, commands: Sequence[str]) -> List[List[str]]:
         """The replies to commands, asked in one go."""
         for command in commands:
+            if "\n" in command or not words_of(command):
+                raise RewindError("a command is one line that holds a word")
+        for command in commands:
             self.journal(command)
             word = first_word(command)
             if word in CHANGING:

@@ -21,7 +21,7 @@ def is_program(path: str) -> bool:
 
 
 def find_rewind(named: Optional[str] = None) -> str:
-    """The `rewind` to take: the one named, that of `$REWIND`, bin/rewind or bin/rewind-quick of the repository, or on the path."""
+    """The `rewind` to take: the one named, that of `$REWIND`, one in bin of the repository, or the one on the path."""
     for how, path in (("--rewind", named), ("$REWIND", os.environ.get("REWIND"))):
         if path:
             if not is_program(path):

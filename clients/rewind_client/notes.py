@@ -18,9 +18,9 @@ class Place(NamedTuple):
 class Note(NamedTuple):
     """A step with what was found of it.
 
-    `callers` are the places of the outer frames, the innermost first. `channel` is empty where the step uses none or it is not known,
-    and `value` where no value went over the channel or it is not known. `woke` are the steps that had begun the waits that this
-    step ended, and `named` the channels that a variable was first seen to hold before the step.
+    `callers` are the places of the outer frames, the innermost first. `channel` is empty where the step uses none or it is not
+    known, and `value` where no value went over the channel or it is not known. `woke` are the steps that had begun the waits that
+    this step ended, and `named` the channels that a variable was first seen to hold before the step.
     """
 
     step: str

@@ -132,7 +132,12 @@ class Sentences:
         counts = ", ".join("clause %d %s" % (clause, times(number)) for clause, number in one.taken)
         yield "%s took %s at the select of line %d, and clause %d never" % (one.goroutine, counts, one.place.line, one.clause)
         yield INDENT + "%s waits there on %s, since %s" % (one.waiting, self.session.name_of(one.channel), one.since)
-        yield INDENT + "'step %s %d' takes clause %d, when %s stands at the select" % (one.goroutine, one.clause, one.clause, one.goroutine)
+        yield INDENT + "'step %s %d' takes clause %d, when %s stands at the select" % (
+            one.goroutine,
+            one.clause,
+            one.clause,
+            one.goroutine,
+        )
 
     # Places.
 

@@ -1,7 +1,7 @@
 """A program under the debugger: its goroutines, channels, frames and steps, kept up to date.
 
-What is asked of Rewind is kept until a step may have changed it. The user's own session is asked for what stands now, a second one
-that follows it for the rest.
+What is asked of Rewind is kept until a step may have changed it. The user's own session is asked for what stands now, a second
+one that follows it for the rest.
 """
 from __future__ import annotations
 

@@ -169,7 +169,9 @@ class Looking:
                     self.one_channel(value)
             if values:
                 return
-        self.screen.say("%s has no variable '%s' with a value here; 'bt' shows those it has" % (self.shell.chosen, name[:40]), "error")
+        self.screen.say(
+            "%s has no variable '%s' with a value here; 'bt' shows those it has" % (self.shell.chosen, name[:40]), "error"
+        )
 
     def one_channel(self, name: str) -> None:
         channel = self.shell.session.channel(name)
@@ -185,7 +187,9 @@ class Looking:
         wanted = words[0] if words else str(SHOWN_STEPS)
         chosen = self.selected(notes, wanted)
         if chosen is None:
-            self.screen.say("history wants a number, a goroutine, a channel, its variable, or 'all': history 20, history g0.1", "error")
+            self.screen.say(
+                "history wants a number, a goroutine, a channel, its variable, or 'all': history 20, history g0.1", "error"
+            )
             return
         stories = Stories(self.shell.session)
         left_out = len(self.shell.session.log()) - len(chosen)
@@ -221,7 +225,11 @@ class Looking:
         for edge in edges:
             self.about(stories, edge.source, notes, relation(edge, notes.get(edge.source), notes.get(step)))
         if not edges:
-            own = "; its own step before it is %s" % step_of(step_owner(step), step_number(step) - 1) if step_number(step) > 1 else ""
+            own = (
+                "; its own step before it is %s" % step_of(step_owner(step), step_number(step) - 1)
+                if step_number(step) > 1
+                else ""
+            )
             self.screen.say("    it depends directly on no step of another goroutine%s" % own)
 
     def about(self, stories: Stories, step: str, notes: Dict[str, Note], related: str) -> None:

@@ -22,6 +22,7 @@ from .words import word_of
 
 REPEATED = frozenset(("step", "next", "undo", "continue", "reverse-next", "reverse-continue", "list"))
 AGAIN = "REWIND_SHELL_AGAIN"
+REFUSED, USAGE, FAILED, INTERRUPTED = 1, 2, 3, 130
 
 
 class Parser(argparse.ArgumentParser):
@@ -29,12 +30,14 @@ class Parser(argparse.ArgumentParser):
 
     def error(self, message: str) -> NoReturn:
         error("%s; 'rewind-shell --help' tells how it is used" % message)
-        sys.exit(2)
+        sys.exit(USAGE)
 
 
 def arguments(words: List[str]) -> argparse.Namespace:
     parser = Parser(prog="rewind-shell", description="A shell on rewind: debugs the Go program in FILE.")
-    parser.add_argument("--rewind", metavar="PATH", help="the rewind to take; else $REWIND, that of the repository, or that on the path")
+    parser.add_argument(
+        "--rewind", metavar="PATH", help="the rewind to take; else $REWIND, that of the repository, or that on the path"
+    )
     parser.add_argument("--load", metavar="SCRIPT", help="take the commands of a script first")
     parser.add_argument("file", metavar="FILE", help="the source")
     return parser.parse_args(words)
@@ -61,15 +64,19 @@ def main(words: List[str]) -> int:
         shell = Shell(find_rewind(given.rewind), read_program(given.file), screen, interrupts, asking())
     except SourceRefused as refused:
         tell_refused(given.file, refused)
-        return 1
+        return REFUSED
     except (RewindError, NotFound) as fault:
         error(str(fault))
-        return 2
+        return USAGE
+    except KeyboardInterrupt:
+        return INTERRUPTED
     try:
         return converse(shell, given.load)
+    except KeyboardInterrupt:
+        return INTERRUPTED
     except BrokenPipeError:
         os.dup2(os.open(os.devnull, os.O_WRONLY), sys.stdout.fileno())
-        return 3
+        return FAILED
     finally:
         shell.end()
 
@@ -124,20 +131,22 @@ def converse(shell: Shell, script: Optional[str]) -> int:
             break
         except KeyboardInterrupt:
             if not is_terminal:
-                return 130
+                return INTERRUPTED
             shell.screen.say("('quit' or Ctrl-D leaves)")
         if shell.is_lost and not is_terminal:
-            return 3
+            return FAILED
     return 0
 
 
 def obey_next(shell: Shell, reader: Reader, before: str, is_terminal: bool) -> str:
     """Reads a line and obeys it; an empty one stands for the one before. The line that an empty one after it stands for."""
-    line = reader.read("(rewind %s) " % shell.chosen)
-    if not is_terminal and line.strip():
-        shell.screen.line("> " + line)
-    elif is_terminal and not line.strip():
-        line = before
-    shell.obey(line)
-    words = line.split()
-    return line if words and word_of(words[0]) in REPEATED else ""
+    text = reader.read("(rewind %s) " % shell.chosen)
+    if is_terminal and not text.strip():
+        text = before
+    lines = text.split("\n")
+    for line in lines:
+        if line.strip() and (not is_terminal or len(lines) > 1):
+            shell.screen.line("> " + line)
+        shell.obey(line)
+    words = text.split()
+    return text if len(lines) == 1 and words and word_of(words[0]) in REPEATED else ""

@@ -151,7 +151,9 @@ class Moving:
         goroutine = self.shell.session.goroutine(self.shell.chosen)
         step = motion.line_before(self.shell.session, goroutine) if goroutine else ""
         if not step:
-            self.screen.say("%s has taken no step that is noted; 'back go G' takes the start of a goroutine back" % self.shell.chosen, "error")
+            self.screen.say(
+                "%s has taken no step that is noted; 'back go G' takes the start of a goroutine back" % self.shell.chosen, "error"
+            )
             return
         self.take_back(step, asks=False)
 

@@ -12,13 +12,16 @@ if TYPE_CHECKING:
     from prompt_toolkit.completion import CompleteEvent, Completer, Completion
     from prompt_toolkit.document import Document
 
-MISSING = "history, completion and Ctrl-R need prompt_toolkit, which this Python does not have: apt-get install python3-prompt-toolkit"
+MISSING = (
+    "history, completion and Ctrl-R need prompt_toolkit, which this Python does not have: apt-get install python3-prompt-toolkit"
+)
 
 
 class Reader(Protocol):
     """Gives lines; EOFError at their end, KeyboardInterrupt at Ctrl-C."""
 
-    def read(self, prompt: str) -> str: ...
+    def read(self, prompt: str) -> str:
+        ...
 
 
 class FileReader:

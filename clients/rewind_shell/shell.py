@@ -33,7 +33,9 @@ MAX_PRINTED = 10
 class Shell:
     """A session with a person: the chosen goroutine, breakpoints, and what was printed and saved."""
 
-    def __init__(self, rewind: str, program: Program, screen: Screen, interrupts: Interrupts, asks: Optional[Callable[[str], str]]) -> None:
+    def __init__(
+        self, rewind: str, program: Program, screen: Screen, interrupts: Interrupts, asks: Optional[Callable[[str], str]]
+    ) -> None:
         """`asks` puts a question at a terminal; None where there is none to answer."""
         self.rewind = rewind
         self.program = program
@@ -153,11 +155,16 @@ class Shell:
             left = sum(it.state is not State.DONE for it in session.goroutines())
             if not left:
                 return "The program has ended, and no goroutine is left."
-            return "The program has ended, and %s left ('why' tells where)." % ("1 goroutine is" if left == 1 else "%d goroutines are" % left)
+            return "The program has ended, and %s left ('why' tells where)." % (
+                "1 goroutine is" if left == 1 else "%d goroutines are" % left
+            )
         if standing is Standing.DEADLOCK:
             names = [it.name for it in session.goroutines() if it.state is State.WAITING]
             named = ", ".join(names[:8]) + (", .." if len(names) > 8 else "")
-            return "Deadlock: %s %s, and no goroutine is ready ('why' tells for what)." % (named, "waits" if len(names) == 1 else "wait")
+            return "Deadlock: %s %s, and no goroutine is ready ('why' tells for what)." % (
+                named,
+                "waits" if len(names) == 1 else "wait",
+            )
         return ""
 
     def tell_chosen(self, entry: Optional[Entry] = None) -> None:

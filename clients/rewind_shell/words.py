@@ -18,7 +18,13 @@ class Word(NamedTuple):
 LOOKING = [
     Word("why", "w", "why", "why the program stands: deadlock, fault, end, and who waits for whom"),
     Word("goroutines", "gs", "goroutines", "each goroutine with its state, line and function"),
-    Word("goroutine", "g", "goroutine G", "choose the goroutine that step, next, bt and others are about", "Alone it tells which is chosen."),
+    Word(
+        "goroutine",
+        "g",
+        "goroutine G",
+        "choose the goroutine that step, next, bt and others are about",
+        "Alone it tells which is chosen.",
+    ),
     Word("channels", "cs", "channels", "each channel with its name in the source, its items and who waits"),
     Word("bt", "where", "bt [G]", "the frames of a goroutine, each with its line and variables"),
     Word("list", "l", "list [LINE]", "the source around a line, with who stands there"),
@@ -37,7 +43,13 @@ MOVING = [
     Word("next", "n", "next", "the chosen goroutine goes on to another line; calls are passed"),
     Word("finish", "fin", "finish", "the chosen goroutine goes on until its function is left"),
     Word("until", "u", "until LINE", "the chosen goroutine goes on to a line"),
-    Word("continue", "c", "continue", "all goroutines go on by turns to a breakpoint or the end", "Ctrl-C stops it where it stands."),
+    Word(
+        "continue",
+        "c",
+        "continue",
+        "all goroutines go on by turns to a breakpoint or the end",
+        "Ctrl-C stops it where it stands.",
+    ),
     Word("reverse-next", "rn", "reverse-next", "the chosen goroutine goes back to the line before, with all that depends on it"),
     Word("reverse-continue", "rc", "reverse-continue", "steps are undone back to a breakpoint or the start"),
     Word(
@@ -45,8 +57,8 @@ MOVING = [
         "b",
         "back LINE | back var X | back STEP ..",
         "take back a step with all that depends on it, after a preview",
-        "LINE is where the chosen goroutine was last, X a variable of it. 'back G#N', 'back go G', 'back send C K', 'back recv C K' and"
-        " 'back var G X' go to Rewind unchanged.",
+        "LINE is where the chosen goroutine was last, X a variable of it. The forms with a goroutine, a channel or a step go to"
+        " Rewind unchanged: 'back G#N', 'back go G', 'back send C K', 'back recv C K', 'back var G X'.",
     ),
     Word("preview", "pv", "preview G#N | preview var X ..", "what 'back' would take back, which stays"),
     Word("break", "br", "break [LINE | FUNCTION]", "set a breakpoint, or list them; on a line without a statement it is moved"),

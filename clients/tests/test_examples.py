@@ -5,6 +5,7 @@ Called as a program with `--write`, it writes the transcripts anew from the comm
 """
 from __future__ import annotations
 
+import re
 import subprocess
 import sys
 from pathlib import Path
@@ -42,6 +43,18 @@ def test_a_story(story: Path) -> None:
 
 def test_each_example_has_a_story() -> None:
     assert [it.stem for it in STORIES] == sorted(it.stem for it in EXAMPLES.glob("*.go"))
+
+
+def test_the_session_of_the_readme() -> None:
+    """What the README shows of a session is what the shell says, but for the prompt."""
+    lines = (CLIENTS / "README.md").read_text().splitlines()
+    begin = next(at for at, line in enumerate(lines) if line.endswith("rewind-shell clients/examples/lock_order.go"))
+    shown = [line[4:] for line in lines[begin + 1 : lines.index("", begin)]]
+    echoed = [re.sub(r"^\(rewind \S+\) ", "> ", line) for line in shown]
+    given = "".join(line[2:] + "\n" for line in echoed if line.startswith("> "))
+    words = [sys.executable, str(SHELL), str(EXAMPLES / "lock_order.go")]
+    done = subprocess.run(words, input=given, stdout=subprocess.PIPE, text=True, timeout=60, check=True)
+    assert done.stdout.splitlines() == echoed
 
 
 if __name__ == "__main__":

@@ -68,7 +68,9 @@ def test_a_nil_channel(session: Open) -> None:  # noqa: F811
 
 
 def test_a_select_that_waits(session: Open) -> None:  # noqa: F811
-    one = session("package main\nfunc main() {\n\tc, d := make(chan int), make(chan int)\n\tselect {\n\tcase <-c:\n\tcase d <- 3:\n\t}\n}\n")
+    one = session(
+        "package main\nfunc main() {\n\tc, d := make(chan int), make(chan int)\n\tselect {\n\tcase <-c:\n\tcase d <- 3:\n\t}\n}\n"
+    )
     one.run(10)
     assert "receive from c (g0/c1) or send 3 to d (g0/c2)" in said(one)[1]
 

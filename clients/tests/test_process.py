@@ -129,7 +129,7 @@ def test_a_session(core: Callable[[str], Core]) -> None:
 
 def test_a_refused_source(core: Callable[[str], Core]) -> None:
     with pytest.raises(SourceRefused) as refused:
-        core("package main\nimport \"fmt\"\nfunc main() {}\n")
+        core('package main\nimport "fmt"\nfunc main() {}\n')
     assert (refused.value.code, refused.value.line, refused.value.column) == ("P2", 2, 1)
 
 

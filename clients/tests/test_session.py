@@ -90,7 +90,10 @@ def test_notes_of_channels_and_values(session: Open) -> None:
 
 
 def test_the_channel_is_told_where_two_stand_on_a_line(session: Open) -> None:
-    one = session("package main\nfunc main() {\n\ta, b := make(chan int, 1), make(chan int, 1)\n\ta <- 1\n\tb <- 2\n\tprintln(<-a, <-b)\n}\n")
+    one = session(
+        "package main\nfunc main() {\n\ta, b := make(chan int, 1), make(chan int, 1)\n\ta <- 1\n\tb <- 2\n"
+        "\tprintln(<-a, <-b)\n}\n"
+    )
     one.run(100)
     assert [(it.channel, it.value) for it in one.notes() if it.receives()] == [("g0/c1", "1"), ("g0/c2", "2")]
 
@@ -130,7 +133,8 @@ def test_values_that_the_text_does_not_tell(session: Open) -> None:
 
 def test_a_fault_in_a_clause_of_a_select(session: Open) -> None:
     one = session(
-        "package main\nfunc main() {\n\tc, d := make(chan int), make(chan int, 1)\n\tclose(c)\n\tselect {\n\tcase d <- 1:\n\tcase c <- 2:\n\t}\n}\n"
+        "package main\nfunc main() {\n\tc, d := make(chan int), make(chan int, 1)\n\tclose(c)\n"
+        "\tselect {\n\tcase d <- 1:\n\tcase c <- 2:\n\t}\n}\n"
     )
     while str(one.log()[-1].kind if one.log() else "") != "close":
         one.step("g0")

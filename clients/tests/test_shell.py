@@ -43,8 +43,28 @@ def answers(text: str) -> List[List[str]]:
 
 
 def test_commands_pass_unchanged(talk: Talk, rewind: str) -> None:
-    commands = ["step g0", "step g0 1", "run 10", "undo", "back g0#3", "redo", "deps g0#1", "causes g0#5", "show g0", "chan g0/c1"]
-    commands += ["text g0", "log", "back go g0.1", "back send g0/c1 1", "back recv g0/c1 1", "back var g0 f1", "free 3", "order g0#1"]
+    commands = [
+        "step g0",
+        "step g0 1",
+        "run 10",
+        "undo",
+        "back g0#3",
+        "redo",
+        "deps g0#1",
+        "causes g0#5",
+        "show g0",
+        "chan g0/c1",
+    ]
+    commands += [
+        "text g0",
+        "log",
+        "back go g0.1",
+        "back send g0/c1 1",
+        "back recv g0/c1 1",
+        "back var g0 f1",
+        "free 3",
+        "order g0#1",
+    ]
     core = subprocess.run([rewind, example("philosophers")], input="\n".join(commands) + "\n", stdout=subprocess.PIPE, text=True)
     shown = talk(example("philosophers"), *commands).stdout.splitlines()
     replies = [line for line in shown if line.startswith(("| ", "ok", "no ", "? "))]
@@ -97,7 +117,9 @@ def test_help(talk: Talk) -> None:
 
 
 def test_breakpoints(talk: Talk) -> None:
-    shown = answers(talk(example("lock_order"), "break 6", "break worker", "break", "run 100", "clear 8", "clear 8", "continue").stdout)
+    shown = answers(
+        talk(example("lock_order"), "break 6", "break worker", "break", "run 100", "clear 8", "clear 8", "continue").stdout
+    )
     assert shown[0][1] == "The breakpoint is moved to line 8: lock(first)"
     assert shown[2] == ["line 8: lock(first)"]
     assert shown[3][0].endswith("break 8") and shown[3][1].startswith("Breakpoint on line 8: g0.1 comes to")
@@ -116,14 +138,28 @@ def test_movements(talk: Talk) -> None:
 
 
 def test_going_back_to_a_line_and_a_variable(talk: Talk) -> None:
-    shown = answers(talk(example("off_by_one"), "run 30", "goroutine g0.2", "preview 14", "back 14", "back var sum", "back done").stdout)
+    shown = answers(
+        talk(example("off_by_one"), "run 30", "goroutine g0.2", "preview 14", "back 14", "back var sum", "back done").stdout
+    )
     assert shown[2][0].startswith("'back g0.2#")
     assert shown[3][0].startswith("This takes back") and shown[3][1].startswith("ok ")
     assert shown[4][1].startswith("ok ")
 
 
 def test_looking(talk: Talk) -> None:
-    commands = ["run 1000", "goroutines", "channels", "bt g0.2", "g g0.1", "print left", "p g0/c3", "list", "list main", "history g0.1", "history f2"]
+    commands = [
+        "run 1000",
+        "goroutines",
+        "channels",
+        "bt g0.2",
+        "g g0.1",
+        "print left",
+        "p g0/c3",
+        "list",
+        "list main",
+        "history g0.1",
+        "history f2",
+    ]
     shown = answers(talk(example("philosophers"), *commands).stdout)
     assert shown[1][1].startswith("  g0.1     waiting at line 5")
     assert shown[2][0] == "f1 (g0/c1): open, 0 of 1 items; g0.3 waits to receive"
@@ -169,7 +205,10 @@ def test_leaving(talk: Talk, word: str) -> None:
 def fake(tmp_path: Path, body: str) -> str:
     """A program in place of Rewind, that answers the first question and then does something else."""
     path = tmp_path / "fake"
-    path.write_text("#!%s\nimport sys, time, os, signal\nsys.stdin.readline()\nprint('| g0 ready 0 line 1\\n| main\\nok', flush=True)\n%s\n" % (sys.executable, body))
+    path.write_text(
+        "#!%s\nimport sys, time, os, signal\nsys.stdin.readline()\nprint('| g0 ready 0 line 1\\n| main\\nok', flush=True)\n%s\n"
+        % (sys.executable, body)
+    )
     path.chmod(path.stat().st_mode | stat.S_IXUSR)
     return str(path)
 
@@ -178,7 +217,10 @@ def fake(tmp_path: Path, body: str) -> str:
     "body, sentence",
     [
         ("sys.stdin.readline(); os.kill(os.getpid(), signal.SIGKILL)", "signal 9 ended it"),
-        ("sys.stdin.readline(); print('what', flush=True); time.sleep(9)", "gave an answer to 'step g0' that means nothing: what"),
+        (
+            "sys.stdin.readline(); print('what', flush=True); time.sleep(9)",
+            "gave an answer to 'step g0' that means nothing: what",
+        ),
         ("sys.stdin.readline(); sys.exit(3)", "reading or writing failed"),
     ],
 )

@@ -31,8 +31,9 @@ class Terminal:
     def __init__(self, words: List[str], environment: Dict[str, str], columns: int) -> None:
         self.handle, other = pty.openpty()
         fcntl.ioctl(other, termios.TIOCSWINSZ, struct.pack("HHHH", 40, columns, 0, 0))
-        how = {"stdin": other, "stdout": other, "stderr": other, "env": environment}
-        self.process: "subprocess.Popen[bytes]" = subprocess.Popen(words, start_new_session=True, preexec_fn=self.take_terminal, **how)  # type: ignore[call-overload]
+        self.process: "subprocess.Popen[bytes]" = subprocess.Popen(
+            words, stdin=other, stdout=other, stderr=other, env=environment, start_new_session=True, preexec_fn=self.take_terminal
+        )
         os.close(other)
         self.raw = ""
         self.at = 0
@@ -218,7 +219,12 @@ def test_no_colours(begin: Begin, more: Dict[str, str]) -> None:
 def test_twenty_columns(begin: Begin) -> None:
     terminal = begin(columns=20, TERM="dumb")
     terminal.say("run 1000", "ok 24 stuck")
-    shown = terminal.say("why", "A cycle:") + terminal.say("list", "=>") + terminal.say("goroutines", "g0.2") + terminal.say("help", "Ctrl-D")
+    shown = (
+        terminal.say("why", "A cycle:")
+        + terminal.say("list", "=>")
+        + terminal.say("goroutines", "g0.2")
+        + terminal.say("help", "Ctrl-D")
+    )
     lines = [line for line in shown.split("\n") if not line.startswith("(rewind") and len(line.split()) > 1]
     assert [line for line in lines if len(line) > 20] == []
 
@@ -234,3 +240,12 @@ def test_without_prompt_toolkit(begin: Begin, tmp_path: Path) -> None:
     terminal.expect("'quit' or Ctrl-D leaves")
     terminal.write("\x04")
     assert terminal.end() == 0
+
+
+def test_lines_that_are_pasted(begin: Begin) -> None:
+    terminal = begin()
+    terminal.write("\x1b[200~step g0\nstep g0\nwhy\x1b[201~\r")
+    terminal.expect("ok g0#1")
+    terminal.expect("ok g0#2")
+    terminal.expect("The program can go on")
+    terminal.say("log", "ok 2")
