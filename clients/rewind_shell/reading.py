@@ -1,6 +1,8 @@
 """Where commands come from: a terminal with history and completion, a plain terminal, or a file."""
 from __future__ import annotations
 
+import importlib
+import importlib.util
 import os
 import sys
 from typing import TYPE_CHECKING, Iterable, Protocol
@@ -35,7 +37,11 @@ class FileReader:
 
 
 class PlainReader:
-    """A terminal without prompt_toolkit."""
+    """A terminal without prompt_toolkit; one that can do more than lines has arrow keys none the less."""
+
+    def __init__(self) -> None:
+        if has_rich_terminal() and importlib.util.find_spec("readline"):
+            importlib.import_module("readline")
 
     def read(self, prompt: str) -> str:
         return input(prompt)

@@ -236,6 +236,7 @@ def test_without_prompt_toolkit(begin: Begin, tmp_path: Path) -> None:
     terminal = begin(PYTHONPATH=str(folder), REWIND_SHELL_AGAIN="yes")
     assert terminal.text.count("need prompt_toolkit") == 1
     terminal.say("run 1000", "Deadlock")
+    time.sleep(0.5)
     terminal.write("\x03")
     terminal.expect("'quit' or Ctrl-D leaves")
     terminal.write("\x04")
