@@ -193,7 +193,7 @@ class Looking:
             return
         stories = Stories(self.shell.session)
         left_out = len(self.shell.session.log()) - len(chosen)
-        if wanted.isdigit() and left_out > 0:
+        if (wanted.isdigit() or wanted == "all") and left_out > 0:
             self.screen.say("(%d steps before these)" % left_out, "faint")
         for note in chosen:
             self.screen.row(row(stories, self.shell.program.line(note.line), note))

@@ -91,9 +91,12 @@ class Shell:
         if not words:
             return
         name = word_of(words[0])
+        if name is not None and words[0] != name:
+            words = [name, *words[1:]]
+            line = " ".join(words)
         if name == "quit" and len(words) == 1:
             self.leave()
-        elif name is None or is_for_rewind(words, name):
+        elif name is None or is_for_rewind(words):
             self.passed(line)
         else:
             self.handlers[name](words[1:])
@@ -272,11 +275,10 @@ class Shell:
             self.screen.say("The session is saved as it goes: %s" % self.script.path, "faint")
 
 
-def is_for_rewind(words: Sequence[str], name: str) -> bool:
+def is_for_rewind(words: Sequence[str]) -> bool:
     """Whether a line goes to Rewind as it is. `step`, `back`, `break` and `clear` have forms of the shell besides."""
-    if words[0] != name:
-        return False
-    if name in PASSED:
+    name = words[0]
+    if name in PASSED or name == "quit":
         return True
     if name == "step":
         return len(words) > 1 and not (len(words) == 2 and words[1].isdigit())

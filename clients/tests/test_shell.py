@@ -2,6 +2,7 @@
 from __future__ import annotations
 
 import os
+import random
 import stat
 import subprocess
 import sys
@@ -12,6 +13,7 @@ import pytest
 
 from rewind_client import motion
 from rewind_client.core import Core
+from rewind_shell.words import ALIASES, WORDS
 
 from conftest import CLIENTS, EXAMPLES
 from test_session import Open, opened, session  # noqa: F401
@@ -109,6 +111,64 @@ def test_a_hint_for_each_line_that_is_wrong(talk: Talk) -> None:
     assert done.returncode == 0
     for (command, hint), said in zip(HINTS, answers(done.stdout)):
         assert hint in " ".join(said), command
+
+
+def test_abbreviations(talk: Talk) -> None:
+    commands = [
+        "s g0",
+        "s 2",
+        "r 5",
+        "cons",
+        "b g0#2",
+        "b go g0.1",
+        "caus g0#1",
+        "br 8",
+        "cl 8",
+        "u 8",
+        "w",
+        "gs",
+        "cs",
+        "hi 2",
+        "exit 1",
+    ]
+    shown = answers(talk(example("lock_order"), *commands).stdout)
+    assert shown[0] == ["ok g0#1 make"] and shown[2] == ["ok 5 count"] and shown[3] == ["ok"]
+    assert shown[4][0].startswith("ok 7 g0#2") and shown[5][0] == "no B2" and shown[6] == ["ok 1 g0#1"]
+    assert shown[14] == ["? bad command", "quit stands alone"]
+
+
+def test_random_lines(talk: Talk) -> None:
+    """Whatever is typed, the shell answers and goes on."""
+    chance = random.Random(5)
+    names = [word.name for word in WORDS if word.name not in ("quit", "save", "load")] + [
+        short for short in ALIASES if short not in ("q", "exit")
+    ]
+    more = [
+        "g0",
+        "g0.1",
+        "g0.9",
+        "g0/c1",
+        "g0#3",
+        "g0.1#2",
+        "7",
+        "0",
+        "-1",
+        "99999999999",
+        "x",
+        "f1",
+        "var",
+        "go",
+        "all",
+        "main",
+        "\x00",
+        "é",
+        "'",
+        "#",
+    ]
+    lines = [" ".join([chance.choice(names)] + chance.choices(more, k=chance.choice([0, 1, 1, 1, 2, 3]))) for _ in range(400)]
+    done = talk(example("philosophers"), *lines)
+    assert done.returncode == 0 and done.stderr == ""
+    assert [line[2:] for line in done.stdout.split("\n") if line.startswith("> ")] == lines
 
 
 def test_help(talk: Talk) -> None:
