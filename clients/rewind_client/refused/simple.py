@@ -159,7 +159,8 @@ class SimpleStatements(Calls):
         fields = {"names": counted(len(names), "name"), "values": counted(len(values), "value")}
         called = len(values) == 1 and self.of_call(values[0])
         form = "three_received" if received else "names_of_a_call" if called else "names_and_values"
-        self.fault("C4", form, names[0], values[-1].last, name=self.tokens[values[0].first].text, **fields)
+        fields.update(name=self.tokens[values[0].first].text, channel=self.text(values[0]))
+        self.fault("C4", form, names[0], values[-1].last, **fields)
         return False
 
     def of_call(self, value: Value) -> bool:
