@@ -16,7 +16,8 @@ end of a line as a newline, and the end of the file as `<end>`. The groups of bo
 may name. `words` tells which tokens the form is about, counted from the place: [-1, 2] are the one before it, it, and the next.
 `back_to` is in place of that the last token with this text before the place.
 
-A form of C1 to C11 has no conditions: refused/statements.py finds it and its fields. Groups are written (?<name>..).
+A form of C1 to C10 has no conditions: the package refused finds it and its fields. S7, S8, P4 and C11 have no place, and one form.
+Groups are written (?<name>..), as in JavaScript.
 """
 from __future__ import annotations
 
@@ -254,13 +255,15 @@ def explain_refusal(source: str, code: str, line: int = 0, column: int = 0) -> R
 
     Bytes that are not UTF-8 stand in the source as Python's surrogate escapes.
     """
+    form: Mapping[str, Any]
     place = place_of(source, code, line, column)
     meaning = table().get(code, {}).get("meaning", f"the source is refused with code {code}")
     lines = source.split("\n")
     if place is None:
         text = lines[line - 1].rstrip("\r") if 0 < line <= len(lines) else ""
-        return Refusal(code, "", line, column, "", meaning, None, text)
-    form: Mapping[str, Any] = next((each for each in table()[code]["forms"] if each["form"] == place.form), {})
+        form = next(iter(table()[code]["forms"]), {}) if code in table() and not line else {}
+        return Refusal(code, form.get("form", ""), line, column, "", form.get("sentence", meaning), None, text)
+    form = next((each for each in table()[code]["forms"] if each["form"] == place.form), {})
     sentence = filled(form.get("sentence"), place.fields)
     instead = filled(form.get("instead"), place.fields) if sentence else None
     text = lines[place.line - 1].rstrip("\r") if place.line <= len(lines) else ""

@@ -83,9 +83,9 @@ def test_names_of_forms_are_unique() -> None:
 
 
 @pytest.mark.parametrize("code", ["S7", "S8", "P4", "C11"])
-def test_a_code_without_a_place_has_its_meaning(code: str) -> None:
+def test_a_code_without_a_place_has_one_form(code: str) -> None:
     refusal = explain_refusal("package main\n", code)
-    assert refusal.text("x.go") == f"x.go: {table()[code]['meaning']}"
+    assert refusal.form and refusal.text("x.go") == f"x.go: {refusal.sentence}"
 
 
 def test_a_form_that_is_not_known_has_the_meaning_of_its_code() -> None:
