@@ -18,6 +18,8 @@ from .schedules import Scheduler
 
 # Kinds that are told and are nothing bad by themselves.
 HARMLESS = frozenset((Kind.WELL, Kind.ORDER))
+# Kinds of which it matters where the goroutines stand.
+WITH_SPOTS = frozenset((Kind.FAULT, Kind.DEADLOCK, Kind.LEFT))
 # Schedules that a process is given at once.
 SHARE = 8
 Found = Tuple[Kind, str, Tuple[Spot, ...]]
@@ -33,7 +35,7 @@ class Plan:
     runs: int = 200
     seed: int = 1
     jobs: int = 1
-    most_steps: int = 1000
+    most_steps: int = 5000
     expected: Optional[Pattern[str]] = None
     ignored: Tuple[Kind, ...] = ()
     stop: bool = False
@@ -59,17 +61,25 @@ class Hunt:
     def add(self, outcome: Outcome) -> None:
         self.outcomes.append(outcome)
 
-    def kind_of(self, outcome: Outcome) -> Kind:
-        """What there is against an outcome, its console too."""
+    def kinds_of(self, outcome: Outcome) -> Tuple[Kind, ...]:
+        """What there is against an outcome, its console too; of a schedule that ended it may be two things."""
         if outcome.kind not in (Kind.WELL, Kind.LEFT):
-            return outcome.kind
-        if self.plan.expected and not self.plan.expected.search("\n".join(outcome.console)):
-            return Kind.UNEXPECTED
-        if outcome.kind is Kind.LEFT and Kind.LEFT not in self.plan.ignored:
-            return Kind.LEFT
-        if self.plan.expected or self.common is None or outcome.console == self.common:
+            return (outcome.kind,)
+        console = self.of_console(outcome)
+        if outcome.kind is Kind.LEFT:
+            return (Kind.LEFT,) if console in HARMLESS else (Kind.LEFT, console)
+        return (console,)
+
+    def of_console(self, outcome: Outcome) -> Kind:
+        """What there is against what was printed."""
+        if self.plan.expected:
+            return Kind.WELL if self.plan.expected.search("\n".join(outcome.console)) else Kind.UNEXPECTED
+        if self.common is None or outcome.console == self.common:
             return Kind.WELL
         return Kind.ORDER if sorted(outcome.console) == sorted(self.common) else Kind.LINES
+
+    def is_well(self, outcome: Outcome) -> bool:
+        return not any(self.is_bad(kind) for kind in self.kinds_of(outcome))
 
     def is_bad(self, kind: Kind) -> bool:
         return kind not in HARMLESS and kind not in self.plan.ignored
@@ -84,9 +94,9 @@ class Hunt:
         """The outcomes that have the same against them, the worst kinds and then the most frequent ones first."""
         found: Dict[Found, List[Outcome]] = {}
         for outcome in self.outcomes:
-            kind = self.kind_of(outcome)
-            about = (outcome.fault, outcome.spots) if kind not in (Kind.LINES, Kind.ORDER, Kind.UNEXPECTED, Kind.WELL) else ("", ())
-            found.setdefault((kind, *about), []).append(outcome)
+            for kind in self.kinds_of(outcome):
+                about = (outcome.fault, outcome.spots) if kind in WITH_SPOTS else ("", ())
+                found.setdefault((kind, *about), []).append(outcome)
         order = list(Kind)
         return dict(sorted(found.items(), key=lambda item: (order.index(item[0][0]), -len(item[1]))))
 
@@ -102,7 +112,7 @@ def hunt(plan: Plan, told: Callable[[Hunt], None]) -> Hunt:
                 raise ProcessError(outcome)
             found.add(outcome)
             told(found)
-            if plan.stop and found.is_bad(outcome.kind if not plan.expected else found.kind_of(outcome)):
+            if plan.stop and not found.is_well(outcome):
                 break
     except KeyboardInterrupt:
         pass

@@ -26,7 +26,6 @@ TRIED = 12
 TRIED_STEPS = 1500
 BAR = 30
 TOLD_GROUPS = 5
-MOST_COMMANDS = 200
 KINDS = ("fault", "deadlock", "unended", "left", "lines")
 
 DESCRIPTION = "Takes random schedules of a program, and tells those that end badly: in a fault or a deadlock, not at all, with \
@@ -45,7 +44,7 @@ def parser() -> Parser:
     made = Parser(prog="rewind-hunt", description=DESCRIPTION, epilog=EPILOGUE)
     made.add_argument("file", metavar="FILE", help="the source of the program")
     made.add_argument("--runs", type=number(1), default=200, metavar="N", help="schedules to take (200)")
-    made.add_argument("--steps", type=number(1), default=1000, metavar="N", help="a schedule of N steps is taken as unended (1000)")
+    made.add_argument("--steps", type=number(1), default=5000, metavar="N", help="a schedule of N steps is taken as unended (5000)")
     made.add_argument("--seed", type=number(0), default=1, metavar="N", help="another seed gives other schedules (1)")
     made.add_argument("--jobs", type=number(1), default=processors(), metavar="N", help="processes at once (as many as processors)")
     made.add_argument("--expect", metavar="PATTERN", help="a regular expression that is to match in what is printed, line by line")
@@ -127,12 +126,12 @@ def hunted(plan: Plan, program: Program, path: Optional[str]) -> int:
     progress.clear()
     report = Report(found, program)
     print("\n".join(report.summary()), flush=True)
-    bad = [outcomes for (kind, *_), outcomes in found.groups().items() if found.is_bad(kind)]
-    reducer = Reducer(plan.begin, program, plan.seed, plan.most_steps, found.kind_of)
+    bad = [(group, outcomes) for group, outcomes in found.groups().items() if found.is_bad(group[0])]
+    reducer = Reducer(plan.begin, program, plan.seed, plan.most_steps)
     try:
-        for outcomes in bad[:TOLD_GROUPS]:
-            script = shortest(reducer, outcomes)
-            print("\n".join(["", *tell(reducer, report, program, outcomes, script)]), flush=True)
+        for group, outcomes in bad[:TOLD_GROUPS]:
+            script = shortest(reducer, group[0], outcomes)
+            print("\n".join(["", next(report.group(group, outcomes)), *tell(reducer, report, program, script)]), flush=True)
             if path and script:
                 write(path, script)
                 path = None
@@ -144,30 +143,28 @@ def hunted(plan: Plan, program: Program, path: Optional[str]) -> int:
     return SOMETHING if bad else NOTHING
 
 
-def shortest(reducer: Reducer, outcomes: Sequence[Outcome]) -> Optional[Script]:
+def shortest(reducer: Reducer, kind: Kind, outcomes: Sequence[Outcome]) -> Optional[Script]:
     """The script with the fewest steps, of some schedules that ended alike."""
     fewest = sorted(outcomes, key=lambda outcome: (outcome.steps, outcome.number))
     tried = max(1, min(TRIED, TRIED_STEPS // max(1, fewest[0].steps)))
-    scripts = [script for script in map(reducer.script, fewest[:tried]) if script]
+    scripts = [script for script in (reducer.script(outcome, kind) for outcome in fewest[:tried]) if script]
     best = min(scripts, key=lambda script: (len(script.entries), len(script.commands)), default=None)
     return reducer.shortened(best, scripts) if best else None
 
 
-def tell(reducer: Reducer, report: Report, program: Program, outcomes: Sequence[Outcome], script: Optional[Script]) -> List[str]:
-    """What there is to say of schedules that ended alike."""
-    plan, outcome = report.plan, outcomes[0]
-    kind = report.found.kind_of(outcome)
-    about = (kind, outcome.fault, outcome.spots) if kind in (Kind.FAULT, Kind.DEADLOCK, Kind.LEFT) else (kind, "", ())
-    lines = [next(iter(report.group(about, outcomes)))]
+def tell(reducer: Reducer, report: Report, program: Program, script: Optional[Script]) -> List[str]:
+    """A script, and why the program stands as it does at its end."""
     if script is None:
-        return lines
-    commands = list(script.short or script.commands)
-    if kind is Kind.UNENDED:
-        lines += ["    In short, %s: %s" % (counted(len(commands), "command"), in_line(commands[:MOST_COMMANDS]))]
+        return []
+    plan = report.plan
+    if script.kind is Kind.UNENDED:
+        commands = list(script.short or script.commands)
+        lines = ["    In short, %s: %s" % (counted(len(commands), "command"), in_line(commands))]
     else:
-        lines += report.script(script, Story(plan.begin, program).told(script), way_back(reducer, script))
+        told = Story(plan.begin, program).told(script)
+        lines = list(report.script(script, told, way_back(reducer, script, report.found.is_well)))
         commands = [*script.commands, "run %d" % plan.most_steps]
-    return lines + ["    " + line for line in explained(plan, program, kind, commands)]
+    return lines + ["    " + line for line in explained(plan, program, script.kind, commands)]
 
 
 def write(path: str, script: Script) -> None:

@@ -19,6 +19,7 @@ from .ways import WayBack
 
 MOST_CONSOLES = 4
 MOST_TOLD = 60
+MOST_COMMANDS = 30
 WIDTH = 60
 CHANCE = "This is a hunt by chance: what it did not find may still be there."
 
@@ -42,7 +43,10 @@ class Report:
         count = len(self.found.outcomes)
         told = (counted(count, "schedule"), self.plan.path, self.plan.seed, self.found.seconds)
         yield "%s of %s, seed %d, in %.1f seconds" % told
-        for group, outcomes in self.found.groups().items():
+        groups = self.found.groups()
+        if sum(map(len, groups.values())) > count:
+            yield "(one that left goroutines behind and printed something else counts for both)"
+        for group, outcomes in groups.items():
             lines = list(self.group(group, outcomes))
             yield "%6d  %s" % (len(outcomes), lines[0])
             yield from ("        " + line for line in lines[1:])
@@ -57,7 +61,7 @@ class Report:
             yield "deadlock: no goroutine can go on"
             yield from self.spots(spots, ("waits", "wait"))
         elif kind is Kind.UNENDED:
-            yield "not ended within %s" % counted(self.plan.most_steps, "step")
+            yield "not ended within %s (--steps allows more)" % counted(self.plan.most_steps, "step")
         elif kind is Kind.LEFT:
             yield "goroutines left behind at the end: they would never end"
             yield from self.spots(spots, ("is left", "are left"))
@@ -139,7 +143,7 @@ def in_line(commands: Sequence[str]) -> str:
     for command, same in groupby(commands):
         count = len(list(same))
         told.append(command if count == 1 else "%s (%d times)" % (command, count))
-    return "; ".join(told)
+    return "; ".join(told if len(told) <= MOST_COMMANDS else [*told[:MOST_COMMANDS], ".."])
 
 
 def cut(lines: List[str]) -> List[str]:

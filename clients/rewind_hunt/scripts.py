@@ -15,12 +15,15 @@ from rewind_client.session import Session
 from .outcomes import Judge, Kind, Outcome
 from .schedules import End, Schedule, Scheduler
 
-MOST_STEPS = 3000
+MOST_STEPS = 6000
+# The steps of a longer script stay in the order of their schedule.
+MOST_ORDERED = 1500
 # How long fewer commands are looked for, and how far away from a run by turns.
 SECONDS = 1.5
 MOST_AWAY = 10
 MOST_PLACES = 400
 MOST_GOROUTINES = 20
+PRINTED = frozenset((Kind.UNEXPECTED, Kind.LINES, Kind.ORDER))
 
 
 @dataclass(frozen=True)
@@ -31,6 +34,7 @@ class Script:
     """
 
     outcome: Outcome
+    kind: Kind
     commands: Tuple[str, ...]
     entries: Tuple[Entry, ...]
     of_steps: int
@@ -40,12 +44,10 @@ class Script:
 class Reducer:
     """Makes scripts of schedules, and checks each by running it from the start."""
 
-    def __init__(self, begin: Callable[[], Core], program: Program, seed: int, most_steps: int, kind_of: Callable[[Outcome], Kind]) -> None:
-        """`kind_of` tells what there is against an outcome, its console too."""
+    def __init__(self, begin: Callable[[], Core], program: Program, seed: int, most_steps: int) -> None:
         self.begin = begin
         self.program = program
         self.most_steps = most_steps
-        self.kind_of = kind_of
         self.scheduler = Scheduler(begin, program, seed, most_steps)
         self.judge = Judge(self.scheduler)
         self.goroutines: List[str] = []
@@ -53,31 +55,28 @@ class Reducer:
     def end(self) -> None:
         self.scheduler.end()
 
-    def script(self, outcome: Outcome) -> Optional[Script]:
-        """The script of a schedule; none where no shorter one leads to the same."""
+    def script(self, outcome: Outcome, kind: Kind) -> Optional[Script]:
+        """The script that leads to one of the things against a schedule; none where the schedule is too long."""
         schedule = self.scheduler.take(outcome.number)
         self.judge.outcome(outcome.number, schedule)
         entries, commands = list(schedule.entries), schedule.commands()
         if not entries or len(entries) > MOST_STEPS:
             return None
         if outcome.end is End.UNENDED:
-            return Script(outcome, tuple(commands), tuple(entries), len(entries))
-        for targets in self.targets(outcome, entries):
+            return Script(outcome, kind, tuple(commands), tuple(entries), len(entries))
+        for targets in self.targets(outcome, kind, entries):
             kept = self.causes(entries, targets)
-            ordered = self.ordered(kept, self.prints(entries) if self.is_printed(outcome) else [])
+            ordered = self.ordered(kept, self.prints(entries) if kind in PRINTED else [])
             last = entries[-1:] if entries[-1].kind.stops else []
-            script = self.checked(outcome, ordered + last, commands)
+            script = self.checked(outcome, kind, ordered + last, commands)
             if script:
                 return script
             self.from_start(commands)
         return None
 
-    def is_printed(self, outcome: Outcome) -> bool:
-        return self.kind_of(outcome) in (Kind.UNEXPECTED, Kind.LINES, Kind.ORDER)
-
     # What is to be kept.
 
-    def targets(self, outcome: Outcome, entries: Sequence[Entry]) -> Iterator[List[str]]:
+    def targets(self, outcome: Outcome, kind: Kind, entries: Sequence[Entry]) -> Iterator[List[str]]:
         """The steps that what was found rests on; more of them where the first ones are not enough.
 
         A fault and an exit stop the program, so that all steps come before them. What they need of these is the step before of their
@@ -93,8 +92,7 @@ class Reducer:
             yield self.waits(cycle_alone=True)
             yield self.waits(cycle_alone=False)
         else:
-            left = self.left(entries) if outcome.left else []
-            yield own + left + (self.prints(entries) if self.is_printed(outcome) else [])
+            yield own + (self.prints(entries) if kind in PRINTED else self.left(entries))
         yield [it.step for it in entries if not it.kind.stops]
 
     def waits(self, cycle_alone: bool) -> List[str]:
@@ -132,6 +130,8 @@ class Reducer:
 
     def ordered(self, kept: Sequence[Entry], prints: Sequence[str]) -> List[Entry]:
         """The steps in an order that respects dependence, with few changes of goroutine; those that print stay in their order."""
+        if len(kept) > MOST_ORDERED:
+            return list(kept)
         needs = self.needs(kept, prints)
         rest: Dict[str, List[Entry]] = {}
         for entry in kept:
@@ -160,7 +160,7 @@ class Reducer:
 
     # The check.
 
-    def checked(self, outcome: Outcome, entries: Sequence[Entry], schedule: Sequence[str]) -> Optional[Script]:
+    def checked(self, outcome: Outcome, kind: Kind, entries: Sequence[Entry], schedule: Sequence[str]) -> Optional[Script]:
         """The script of these steps, if it leads to the same; as many of the first ones as can be are taken by one `run`."""
         for by_turns in dict.fromkeys((self.by_turns(entries), 0)):
             taken = self.taken_by_turns(by_turns)
@@ -168,8 +168,8 @@ class Reducer:
             commands = (["run %d" % by_turns] if by_turns else []) + [step_command(it) for it in rest]
             if rest and rest[-1].kind.stops:
                 commands[-1] = schedule[-1]
-            if self.leads_to(outcome, commands, taken + rest):
-                return Script(outcome, tuple(commands), tuple(taken + rest), len(schedule))
+            if self.leads_to(outcome, kind, commands, taken + rest):
+                return Script(outcome, kind, tuple(commands), tuple(taken + rest), len(schedule))
         return None
 
     def by_turns(self, entries: Sequence[Entry]) -> int:
@@ -189,21 +189,21 @@ class Reducer:
         self.scheduler.go_to_start()
         return self.scheduler.ask(commands)
 
-    def leads_to(self, outcome: Outcome, commands: Sequence[str], entries: Sequence[Entry]) -> bool:
+    def leads_to(self, outcome: Outcome, kind: Kind, commands: Sequence[str], entries: Sequence[Entry]) -> bool:
         """Whether the commands take these steps and come to the same end."""
         self.from_start(commands)
         if self.scheduler.core.log() != list(entries):
             return False
         if outcome.end is End.DEADLOCK:
             self.scheduler.ask(["run %d" % (self.most_steps * 2)])
-        return self.is_same(outcome)
+        return self.is_same(outcome, kind)
 
-    def is_same(self, outcome: Outcome) -> bool:
+    def is_same(self, outcome: Outcome, kind: Kind) -> bool:
         """Whether the process stands at the same end as a schedule."""
         found = self.judge.outcome(outcome.number, self.rebuilt())
         if found.end is not outcome.end or found.fault != outcome.fault:
             return False
-        if outcome.end is End.ENDED and self.is_printed(outcome):
+        if kind in PRINTED:
             return found.console == outcome.console
         return outcome.end is not End.ENDED or found.left
 
@@ -227,25 +227,24 @@ class Reducer:
     def shortest(self, script: Script, others: Sequence[Script]) -> List[str]:
         """Fewer commands, or none; they may begin like other scripts that lead to the same."""
         until = time.monotonic() + SECONDS
-        outcome = script.outcome
-        beginnings = [self.begun(outcome, each.commands, until) for each in (script, *others)]
+        beginnings = [self.begun(script, each.commands, until) for each in (script, *others)]
         begun: List[str] = min((each for each in beginnings if each), key=len, default=[])
         most = len(begun or script.commands) - 3
         for count in range(min(most, MOST_AWAY) + 1):
-            for away in self.away(outcome, count):
+            for away in self.away(script.outcome, count):
                 if time.monotonic() > until:
                     return begun
-                if self.comes_to(outcome, away):
+                if self.comes_to(script, away):
                     return away
         return begun
 
-    def begun(self, outcome: Outcome, commands: Sequence[str], until: float) -> List[str]:
+    def begun(self, script: Script, commands: Sequence[str], until: float) -> List[str]:
         """The first of the commands, and a `run` to the end."""
         run = "run %d" % self.most_steps
         for count in range(len(commands) - 1):
             if time.monotonic() > until:
                 break
-            if self.comes_to(outcome, [*commands[:count], run]):
+            if self.comes_to(script, [*commands[:count], run]):
                 return [*commands[:count], run]
         return []
 
@@ -259,11 +258,11 @@ class Reducer:
             for name in self.goroutines:
                 yield (["run %d" % place] if place else []) + [step_words(name)] * count + [run]
 
-    def comes_to(self, outcome: Outcome, commands: Sequence[str]) -> bool:
-        """Whether commands that end in a `run` come to the same end as a schedule."""
+    def comes_to(self, script: Script, commands: Sequence[str]) -> bool:
+        """Whether commands that end in a `run` come to the same end as a script."""
         last = self.from_start(commands)[-1]
         reasons = {End.FAULT: "fault", End.DEADLOCK: "stuck", End.ENDED: "ended"}
-        return last.endswith(" " + reasons.get(outcome.end, "count")) and self.is_same(outcome)
+        return last.endswith(" " + reasons.get(script.outcome.end, "count")) and self.is_same(script.outcome, script.kind)
 
 
 def printing(scheduler: Scheduler, entries: Sequence[Entry]) -> List[str]:

@@ -3,13 +3,13 @@ from __future__ import annotations
 
 import time
 from dataclasses import dataclass
-from typing import Iterator, List, Optional, Tuple
+from typing import Callable, Iterator, List, Optional, Tuple
 
 from rewind_client.core import step_words
 from rewind_client.names import step_owner
 from rewind_client.replies import Entry, KindWord
 
-from .outcomes import Kind, Outcome
+from .outcomes import Outcome
 from .scripts import Reducer, Script
 
 SECONDS = 1.5
@@ -26,7 +26,7 @@ class WayBack:
     outcome: Outcome
 
 
-def way_back(reducer: Reducer, script: Script) -> Optional[WayBack]:
+def way_back(reducer: Reducer, script: Script, is_well: Callable[[Outcome], bool]) -> Optional[WayBack]:
     """The latest step from before which a run by turns ends well, or does with one step of another goroutine first."""
     until = time.monotonic() + SECONDS
     for entry in reversed([it for it in script.entries if it.kind.word not in PLAIN]):
@@ -34,7 +34,7 @@ def way_back(reducer: Reducer, script: Script) -> Optional[WayBack]:
             if time.monotonic() > until:
                 return None
             found = tried(reducer, script, entry.step, first)
-            if found:
+            if found and is_well(found.outcome):
                 return found
     return None
 
@@ -49,13 +49,11 @@ def firsts(script: Script, entry: Entry) -> Iterator[List[str]]:
 
 
 def tried(reducer: Reducer, script: Script, step: str, first: List[str]) -> Optional[WayBack]:
-    """Takes the step back and goes on from there."""
+    """Takes the step back and goes on from there; none where the program does not end then."""
     commands = [*first, "run %d" % reducer.most_steps]
     answers = reducer.from_start([*script.commands, "back " + step, *commands])
     if not answers[-1].endswith(" ended"):
         return None
     outcome = reducer.judge.outcome(-1, reducer.rebuilt())
-    if reducer.kind_of(outcome) not in (Kind.WELL, Kind.ORDER):
-        return None
     back = answers[len(script.commands)]
     return WayBack(step, int(back.split(" ")[1]), tuple(commands), outcome)

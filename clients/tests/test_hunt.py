@@ -1,6 +1,7 @@
 """The hunt: it finds what is bad in each example, and its scripts lead there."""
 from __future__ import annotations
 
+import io
 import os
 import re
 import subprocess
@@ -14,7 +15,9 @@ from rewind_client.core import Core
 from rewind_client.finding import start
 from rewind_client.replies import KindWord, Reason
 from rewind_hunt.hunting import Hunt, Plan, here, hunt
+from rewind_hunt.main import Progress
 from rewind_hunt.outcomes import Kind, Outcome
+from rewind_hunt.schedules import End
 from rewind_hunt.scripts import Reducer, Script
 from rewind_hunt.story import Story
 from rewind_hunt.ways import way_back
@@ -77,6 +80,35 @@ func main() {
 	<-done
 }
 """
+# A goroutine holds a number and never ends; two others read and write it.
+SERVED = """package main
+
+func hold(read, write chan int) {
+	n := 0
+	for {
+		select {
+		case read <- n:
+		case n = <-write:
+		}
+	}
+}
+
+func add(read, write chan int, done chan bool) {
+	n := <-read
+	write <- n + 1
+	done <- true
+}
+
+func main() {
+	read, write, done := make(chan int), make(chan int), make(chan bool)
+	go hold(read, write)
+	go add(read, write, done)
+	go add(read, write, done)
+	<-done
+	<-done
+	println(<-read)
+}
+"""
 # The fault is in the second clause of a select: the first clause is never taken before it.
 IN_A_SELECT = """package main
 
@@ -110,7 +142,7 @@ def hunted(plan: Plan, wanted: Optional[Kind] = None) -> Hunt:
     for outcome in outcomes:
         assert isinstance(outcome, Outcome)
         found.add(outcome)
-        if wanted and found.kind_of(outcome) is wanted:
+        if wanted and wanted in found.kinds_of(outcome):
             break
     outcomes.close()
     found.settle()
@@ -133,7 +165,7 @@ def reducers() -> Iterator[Callable[[Hunt], Reducer]]:
 
     def make(found: Hunt) -> Reducer:
         plan = found.plan
-        made.append(Reducer(plan.begin, plan.program(), plan.seed, plan.most_steps, found.kind_of))
+        made.append(Reducer(plan.begin, plan.program(), plan.seed, plan.most_steps))
         return made[-1]
 
     yield make
@@ -163,9 +195,9 @@ def test_each_example_is_found_bad(name: str, rewind: str, reducers: Callable[[H
     """Within 200 schedules; and the script leads to the same in a session of its own."""
     found = hunted(plan_of(rewind, EXAMPLES / (name + ".go")), BAD[name])
     outcome = found.outcomes[-1] if BAD[name] is not Kind.UNENDED else found.outcomes[0]
-    assert found.kind_of(outcome) is BAD[name]
+    assert BAD[name] in found.kinds_of(outcome)
     reducer = reducers(found)
-    script = reducer.script(outcome)
+    script = reducer.script(outcome, BAD[name])
     assert script and len(script.entries) <= script.of_steps
     reasons = {Kind.FAULT: "fault", Kind.DEADLOCK: "stuck", Kind.UNENDED: "count"}
     assert reason_behind(found.plan, list(script.commands)) == reasons.get(BAD[name], "ended")
@@ -177,7 +209,7 @@ def test_each_example_is_found_bad(name: str, rewind: str, reducers: Callable[[H
 
 def test_a_script_has_no_step_that_does_not_matter(rewind: str, source: Callable[[str], Path], reducers: Callable[[Hunt], Reducer]) -> None:
     found = hunted(plan_of(rewind, source(UNRELATED)), Kind.DEADLOCK)
-    script = reducers(found).script(found.outcomes[-1])
+    script = reducers(found).script(found.outcomes[-1], Kind.DEADLOCK)
     assert script
     taken = {entry.step.split("#")[0] for entry in script.entries}
     assert "g0.1" not in taken and {"g0.2", "g0.3"} <= taken
@@ -191,7 +223,7 @@ def test_steps_that_print_stay_in_their_order(rewind: str, reducers: Callable[[H
     plan = plan_of(rewind, EXAMPLES / "lost_update.go")
     found = hunted(plan, Kind.UNEXPECTED)
     outcome = found.outcomes[-1]
-    script = reducers(found).script(outcome)
+    script = reducers(found).script(outcome, Kind.UNEXPECTED)
     assert script
     core = standing(plan, list(script.commands))
     assert tuple(core.console()) == outcome.console and core.end is Reason.ENDED
@@ -200,7 +232,7 @@ def test_steps_that_print_stay_in_their_order(rewind: str, reducers: Callable[[H
 
 def test_a_fault_in_a_clause(rewind: str, source: Callable[[str], Path], reducers: Callable[[Hunt], Reducer]) -> None:
     found = hunted(plan_of(rewind, source(IN_A_SELECT)), Kind.FAULT)
-    script = reducers(found).script(found.outcomes[-1])
+    script = reducers(found).script(found.outcomes[-1], Kind.FAULT)
     assert script and script.entries[-1].kind.fault == "SendOnClosed"
     core = standing(found.plan, list(script.commands))
     assert core.end is Reason.FAULT
@@ -211,9 +243,9 @@ def test_the_way_back_ends_well(rewind: str, reducers: Callable[[Hunt], Reducer]
     plan = plan_of(rewind, EXAMPLES / "philosophers.go")
     found = hunted(plan, Kind.DEADLOCK)
     reducer = reducers(found)
-    script = reducer.script(found.outcomes[-1])
+    script = reducer.script(found.outcomes[-1], Kind.DEADLOCK)
     assert script
-    way = way_back(reducer, script)
+    way = way_back(reducer, script, found.is_well)
     assert way
     core = standing(plan, [*script.commands, "back " + way.step, *way.commands])
     assert core.end is Reason.ENDED and core.console()[-1] == "all have eaten"
@@ -223,7 +255,7 @@ def test_the_way_back_ends_well(rewind: str, reducers: Callable[[Hunt], Reducer]
 def test_each_step_is_told(rewind: str, reducers: Callable[[Hunt], Reducer]) -> None:
     plan = plan_of(rewind, EXAMPLES / "worker_pool.go")
     found = hunted(plan, Kind.FAULT)
-    script = reducers(found).script(found.outcomes[-1])
+    script = reducers(found).script(found.outcomes[-1], Kind.FAULT)
     assert script
     told = Story(plan.begin, plan.program()).told(script)
     assert sum(one.times for one in told) == len(script.entries)
@@ -245,7 +277,7 @@ def test_a_schedule_is_that_of_its_seed_and_number(rewind: str) -> None:
 def test_every_manner_is_a_schedule_of_the_program(rewind: str) -> None:
     """The steps of each schedule are those of a session that takes the same commands."""
     plan = plan_of(rewind, EXAMPLES / "starved_select.go", most_steps=60)
-    reducer = Reducer(plan.begin, plan.program(), 3, 60, lambda outcome: outcome.kind)
+    reducer = Reducer(plan.begin, plan.program(), 3, 60)
     for number in range(12):
         schedule = reducer.scheduler.take(number)
         core = standing(plan, schedule.commands())
@@ -285,6 +317,31 @@ def test_something_found(rewind: str, tmp_path: Path) -> None:
         assert part in done.stdout
     replies = subprocess.run([rewind, str(EXAMPLES / "lock_order.go")], input=kept.read_text() + "run 9\n", capture_output=True, text=True)
     assert replies.stdout.splitlines()[-1].endswith(" stuck")
+
+
+def test_two_things_against_a_schedule(rewind: str, source: Callable[[str], Path]) -> None:
+    """A goroutine that serves for ever is left behind, and does not hide what is printed."""
+    done = run(rewind, "--runs", "40", str(source(SERVED)))
+    assert done.returncode == 1
+    assert "goroutines left behind" in done.stdout and "printed other lines" in done.stdout and "counts for both" in done.stdout
+    alone = run(rewind, "--runs", "40", "--ignore", "left", str(source(SERVED)))
+    assert alone.stdout.count("Step by step") == 1 and done.stdout.count("Step by step") == 2
+
+
+class Terminal(io.StringIO):
+    def isatty(self) -> bool:
+        return True
+
+
+def test_a_bar_at_a_terminal_alone(rewind: str) -> None:
+    found = Hunt(plan_of(rewind, EXAMPLES / "double_close.go", runs=2))
+    for out, shown in ((Terminal(), True), (io.StringIO(), False)):
+        bar = Progress(2, out)
+        found.add(Outcome(0, End.FAULT, 3, fault="CloseOfClosed"))
+        bar.told(found)
+        bar.clear()
+        assert (out.getvalue() != "") is shown
+        assert not shown or ("] " in out.getvalue() and " bad" in out.getvalue())
 
 
 def test_what_is_expected(rewind: str, source: Callable[[str], Path]) -> None:
@@ -331,5 +388,5 @@ def test_a_source_that_is_refused(rewind: str, source: Callable[[str], Path]) ->
 
 def test_the_last_step_is_the_end(rewind: str, reducers: Callable[[Hunt], Reducer]) -> None:
     found = hunted(plan_of(rewind, EXAMPLES / "leak.go"), Kind.LEFT)
-    script: Optional[Script] = reducers(found).script(found.outcomes[-1])
+    script: Optional[Script] = reducers(found).script(found.outcomes[-1], Kind.LEFT)
     assert script and script.entries[-1].kind.word is KindWord.EXIT
