@@ -83,17 +83,8 @@ def main(words: List[str]) -> int:
 
 def tell_refused(path: str, refused: SourceRefused) -> None:
     """A refused source: where, why, the line with a mark, and what to write instead."""
-    program = read_program(path)
-    told = explain_refusal(program.text, refused.code, refused.line, refused.column)
-    place = ":%d:%d" % (refused.line, refused.column) if refused.line else ""
-    word = ": '%s'" % told.word if told.word else ""
-    error("%s%s: %s (%s)%s" % (path, place, told.sentence, refused.code, word))
-    if 0 < refused.line <= len(program.lines):
-        text = program.lines[refused.line - 1].rstrip()[:200]
-        before = "".join(letter if letter == "\t" else " " for letter in text[: max(refused.column - 1, 0)])
-        sys.stderr.write("%s\n%s^\n" % (text, before))
-    if told.instead:
-        sys.stderr.write("%s\n" % told.instead)
+    told = explain_refusal(read_program(path).text, refused.code, refused.line, refused.column)
+    error("%s\nmore: rewind --explain %s" % (told.text(path), refused.code))
 
 
 def asking() -> Optional[Callable[[str], str]]:
