@@ -106,6 +106,7 @@ class Calls(Expressions):
             size = self.expression()
             if size.constant is not None and not isinstance(size.constant, bool) and size.constant < 0:
                 self.fault("C7", "negative_size", size.first, size.last)
+            self.check_constant_to(size)
             if not size.may_be("int") or size.kind == "nil":
                 self.misfit("size", size)
             self.passes(",")

@@ -128,14 +128,9 @@ class Expressions(Reader):
         elif not (left.may_be(right.own) or right.may_be(left.own)):
             form = "compared_channels" if is_channel(left.own) and is_channel(right.own) else "compared"
             self.fault("C3", form, left.first, right.last, **fields)
-        if sign not in COMPARISONS:
-            self.check_constant(left)
-            self.check_constant(right)
-
-    def check_constant(self, value: Value) -> None:
-        """A constant that becomes a value must fit `int`."""
-        if value.constant is not None and not fits(value.constant) and abs(value.constant) > 2**63:
-            self.fault("C7", "overflow", value.first, value.last)
+        if left.constant is None or right.constant is None:
+            self.check_constant_to(left)
+            self.check_constant_to(right)
 
     def check_constant_to(self, value: Value) -> None:
         """A constant that becomes an `int` must fit it."""

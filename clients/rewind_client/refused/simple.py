@@ -93,6 +93,8 @@ class SimpleStatements(Calls):
         """`x += e`, `x++` and their like."""
         number = self.next()
         sign = self.tokens[self.next()].text
+        if self.tokens[number].text == "_":
+            self.fault("C1", "blank", number, number)
         own = self.variable(number)
         value = self.expression() if sign in ASSIGNING else None
         last = value.last if value else self.number - 1
@@ -120,7 +122,8 @@ class SimpleStatements(Calls):
         if name in PREDECLARED or name in self.functions:
             self.fault("C3", "assigned_to_no_variable", number, number, name=name)
         elif name != "_":
-            rest = self.of(number + 2, self.number - 1) if self.tokens[number + 1].text == "=" else ""
+            alone = self.tokens[number + 1].text == "=" and self.tokens[number - 1].text != ","
+            rest = self.of(number + 2, self.number - 1) if alone else ""
             if rest:
                 near = [each for each in self.scopes.names() if each.lower() == name.lower()]
                 if not near and name not in self.scopes.ended:

@@ -8,6 +8,9 @@ from .simple import ENDS, SimpleStatements
 from .tokens import Token
 from .values import PREDECLARED, direction_of, element_of, is_assignable, is_channel
 
+# The tokens of the value struct{}{}.
+UNIT = ("struct", "{", "}", "{", "}")
+
 
 class Statements(SimpleStatements):
     """Reads a file from its first token to its last, and raises Found at the fault that is looked for."""
@@ -193,10 +196,9 @@ class Statements(SimpleStatements):
     def initial(self) -> None:
         """The statement before the condition, if there is one."""
         number = self.number
-        while self.tokens[number].text != "{" or self.tokens[number - 1].text == "struct" or self.tokens[number - 2].text == "{":
-            if self.tokens[number].text in (";", "\n") or self.tokens[number].kind == "file":
-                break
-            number += 1
+        while self.tokens[number].text not in ("{", ";", "\n") and self.tokens[number].kind != "file":
+            number += len(UNIT) if self.tokens[number].text == "struct" else 1
+            number = min(number, len(self.tokens) - 1)
         if self.tokens[number].text in (";", "\n"):
             if self.number != number:
                 self.at(self.number)
