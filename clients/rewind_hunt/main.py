@@ -16,7 +16,7 @@ from rewind_client.refusals import explain_refusal
 from .hunting import Hunt, Plan, hunt
 from .outcomes import Kind, Outcome
 from .report import CHANCE, Report, counted, explained, in_line
-from .scripts import Reducer, Script
+from .scripts import MOST_STEPS, Reducer, Script
 from .story import Story
 from .ways import way_back
 
@@ -43,10 +43,10 @@ class Parser(argparse.ArgumentParser):
 def parser() -> Parser:
     made = Parser(prog="rewind-hunt", description=DESCRIPTION, epilog=EPILOGUE)
     made.add_argument("file", metavar="FILE", help="the source of the program")
-    made.add_argument("--runs", type=number(1), default=200, metavar="N", help="schedules to take (200)")
-    made.add_argument("--steps", type=number(1), default=5000, metavar="N", help="a schedule of N steps is taken as unended (5000)")
-    made.add_argument("--seed", type=number(0), default=1, metavar="N", help="another seed gives other schedules (1)")
-    made.add_argument("--jobs", type=number(1), default=processors(), metavar="N", help="processes at once (as many as processors)")
+    made.add_argument("--runs", type=number(1, 1_000_000), default=200, metavar="N", help="schedules to take (200)")
+    made.add_argument("--steps", type=number(1, 100_000), default=5000, metavar="N", help="a schedule of N steps is taken as unended (5000)")
+    made.add_argument("--seed", type=number(0, 1_000_000_000), default=1, metavar="N", help="another seed gives other schedules (1)")
+    made.add_argument("--jobs", type=number(1, 64), default=processors(), metavar="N", help="processes at once (as many as processors)")
     made.add_argument("--expect", metavar="PATTERN", help="a regular expression that is to match in what is printed, line by line")
     made.add_argument("--ignore", metavar="KINDS", default="", help="kinds that are not bad, of " + ",".join(KINDS))
     made.add_argument("--stop", action="store_true", help="end the hunt at the first bad schedule")
@@ -55,12 +55,12 @@ def parser() -> Parser:
     return made
 
 
-def number(least: int) -> Callable[[str], int]:
-    """Reads a number that is not too small."""
+def number(least: int, most: int) -> Callable[[str], int]:
+    """Reads a number between two."""
 
     def read(text: str) -> int:
-        if not text.isdecimal() or not least <= int(text) <= 1_000_000:
-            raise argparse.ArgumentTypeError("%s is no number from %d to 1000000" % (text, least))
+        if not (text.isascii() and text.isdecimal() and least <= int(text) <= most):
+            raise argparse.ArgumentTypeError("%s is no number from %d to %d" % (text, least, most))
         return int(text)
 
     return read
@@ -155,7 +155,7 @@ def shortest(reducer: Reducer, kind: Kind, outcomes: Sequence[Outcome]) -> Optio
 def tell(reducer: Reducer, report: Report, program: Program, script: Optional[Script]) -> List[str]:
     """A script, and why the program stands as it does at its end."""
     if script is None:
-        return []
+        return ["    No script is made of a schedule of more than %d steps: fewer --steps make one" % MOST_STEPS]
     plan = report.plan
     if script.kind is Kind.UNENDED:
         commands = list(script.short or script.commands)

@@ -12,6 +12,7 @@ from typing import Callable, Dict, Iterable, List, Sequence, Set
 
 from rewind_client import replies
 from rewind_client.core import Core, step_command, step_words
+from rewind_client.errors import RewindError
 from rewind_client.names import child_of, step_owner
 from rewind_client.program import Program
 from rewind_client.replies import Entry, KindWord
@@ -24,6 +25,7 @@ MEAN_BURST = 6
 FIRST_CHANGES = 200
 # A process is started anew before its journal, which takes 2,000,000 commands, is full.
 MOST_COMMANDS = 1_500_000
+NO_ROOM = frozenset(("no Q1", "no Q2", "no N6"))
 # After a step of these kinds a goroutine that waited may be ready.
 WAKING = frozenset((KindWord.HAND, KindWord.MEET, KindWord.TAKE, KindWord.PICK, KindWord.CLOSE))
 
@@ -148,6 +150,8 @@ class Scheduler:
                 self.schedule.last_command = command
             elif last == "no N4":
                 self.schedule.done.add(command.split(" ")[1])
+            elif last in NO_ROOM:
+                raise RewindError("a schedule is longer than %s keeps: allow fewer --steps" % self.core.process.name)
         return taken
 
     def step(self, goroutine: str) -> str:
@@ -159,7 +163,7 @@ class Scheduler:
     def goes_on(self) -> bool:
         return not self.schedule.stopped and len(self.schedule.entries) < self.most_steps
 
-    def is_stuck(self) -> bool:
+    def ends_stuck(self) -> bool:
         """Takes a step of each goroutine that is ready; where there is none, the schedule ends in a deadlock."""
         if not self.try_steps([step_words(name) for name in self.schedule.live]):
             self.schedule.end = End.DEADLOCK
@@ -196,7 +200,7 @@ class Scheduler:
             commands: List[str] = []
             while len(commands) < size:
                 commands += chosen(names)
-            if not self.try_steps(commands) and self.is_stuck():
+            if not self.try_steps(commands) and self.ends_stuck():
                 return
 
     def by_ranks(self) -> None:
@@ -210,7 +214,7 @@ class Scheduler:
                 ranks.setdefault(name, self.random.random())
             ready = sorted((name for name in self.schedule.live if name not in blocked), key=lambda name: ranks[name])
             if not ready:
-                if self.is_stuck():
+                if self.ends_stuck():
                     return
                 blocked.clear()
                 continue

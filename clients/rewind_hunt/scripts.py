@@ -214,7 +214,7 @@ class Reducer:
             schedule.note(entry)
         self.scheduler.schedule = schedule
         if not schedule.stopped:
-            self.scheduler.is_stuck()
+            self.scheduler.ends_stuck()
         return schedule
 
     # Fewer commands.

@@ -49,6 +49,13 @@ def test_each_source_has_a_form(refusals: dict[str, Refusal]) -> None:
     assert [name for name, refusal in refusals.items() if not refusal.form] == []
 
 
+def test_each_form_has_a_source(refusals: dict[str, Refusal]) -> None:
+    met = {(refusal.code, refusal.form) for refusal in refusals.values()}
+    without_place = {"S7", "S8", "P4", "C11"}
+    forms = {(code, form["form"]) for code, entry in table().items() if code not in without_place for form in entry["forms"]}
+    assert sorted(forms - met) == []
+
+
 def test_words_stand_at_their_places(refusals: dict[str, Refusal]) -> None:
     for name, refusal in refusals.items():
         line = refusal.line_text.encode("utf-8", "surrogateescape")
