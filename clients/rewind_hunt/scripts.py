@@ -58,7 +58,8 @@ class Reducer:
     def script(self, outcome: Outcome, kind: Kind) -> Optional[Script]:
         """The script that leads to one of the things against a schedule; none where the schedule is too long."""
         schedule = self.scheduler.take(outcome.number)
-        self.judge.outcome(outcome.number, schedule)
+        if kind not in PRINTED:
+            self.judge.outcome(outcome.number, schedule)
         entries, commands = list(schedule.entries), schedule.commands()
         if not entries or len(entries) > MOST_STEPS:
             return None

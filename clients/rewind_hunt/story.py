@@ -3,13 +3,13 @@ from __future__ import annotations
 
 from typing import Callable, Dict, List, NamedTuple, Optional, Sequence, Tuple
 
-from rewind_client.core import Core
+from rewind_client.core import Core, step_command
 from rewind_client.meanings import FAULTS
 from rewind_client.names import channel_of, child_of, step_owner
 from rewind_client.notes import Note
 from rewind_client.operations import Verb
 from rewind_client.program import Program
-from rewind_client.replies import KindWord
+from rewind_client.replies import Entry, KindWord, lines_within
 from rewind_client.session import Session
 
 from .scripts import Script
@@ -49,17 +49,25 @@ class Story:
     def one_by_one(self, session: Session, script: Script, notes: Sequence[Note]) -> List[Told]:
         by_turns = len(notes) - (len(script.commands) - 1) if script.commands[0].startswith("run ") else 0
         commands = [script.commands[0]] * by_turns + list(script.commands[1 if by_turns else 0 :])
-        sentences = Sentences(session, notes, prints(session, notes))
+        sentences = Sentences(session, notes, prints(self.begin, script.entries))
         return [Told(command, 1, sentences.of(note), note.line, note.step) for command, note in zip(commands, notes)]
 
 
-def prints(session: Session, notes: Sequence[Note]) -> Dict[str, str]:
-    """What the steps print: the lines of a goroutine are those of its steps at a `println`, in their order."""
-    texts = {name: iter(session.core.text(name)) for name in session.goroutine_names()}
-    found = {}
-    for note in notes:
-        if note.kind.word is KindWord.PURE and session.program.line(note.line).startswith("println("):
-            found[note.step] = next(texts[step_owner(note.step)], "")
+def prints(begin: Callable[[], Core], entries: Sequence[Entry]) -> Dict[str, str]:
+    """What the steps print: the console grows by a line with each that does."""
+    core = begin()
+    try:
+        asked = [command for entry in entries for command in (step_command(entry), "console")]
+        consoles = core.ask_all(asked)[1::2]
+    finally:
+        core.process.end()
+    found: Dict[str, str] = {}
+    count = 0
+    for entry, reply in zip(entries, consoles):
+        lines = lines_within(reply)
+        if len(lines) > count:
+            found[entry.step] = lines[-1]
+        count = len(lines)
     return found
 
 

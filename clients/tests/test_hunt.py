@@ -80,6 +80,25 @@ func main() {
 	<-done
 }
 """
+# One goroutine may print behind the end of `main`, and another one waits for ever.
+PRINTED_LATE = """package main
+
+func late(n int) {
+	for i := 0; i < n; i++ {
+	}
+	println("late")
+}
+
+func wait(c chan int) {
+	<-c
+}
+
+func main() {
+	go late(3)
+	go wait(make(chan int))
+	println("main")
+}
+"""
 # A goroutine holds a number and never ends; two others read and write it.
 SERVED = """package main
 
@@ -227,6 +246,19 @@ def test_steps_that_print_stay_in_their_order(rewind: str, reducers: Callable[[H
     assert script
     core = standing(plan, list(script.commands))
     assert tuple(core.console()) == outcome.console and core.end is Reason.ENDED
+    core.process.end()
+
+
+def test_what_is_printed_behind_the_end_is_not_counted(rewind: str, source: Callable[[str], Path], reducers: Callable[[Hunt], Reducer]) -> None:
+    """To see who is left the others go on at the end of `main`; what they print then was never printed."""
+    plan = plan_of(rewind, source(PRINTED_LATE), expected=re.compile("never"))
+    found = hunted(plan)
+    late = [it for it in found.outcomes if it.left and it.console == ("main",)]
+    assert late
+    script = reducers(found).script(late[0], Kind.UNEXPECTED)
+    assert script
+    core = standing(plan, list(script.commands))
+    assert core.console() == ["main"]
     core.process.end()
 
 
