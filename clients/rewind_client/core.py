@@ -1,0 +1,209 @@
+"""The commands of Rewind as calls, with their replies as values."""
+from __future__ import annotations
+
+from typing import Callable, List, Optional, Sequence, TypeVar
+
+from . import replies
+from .errors import MalformedReply, RewindError
+from .meanings import meaning_of_refusal
+from .process import Process
+from .replies import Channel, Entry, Goroutine, KindWord, Ran, Reason
+
+# Commands that take steps or take them back, and all that change what a session does.
+MOVING = frozenset(("step", "run", "undo", "back", "redo", "order"))
+CHANGING = MOVING | frozenset(("break", "clear", "free"))
+
+END_OF_KIND = {KindWord.EXIT: Reason.ENDED, KindWord.FAULT: Reason.FAULT}
+
+Found = TypeVar("Found")
+
+
+class Refused(RewindError):
+    """A command was refused; the text says why, and `taken` names the steps that were done none the less."""
+
+    def __init__(self, command: str, reply: Sequence[str]) -> None:
+        super().__init__(meaning_of_refusal(reply[-1]))
+        self.command = command
+        self.reply = list(reply)
+        self.code = replies.code_of(reply)
+        self.taken = replies.steps(reply) if self.code == "B6" and reply[-1] != "no B6 0" else []
+
+
+def unnoted(_command: str) -> None:
+    """Keeps no account of a command."""
+
+
+class Core:
+    """A program under `rewind`.
+
+    `changes` counts the commands that may have changed the state, `given` are those that changed the session, and `end` is the
+    reason why the program goes no further.
+    """
+
+    def __init__(self, process: Process, journal: Callable[[str], None] = unnoted) -> None:
+        """`journal` is told each command before it is asked."""
+        self.process = process
+        self.journal = journal
+        self.changes = 0
+        self.given: List[str] = []
+        self.end: Optional[Reason] = None
+        self.end_taken_back: Optional[Reason] = None
+
+    def ask(self, command: str) -> List[str]:
+        """The lines of the reply to any command, whatever it says."""
+        return self.ask_all([command])[0]
+
+    def ask_all(self, commands: Sequence[str]) -> List[List[str]]:
+        """The replies to commands, asked in one go."""
+        for command in commands:
+            if "\n" in command or not words_of(command):
+                raise RewindError("a command is one line that holds a word")
+        for command in commands:
+            self.journal(command)
+            word = first_word(command)
+            if word in CHANGING:
+                self.given.append(command)
+                self.changes += word in MOVING
+        found = self.process.ask_all(commands)
+        for command, reply in zip(commands, found):
+            self.checked(command, reply)
+        return found
+
+    def checked(self, command: str, reply: Sequence[str]) -> None:
+        """Sees that a reply is one, and keeps account of the program's end."""
+        if not replies.is_reply(reply):
+            raise self.malformed(command, reply)
+        word = first_word(command)
+        if word in MOVING:
+            self.parsed(command, reply, lambda lines: self.note(word, lines))
+
+    def note(self, word: str, reply: Sequence[str]) -> None:
+        """Keeps account of whether the log ends in a step that stopped the program, and whether `redo` would take one."""
+        done = replies.is_ok(reply)
+        if word == "step" and done:
+            self.end, self.end_taken_back = end_of_step(replies.stepped(reply)), None
+        elif word == "run" and done and replies.ran(reply).taken:
+            self.end, self.end_taken_back = end_of_run(replies.ran(reply)), None
+        elif word in ("undo", "back") and (done or len(reply[-1].split(" ")) > 3):
+            self.end_taken_back, self.end = self.end, None
+        elif word == "redo" and done:
+            self.end, self.end_taken_back = self.end_taken_back, None
+        elif word == "order" and done:
+            self.end_taken_back = None
+
+    def malformed(self, command: str, reply: Sequence[str]) -> MalformedReply:
+        """A reply that means nothing ends the process, since no later one could be trusted."""
+        fault = MalformedReply(self.process.name, command, list(reply))
+        self.process.end(str(fault))
+        return fault
+
+    def parsed(self, command: str, reply: Sequence[str], read: Callable[[Sequence[str]], Found]) -> Found:
+        """What is read from a reply, where it has the form that the command's replies have."""
+        try:
+            return read(reply)
+        except (IndexError, ValueError):
+            raise self.malformed(command, reply) from None
+
+    def asked(self, command: str, read: Callable[[Sequence[str]], Found]) -> Found:
+        """What is read from the reply to a command; Refused where the command is."""
+        reply = self.ask(command)
+        if not replies.is_ok(reply):
+            raise self.parsed(command, reply, lambda lines: Refused(command, lines))
+        return self.parsed(command, reply, read)
+
+    # What takes steps, or takes them back.
+
+    def step(self, goroutine: str, clause: int = 0) -> Entry:
+        """Takes a step of the goroutine: its name and its kind. A clause of a select may be chosen."""
+        return self.asked(step_words(goroutine, clause), replies.stepped)
+
+    def run(self, most: int) -> Ran:
+        """Takes steps by turns."""
+        return self.asked("run %d" % most, replies.ran)
+
+    def undo(self) -> str:
+        """Takes the last step back: its name."""
+        return self.asked("undo", replies.undone)
+
+    def back(self, target: str) -> List[str]:
+        """Takes a step back with all that depends on it: their names in log order."""
+        return self.asked("back " + target, replies.steps)
+
+    def redo(self) -> List[str]:
+        """Takes the steps again that were taken back last: their names in their order."""
+        return self.asked("redo", replies.steps)
+
+    def order(self, names: Sequence[str]) -> None:
+        """Puts the kept steps into another order."""
+        self.asked("order " + " ".join(names), lambda reply: None)
+
+    def set_breakpoint(self, line: int) -> None:
+        self.asked("break %d" % line, lambda reply: None)
+
+    def clear_breakpoint(self, line: int) -> None:
+        self.asked("clear %d" % line, lambda reply: None)
+
+    # What only asks.
+
+    def show(self, goroutine: str) -> Optional[Goroutine]:
+        """The goroutine, or None where there is none of that name."""
+        return self.known("show " + goroutine, replies.goroutine)
+
+    def channel(self, name: str) -> Optional[Channel]:
+        """The channel, or None where there is none of that name."""
+        return self.known("chan " + name, lambda reply: replies.channel(name, reply))
+
+    def known(self, command: str, read: Callable[[Sequence[str]], Found]) -> Optional[Found]:
+        try:
+            return self.asked(command, read)
+        except Refused as refusal:
+            if refusal.code == "N2":
+                return None
+            raise
+
+    def text(self, goroutine: str) -> List[str]:
+        """The lines that a goroutine printed; none where there is no such goroutine."""
+        return self.known("text " + goroutine, replies.lines_within) or []
+
+    def console(self) -> List[str]:
+        """All lines that were printed, in the order of their steps."""
+        return self.asked("console", replies.lines_within)
+
+    def log(self) -> List[Entry]:
+        """The kept steps in their order."""
+        return self.asked("log", replies.log)
+
+    def causes(self, step: str) -> List[str]:
+        """The steps that a step depends on, itself included."""
+        return self.asked("causes " + step, replies.steps)
+
+    def dependents(self, step: str) -> List[str]:
+        """The steps that depend on a step, itself included."""
+        return self.asked("deps " + step, replies.steps)
+
+
+def words_of(command: str) -> List[str]:
+    """The words of a command, as Rewind tells them apart."""
+    return [word for word in command.replace("\t", " ").replace("\r", " ").split(" ") if word]
+
+
+def first_word(command: str) -> str:
+    words = command.split(None, 1)
+    return words[0] if words else ""
+
+
+def step_words(goroutine: str, clause: int = 0) -> str:
+    return "step %s %d" % (goroutine, clause) if clause else "step " + goroutine
+
+
+def step_command(entry: Entry) -> str:
+    """The command that takes a kept step again."""
+    return step_words(entry.step.partition("#")[0], entry.kind.clause)
+
+
+def end_of_step(entry: Entry) -> Optional[Reason]:
+    return END_OF_KIND.get(entry.kind.word)
+
+
+def end_of_run(run: Ran) -> Optional[Reason]:
+    return run.reason if run.reason in (Reason.ENDED, Reason.FAULT) else None

@@ -1,0 +1,40 @@
+"""What can go wrong between a client and `rewind`. The text of each error is one sentence for the user."""
+from __future__ import annotations
+
+from typing import List
+
+
+class RewindError(Exception):
+    """Something went wrong; the text says what, in words for the user."""
+
+
+class NotFound(RewindError):
+    """No `rewind` was found."""
+
+
+class ProcessError(RewindError):
+    """The process can't be started, is gone, or gives no answer."""
+
+
+class Cancelled(RewindError):
+    """The user stopped waiting for an answer, which still comes."""
+
+
+class MalformedReply(ProcessError):
+    """A reply has not the form that the replies to its command have."""
+
+    def __init__(self, name: str, command: str, reply: List[str]) -> None:
+        shown = reply[-1][:80] if reply else ""
+        super().__init__("%s gave an answer to '%s' that means nothing: %s" % (name, command[:80], shown))
+        self.command = command
+        self.reply = reply
+
+
+class SourceRefused(RewindError):
+    """The source is refused: `line` and `column` count from 1, and are 0 where the refusal has no place."""
+
+    def __init__(self, sentence: str, code: str, line: int, column: int) -> None:
+        super().__init__(sentence)
+        self.code = code
+        self.line = line
+        self.column = column

@@ -1,0 +1,122 @@
+"""Why a program stands as it does, as data: the end of the run, who waits for whom, a fault, and what is left at the end."""
+from __future__ import annotations
+
+from dataclasses import dataclass
+from enum import Enum
+from typing import Dict, List, Optional, Tuple
+
+from .notes import Note, Place
+from .operations import Verb
+from .replies import Goroutine, KindWord, Reason, State, Variable
+from .session import Session
+from .waits import Wait, Waits, cycle_among
+
+
+class Standing(Enum):
+    """How a program stands."""
+
+    RUNNING = "running"
+    DEADLOCK = "deadlock"
+    FAULT = "fault"
+    ENDED = "ended"
+
+
+@dataclass(frozen=True)
+class Fault:
+    """A fault: its name, the step, the places of its frames, the variables of the innermost, and the close that it met."""
+
+    name: str
+    step: str
+    places: Tuple[Place, ...]
+    variables: Tuple[Variable, ...]
+    channel: str = ""
+    closed_by: Optional[Note] = None
+
+
+@dataclass(frozen=True)
+class Starved:
+    """A clause of a select that has never been taken, though somebody waits for it, and how often the others were."""
+
+    goroutine: str
+    place: Place
+    clause: int
+    channel: str
+    waiting: str
+    since: str
+    taken: Tuple[Tuple[int, int], ...]
+
+
+@dataclass(frozen=True)
+class Explanation:
+    """How a program stands, and what there is to say of it. `left` are goroutines that are not done, but for those that wait."""
+
+    standing: Standing
+    waits: Tuple[Wait, ...] = ()
+    cycle: Tuple[str, ...] = ()
+    fault: Optional[Fault] = None
+    left: Tuple[Goroutine, ...] = ()
+    starved: Tuple[Starved, ...] = ()
+    printed: int = 0
+
+
+def explain(session: Session) -> Explanation:
+    """Why the program stands as it does."""
+    standing = standing_of(session)
+    waits = tuple(Waits(session).all())
+    if standing is Standing.FAULT:
+        return Explanation(standing, waits=waits, fault=fault_of(session))
+    if standing is Standing.DEADLOCK:
+        return Explanation(standing, waits=waits, cycle=tuple(cycle_among(waits)))
+    left = tuple(it for it in session.goroutines() if it.state is State.READY)
+    if standing is Standing.ENDED:
+        return Explanation(standing, waits=waits, left=left)
+    cycle = tuple(cycle_among(waits))
+    return Explanation(standing, waits=waits, cycle=cycle, left=left, starved=tuple(starved(session, waits)))
+
+
+def standing_of(session: Session) -> Standing:
+    end = session.stopped_by()
+    if end is Reason.FAULT:
+        return Standing.FAULT
+    if end is Reason.ENDED:
+        return Standing.ENDED
+    return Standing.RUNNING if session.ready() else Standing.DEADLOCK
+
+
+def fault_of(session: Session) -> Optional[Fault]:
+    """The fault in which the log ends."""
+    log = session.log()
+    if not log or log[-1].kind.word is not KindWord.FAULT:
+        return None
+    notes = session.notes()
+    last = notes[-1]
+    shown = session.goroutine(last.step.partition("#")[0])
+    frame = shown.frames[0] if shown and shown.frames else None
+    places = (last.place, *last.callers)
+    closes = [it for it in notes if it.kind.word is KindWord.CLOSE and last.channel and it.channel == last.channel]
+    closed_by = closes[-1] if closes else None
+    return Fault(last.kind.fault, last.step, places, frame.variables if frame else (), last.channel, closed_by)
+
+
+def starved(session: Session, waits: Tuple[Wait, ...]) -> List[Starved]:
+    """The clauses of selects that were passed over each time, though somebody waited for them."""
+    picks: Dict[Tuple[str, Place], Dict[int, int]] = {}
+    for note in session.notes():
+        if note.kind.word is KindWord.PICK:
+            of_select = picks.setdefault((note.step.partition("#")[0], note.place), {})
+            of_select[note.kind.clause] = of_select.get(note.kind.clause, 0) + 1
+    wishes = {wish.channel: (wait, wish.verb) for wait in waits for wish in wait.wishes}
+    found = []
+    for (name, place), taken in picks.items():
+        goroutine = session.goroutine(name)
+        if goroutine is None or goroutine.state is State.DONE or goroutine.frames[0].function != place.function:
+            continue
+        for operation in session.program.operations(place.function, place.line):
+            values = goroutine.frames[0].values_of(operation.channel)
+            channel = next((value for value in values if value in wishes), "")
+            wait, verb = wishes.get(channel, (None, None))
+            meets = verb is not None and verb is not operation.verb and Verb.CLOSE is not operation.verb
+            if operation.clause and operation.clause not in taken and wait and meets:
+                counts = tuple(sorted(taken.items()))
+                found.append(Starved(name, place, operation.clause, channel, wait.goroutine, wait.since, counts))
+    return found

@@ -1,0 +1,66 @@
+"""Which `rewind` to take, and a session of it on a source."""
+from __future__ import annotations
+
+import os
+import re
+import shutil
+from typing import Callable, List, Optional
+
+from .core import Core, unnoted
+from .errors import NotFound, ProcessError, SourceRefused
+from .meanings import REFUSED_SOURCES
+from .process import TIMEOUT, Process, never
+
+REPOSITORY = os.path.dirname(os.path.dirname(os.path.dirname(os.path.abspath(__file__))))
+PROGRAMS = ("rewind", "rewind-quick")
+REFUSAL = re.compile(r"rewind: ([SPC][0-9]+)(?: at ([0-9]+):([0-9]+))?")
+
+
+def is_program(path: str) -> bool:
+    return os.path.isfile(path) and os.access(path, os.X_OK)
+
+
+def find_rewind(named: Optional[str] = None) -> str:
+    """The `rewind` to take: the one named, that of `$REWIND`, one in bin of the repository, or the one on the path."""
+    for how, path in (("--rewind", named), ("$REWIND", os.environ.get("REWIND"))):
+        if path:
+            if not is_program(path):
+                raise NotFound("there is no program %s, which %s names" % (path, how))
+            return os.path.abspath(path)
+    beside = [os.path.join(REPOSITORY, "bin", name) for name in PROGRAMS]
+    found = next(filter(is_program, beside), None) or shutil.which("rewind")
+    if not found:
+        looked = "%s, %s and the path" % (beside[0], beside[1])
+        raise NotFound("no rewind was found in %s: build one by 'make quick', or name one by --rewind PATH" % looked)
+    return found
+
+
+def start(
+    rewind: str,
+    path: str,
+    timeout: float = TIMEOUT,
+    cancelled: Callable[[], bool] = never,
+    journal: Callable[[str], None] = unnoted,
+    options: Optional[List[str]] = None,
+) -> Core:
+    """A session on a source; SourceRefused where Rewind refuses it.
+
+    Rewind says nothing of a source that it accepts, so it is asked for `g0`.
+    """
+    process = Process([rewind, *(options or []), path], timeout, cancelled)
+    try:
+        process.ask("show g0")
+    except ProcessError as fault:
+        raise refusal_of(path, str(fault)) from None
+    return Core(process, journal)
+
+
+def refusal_of(path: str, said: str) -> Exception:
+    """What a `rewind` that ended at once said: that it refuses the source, or else what went wrong."""
+    found = REFUSAL.search(said)
+    if not found:
+        return ProcessError(said)
+    code, line, column = found.group(1), int(found.group(2) or 0), int(found.group(3) or 0)
+    place = ":%d:%d" % (line, column) if line else ""
+    sentence = "%s%s: %s (%s)" % (path, place, REFUSED_SOURCES.get(code, "it is refused"), code)
+    return SourceRefused(sentence, code, line, column)

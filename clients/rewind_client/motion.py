@@ -1,0 +1,211 @@
+"""Movements through a program, in portions, so that they can be stopped between them.
+
+Each is a generator that yields between two portions how many steps it took, and returns where and why it stopped. What it did
+before it is left stays done.
+"""
+from __future__ import annotations
+
+from enum import Enum
+from itertools import count
+from typing import AbstractSet, Callable, Generator, NamedTuple, Optional, Tuple
+
+from .core import Refused
+from .names import name_order, step_owner
+from .replies import Entry, Goroutine, KindWord, Ran, Reason, State
+from .session import Session
+
+RUN_PORTION = 50_000
+STEP_PORTION = 100
+
+# The lines with breakpoints; they may change while the program runs.
+Lines = Callable[[], AbstractSet[int]]
+
+
+class StopReason(Enum):
+    """Why a movement stopped."""
+
+    STEP = "step"
+    BREAKPOINT = "breakpoint"
+    DEADLOCK = "deadlock"
+    FAULT = "fault"
+    ENDED = "ended"
+    WAITS = "waits"
+    COUNT = "count"
+    ENTRY = "entry"
+    FULL = "full"
+    MEMORY = "memory"
+
+
+class Stop(NamedTuple):
+    """Why a movement stopped, with the goroutine that is to be looked at, its last step, the line of a breakpoint, and a run."""
+
+    reason: StopReason
+    goroutine: str
+    entry: Optional[Entry] = None
+    line: int = 0
+    ran: Optional[Ran] = None
+
+
+Motion = Generator[int, None, Stop]
+STOPS = {
+    Reason.ENDED: StopReason.ENDED,
+    Reason.FAULT: StopReason.FAULT,
+    Reason.STUCK: StopReason.DEADLOCK,
+    Reason.COUNT: StopReason.COUNT,
+    Reason.FULL: StopReason.FULL,
+    Reason.MEMORY: StopReason.MEMORY,
+    Reason.BREAK: StopReason.BREAKPOINT,
+}
+
+
+def forward(session: Session, lines: Lines, goroutine: str, most: Optional[int] = None) -> Motion:
+    """Runs all goroutines by turns to the next breakpoint, or as far as it goes, but no more than some steps.
+
+    A run looks for breakpoints before each of its steps but the first. So a portion begins with the last step of the one
+    before, which is taken back first: else a breakpoint between two portions would be passed.
+    """
+    taken, again = 0, 0
+    while True:
+        left = RUN_PORTION if most is None else min(RUN_PORTION, most - taken)
+        run = session.run(left + again)
+        taken += run.taken - again
+        if run.reason is not Reason.COUNT or taken == most:
+            return stop_of_run(session, Ran(taken, run.reason, run.line), goroutine)
+        yield taken
+        again = 1 if lines() else 0
+        if again:
+            session.undo()
+
+
+def stop_of_run(session: Session, run: Ran, goroutine: str) -> Stop:
+    """Where a run stopped; a fault and the end of the program are shown at the goroutine of the last step."""
+    if run.reason is Reason.BREAK:
+        return Stop(StopReason.BREAKPOINT, next_at(session, run.line), line=run.line, ran=run)
+    if run.reason in (Reason.ENDED, Reason.FAULT):
+        return end(session)._replace(ran=run)
+    return Stop(STOPS[run.reason], goroutine, ran=run)
+
+
+def next_at(session: Session, line: int) -> str:
+    """The goroutine whose turn it is after a run that ended at a breakpoint on this line."""
+    ready = [it for it in session.goroutines() if it.state is State.READY]
+    standing = [it.name for it in ready if it.line == line]
+    if len(standing) == 1:
+        return standing[0]
+    names = [it.name for it in ready]
+    last = step_owner(session.log()[-1].step)
+    after = [name for name in names if name_order(name) > name_order(last)]
+    return (after or names or ["g0"])[0]
+
+
+def end(session: Session) -> Stop:
+    """The program has ended, or a fault stopped it: the last step of the log tells which."""
+    last = session.log()[-1]
+    reason = StopReason.FAULT if last.kind.word is KindWord.FAULT else StopReason.ENDED
+    return Stop(reason, step_owner(last.step), last)
+
+
+def some_steps(session: Session, goroutine: str, times: int, clause: int = 0) -> Motion:
+    """Steps of one goroutine, until one begins to wait or ends the program."""
+    for number in range(1, times + 1):
+        entry = session.step(goroutine, clause)
+        if session.stopped_by():
+            return end(session)
+        if entry.kind.waits or number == times:
+            break
+        if number % STEP_PORTION == 0:
+            yield number
+    return Stop(StopReason.WAITS if entry.kind.waits else StopReason.STEP, goroutine, entry)
+
+
+def through(session: Session, start: Goroutine, lines: Lines, is_there: Callable[[int, int], bool]) -> Motion:
+    """Steps of one goroutine until it is where it shall be, or leaves its frame, waits, is done, or meets a breakpoint.
+
+    `is_there` is told how many frames deeper it stands, and its line.
+    """
+    depth = 0
+    for number in count(1):
+        entry = session.step(start.name)
+        if session.stopped_by():
+            return end(session)
+        depth += {KindWord.CALL: 1, KindWord.RETURN: -1}.get(entry.kind.word, 0)
+        if entry.kind.waits:
+            return Stop(StopReason.WAITS, start.name, entry)
+        if depth < 0:
+            return Stop(StopReason.STEP, start.name, entry)
+        shown = session.goroutine(start.name)
+        line = shown.line if shown else 0
+        if is_there(depth, line):
+            return Stop(StopReason.STEP, start.name, entry, line)
+        if (depth > 0 or line != start.line) and line in lines():
+            return Stop(StopReason.BREAKPOINT, start.name, entry, line)
+        if number % STEP_PORTION == 0:
+            yield number
+    raise AssertionError("count has no end")
+
+
+def next_line(session: Session, start: Goroutine, lines: Lines) -> Motion:
+    """Goes on to another line of the frame; frames that it calls are passed, but for breakpoints in them."""
+    return through(session, start, lines, lambda depth, line: depth == 0 and line != start.line)
+
+
+def out_of_frame(session: Session, start: Goroutine, lines: Lines) -> Motion:
+    """Goes on until the frame is left."""
+    return through(session, start, lines, lambda depth, line: False)
+
+
+def until_line(session: Session, start: Goroutine, lines: Lines, wanted: int) -> Motion:
+    """Goes on to a line, in the frame or in those that it calls."""
+    return through(session, start, lines, lambda depth, line: line == wanted)
+
+
+def backward(session: Session, lines: Lines) -> Motion:
+    """Takes steps back, the last one first, until one that belongs to a statement with a breakpoint is back, or all are."""
+    for number in count(1):
+        try:
+            step = session.undo()
+        except Refused as refusal:
+            if refusal.code != "B1":
+                raise
+            return Stop(StopReason.ENTRY, "g0")
+        name = step_owner(step)
+        shown = session.goroutine(name) if lines() else None
+        if shown is not None and shown.line in lines():
+            return Stop(StopReason.BREAKPOINT, name, line=shown.line)
+        if number % STEP_PORTION == 0:
+            yield number
+    raise AssertionError("count has no end")
+
+
+def line_before(session: Session, goroutine: Goroutine) -> str:
+    """The step with which a goroutine began the line before the one where it stands; an empty text where it has taken none.
+
+    A line that it has begun and not ended counts as the line before.
+    """
+    notes = session.follow().notes
+    depth, found, line = len(goroutine.frames) or 1, "", (0, 0)
+    for number in range(goroutine.steps, 0, -1):
+        note = notes.get("%s#%d" % (goroutine.name, number))
+        if note is None:
+            break
+        at = len(note.callers) + 1
+        if at > depth:
+            continue
+        here: Tuple[int, int] = (at, note.line)
+        if found and here != line:
+            break
+        found, line = note.step, here
+    return found
+
+
+def last_at_line(session: Session, goroutine: str, line: int) -> str:
+    """The step with which a goroutine last began a line; an empty text where it never came there."""
+    found = ""
+    for note in reversed(session.notes()):
+        if step_owner(note.step) != goroutine:
+            continue
+        if note.line == line:
+            found = note.step
+        elif found:
+            break
+    return found

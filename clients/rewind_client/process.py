@@ -1,0 +1,193 @@
+"""A `rewind` process: commands go in, replies come out.
+
+A process may answer, end, hang or write without end; each of these is an answer or an error, within a time limit. A command whose
+answer the user stopped waiting for is still owed its reply, which is read before the next command is sent.
+"""
+from __future__ import annotations
+
+import os
+import re
+import select
+import subprocess
+import time
+from typing import Callable, Iterable, List, Optional, Sequence
+
+from .errors import Cancelled, ProcessError
+from .meanings import meaning_of_exit
+
+TIMEOUT = 30.0
+TICK_MS = 100
+PART = 1 << 16
+MAX_REPLY = 1 << 27
+LAST_LINE = re.compile(rb"^(?!\| ).*\n", re.MULTILINE)
+# Commands sent in one exchange: their replies are read while the next ones are written.
+MAX_BATCH = 2000
+
+
+def never() -> bool:
+    return False
+
+
+class Process:
+    """One process, asked command by command."""
+
+    def __init__(self, words: Sequence[str], timeout: float = TIMEOUT, cancelled: Callable[[], bool] = never) -> None:
+        """Starts the process; an answer is awaited for `timeout` seconds, or until `cancelled` holds.
+
+        The process gets a session of its own, so that a Ctrl-C at the terminal does not end it.
+        """
+        self.name = words[0]
+        self.timeout = timeout
+        self.cancelled = cancelled
+        self.ended: Optional[str] = None
+        self.owed = 0
+        self.unread = b""
+        self.start = 0
+        self.last_line_at = 0
+        pipe = subprocess.PIPE
+        try:
+            self.child = subprocess.Popen(words, stdin=pipe, stdout=pipe, stderr=pipe, bufsize=0, start_new_session=True)
+        except (OSError, ValueError) as fault:
+            raise ProcessError("%s cannot be started: %s" % (words[0], fault)) from None
+        assert self.child.stdin and self.child.stdout and self.child.stderr
+        self.input = self.child.stdin.fileno()
+        self.output = self.child.stdout.fileno()
+        self.said_by = self.child.stderr.fileno()
+        for handle in (self.input, self.output, self.said_by):
+            os.set_blocking(handle, False)
+
+    def ask(self, command: str) -> List[str]:
+        """The lines of the reply to a command of one line, which must hold a word.
+
+        Raises ProcessError where the process is gone or gives no answer in time; it is ended then. Raises Cancelled where the
+        user stopped waiting.
+        """
+        return self.ask_all([command])[0]
+
+    def ask_all(self, commands: Iterable[str]) -> List[List[str]]:
+        """The replies to commands, asked in one go."""
+        listed = list(commands)
+        replies: List[List[str]] = []
+        for at in range(0, len(listed), MAX_BATCH):
+            replies += self.exchange(listed[at : at + MAX_BATCH])
+        return replies
+
+    def exchange(self, commands: Sequence[str]) -> List[List[str]]:
+        """Writes commands and reads their replies, each as the other end is ready for it."""
+        if self.ended is not None:
+            raise ProcessError(self.ended)
+        until = time.monotonic() + self.timeout
+        while self.owed:
+            self.read_reply(memoryview(b""), until)
+        rest = memoryview("".join(line + "\n" for line in commands).encode("utf-8", "backslashreplace"))
+        self.owed = len(commands)
+        replies = []
+        for _ in commands:
+            reply, rest = self.read_reply(rest, until)
+            replies.append(reply)
+            until = time.monotonic() + self.timeout
+        return replies
+
+    def read_reply(self, rest: memoryview, until: float) -> "tuple[List[str], memoryview]":
+        """The next reply, and what is still to be written."""
+        reply = self.taken_reply()
+        while reply is None:
+            if len(self.unread) - self.start > MAX_REPLY:
+                raise self.ended_for("%s gave an answer of more than %d bytes, and was ended" % (self.name, MAX_REPLY))
+            events = self.wait(len(rest), until)
+            if events & 1:
+                rest = self.write_some(rest)
+            if events & 2:
+                self.read_some()
+            reply = self.taken_reply()
+        self.owed -= 1
+        return reply, rest
+
+    def taken_reply(self) -> Optional[List[str]]:
+        """The first whole reply of what was read: it ends in the first line that does not begin with `| `."""
+        found = LAST_LINE.search(self.unread, self.last_line_at)
+        if found is None:
+            self.last_line_at = max(self.last_line_at, self.unread.rfind(b"\n") + 1)
+            return None
+        text = self.unread[self.start : found.end() - 1].decode("utf-8", "replace")
+        self.start = self.last_line_at = found.end()
+        return text.split("\n")
+
+    def write_some(self, rest: memoryview) -> memoryview:
+        try:
+            return rest[os.write(self.input, rest) :]
+        except BlockingIOError:
+            return rest
+        except OSError:
+            raise self.gone() from None
+
+    def read_some(self) -> None:
+        """Reads what is there, without waiting."""
+        parts = []
+        try:
+            while True:
+                part = os.read(self.output, PART)
+                if not part:
+                    break
+                parts.append(part)
+                if len(parts) >= 64:
+                    break
+        except BlockingIOError:
+            pass
+        if not parts:
+            raise self.gone()
+        self.last_line_at -= self.start
+        self.unread = b"".join([self.unread[self.start :], *parts])
+        self.start = 0
+
+    def wait(self, left: int, until: float) -> int:
+        """Waits until the process takes something (1) or gives something (2), or has closed its end."""
+        ready = select.poll()
+        ready.register(self.output, select.POLLIN)
+        if left:
+            ready.register(self.input, select.POLLOUT)
+        while True:
+            found = ready.poll(TICK_MS)
+            if time.monotonic() > until:
+                raise self.ended_for("%s gave no answer within %g seconds, and was ended" % (self.name, self.timeout))
+            if found:
+                return sum(1 if handle == self.input else 2 for handle, _ in found)
+            if left == 0 and self.cancelled():
+                raise Cancelled("the answer was not waited for")
+
+    def gone(self) -> ProcessError:
+        """The process has closed its end: why, in words."""
+        try:
+            status: Optional[int] = self.child.wait(1)
+        except subprocess.TimeoutExpired:
+            status = None
+        return self.ended_for("%s has ended: %s" % (self.name, meaning_of_exit(status, self.said())))
+
+    def ended_for(self, why: str) -> ProcessError:
+        """Ends the process, for a reason in words."""
+        self.end(why)
+        return ProcessError(why)
+
+    def said(self) -> str:
+        """What stands on standard error."""
+        try:
+            said = os.read(self.said_by, PART)
+        except OSError:
+            said = b""
+        return said.decode("utf-8", "replace").strip()
+
+    def end(self, why: str = "the session was ended") -> None:
+        """Ends the process, which gets half a second to leave on its own; may be called again."""
+        if self.ended is not None:
+            return
+        self.ended = why
+        self.unread = b""
+        assert self.child.stdin and self.child.stdout and self.child.stderr
+        self.child.stdin.close()
+        try:
+            self.child.wait(0.5)
+        except subprocess.TimeoutExpired:
+            self.child.kill()
+            self.child.wait()
+        self.child.stdout.close()
+        self.child.stderr.close()

@@ -1,0 +1,66 @@
+"""A source that `rewind` has accepted: its lines, where statements begin, and what its functions do.
+
+The command protocol tells the line of a goroutine's next step, and so of its innermost frame alone. Where a breakpoint can
+stand, and where an outer frame called the next one, is told from the text.
+"""
+from __future__ import annotations
+
+from bisect import bisect_left
+from typing import Dict, List, Optional
+
+from .errors import RewindError
+from .operations import Operation
+from .tokens import all_tokens
+from .walk import Function, Walk
+
+
+class Program:
+    """The text of a source, and what a walk over it found."""
+
+    def __init__(self, text: bytes, path: str = "") -> None:
+        walk = Walk(all_tokens(text))
+        self.path = path
+        self.text = text.decode("utf-8", "replace")
+        self.lines: List[str] = self.text.split("\n")
+        self.functions: Dict[str, Function] = walk.functions
+        self.statements: List[int] = sorted(walk.lines)
+
+    def line(self, number: int) -> str:
+        """The text of a line with single spaces in it; an empty text where there is no such line."""
+        return " ".join(self.lines[number - 1].split()) if 0 < number <= len(self.lines) else ""
+
+    def statement_at(self, line: int) -> Optional[int]:
+        """The line, or the next one, on which a statement begins; none where no statement comes after it."""
+        place = bisect_left(self.statements, line)
+        return self.statements[place] if place < len(self.statements) else None
+
+    def statements_between(self, first: int, last: int) -> List[int]:
+        return [line for line in self.statements if first <= line <= last]
+
+    def calling_lines(self, caller: str, callee: str) -> List[int]:
+        """The lines of the statements of one function that call another one, in their order."""
+        calls = self.functions[caller].calls if caller in self.functions else []
+        return sorted({call.line for call in calls if call.function == callee and not call.starts})
+
+    def heading(self, function: str) -> int:
+        """The line of a function's heading, or 0 where there is none of that name."""
+        return self.functions[function].line if function in self.functions else 0
+
+    def function_at(self, line: int) -> str:
+        """The name of the function to which a line belongs, or an empty text."""
+        return next((it.name for it in self.functions.values() if it.line <= line <= it.last_line), "")
+
+    def operations(self, function: str, line: int) -> List[Operation]:
+        """What a statement of a function does with channels."""
+        found = self.functions[function].operations if function in self.functions else []
+        return [it for it in found if it.line == line]
+
+
+def read_program(path: str) -> Program:
+    """The program in a file."""
+    try:
+        with open(path, "rb") as file:
+            return Program(file.read(), path)
+    except (OSError, ValueError) as fault:
+        reason = getattr(fault, "strerror", None) or str(fault)
+        raise RewindError("%s cannot be read: %s" % (path, reason)) from None

@@ -1,0 +1,265 @@
+"""A program under the debugger: its goroutines, channels, frames and steps, kept up to date.
+
+What is asked of Rewind is kept until a step may have changed it. The user's own session is asked for what stands now, a second
+one that follows it for the rest.
+"""
+from __future__ import annotations
+
+from typing import Callable, Dict, List, Optional, Sequence, TypeVar
+
+from . import replies
+from .core import MOVING, Core, Refused, end_of_step, first_word, step_words
+from .errors import ProcessError
+from .follower import NOTED, Follower
+from .names import channel_maker, channel_of, channel_order, child_of, name_order, step_owner
+from .notes import Note, Place
+from .program import Program
+from .replies import Channel, Entry, Goroutine, KindWord, Ran, Reason, State
+
+MAX_GOROUTINES = 10_000
+MAX_CHANNELS = 10_000
+# After a step of such a kind only its own goroutine stands elsewhere.
+OWN = frozenset((KindWord.PURE, KindWord.CALL, KindWord.LENGTH))
+
+Found = TypeVar("Found")
+
+
+class Session:
+    """All that is known of a program as it stands."""
+
+    def __init__(self, core: Core, program: Program, begin: Callable[[], Core]) -> None:
+        """`begin` starts the second session."""
+        self.core = core
+        self.program = program
+        self.follower = Follower(begin, program)
+        self.kept_log: Optional[List[Entry]] = []
+        self.is_end_known = True
+        self.version = 0
+        self.followed = -1
+        self.made_at = -1
+        self.made: Dict[str, str] = {}
+        self.taken_back: Dict[str, Entry] = {}
+        self.shown: Dict[str, Optional[Goroutine]] = {}
+        self.channels_shown: Dict[str, Optional[Channel]] = {}
+
+    def end(self) -> None:
+        """Ends both sessions."""
+        self.core.process.end()
+        self.follower.end()
+
+    # Commands.
+
+    def ask(self, command: str) -> List[str]:
+        """The reply to any command, with what it changes taken account of."""
+        changes = self.core.changes
+        try:
+            reply = self.core.ask(command)
+        except ProcessError:
+            raise
+        except Exception:
+            self.forget()
+            raise
+        if self.core.changes != changes:
+            self.take_account(first_word(command), reply)
+        return reply
+
+    def take_account(self, word: str, reply: Sequence[str]) -> None:
+        """Brings the log and what is known of goroutines and channels up to date with a command that moved."""
+        self.version += 1
+        if not replies.is_ok(reply) and replies.code_of(reply) != "B6":
+            return
+        if word == "step":
+            self.after_step(replies.stepped(reply))
+            return
+        self.forget_states()
+        log = self.kept_log
+        if word == "undo" and log and replies.is_ok(reply):
+            entry = log.pop()
+            self.taken_back = {entry.step: entry}
+        elif word == "back" and log is not None:
+            gone = set(replies.steps(reply)) if reply[-1] != "no B6 0" else set()
+            self.taken_back = {it.step: it for it in log if it.step in gone}
+            self.kept_log = [it for it in log if it.step not in gone]
+        elif word == "redo" and log is not None and all(it in self.taken_back for it in replies.steps(reply)):
+            log += [self.taken_back[step] for step in replies.steps(reply)]
+        else:
+            self.kept_log = None
+
+    def after_step(self, entry: Entry) -> None:
+        if self.kept_log is not None:
+            self.kept_log.append(entry)
+        if entry.kind.word in OWN:
+            self.shown.pop(step_owner(entry.step), None)
+        else:
+            self.forget_states()
+
+    def forget_states(self) -> None:
+        self.shown = {}
+        self.channels_shown = {}
+
+    def forget(self) -> None:
+        """Forgets all that was asked, where it is not known what became of a command."""
+        self.forget_states()
+        self.version += 1
+        self.kept_log = None
+        self.is_end_known = False
+
+    def moved(self, command: str, read: Callable[[Sequence[str]], Found]) -> Found:
+        """What is read from the reply to a command that moves; Refused where it is."""
+        reply = self.ask(command)
+        if not replies.is_ok(reply):
+            raise self.core.parsed(command, reply, lambda lines: Refused(command, lines))
+        return self.core.parsed(command, reply, read)
+
+    def step(self, goroutine: str, clause: int = 0) -> Entry:
+        return self.moved(step_words(goroutine, clause), replies.stepped)
+
+    def run(self, most: int) -> Ran:
+        return self.moved("run %d" % most, replies.ran)
+
+    def undo(self) -> str:
+        return self.moved("undo", replies.undone)
+
+    def back(self, target: str) -> List[str]:
+        return self.moved("back " + target, replies.steps)
+
+    def redo(self) -> List[str]:
+        return self.moved("redo", replies.steps)
+
+    def preview(self, target: str) -> List[str]:
+        """The steps that `back` would take back, as the second session does and takes again; Refused where it would be."""
+        core = self.follow().session()
+        reply = core.ask("back " + target)
+        if not replies.is_ok(reply):
+            raise Refused("back " + target, reply)
+        with self.follower.whole():
+            core.redo()
+        return replies.steps(reply)
+
+    # The log.
+
+    def log(self) -> List[Entry]:
+        """The kept steps in their order."""
+        if self.kept_log is None:
+            self.kept_log = self.core.log()
+            if not self.is_end_known:
+                self.core.end = end_of_step(self.kept_log[-1]) if self.kept_log else None
+                self.is_end_known = True
+        return self.kept_log
+
+    def stopped_by(self) -> Optional[Reason]:
+        """Why the program goes no further: its end, a fault, or nothing."""
+        if not self.is_end_known:
+            self.log()
+        return self.core.end
+
+    def follow(self) -> Follower:
+        """The second session, which stands where the first one does, with its notes."""
+        log = self.log()
+        if self.followed != self.version or not self.follower.is_alive():
+            self.follower.catch_up(log, self.core.given, lambda: self.core.ask("log"))
+            self.follower.follow(log)
+            self.followed = self.version
+        return self.follower
+
+    def notes(self) -> List[Note]:
+        """Notes of the kept steps in their order; those far back in a long log have none."""
+        notes = self.follow().notes
+        return [notes[it.step] for it in self.log() if it.step in notes]
+
+    # Goroutines and channels.
+
+    def made_by(self) -> Dict[str, str]:
+        """The goroutine or the channel that each step made which made one, in the order of the log."""
+        if self.made_at != self.version:
+            counts: Dict[str, int] = {}
+            self.made, self.made_at = {}, self.version
+            for entry in self.log():
+                word = entry.kind.word
+                if word is KindWord.GO or word is KindWord.MAKE:
+                    owner = step_owner(entry.step)
+                    key = owner + word.value
+                    counts[key] = number = counts.get(key, 0) + 1
+                    self.made[entry.step] = child_of(owner, number) if word is KindWord.GO else channel_of(owner, number)
+        return self.made
+
+    def goroutine_names(self) -> List[str]:
+        """The goroutines in the order of their names, as the log tells them."""
+        started = [name for name in self.made_by().values() if "/" not in name]
+        return sorted(["g0", *started[: MAX_GOROUTINES - 1]], key=name_order)
+
+    def channel_names(self) -> List[str]:
+        """The channels by the goroutines that made them."""
+        made = [name for name in self.made_by().values() if "/" in name]
+        return sorted(made[:MAX_CHANNELS], key=channel_order)
+
+    def goroutine(self, name: str) -> Optional[Goroutine]:
+        if name not in self.shown:
+            self.shown[name] = self.core.show(name)
+        return self.shown[name]
+
+    def goroutines(self) -> List[Goroutine]:
+        """The goroutines as they stand, in the order of their names."""
+        names = self.goroutine_names()
+        wanted = [name for name in names if name not in self.shown]
+        for name, reply in zip(wanted, self.core.ask_all(["show " + name for name in wanted])):
+            self.shown[name] = replies.goroutine(reply) if replies.is_ok(reply) else None
+        found = (self.shown[name] for name in names)
+        return [it for it in found if it is not None]
+
+    def channel(self, name: str) -> Optional[Channel]:
+        if name not in self.channels_shown:
+            self.channels_shown[name] = self.core.channel(name)
+        return self.channels_shown[name]
+
+    def channels(self) -> List[Channel]:
+        """The channels as they stand, by the goroutines that made them."""
+        names = self.channel_names()
+        wanted = [name for name in names if name not in self.channels_shown]
+        for name, reply in zip(wanted, self.core.ask_all(["chan " + name for name in wanted])):
+            self.channels_shown[name] = replies.channel(name, reply) if replies.is_ok(reply) else None
+        found = (self.channels_shown[name] for name in names)
+        return [it for it in found if it is not None]
+
+    def ready(self) -> List[Goroutine]:
+        """The goroutines of which one could take the next step."""
+        return [] if self.stopped_by() else [it for it in self.goroutines() if it.state is State.READY]
+
+    # What the source calls them, and where they stand.
+
+    def name_of(self, channel: str) -> str:
+        """A channel by its first variable and its name: `jobs (g0/c1)`."""
+        variable = self.variable_of(channel)
+        return "%s (%s)" % (variable, channel) if variable else channel
+
+    def variable_of(self, channel: str) -> str:
+        """The variable that held a channel first, else one that holds it now."""
+        if len(self.log()) <= NOTED:
+            self.follow()
+        first = self.follower.channel_names.get(channel)
+        if first:
+            return first
+        maker = channel_maker(channel)
+        for goroutine in sorted(self.goroutines(), key=lambda it: (it.name != maker, name_order(it.name))):
+            for frame in reversed(goroutine.frames):
+                for variable in frame.variables:
+                    if variable.value == channel:
+                        return variable.name
+        return ""
+
+    def places(self, goroutine: Goroutine) -> List[Place]:
+        """The place of each frame of a goroutine, the innermost first; the line is 0 where it can't be told."""
+        functions = [frame.function for frame in goroutine.frames]
+        if not functions:
+            return []
+        told = [self.program.calling_lines(outer, inner) for inner, outer in zip(functions, functions[1:])]
+        if any(len(lines) != 1 for lines in told):
+            noted = self.follow().callers_now(goroutine)
+            if len(noted) == len(told):
+                return [Place(functions[0], goroutine.line), *noted]
+        outer_lines = [lines[0] if len(lines) == 1 else 0 for lines in told]
+        return [Place(*pair) for pair in zip(functions, [goroutine.line, *outer_lines])]
+
+
+def is_moving(command: str) -> bool:
+    return first_word(command) in MOVING

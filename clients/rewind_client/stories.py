@@ -1,0 +1,110 @@
+"""What single steps did, in words, and who is where."""
+from __future__ import annotations
+
+from typing import Optional
+
+from .direct import Edge, EdgeKind
+from .meanings import FAULTS
+from .names import step_owner
+from .notes import Note
+from .operations import Verb
+from .replies import Channel, Goroutine, KindWord, State, Waiter
+from .session import Session
+
+
+class Stories:
+    """Tells steps, goroutines and channels of a session as it stands."""
+
+    def __init__(self, session: Session) -> None:
+        self.session = session
+        self.made = session.made_by()
+
+    def step(self, note: Note) -> str:
+        """What a step did; an empty text where it touched its own goroutine alone."""
+        word = note.kind.word
+        plain = {
+            KindWord.RETURN: "leaves %s" % note.place.function,
+            KindWord.EXIT: "ends the program",
+            KindWord.GO: "starts %s" % self.made.get(note.step, "a goroutine"),
+            KindWord.MAKE: "makes %s" % self.name(self.made.get(note.step, "")),
+            KindWord.DEFAULT: "takes the default clause",
+            KindWord.SELECT_WAIT: "waits on all clauses",
+            KindWord.FAULT: FAULTS.get(note.kind.fault, note.kind.fault),
+        }
+        if word in plain:
+            return plain[word]
+        return self.use(note)
+
+    def use(self, note: Note) -> str:
+        """A step that used a channel."""
+        name, value = self.name(note.channel), note.value
+        partner = " or ".join(step_owner(wait) for wait in note.woke)
+        clause = "clause %d: " % note.kind.clause if note.kind.clause else ""
+        if note.verb is Verb.CLOSE:
+            return "closes %s%s" % (name, ", and wakes " + partner if partner else "")
+        if note.verb is Verb.LENGTH:
+            return "takes the length of %s" % name
+        if note.kind.waits:
+            return self.wait(note, name)
+        if note.verb is Verb.SEND:
+            return "%ssends %s to %s%s" % (clause, value or "a value", name, ", to " + partner if partner else "")
+        if note.verb is Verb.RECEIVE and note.kind.word is KindWord.CLOSED:
+            return "finds %s closed and empty" % name
+        if note.verb is Verb.RECEIVE:
+            source = ", of " + partner if partner and note.kind.word is not KindWord.TAKE else ""
+            return "%sreceives %s from %s%s" % (clause, value or "a value", name, source)
+        return clause.rstrip(": ")
+
+    def wait(self, note: Note, name: str) -> str:
+        """A step that began to wait, and what ended the wait."""
+        wish = "send %s to" % note.value if note.verb is Verb.SEND and note.value else (note.verb or Verb.RECEIVE).value
+        waker = self.session.follower.wakers.get(note.step, "")
+        value = self.session.follower.notes[waker].value if waker and note.verb is Verb.RECEIVE else ""
+        until = ", until %s%s" % (waker, " with " + value if value else "") if waker else ""
+        return "waits to %s %s%s" % (wish, name, until)
+
+    def name(self, channel: str) -> str:
+        return self.session.variable_of(channel) or channel if channel else "a channel"
+
+    def goroutine(self, goroutine: Goroutine) -> str:
+        """Where a goroutine stands: `waiting at line 4 of lock: <-m`."""
+        if goroutine.state is State.DONE:
+            return "done"
+        function = goroutine.frames[0].function if goroutine.frames else "?"
+        state = goroutine.state.value
+        return "%s at line %d of %s: %s" % (state, goroutine.line, function, self.session.program.line(goroutine.line))
+
+    def channel(self, channel: Channel) -> str:
+        """A channel and its queues: `open, 1 of 2 items: 3; g0.1 waits to send 4`."""
+        parts = ["open" if channel.is_open else "closed"]
+        if channel.capacity:
+            items = ": " + " ".join(channel.items[:20]) + (" .." if len(channel.items) > 20 else "") if channel.items else ""
+            parts.append("%d of %d items%s" % (len(channel.items), channel.capacity, items))
+        else:
+            parts.append("no buffer")
+        senders = [waiter_in_words(it, "send %s" % it.value) for it in channel.senders[:10]]
+        receivers = [waiter_in_words(it, "receive") for it in channel.receivers[:10]]
+        return "; ".join([", ".join(parts), *senders, *receivers])
+
+    def value(self, value: str) -> str:
+        """A value, with a variable's name where it is a channel."""
+        variable = self.session.variable_of(value) if "/c" in value else ""
+        return "%s (%s)" % (variable, value) if variable else value
+
+
+def waiter_in_words(waiter: Waiter, wish: str) -> str:
+    clause = " (clause %d)" % waiter.clause if waiter.clause else ""
+    return "%s waits to %s%s" % (waiter.goroutine, wish, clause)
+
+
+def relation(edge: Edge, source: Optional[Note], step: Optional[Note]) -> str:
+    """What a direct cause was to a step, in words."""
+    if edge.kind is not EdgeKind.ORDER or source is None or step is None or source.channel != step.channel or not source.channel:
+        return "which " + edge.kind.value
+    if step.verb is Verb.RECEIVE and step.kind.waits and source.receives():
+        return "which took the last value before it"
+    if step.verb is Verb.SEND and step.kind.waits and source.sends():
+        return "which filled the buffer before it"
+    if source.kind.waits:
+        return "which was in the queue of the channel before it"
+    return "which used the channel before it"

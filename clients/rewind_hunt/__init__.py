@@ -1,0 +1,1 @@
+"""Hunts for schedules of a program that end badly: `rewind-hunt`."""

@@ -1,0 +1,1 @@
+"""The shell: what a person types around the commands of `rewind`."""

@@ -1,0 +1,72 @@
+"""What can stand next in a line: words, goroutines, channels, steps and lines."""
+from __future__ import annotations
+
+import glob
+import os
+from typing import TYPE_CHECKING, Callable, Dict, List
+
+from rewind_client.errors import RewindError
+
+from .words import WORDS, word_of
+
+if TYPE_CHECKING:
+    from .shell import Shell
+
+SHOWN_STEPS = 200
+
+
+class Completing:
+    """Finds the beginnings of words that fit."""
+
+    def __init__(self, shell: Shell) -> None:
+        self.shell = shell
+        goroutine, channel, step, line = self.goroutines, self.channels, self.steps, self.lines
+        self.by_word: Dict[str, List[Callable[[], List[str]]]] = {
+            **dict.fromkeys(("step", "show", "text", "bt", "goroutine"), [goroutine]),
+            **dict.fromkeys(("deps", "causes", "direct", "order"), [step]),
+            **dict.fromkeys(("break", "until", "list", "clear"), [line, self.functions]),
+            "chan": [channel],
+            "print": [self.variables, channel],
+            "history": [goroutine, channel, self.variables, lambda: ["all"]],
+            "back": [step, line, self.variables, lambda: ["go", "send", "recv", "var"]],
+            "preview": [step, line, lambda: ["go", "send", "recv", "var"]],
+            "help": [self.words],
+        }
+
+    def of(self, before: str) -> List[str]:
+        """What the last word of a line may become; the line ends where the cursor stands."""
+        words = before.split(" ")
+        first = [word for word in words if word][:1]
+        last = words[-1]
+        if len([word for word in words if word]) <= 1 and last:
+            return [name for name in self.words() if name.startswith(last)]
+        name = word_of(first[0]) if first else None
+        if name in ("save", "load"):
+            return sorted(path + ("/" if os.path.isdir(path) else "") for path in glob.glob(glob.escape(last) + "*"))
+        try:
+            found = [text for source in self.by_word.get(name or "", []) for text in source()]
+        except RewindError:
+            return []
+        return [text for text in dict.fromkeys(found) if text.startswith(last)]
+
+    def words(self) -> List[str]:
+        return sorted(word.name for word in WORDS)
+
+    def goroutines(self) -> List[str]:
+        return self.shell.session.goroutine_names()
+
+    def channels(self) -> List[str]:
+        return self.shell.session.channel_names()
+
+    def steps(self) -> List[str]:
+        return [entry.step for entry in reversed(self.shell.session.log()[-SHOWN_STEPS:])]
+
+    def lines(self) -> List[str]:
+        return [str(line) for line in self.shell.program.statements]
+
+    def functions(self) -> List[str]:
+        return sorted(self.shell.program.functions)
+
+    def variables(self) -> List[str]:
+        goroutine = self.shell.session.goroutine(self.shell.chosen)
+        return [it.name for frame in (goroutine.frames if goroutine else ()) for it in frame.variables]

@@ -1,0 +1,251 @@
+"""The words that only look: who is where, and why."""
+from __future__ import annotations
+
+from typing import TYPE_CHECKING, Callable, Dict, List, Optional
+
+from rewind_client.direct import DirectCauses
+from rewind_client.explanations import explain
+from rewind_client.names import is_channel, is_goroutine, is_step, step_number, step_of, step_owner
+from rewind_client.notes import Note
+from rewind_client.replies import Goroutine
+from rewind_client.sentences import Sentences
+from rewind_client.stories import Stories, relation
+
+from .words import GROUPS, HINTS, BY_NAME, Word, word_of
+
+if TYPE_CHECKING:
+    from .shell import Shell
+
+AROUND = 5
+SHOWN_STEPS = 40
+MAX_ROWS = 1000
+
+
+class Looking:
+    """Answers from what is known of the session."""
+
+    def __init__(self, shell: Shell) -> None:
+        self.shell = shell
+        self.screen = shell.screen
+
+    def handlers(self) -> Dict[str, Callable[[List[str]], None]]:
+        return {
+            "help": self.help,
+            "goroutines": self.goroutines,
+            "goroutine": self.choose,
+            "channels": self.channels,
+            "why": self.why,
+            "bt": self.frames,
+            "list": self.list,
+            "print": self.print,
+            "history": self.history,
+            "direct": self.direct,
+        }
+
+    # Help.
+
+    def help(self, words: List[str]) -> None:
+        if not words:
+            for title, group in GROUPS.items():
+                self.screen.say(title, "strong")
+                for word in group:
+                    self.screen.say("  %-28s %s" % (used(word), word.does))
+            self.screen.say("'help WORD' tells more of a word, and 'help CODE' of a code such as N3 or SendOnClosed.")
+            return
+        name = word_of(words[0])
+        if name:
+            self.one_word(BY_NAME[name])
+        else:
+            self.explained(words[0])
+
+    def one_word(self, word: Word) -> None:
+        self.screen.say(used(word), "strong")
+        self.screen.say("  " + word.does)
+        if word.more:
+            self.screen.say("  " + word.more)
+        if word.name in HINTS:
+            self.screen.say("  " + HINTS[word.name])
+
+    def explained(self, code: str) -> None:
+        """What Rewind itself tells of a code."""
+        lines = self.shell.explained(code)
+        for line in lines or ["there is no command and no code '%s'; 'help' lists the commands" % code[:40]]:
+            self.screen.say(line)
+
+    # Who is where.
+
+    def goroutines(self, _words: List[str]) -> None:
+        stories, session = Stories(self.shell.session), self.shell.session
+        found = session.goroutines()
+        for one in found[:MAX_ROWS]:
+            mark = "*" if one.name == self.shell.chosen else " "
+            self.screen.row("%s %-8s %s" % (mark, one.name, stories.goroutine(one)))
+        self.more(len(found) - MAX_ROWS, "goroutines")
+
+    def more(self, number: int, what: str) -> None:
+        if number > 0:
+            self.screen.say("and %d %s more" % (number, what))
+
+    def choose(self, words: List[str]) -> None:
+        if words:
+            found = self.known(words[0])
+            if found is None:
+                return
+            self.shell.chosen = found.name
+        self.shell.tell_chosen()
+
+    def known(self, name: str) -> Optional[Goroutine]:
+        """A goroutine that the user named, or none, with a sentence."""
+        found = self.shell.session.goroutine(name) if is_goroutine(name) else None
+        if found is None:
+            self.screen.say("there is no goroutine %s; 'goroutines' lists them" % name[:40], "error")
+        return found
+
+    def channels(self, _words: List[str]) -> None:
+        stories = Stories(self.shell.session)
+        found = self.shell.session.channels()
+        for one in found[:MAX_ROWS]:
+            self.screen.say("%s: %s" % (self.shell.session.name_of(one.name), stories.channel(one)))
+        self.more(len(found) - MAX_ROWS, "channels")
+        if not found:
+            self.screen.say("no channel is made yet")
+
+    def why(self, _words: List[str]) -> None:
+        session = self.shell.session
+        for line in Sentences(session).all(explain(session)):
+            self.screen.say(line, "faint" if line.startswith(" ") else "")
+
+    # Frames and the source.
+
+    def frames(self, words: List[str]) -> None:
+        goroutine = self.known(words[0] if words else self.shell.chosen)
+        if goroutine is None:
+            return
+        stories = Stories(self.shell.session)
+        self.screen.say("%s: %s" % (goroutine.name, stories.goroutine(goroutine)))
+        for number, (frame, place) in enumerate(zip(goroutine.frames, self.shell.session.places(goroutine))):
+            at = "line %d: %s" % (place.line, self.shell.program.line(place.line)) if place.line else "line not known"
+            self.screen.say("#%d %s, %s" % (number, frame.function, at))
+            values = ["%s=%s" % (it.name, stories.value(it.value)) for it in frame.variables]
+            if values:
+                self.screen.say("   " + " ".join(values), "faint")
+
+    def list(self, words: List[str]) -> None:
+        program, goroutine = self.shell.program, self.shell.session.goroutine(self.shell.chosen)
+        here = goroutine.line if goroutine else 0
+        if words and not words[0].isdigit():
+            line = program.heading(words[0])
+            if not line:
+                self.screen.say("list wants a line or a function: list 12, list main", "error")
+                return
+        else:
+            line = int(words[0]) if words else here or 1
+        standing: Dict[int, List[str]] = {}
+        for one in self.shell.session.goroutines():
+            standing.setdefault(one.line, []).append(one.name)
+        stops = self.shell.breakpoints.lines()
+        last = min(len(program.lines), line + AROUND)
+        for number in range(max(1, line - AROUND), last + 1):
+            mark = "=>" if number == here else " *" if number in stops else "  "
+            names = "   <- " + " ".join(standing[number][:8]) if number in standing else ""
+            text = program.lines[number - 1].rstrip().replace("\t", "    ")
+            self.screen.row("%s %4d  %s%s" % (mark, number, text, names), "source" if number == here else "")
+
+    def print(self, words: List[str]) -> None:
+        if not words:
+            self.screen.say("print wants a variable or a channel: print x, print g0/c1", "error")
+            return
+        stories, name = Stories(self.shell.session), words[0]
+        if is_channel(name):
+            self.one_channel(name)
+            return
+        goroutine = self.shell.session.goroutine(self.shell.chosen)
+        for frame in goroutine.frames if goroutine else ():
+            values = frame.values_of(name)
+            for value in values:
+                blocks = ", in one of %d blocks" % len(values) if len(values) > 1 else ""
+                self.screen.say("%s = %s   (in %s%s)" % (name, stories.value(value), frame.function, blocks))
+                if is_channel(value):
+                    self.one_channel(value)
+            if values:
+                return
+        self.screen.say(
+            "%s has no variable '%s' with a value here; 'bt' shows those it has" % (self.shell.chosen, name[:40]), "error"
+        )
+
+    def one_channel(self, name: str) -> None:
+        channel = self.shell.session.channel(name)
+        if channel is None:
+            self.screen.say("there is no channel %s; 'channels' lists them" % name, "error")
+        else:
+            self.screen.say("%s: %s" % (self.shell.session.name_of(name), Stories(self.shell.session).channel(channel)))
+
+    # Steps.
+
+    def history(self, words: List[str]) -> None:
+        notes = self.shell.session.notes()
+        wanted = words[0] if words else str(SHOWN_STEPS)
+        chosen = self.selected(notes, wanted)
+        if chosen is None:
+            self.screen.say(
+                "history wants a number, a goroutine, a channel, its variable, or 'all': history 20, history g0.1", "error"
+            )
+            return
+        stories = Stories(self.shell.session)
+        left_out = len(self.shell.session.log()) - len(chosen)
+        if (wanted.isdigit() or wanted == "all") and left_out > 0:
+            self.screen.say("(%d steps before these)" % left_out, "faint")
+        for note in chosen:
+            self.screen.row(row(stories, self.shell.program.line(note.line), note))
+            if self.shell.interrupts.pending():
+                return
+
+    def selected(self, notes: List[Note], wanted: str) -> Optional[List[Note]]:
+        """The steps that a word of `history` is about; none where it is no such word."""
+        if wanted.isdigit():
+            return notes[-int(wanted) :] if int(wanted) else []
+        if wanted == "all":
+            return notes
+        if is_goroutine(wanted):
+            return [it for it in notes if step_owner(it.step) == wanted]
+        channels = [wanted] if is_channel(wanted) else self.shell.channels_named(wanted)
+        return [it for it in notes if it.channel in channels] if channels else None
+
+    def direct(self, words: List[str]) -> None:
+        if len(words) != 1 or not is_step(words[0]):
+            self.screen.say("direct wants a step: direct g0.1#3; 'log' and 'history' list them", "error")
+            return
+        finder, step = DirectCauses(self.shell.session), words[0]
+        if step not in finder.kinds:
+            self.screen.say("there is no kept step %s; 'log' and 'history' list them" % step, "error")
+            return
+        stories, notes = Stories(self.shell.session), self.shell.session.follow().notes
+        self.about(stories, step, notes, "")
+        edges = finder.of(step)
+        for edge in edges:
+            self.about(stories, edge.source, notes, relation(edge, notes.get(edge.source), notes.get(step)))
+        if not edges:
+            own = (
+                "; its own step before it is %s" % step_of(step_owner(step), step_number(step) - 1)
+                if step_number(step) > 1
+                else ""
+            )
+            self.screen.say("    it depends directly on no step of another goroutine%s" % own)
+
+    def about(self, stories: Stories, step: str, notes: Dict[str, Note], related: str) -> None:
+        """A step, and what it was to another one."""
+        note = notes.get(step)
+        told = row(stories, self.shell.program.line(note.line), note) if note else step
+        self.screen.row("%s%s" % ("    " if related else "", told))
+        if related:
+            self.screen.say("        " + related, "faint")
+
+
+def used(word: Word) -> str:
+    return "%s%s" % (word.use, " (%s)" % word.short if word.short else "")
+
+
+def row(stories: Stories, text: str, note: Note) -> str:
+    """A step with its kind, line and statement, and what it did."""
+    did = stories.step(note)
+    return ("%-8s %-11s %4d: %-30s %s" % (note.step, note.kind, note.line, text[:60], did)).rstrip()

@@ -1,0 +1,91 @@
+"""Where commands come from: a terminal with history and completion, a plain terminal, or a file."""
+from __future__ import annotations
+
+import importlib
+import importlib.util
+import os
+import sys
+from typing import TYPE_CHECKING, Iterable, Protocol
+
+from .completing import Completing
+from .saving import state_folder
+
+if TYPE_CHECKING:
+    from prompt_toolkit.completion import CompleteEvent, Completer, Completion
+    from prompt_toolkit.document import Document
+
+MISSING = (
+    "history, completion and Ctrl-R need prompt_toolkit, which this Python does not have: apt-get install python3-prompt-toolkit"
+)
+
+
+class Reader(Protocol):
+    """Gives lines; EOFError at their end, KeyboardInterrupt at Ctrl-C."""
+
+    def read(self, prompt: str) -> str:
+        ...
+
+
+class FileReader:
+    """Lines of a standard input that is no terminal."""
+
+    def read(self, prompt: str) -> str:
+        line = sys.stdin.buffer.readline()
+        if not line:
+            raise EOFError
+        return line.decode("utf-8", "backslashreplace").rstrip("\n")
+
+
+class PlainReader:
+    """A terminal without prompt_toolkit; one that can do more than lines has arrow keys none the less."""
+
+    def __init__(self) -> None:
+        if has_rich_terminal() and importlib.util.find_spec("readline"):
+            importlib.import_module("readline")
+
+    def read(self, prompt: str) -> str:
+        return input(prompt)
+
+
+class RichReader:
+    """A terminal with history, completion and Ctrl-R."""
+
+    def __init__(self, completing: Completing, has_colours: bool) -> None:
+        from prompt_toolkit import PromptSession
+        from prompt_toolkit.history import FileHistory, History, InMemoryHistory
+
+        history: History
+        try:
+            history = FileHistory(os.path.join(state_folder(), "history"))
+            open(os.path.join(state_folder(), "history"), "ab").close()
+        except OSError:
+            history = InMemoryHistory()
+        self.has_colours = has_colours
+        self.session: PromptSession[str] = PromptSession(
+            history=history, completer=completer_of(completing), complete_while_typing=False
+        )
+
+    def read(self, prompt: str) -> str:
+        from prompt_toolkit.formatted_text import FormattedText
+
+        return self.session.prompt(FormattedText([("bold" if self.has_colours else "", prompt)]))
+
+
+def completer_of(completing: Completing) -> Completer:
+    """Completion as prompt_toolkit asks for it."""
+    from prompt_toolkit.completion import Completer, Completion
+
+    class Words(Completer):
+        def get_completions(self, document: Document, complete_event: CompleteEvent) -> Iterable[Completion]:
+            before = document.text_before_cursor
+            last = before.split(" ")[-1]
+            for text in completing.of(before):
+                yield Completion(text, start_position=-len(last))
+
+    return Words()
+
+
+def has_rich_terminal() -> bool:
+    """Whether standard input and output are a terminal that can do more than lines."""
+    is_terminal = sys.stdin.isatty() and sys.stdout.isatty()
+    return is_terminal and os.environ.get("TERM", "") not in ("", "dumb")

@@ -1,0 +1,288 @@
+"""The shell itself: it obeys lines, one after the other."""
+from __future__ import annotations
+
+import subprocess
+from typing import Callable, Dict, List, Optional, Sequence
+
+from rewind_client.breakpoints import Breakpoints
+from rewind_client.core import MOVING as MOVING_WORDS
+from rewind_client.core import Core, Refused, words_of
+from rewind_client.errors import Cancelled, ProcessError, RewindError
+from rewind_client.explanations import Standing, standing_of
+from rewind_client.finding import start
+from rewind_client.meanings import FAULTS, REFUSED_COMMANDS
+from rewind_client.names import is_step, step_owner
+from rewind_client.printed import change
+from rewind_client.program import Program
+from rewind_client.replies import Entry, State
+from rewind_client.session import Session
+from rewind_client.stories import Stories
+
+from .interrupts import Interrupts
+from .looking import Looking
+from .moving import Moving
+from .saving import Script, read_script
+from .terminal import Screen
+from .words import CORE, hint, word_of
+
+PASSED = frozenset(word.name for word in CORE) - {"run"}
+TARGETS = frozenset(("go", "send", "recv"))
+MAX_PRINTED = 10
+
+
+class Shell:
+    """A session with a person: the chosen goroutine, breakpoints, and what was printed and saved."""
+
+    def __init__(
+        self, rewind: str, program: Program, screen: Screen, interrupts: Interrupts, asks: Optional[Callable[[str], str]]
+    ) -> None:
+        """`asks` puts a question at a terminal; None where there is none to answer."""
+        self.rewind = rewind
+        self.program = program
+        self.screen = screen
+        self.interrupts = interrupts
+        self.asks = asks
+        self.script = Script(program.path)
+        self.is_over = False
+        self.is_lost = False
+        self.begin()
+        self.breakpoints: Breakpoints = Breakpoints(self.session)
+        looking, moving = Looking(self), Moving(self)
+        own: Dict[str, Callable[[List[str]], None]] = {"save": self.save, "load": self.load, "restart": self.restart}
+        self.handlers = {**looking.handlers(), **moving.handlers(), **own}
+
+    def begin(self) -> None:
+        """Begins the program, with nothing taken."""
+        core = self.start()
+        core.journal = self.script.note
+        self.session = Session(core, self.program, self.start)
+        self.chosen = "g0"
+        self.printed: List[str] = []
+
+    def start(self) -> Core:
+        return start(self.rewind, self.program.path, cancelled=self.interrupts.gives_up)
+
+    def end(self) -> None:
+        self.session.end()
+        self.script.end()
+
+    # Lines.
+
+    def obey(self, line: str) -> None:
+        """Does what a line says, and tells what was wrong with it where it can't."""
+        self.interrupts.begin()
+        try:
+            self.obeyed(line)
+        except Cancelled:
+            self.screen.say("Stopped by Ctrl-C; Rewind may still do the command.", "note")
+        except Refused as refusal:
+            self.screen.reply([refusal.reply[-1]])
+            self.tell_refusal(refusal.reply[-1])
+        except ProcessError as fault:
+            self.lost(fault)
+        except RewindError as fault:
+            self.screen.say(str(fault), "error")
+        finally:
+            self.interrupts.end()
+            self.screen.flush()
+
+    def obeyed(self, line: str) -> None:
+        words = words_of(line)
+        if not words:
+            return
+        name = word_of(words[0])
+        if name is not None and words[0] != name:
+            words = [name, *words[1:]]
+            line = " ".join(words)
+        if name == "quit" and len(words) == 1:
+            self.leave()
+        elif name is None or is_for_rewind(words):
+            self.passed(line)
+        else:
+            self.handlers[name](words[1:])
+
+    def leave(self) -> None:
+        if not self.is_lost:
+            self.screen.reply(self.session.ask("quit"))
+        self.is_over = True
+
+    def lost(self, fault: ProcessError) -> None:
+        """The process is gone: what is left."""
+        self.screen.say(str(fault), "error")
+        saved = "; the commands so far are in %s" % self.script.path if self.script.path else ""
+        self.screen.say("'restart' begins the program anew%s" % saved, "note")
+        self.is_lost = True
+
+    # Commands of Rewind.
+
+    def passed(self, line: str) -> None:
+        """A line for Rewind, unchanged, with its reply and what that means."""
+        reply = self.session.ask(line)
+        self.screen.reply(reply)
+        words, last = words_of(line), reply[-1]
+        if last.startswith("?"):
+            self.screen.say(hint(line), "note")
+            return
+        self.script.typed(line)
+        if last.startswith("no "):
+            self.tell_refusal(last)
+        elif words[0] in MOVING_WORDS:
+            self.after_move(words, last)
+
+    def after_move(self, words: Sequence[str], last: str) -> None:
+        """What follows from steps that were taken, or taken back."""
+        self.tell_printed()
+        if words[0] == "step":
+            self.chosen = words[1]
+        if words[0] in ("step", "redo") and self.session.stopped_by():
+            self.screen.say(self.end_in_words(), "note")
+
+    def tell_refusal(self, reply: str) -> None:
+        code = reply.split(" ")[1] if " " in reply else ""
+        meaning = REFUSED_COMMANDS.get(code)
+        if meaning:
+            self.screen.say("%s: %s ('help %s' tells more)" % (code, meaning, code), "note")
+
+    # What is told after a movement.
+
+    def end_in_words(self) -> str:
+        """A sentence for a program that goes no further."""
+        session, standing = self.session, standing_of(self.session)
+        if standing is Standing.FAULT:
+            last = session.log()[-1]
+            shown = session.goroutine(step_owner(last.step))
+            line = shown.line if shown else 0
+            place = "%s at line %d: %s" % (step_owner(last.step), line, self.program.line(line))
+            return "%s, in %s ('why' tells more)" % (FAULTS.get(last.kind.fault, last.kind.fault), place)
+        if standing is Standing.ENDED:
+            left = sum(it.state is not State.DONE for it in session.goroutines())
+            if not left:
+                return "The program has ended, and no goroutine is left."
+            return "The program has ended, and %s left ('why' tells where)." % (
+                "1 goroutine is" if left == 1 else "%d goroutines are" % left
+            )
+        if standing is Standing.DEADLOCK:
+            names = [it.name for it in session.goroutines() if it.state is State.WAITING]
+            named = ", ".join(names[:8]) + (", .." if len(names) > 8 else "")
+            return "Deadlock: %s %s, and no goroutine is ready ('why' tells for what)." % (
+                named,
+                "waits" if len(names) == 1 else "wait",
+            )
+        return ""
+
+    def tell_chosen(self, entry: Optional[Entry] = None) -> None:
+        """Where the chosen goroutine stands, and its last step where one was taken."""
+        found = self.session.goroutine(self.chosen)
+        if found is None:
+            self.screen.say("%s is not started any more; 'goroutine G' chooses another" % self.chosen)
+            return
+        taken = "%s %s; " % (entry.step, entry.kind) if entry else ""
+        self.screen.say("%s%s is %s" % (taken, self.chosen, Stories(self.session).goroutine(found)))
+
+    def tell_printed(self) -> None:
+        """The lines that the program has printed since the last command, and those that it no longer has."""
+        if not any(call.function == "println" for it in self.program.functions.values() for call in it.calls):
+            return
+        now = self.session.core.console()
+        found, self.printed = change(self.printed, now), now
+        for lines, did in ((found.added, "prints"), (found.taken_back, "no longer prints")):
+            for text in lines[:MAX_PRINTED]:
+                self.screen.line("%s: %s" % (did, text), "source")
+            if len(lines) > MAX_PRINTED:
+                self.screen.say("(and %d lines more: 'console' shows all that is printed)" % (len(lines) - MAX_PRINTED))
+
+    # Words of the shell itself.
+
+    def agrees(self, question: str) -> bool:
+        """Whether the user agrees; where nobody can be asked it is so."""
+        if self.asks is None:
+            return True
+        try:
+            return self.asks(question + " [Y/n] ").strip().lower() in ("", "y", "yes")
+        except (EOFError, KeyboardInterrupt):
+            return False
+
+    def channels_named(self, variable: str) -> List[str]:
+        """The channels that a variable of this name held first."""
+        return [name for name in self.session.channel_names() if self.session.variable_of(name) == variable]
+
+    def explained(self, code: str) -> List[str]:
+        """What Rewind tells of a code; nothing where it is none."""
+        for text in (code, code.upper()):
+            try:
+                done = subprocess.run([self.rewind, "--explain", text], capture_output=True, timeout=10, check=False)
+            except (OSError, ValueError, subprocess.SubprocessError):
+                return []
+            if done.returncode == 0:
+                return done.stdout.decode("utf-8", "replace").splitlines()
+        return []
+
+    def save(self, words: List[str]) -> None:
+        if len(words) != 1:
+            self.screen.say("save wants a file: save session.script", "error")
+            return
+        self.script.save(words[0])
+        self.screen.say("%d commands are in %s" % (len(self.script.lines), words[0]))
+
+    def load(self, words: List[str]) -> None:
+        """Takes the commands of a script, and tells the last reply."""
+        if len(words) != 1:
+            self.screen.say("load wants a file: load session.script", "error")
+            return
+        commands = [line for line in read_script(words[0]) if words_of(line) and words_of(line)[0] != "quit"]
+        refused, reply = 0, ["ok"]
+        for number, line in enumerate(commands, 1):
+            reply = self.session.ask(line)
+            refused += not reply[-1].startswith("ok")
+            given = words_of(line)
+            if given[0] == "break" and reply[-1] == "ok":
+                self.breakpoints.note(int(given[1]))
+            elif given[0] == "clear" and reply[-1] == "ok":
+                self.breakpoints.by_line.pop(int(given[1]), None)
+            if self.interrupts.pending():
+                self.screen.say("Stopped by Ctrl-C after %d commands of %s" % (number, words[0]), "note")
+                return
+        self.screen.say("%d commands of %s were taken, %d of them refused; the last gave" % (len(commands), words[0], refused))
+        self.screen.reply(reply[-1:])
+        self.tell_printed()
+        named = [word for word in reply[-1].split(" ") if is_step(word)]
+        self.chosen = step_owner(named[-1]) if named else self.chosen
+        sentence = self.end_in_words()
+        if sentence:
+            self.screen.say(sentence, "note")
+
+    def restart(self, _words: List[str]) -> None:
+        """Begins the program anew, with the breakpoints as they are."""
+        before = self.breakpoints.all()
+        self.session.end()
+        if self.script.path:
+            self.screen.say("The commands before are in %s" % self.script.path)
+            self.script.begin()
+        else:
+            self.script.lines = []
+        self.begin()
+        self.is_lost = False
+        self.breakpoints = Breakpoints(self.session)
+        for one in before:
+            self.breakpoints.set(str(one.line))
+        self.tell_saved()
+        self.tell_chosen()
+
+    def tell_saved(self) -> None:
+        if self.script.fault:
+            self.screen.say(self.script.fault, "error")
+        elif self.script.path:
+            self.screen.say("The session is saved as it goes: %s" % self.script.path, "faint")
+
+
+def is_for_rewind(words: Sequence[str]) -> bool:
+    """Whether a line goes to Rewind as it is. `step`, `back`, `break` and `clear` have forms of the shell besides."""
+    name = words[0]
+    if name in PASSED or name == "quit":
+        return True
+    if name == "step":
+        return len(words) > 1 and not (len(words) == 2 and words[1].isdigit())
+    if name == "back":
+        is_variable = words[1:2] == ["var"] and len(words) != 3
+        return len(words) > 1 and (words[1] in TARGETS or is_variable or "#" in words[1])
+    return False

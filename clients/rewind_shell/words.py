@@ -1,0 +1,142 @@
+"""The words of the shell and of Rewind: how each is used and what it does."""
+from __future__ import annotations
+
+import difflib
+from typing import Dict, List, NamedTuple, Optional
+
+
+class Word(NamedTuple):
+    """A word with its abbreviations, its use, what it does in a line, and more."""
+
+    name: str
+    short: str
+    use: str
+    does: str
+    more: str = ""
+
+
+LOOKING = [
+    Word("why", "w", "why", "why the program stands: deadlock, fault, end, and who waits for whom"),
+    Word("goroutines", "gs", "goroutines", "each goroutine with its state, line and function"),
+    Word(
+        "goroutine",
+        "g",
+        "goroutine G",
+        "choose the goroutine that step, next, bt and others are about",
+        "Alone it tells which is chosen.",
+    ),
+    Word("channels", "cs", "channels", "each channel with its name in the source, its items and who waits"),
+    Word("bt", "where", "bt [G]", "the frames of a goroutine, each with its line and variables"),
+    Word("list", "l", "list [LINE]", "the source around a line, with who stands there"),
+    Word("print", "p", "print X", "a variable of the chosen goroutine, or a channel"),
+    Word(
+        "history",
+        "hi",
+        "history [N | G | CHANNEL | X | all]",
+        "the log with line, channel and value of each step",
+        "The last 40 steps, or N, or all. With a goroutine, a channel or the name of its variable: the steps of it alone.",
+    ),
+    Word("direct", "d", "direct STEP", "the direct causes of a step; 'causes STEP' shows all"),
+]
+MOVING = [
+    Word("step", "s", "step [N]", "N steps of the chosen goroutine", "'step G' and 'step G CASE' go to Rewind unchanged."),
+    Word("next", "n", "next", "the chosen goroutine goes on to another line; calls are passed"),
+    Word("finish", "fin", "finish", "the chosen goroutine goes on until its function is left"),
+    Word("until", "u", "until LINE", "the chosen goroutine goes on to a line"),
+    Word(
+        "continue",
+        "c",
+        "continue",
+        "all goroutines go on by turns to a breakpoint or the end",
+        "Ctrl-C stops it where it stands.",
+    ),
+    Word("reverse-next", "rn", "reverse-next", "the chosen goroutine goes back to the line before, with all that depends on it"),
+    Word("reverse-continue", "rc", "reverse-continue", "steps are undone back to a breakpoint or the start"),
+    Word(
+        "back",
+        "b",
+        "back LINE | back var X | back STEP ..",
+        "take back a step with all that depends on it, after a preview",
+        "LINE is where the chosen goroutine was last, X a variable of it. The forms with a goroutine, a channel or a step go to"
+        " Rewind unchanged: 'back G#N', 'back go G', 'back send C K', 'back recv C K', 'back var G X'.",
+    ),
+    Word("preview", "pv", "preview G#N | preview var X ..", "what 'back' would take back, which stays"),
+    Word("break", "br", "break [LINE | FUNCTION]", "set a breakpoint, or list them; on a line without a statement it is moved"),
+    Word("clear", "", "clear LINE", "remove a breakpoint"),
+]
+SHELL = [
+    Word("help", "h", "help [WORD]", "these words, one of them, or a code such as N3"),
+    Word("save", "", "save FILE", "write the commands so far as a script for 'load' and 'rewind FILE < SCRIPT'"),
+    Word("load", "", "load FILE", "take the commands of a script"),
+    Word("restart", "", "restart", "begin the program anew; breakpoints stay"),
+    Word("quit", "q", "quit", "end the session; so do exit and Ctrl-D"),
+]
+CORE = [
+    Word("run", "r", "run N", "take up to N steps, of the goroutines by turns"),
+    Word("undo", "", "undo", "take the last step back"),
+    Word("redo", "", "redo", "take the steps again that went back last"),
+    Word("order", "", "order ID ..", "put the kept steps into another order"),
+    Word("deps", "", "deps ID", "the steps that depend on a step"),
+    Word("causes", "", "causes ID", "the steps that a step depends on"),
+    Word("show", "", "show G", "a goroutine as Rewind tells it"),
+    Word("chan", "", "chan C", "a channel as Rewind tells it"),
+    Word("text", "", "text G", "what a goroutine printed"),
+    Word("console", "", "console", "all that was printed"),
+    Word("log", "", "log", "the kept steps with their kinds"),
+    Word("free", "", "free N", "grant N steps to workers"),
+]
+GROUPS = {"Look": LOOKING, "Move": MOVING, "The commands of Rewind": CORE, "The shell": SHELL}
+WORDS: List[Word] = [word for group in GROUPS.values() for word in group]
+BY_NAME: Dict[str, Word] = {word.name: word for word in WORDS}
+ALIASES: Dict[str, str] = {
+    **{word.short: word.name for word in WORDS if word.short},
+    "?": "help",
+    "exit": "quit",
+    "threads": "goroutines",
+    "backtrace": "bt",
+    "info": "goroutines",
+    "cont": "continue",
+}
+
+# What is wrong where Rewind takes a line for no command.
+HINTS = {
+    "step": "step wants a goroutine, and may have the number of a clause: step g0, step g0 2; or a number of steps: step 5",
+    "run": "run wants a number from 1 to 1000000: run 1000; 'continue' goes on to a breakpoint or the end",
+    "undo": "undo stands alone and takes the last step back; 'back g0.1#3' takes another one with all that depends on it",
+    "redo": "redo stands alone and takes the steps again that went back last",
+    "back": "back wants a step, a line or a variable: back g0.1#3, back 12, back var x; or back go g0.1, back send g0/c1 2",
+    "order": "order wants the names of all kept steps in their new order: order g0#1 g0.1#1 g0#2",
+    "deps": "deps wants a step: deps g0.1#3",
+    "causes": "causes wants a step: causes g0.1#3",
+    "break": "break wants a line or a function: break 12, break main",
+    "clear": "clear wants the line of a breakpoint: clear 12",
+    "free": "free wants a number from 0 to 1000000: free 100",
+    "show": "show wants a goroutine: show g0",
+    "chan": "chan wants a channel: chan g0/c1; 'channels' lists them",
+    "text": "text wants a goroutine: text g0; 'console' shows all that was printed",
+    "console": "console stands alone and shows all that was printed",
+    "log": "log stands alone and shows all kept steps; 'history 5' shows the last 5",
+    "quit": "quit stands alone",
+}
+
+
+def word_of(text: str) -> Optional[str]:
+    """The word that a text names: in full, by its abbreviation, or by a beginning that no other word has."""
+    if text in BY_NAME:
+        return text
+    if text in ALIASES:
+        return ALIASES[text]
+    begun = [name for name in BY_NAME if name.startswith(text)]
+    return begun[0] if len(begun) == 1 and len(text) > 1 else None
+
+
+def hint(line: str) -> str:
+    """What is wrong with a line that is no command."""
+    word = line.split()[0]
+    if word in HINTS:
+        return HINTS[word]
+    if word.lower() in BY_NAME:
+        return "commands are written in small letters: %s" % word.lower()
+    near = difflib.get_close_matches(word, [*BY_NAME, *ALIASES], 1)
+    also = "did you mean '%s'? " % near[0] if near else ""
+    return "there is no command '%s'; %s'help' lists them" % (word[:40], also)

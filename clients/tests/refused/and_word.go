@@ -1,0 +1,7 @@
+package main
+
+func main() {
+	a, b := true, true
+	if a and b {
+	}
+}

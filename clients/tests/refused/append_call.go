@@ -1,0 +1,6 @@
+package main
+
+func main() {
+	numbers := 1
+	numbers = append(numbers, 2)
+}

@@ -1,0 +1,6 @@
+package main
+
+func main() {
+	a, b := make(chan int), make(chan bool)
+	println(a == b)
+}

@@ -1,0 +1,8 @@
+package main
+
+func f(n int) {
+}
+
+func main() {
+	f(func() int { return 1 }())
+}

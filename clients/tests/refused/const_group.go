@@ -1,0 +1,9 @@
+package main
+
+const (
+	red = iota
+	green
+)
+
+func main() {
+}

@@ -1,0 +1,10 @@
+package main
+
+func main() {
+	c := make(chan int)
+	poll:
+		select {
+		case <-c:
+			continue poll
+		}
+}

@@ -1,0 +1,7 @@
+package main
+
+func close(c chan int) {
+}
+
+func main() {
+}

@@ -1,0 +1,6 @@
+package main
+
+func main() {
+	do {
+	} while (true)
+}

@@ -1,0 +1,7 @@
+package main
+
+function work() {
+}
+
+func main() {
+}

@@ -1,0 +1,7 @@
+package main
+
+func main() {
+	goto end
+	end:
+		println(1)
+}

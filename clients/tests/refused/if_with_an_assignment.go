@@ -1,0 +1,7 @@
+package main
+
+func main() {
+	x := 2
+	if x = 1 {
+	}
+}

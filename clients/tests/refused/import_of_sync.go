@@ -1,0 +1,6 @@
+package main
+
+import "sync"
+
+func main() {
+}

@@ -1,0 +1,5 @@
+package main
+
+func main() {
+	var m map[chan int]bool
+}

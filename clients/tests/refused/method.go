@@ -1,0 +1,7 @@
+package main
+
+func (c counter) add(n int) {
+}
+
+func main() {
+}

@@ -1,0 +1,6 @@
+package main
+
+func main() {
+	c := 1
+	c.inc(2)
+}

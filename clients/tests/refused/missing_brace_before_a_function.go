@@ -1,0 +1,7 @@
+package main
+
+func work() {
+	println(1)
+
+func main() {
+}

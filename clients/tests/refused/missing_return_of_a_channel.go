@@ -1,0 +1,10 @@
+package main
+
+func f() chan int {
+	for {
+		break
+	}
+}
+
+func main() {
+}

@@ -1,0 +1,6 @@
+package main
+
+func main() {
+	var m sync.Mutex
+	m.Lock()
+}

@@ -1,0 +1,5 @@
+package main
+
+func main() {
+	println(9223372036854775808)
+}

@@ -1,0 +1,4 @@
+package tools
+
+func main() {
+}

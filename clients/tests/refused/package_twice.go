@@ -1,0 +1,6 @@
+package main
+
+package main
+
+func main() {
+}

@@ -1,0 +1,7 @@
+package main
+
+func f(a) {
+}
+
+func main() {
+}

@@ -1,0 +1,7 @@
+package main
+
+func set(p *int) {
+}
+
+func main() {
+}

@@ -1,0 +1,7 @@
+package main
+
+func main() {
+	for v := range jobs {
+		println(v)
+	}
+}

@@ -1,0 +1,10 @@
+package main
+
+func f(c chan<- int) {
+	for v := range c {
+		println(v)
+	}
+}
+
+func main() {
+}

@@ -1,0 +1,8 @@
+package main
+
+func f(c chan<- int) {
+	println(<-c)
+}
+
+func main() {
+}

@@ -1,0 +1,8 @@
+package main
+
+func work() {
+	return 1
+}
+
+func main() {
+}

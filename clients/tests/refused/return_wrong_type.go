@@ -1,0 +1,8 @@
+package main
+
+func f() bool {
+	return 1
+}
+
+func main() {
+}

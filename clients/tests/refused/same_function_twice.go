@@ -1,0 +1,10 @@
+package main
+
+func work() {
+}
+
+func work() {
+}
+
+func main() {
+}

@@ -1,0 +1,7 @@
+package main
+
+func f(a int, a bool) {
+}
+
+func main() {
+}

@@ -1,0 +1,5 @@
+package main
+
+func main() {
+	numbers := []int{1, 2, 3}
+}

@@ -1,0 +1,6 @@
+package main
+
+func main() {
+	numbers := 1
+	println(numbers[1:2])
+}

@@ -1,0 +1,6 @@
+package main
+
+println(1)
+
+func main() {
+}

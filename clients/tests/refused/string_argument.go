@@ -1,0 +1,9 @@
+package main
+
+func say(n int) {
+	println(n)
+}
+
+func main() {
+	say("hello")
+}

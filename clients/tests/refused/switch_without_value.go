@@ -1,0 +1,8 @@
+package main
+
+func main() {
+	x := 1
+	switch {
+	case x > 0:
+	}
+}

@@ -1,0 +1,7 @@
+package main
+
+func main() {
+	select {
+	case <-time.After(1):
+	}
+}

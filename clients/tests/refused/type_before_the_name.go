@@ -1,0 +1,7 @@
+package main
+
+func f(int a) {
+}
+
+func main() {
+}

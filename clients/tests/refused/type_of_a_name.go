@@ -1,0 +1,6 @@
+package main
+
+func main() {
+	true_ := 1
+	var x true_
+}

@@ -1,0 +1,6 @@
+package main
+
+type number int
+
+func main() {
+}

@@ -1,0 +1,8 @@
+package main
+
+type shape interface {
+	area() int
+}
+
+func main() {
+}

@@ -1,0 +1,8 @@
+package main
+
+func max[T int](a, b T) T {
+	return a
+}
+
+func main() {
+}

@@ -1,0 +1,6 @@
+package main
+
+func main() {
+	counter := 1
+	println(countre)
+}

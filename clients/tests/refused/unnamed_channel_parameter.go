@@ -1,0 +1,7 @@
+package main
+
+func f(chan int) {
+}
+
+func main() {
+}

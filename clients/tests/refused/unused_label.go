@@ -1,0 +1,7 @@
+package main
+
+func main() {
+	again:
+		for {
+		}
+}

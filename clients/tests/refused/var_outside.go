@@ -1,0 +1,7 @@
+package main
+
+var counter int
+
+func main() {
+	counter++
+}

@@ -1,0 +1,8 @@
+package main
+
+func work(wg *sync.WaitGroup) {
+	wg.Done()
+}
+
+func main() {
+}
