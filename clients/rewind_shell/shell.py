@@ -28,6 +28,7 @@ from .words import CORE, hint, word_of
 PASSED = frozenset(word.name for word in CORE) - {"run"}
 TARGETS = frozenset(("go", "send", "recv"))
 MAX_PRINTED = 10
+MAX_TOLD = 10_000
 
 
 class Shell:
@@ -57,7 +58,7 @@ class Shell:
         core.journal = self.script.note
         self.session = Session(core, self.program, self.start)
         self.chosen = "g0"
-        self.printed: List[str] = []
+        self.printed: Optional[List[str]] = []
 
     def start(self) -> Core:
         return start(self.rewind, self.program.path, cancelled=self.interrupts.gives_up)
@@ -180,16 +181,27 @@ class Shell:
         self.screen.say("%s%s is %s" % (taken, self.chosen, Stories(self.session).goroutine(found)))
 
     def tell_printed(self) -> None:
-        """The lines that the program has printed since the last command, and those that it no longer has."""
-        if not any(call.function == "println" for it in self.program.functions.values() for call in it.calls):
+        """The lines that the program has printed since the last command, and those that it no longer has.
+
+        Where they are very many they are told no more, since each movement would have to ask for all of them.
+        """
+        if self.printed is None or not self.prints():
             return
         now = self.session.core.console()
         found, self.printed = change(self.printed, now), now
+        if len(now) > MAX_TOLD:
+            self.printed = None
         for lines, did in ((found.added, "prints"), (found.taken_back, "no longer prints")):
             for text in lines[:MAX_PRINTED]:
                 self.screen.line("%s: %s" % (did, text), "source")
             if len(lines) > MAX_PRINTED:
                 self.screen.say("(and %d lines more: 'console' shows all that is printed)" % (len(lines) - MAX_PRINTED))
+        if self.printed is None:
+            self.screen.say("(from here on only 'console' shows what is printed)", "note")
+
+    def prints(self) -> bool:
+        """Whether the source has a statement that prints."""
+        return any(call.function == "println" for it in self.program.functions.values() for call in it.calls)
 
     # Words of the shell itself.
 
