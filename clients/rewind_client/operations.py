@@ -35,12 +35,13 @@ class Operation:
 
 @dataclass(frozen=True)
 class Call:
-    """A call, or what `go` starts; an argument is a plain name, or empty."""
+    """A call, or what `go` starts; an argument is a plain name, or empty. `width` is the length of its statement's tokens."""
 
     function: str
     arguments: Tuple[str, ...]
     line: int
     starts: bool = False
+    width: int = 0
 
 
 @dataclass(frozen=True)
@@ -99,9 +100,10 @@ def operations_of(part: Sequence[Token], line: int, clause: int) -> Iterator[Ope
 def calls_of(part: Sequence[Token], line: int) -> Iterator[Call]:
     """The calls among the tokens of a statement that stands on a line."""
     starts = part[0].text == "go" if part else False
+    width = sum(len(token.text) for token in part)
     for place in range(len(part) - 1):
         if part[place].is_name and part[place + 1].text == "(":
-            yield Call(part[place].text, arguments_at(part, place + 1), line, starts and place == 1)
+            yield Call(part[place].text, arguments_at(part, place + 1), line, starts and place == 1, width)
 
 
 def text_at(part: Sequence[Token], place: int) -> str:

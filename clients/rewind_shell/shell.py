@@ -29,6 +29,8 @@ PASSED = frozenset(word.name for word in CORE) - {"run"}
 TARGETS = frozenset(("go", "send", "recv"))
 MAX_PRINTED = 10
 MAX_TOLD = 10_000
+# A movement is followed by a look at the console where that has no more bytes.
+MAX_CONSOLE = 1 << 25
 
 
 class Shell:
@@ -183,25 +185,27 @@ class Shell:
     def tell_printed(self) -> None:
         """The lines that the program has printed since the last command, and those that it no longer has.
 
-        Where they are very many they are told no more, since each movement would have to ask for all of them.
+        Where they may be very many they are told no more, since each movement would have to ask for all of them.
         """
-        if self.printed is None or not self.prints():
+        width = self.program.printed_width()
+        if self.printed is None or not width:
+            return
+        if width * self.session.core.kept > MAX_CONSOLE:
+            self.tell_printed_no_more()
             return
         now = self.session.core.console()
         found, self.printed = change(self.printed, now), now
-        if len(now) > MAX_TOLD:
-            self.printed = None
         for lines, did in ((found.added, "prints"), (found.taken_back, "no longer prints")):
             for text in lines[:MAX_PRINTED]:
                 self.screen.line("%s: %s" % (did, text), "source")
             if len(lines) > MAX_PRINTED:
                 self.screen.say("(and %d lines more: 'console' shows all that is printed)" % (len(lines) - MAX_PRINTED))
-        if self.printed is None:
-            self.screen.say("(from here on only 'console' shows what is printed)", "note")
+        if len(now) > MAX_TOLD:
+            self.tell_printed_no_more()
 
-    def prints(self) -> bool:
-        """Whether the source has a statement that prints."""
-        return any(call.function == "println" for it in self.program.functions.values() for call in it.calls)
+    def tell_printed_no_more(self) -> None:
+        self.printed = None
+        self.screen.say("(from here on only 'console' shows what is printed)", "note")
 
     # Words of the shell itself.
 

@@ -242,10 +242,11 @@ def test_what_is_printed(talk: Talk) -> None:
 
 def test_very_many_printed_lines(talk: Talk, tmp_path: Path) -> None:
     (tmp_path / "many.go").write_text("package main\nfunc main() {\n\tfor i := 0; ; i++ {\n\t\tprintln(i)\n\t}\n}\n")
-    shown = answers(talk("many.go", "run 50000", "run 9", "restart", "run 9").stdout)
+    shown = answers(talk("many.go", "run 50000", "run 9", "restart", "run 9", "run 999999").stdout)
     assert shown[0][-2] == "(and 16656 lines more: 'console' shows all that is printed)"
     assert shown[0][-1].startswith("(from here on") and shown[1] == ["ok 9 count"]
     assert shown[3][1] == "prints: 0"
+    assert shown[4][0].startswith("ok ") and shown[4][1].startswith("(from here on")
 
 
 def test_completion(session: Open, rewind: str) -> None:  # noqa: F811
