@@ -36,8 +36,8 @@ def unnoted(_command: str) -> None:
 class Core:
     """A program under `rewind`.
 
-    `changes` counts the commands that may have changed the state, `given` are those that changed the session, and `end` is the
-    reason why the program goes no further.
+    `changes` counts the commands that may have changed the state, `given` are those that changed the session, `kept` is the number
+    of kept steps, and `end` the reason why the program goes no further.
     """
 
     def __init__(self, process: Process, journal: Callable[[str], None] = unnoted) -> None:
@@ -46,6 +46,7 @@ class Core:
         self.journal = journal
         self.changes = 0
         self.given: List[str] = []
+        self.kept = 0
         self.end: Optional[Reason] = None
         self.end_taken_back: Optional[Reason] = None
 
@@ -80,6 +81,7 @@ class Core:
     def note(self, word: str, reply: Sequence[str]) -> None:
         """Keeps account of whether the log ends in a step that stopped the program, and whether `redo` would take one."""
         done = replies.is_ok(reply)
+        self.kept += steps_taken(word, reply)
         if word == "step" and done:
             self.end, self.end_taken_back = end_of_step(replies.stepped(reply)), None
         elif word == "run" and done and replies.ran(reply).taken:
@@ -199,6 +201,18 @@ def step_words(goroutine: str, clause: int = 0) -> str:
 def step_command(entry: Entry) -> str:
     """The command that takes a kept step again."""
     return step_words(entry.step.partition("#")[0], entry.kind.clause)
+
+
+def steps_taken(word: str, reply: Sequence[str]) -> int:
+    """How many steps a command took; below 0 where it took them back."""
+    if word == "order" or not (replies.is_ok(reply) or replies.code_of(reply) == "B6"):
+        return 0
+    words = reply[-1].split(" ")
+    if word in ("step", "undo") or words[0] == "no":
+        number = int(words[2]) if words[0] == "no" else 1
+    else:
+        number = int(words[1])
+    return -number if word in ("undo", "back") else number
 
 
 def end_of_step(entry: Entry) -> Optional[Reason]:

@@ -16,6 +16,7 @@ from .session import Session
 
 RUN_PORTION = 50_000
 STEP_PORTION = 100
+MAX_FRAMES = 1000
 
 # The lines with breakpoints; they may change while the program runs.
 Lines = Callable[[], AbstractSet[int]]
@@ -118,10 +119,10 @@ def some_steps(session: Session, goroutine: str, times: int, clause: int = 0) ->
     return Stop(StopReason.WAITS if entry.kind.waits else StopReason.STEP, goroutine, entry)
 
 
-def through(session: Session, start: Goroutine, lines: Lines, is_there: Callable[[int, int], bool]) -> Motion:
+def through(session: Session, start: Goroutine, lines: Lines, is_there: Callable[[int, int], bool], deepest: int) -> Motion:
     """Steps of one goroutine until it is where it shall be, or leaves its frame, waits, is done, or meets a breakpoint.
 
-    `is_there` is told how many frames deeper it stands, and its line.
+    `is_there` is told how many frames deeper it stands, and its line. Deeper than `deepest` it is not there.
     """
     depth = 0
     for number in count(1):
@@ -133,12 +134,13 @@ def through(session: Session, start: Goroutine, lines: Lines, is_there: Callable
             return Stop(StopReason.WAITS, start.name, entry)
         if depth < 0:
             return Stop(StopReason.STEP, start.name, entry)
-        shown = session.goroutine(start.name)
-        line = shown.line if shown else 0
-        if is_there(depth, line):
-            return Stop(StopReason.STEP, start.name, entry, line)
-        if (depth > 0 or line != start.line) and line in lines():
-            return Stop(StopReason.BREAKPOINT, start.name, entry, line)
+        if depth <= deepest or lines():
+            shown = session.goroutine(start.name)
+            line = shown.line if shown else 0
+            if depth <= deepest and is_there(depth, line):
+                return Stop(StopReason.STEP, start.name, entry, line)
+            if (depth > 0 or line != start.line) and line in lines():
+                return Stop(StopReason.BREAKPOINT, start.name, entry, line)
         if number % STEP_PORTION == 0:
             yield number
     raise AssertionError("count has no end")
@@ -146,17 +148,17 @@ def through(session: Session, start: Goroutine, lines: Lines, is_there: Callable
 
 def next_line(session: Session, start: Goroutine, lines: Lines) -> Motion:
     """Goes on to another line of the frame; frames that it calls are passed, but for breakpoints in them."""
-    return through(session, start, lines, lambda depth, line: depth == 0 and line != start.line)
+    return through(session, start, lines, lambda depth, line: line != start.line, deepest=0)
 
 
 def out_of_frame(session: Session, start: Goroutine, lines: Lines) -> Motion:
     """Goes on until the frame is left."""
-    return through(session, start, lines, lambda depth, line: False)
+    return through(session, start, lines, lambda depth, line: False, deepest=-1)
 
 
 def until_line(session: Session, start: Goroutine, lines: Lines, wanted: int) -> Motion:
     """Goes on to a line, in the frame or in those that it calls."""
-    return through(session, start, lines, lambda depth, line: line == wanted)
+    return through(session, start, lines, lambda depth, line: line == wanted, deepest=MAX_FRAMES)
 
 
 def backward(session: Session, lines: Lines) -> Motion:

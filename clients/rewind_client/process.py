@@ -18,7 +18,7 @@ from .meanings import meaning_of_exit
 TIMEOUT = 30.0
 TICK_MS = 100
 PART = 1 << 16
-MAX_REPLY = 1 << 27
+MAX_REPLY = 1 << 28
 LAST_LINE = re.compile(rb"^(?!\| ).*\n", re.MULTILINE)
 # Commands sent in one exchange: their replies are read while the next ones are written.
 MAX_BATCH = 2000

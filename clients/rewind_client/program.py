@@ -13,6 +13,8 @@ from .operations import Operation
 from .tokens import all_tokens
 from .walk import Function, Walk
 
+WIDEST = 12
+
 
 class Program:
     """The text of a source, and what a walk over it found."""
@@ -49,6 +51,11 @@ class Program:
     def function_at(self, line: int) -> str:
         """The name of the function to which a line belongs, or an empty text."""
         return next((it.name for it in self.functions.values() if it.line <= line <= it.last_line), "")
+
+    def printed_width(self) -> int:
+        """An upper bound of the bytes that one step prints; 0 where the program prints nothing. A short name may stand for 20 digits."""
+        printing = [call.width for it in self.functions.values() for call in it.calls if call.function == "println"]
+        return WIDEST * max(printing, default=0)
 
     def operations(self, function: str, line: int) -> List[Operation]:
         """What a statement of a function does with channels."""

@@ -1,9 +1,9 @@
 """Which functions may still use a channel that one of their variables holds, as the text tells it."""
 from __future__ import annotations
 
-from typing import Dict, Iterator, NamedTuple, Set, Tuple
+from typing import Dict, Iterator, List, NamedTuple, Set, Tuple
 
-from .operations import Call, Verb
+from .operations import Call, Passing, Verb
 from .program import Program
 from .walk import Function
 
@@ -33,7 +33,14 @@ class Roles:
         mine = self.roles[function.name]
         before = len(mine)
         mine |= {role for call in function.calls for role in self.passed_on(call)}
+        mine |= {role for passing in function.passings for role in self.carried_on(passing, mine)}
         return len(mine) > before
+
+    def carried_on(self, passing: Passing, mine: Set[Role]) -> List[Role]:
+        """The roles of a variable whose value goes on: those of the variable that gets it, or all where that is not known."""
+        if not passing.target:
+            return [Role(passing.source, verb, passing.line) for verb in Verb]
+        return [Role(passing.source, role.verb, role.line) for role in mine if role.variable == passing.target]
 
     def passed_on(self, call: Call) -> Iterator[Role]:
         called = self.program.functions.get(call.function)

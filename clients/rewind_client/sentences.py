@@ -9,7 +9,7 @@ from .names import step_owner
 from .notes import Note, Place
 from .operations import Verb
 from .session import Session
-from .waits import NIL, Wait, Wish, taker_of
+from .waits import NIL, Wait, Wish, sender_of, taker_of
 
 MAX_WAITS = 20
 INDENT = "    "
@@ -103,10 +103,14 @@ class Sentences:
         if wish.channel == NIL:
             yield INDENT + "nobody can ever do the other half of that"
             return
+        name = self.session.variable_of(wish.channel) or wish.channel
         if wish.taken_by:
             yield INDENT + self.taken(wish.taken_by)
-        if not wish.servers:
-            name = self.session.variable_of(wish.channel) or wish.channel
+        if wish.sent_by:
+            yield INDENT + self.sent(wish.sent_by)
+        if wish.is_on_its_way:
+            yield INDENT + "%s is itself on its way over a channel" % name
+        elif not wish.servers:
             yield INDENT + "no other goroutine can still %s %s" % (SERVES[wish.verb], name)
         elif not wish.taker:
             yield INDENT + "it waits for %s" % " or ".join(wish.servers)
@@ -117,6 +121,12 @@ class Sentences:
             return "%s took the last value of %s at %s (%s)" % (step_owner(note.step), name, self.at_called(note), note.step)
         told = (taker_of(note), name, step_owner(note.step), self.at_called(note), note.step)
         return "%s got the last value of %s from %s at %s (%s)" % told
+
+    def sent(self, note: Note) -> str:
+        """Who sent the last value; a send that waited is told where it began to wait."""
+        wait = self.session.follower.notes.get(note.woke[0]) if note.receives() else None
+        told = wait or note
+        return "the last value came from %s at %s (%s)" % (sender_of(note), self.at_called(told), told.step)
 
     def at_called(self, note: Note) -> str:
         """The place of a step, with the one that called it where it has callers."""

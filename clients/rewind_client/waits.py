@@ -1,12 +1,13 @@
 """Who waits for whom: what each goroutine waits for, who could still serve it, and the cycle where there is one."""
 from __future__ import annotations
 
-from dataclasses import dataclass, field
+from dataclasses import dataclass, field, replace
 from typing import Dict, List, Optional, Sequence, Tuple
 
+from .names import step_owner
 from .notes import Note, Place
 from .operations import Verb
-from .replies import Channel, Goroutine, State
+from .replies import Goroutine, State
 from .roles import Roles
 from .session import Session
 
@@ -25,8 +26,11 @@ class Wish:
     # Goroutines that could still serve the wish, and of these the one that took the channel's last value.
     servers: Tuple[str, ...] = ()
     taker: str = ""
-    # The step that took the last value out of the channel.
+    # The step that took the last value out of the channel, and the one that last sent one, where these are of interest.
     taken_by: Optional[Note] = None
+    sent_by: Optional[Note] = None
+    # Whether the channel itself is on its way over a channel, so that others may come to know it.
+    is_on_its_way: bool = False
 
 
 @dataclass(frozen=True)
@@ -61,7 +65,7 @@ class Waits:
         """The waits of all goroutines, in the order of their names."""
         goroutines = [it for it in self.session.goroutines() if it.state is not State.DONE]
         queued = self.queued()
-        last = last_taken(self.session.notes())
+        last = Last(self.session.notes())
         found = []
         for one in goroutines:
             if one.state is State.WAITING:
@@ -84,18 +88,29 @@ class Waits:
         used = self.session.program.operations(function, goroutine.line)
         return Wish(used[0].verb if used else Verb.RECEIVE, NIL)
 
-    def served(self, waiting: Goroutine, wish: Wish, goroutines: Sequence[Goroutine], last: Dict[str, Note]) -> Wish:
-        """A wish with those that could still serve it."""
+    def served(self, waiting: Goroutine, wish: Wish, goroutines: Sequence[Goroutine], last: Last) -> Wish:
+        """A wish with those that could still serve it. A channel with a buffer, from which one waits to receive, may be a lock."""
         if wish.channel == NIL:
             return wish
-        verbs = SERVED_BY[wish.verb]
         others = [it for it in goroutines if it.name != waiting.name]
-        servers = tuple(it.name for it in others if self.may_use(it, wish.channel, verbs))
-        channel, taken = self.session.channel(wish.channel), last.get(wish.channel)
+        servers = tuple(it.name for it in others if self.may_use(it, wish.channel, SERVED_BY[wish.verb]))
+        channel, taken = self.session.channel(wish.channel), last.taken.get(wish.channel)
         is_lock = channel is not None and channel.capacity > 0 and wish.verb is Verb.RECEIVE
         taker = taker_of(taken) if taken and is_lock else ""
-        taken_by = taken if wish.verb is Verb.RECEIVE and is_lock else None
-        return Wish(wish.verb, wish.channel, wish.clause, wish.value, servers, taker if taker in servers else "", taken_by)
+        is_alone = not servers
+        return replace(
+            wish,
+            servers=servers,
+            taker=taker if taker in servers else "",
+            taken_by=taken if is_lock or (is_alone and wish.verb is Verb.SEND) else None,
+            sent_by=last.sent.get(wish.channel) if is_alone and not is_lock and wish.verb is Verb.RECEIVE else None,
+            is_on_its_way=is_alone and self.is_on_its_way(wish.channel),
+        )
+
+    def is_on_its_way(self, name: str) -> bool:
+        """Whether a channel is a value that some other channel holds, or that a sender waits with."""
+        channels = self.session.channels()
+        return any(name in it.items or any(sender.value == name for sender in it.senders) for it in channels)
 
     def may_use(self, goroutine: Goroutine, channel: str, verbs: Tuple[Verb, ...]) -> bool:
         """Whether a goroutine may still use a channel in one of some ways, by its variables and the text that is ahead of it."""
@@ -106,19 +121,27 @@ class Waits:
         return False
 
 
-def last_taken(notes: Sequence[Note]) -> Dict[str, Note]:
-    """Of each channel the step that took its last value, be it one that received, or one that handed the value to a receiver."""
-    found: Dict[str, Note] = {}
-    for note in notes:
-        if note.channel and (note.receives() or (note.sends() and note.woke)):
-            found[note.channel] = note
-    return found
+class Last:
+    """Of each channel the step that took its last value, and the one that sent it."""
+
+    def __init__(self, notes: Sequence[Note]) -> None:
+        self.taken: Dict[str, Note] = {}
+        self.sent: Dict[str, Note] = {}
+        for note in notes:
+            if note.sends() or (note.receives() and note.woke):
+                self.sent[note.channel] = note
+            if note.receives() or (note.sends() and note.woke):
+                self.taken[note.channel] = note
 
 
 def taker_of(note: Note) -> str:
     """The goroutine that got the value of a transfer."""
-    step = note.step if note.receives() else note.woke[0]
-    return step.partition("#")[0]
+    return step_owner(note.step if note.receives() else note.woke[0])
+
+
+def sender_of(note: Note) -> str:
+    """The goroutine whose value a transfer was."""
+    return step_owner(note.step if note.sends() else note.woke[0])
 
 
 def cycle_among(waits: Sequence[Wait]) -> List[str]:
@@ -146,8 +169,3 @@ def path_back(start: str, edges: Dict[str, Tuple[str, ...]]) -> List[str]:
                     longer.append(way + [name])
         ways = longer
     return []
-
-
-def waits_on(channel: Channel) -> int:
-    """How many goroutines wait on a channel."""
-    return len(channel.senders) + len(channel.receivers)

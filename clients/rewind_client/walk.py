@@ -4,7 +4,7 @@ from __future__ import annotations
 from dataclasses import dataclass, field
 from typing import Dict, List, Sequence, Set, Tuple
 
-from .operations import Call, Operation, calls_of, operations_of, parameters_of
+from .operations import Call, Operation, Passing, calls_of, operations_of, parameters_of, passings_of
 from .tokens import Token
 
 END = Token("", 0)
@@ -20,6 +20,7 @@ class Function:
     parameters: List[str] = field(default_factory=list)
     operations: List[Operation] = field(default_factory=list)
     calls: List[Call] = field(default_factory=list)
+    passings: List[Passing] = field(default_factory=list)
     loops: List[Tuple[int, int]] = field(default_factory=list)
 
 
@@ -159,3 +160,4 @@ class Walk:
         part = self.tokens[begin:end]
         self.function.calls += calls_of(part, line)
         self.function.operations += operations_of(part, line, clause)
+        self.function.passings += passings_of(part, line)

@@ -28,6 +28,9 @@ from .words import CORE, hint, word_of
 PASSED = frozenset(word.name for word in CORE) - {"run"}
 TARGETS = frozenset(("go", "send", "recv"))
 MAX_PRINTED = 10
+MAX_TOLD = 10_000
+# A movement is followed by a look at the console where that has no more bytes.
+MAX_CONSOLE = 1 << 25
 
 
 class Shell:
@@ -57,7 +60,7 @@ class Shell:
         core.journal = self.script.note
         self.session = Session(core, self.program, self.start)
         self.chosen = "g0"
-        self.printed: List[str] = []
+        self.printed: Optional[List[str]] = []
 
     def start(self) -> Core:
         return start(self.rewind, self.program.path, cancelled=self.interrupts.gives_up)
@@ -180,8 +183,15 @@ class Shell:
         self.screen.say("%s%s is %s" % (taken, self.chosen, Stories(self.session).goroutine(found)))
 
     def tell_printed(self) -> None:
-        """The lines that the program has printed since the last command, and those that it no longer has."""
-        if not any(call.function == "println" for it in self.program.functions.values() for call in it.calls):
+        """The lines that the program has printed since the last command, and those that it no longer has.
+
+        Where they may be very many they are told no more, since each movement would have to ask for all of them.
+        """
+        width = self.program.printed_width()
+        if self.printed is None or not width:
+            return
+        if width * self.session.core.kept > MAX_CONSOLE:
+            self.tell_printed_no_more()
             return
         now = self.session.core.console()
         found, self.printed = change(self.printed, now), now
@@ -190,6 +200,12 @@ class Shell:
                 self.screen.line("%s: %s" % (did, text), "source")
             if len(lines) > MAX_PRINTED:
                 self.screen.say("(and %d lines more: 'console' shows all that is printed)" % (len(lines) - MAX_PRINTED))
+        if len(now) > MAX_TOLD:
+            self.tell_printed_no_more()
+
+    def tell_printed_no_more(self) -> None:
+        self.printed = None
+        self.screen.say("(from here on only 'console' shows what is printed)", "note")
 
     # Words of the shell itself.
 

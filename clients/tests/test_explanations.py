@@ -40,6 +40,15 @@ def test_a_send_that_nobody_can_receive(session: Open) -> None:  # noqa: F811
     assert not found.cycle
 
 
+def test_a_channel_on_its_way(session: Open) -> None:  # noqa: F811
+    one = session(
+        "package main\nfunc main() {\n\tc, d := make(chan chan int, 1), make(chan int)\n\tc <- d\n\t<-d\n}\n"
+        "func other(c chan int) { c <- 1 }\n"
+    )
+    one.run(100)
+    assert said(one)[2].strip() == "d is itself on its way over a channel"
+
+
 def test_off_by_one(session: Open) -> None:  # noqa: F811
     found = explained(session("off_by_one"))
     assert found.waits[0].waits_for == ("g0.1",)

@@ -77,6 +77,32 @@ def test_operations(program: Program) -> None:
     assert program.operations("put", 3)[0].value == ("n", "*", "2")
 
 
+ALIASES = b"""package main
+func pick(c chan int) chan int {
+	return c
+}
+func main() {
+	a, b := make(chan int), make(chan int)
+	d, e := a, 1
+	var f chan int = d
+	println(e)
+	f <- 1
+	g := make(chan chan int, 1)
+	g <- b
+	a = pick(b)
+}
+"""
+
+
+def test_roles_of_variables_whose_value_goes_on() -> None:
+    roles = Roles(Program(ALIASES))
+    assert roles.may("main", "a", (Verb.SEND,), 7)
+    assert not roles.may("main", "a", (Verb.RECEIVE,), 7)
+    assert roles.may("main", "b", (Verb.RECEIVE,), 12)
+    assert roles.may("pick", "c", (Verb.SEND,), 3)
+    assert not roles.may("main", "e", (Verb.SEND,), 7)
+
+
 def test_roles(program: Program) -> None:
     roles = Roles(program)
     assert roles.may("pass", "first", (Verb.SEND,), 6)

@@ -169,6 +169,7 @@ def test_what_is_kept_is_what_rewind_tells(session: Open, seed: int) -> None:
         if chance.random() < 0.3:
             one.follow()
         assert one.log() == one.core.log()
+        assert len(one.log()) == one.core.kept
         assert [one.core.show(it.name) for it in one.goroutines()] == one.goroutines()
         assert [one.core.channel(it.name) for it in one.channels()] == one.channels()
         assert one.core.show("%s.%d" % ("g0", 99)) is None

@@ -13,6 +13,10 @@ import pytest
 
 from rewind_client import motion
 from rewind_client.core import Core
+from rewind_shell.completing import Completing
+from rewind_shell.interrupts import Interrupts
+from rewind_shell.shell import Shell
+from rewind_shell.terminal import Screen
 from rewind_shell.words import ALIASES, WORDS
 
 from conftest import CLIENTS, EXAMPLES
@@ -234,6 +238,31 @@ def test_what_is_printed(talk: Talk) -> None:
     shown = answers(talk(example("leak"), "run 1000", "back g0#30").stdout)
     assert shown[0][1:4] == ["prints: 1", "prints: -1", "prints: -1"]
     assert "no longer prints: -1" in shown[1]
+
+
+def test_very_many_printed_lines(talk: Talk, tmp_path: Path) -> None:
+    (tmp_path / "many.go").write_text("package main\nfunc main() {\n\tfor i := 0; ; i++ {\n\t\tprintln(i)\n\t}\n}\n")
+    shown = answers(talk("many.go", "run 50000", "run 9", "restart", "run 9", "run 999999").stdout)
+    assert shown[0][-2] == "(and 16656 lines more: 'console' shows all that is printed)"
+    assert shown[0][-1].startswith("(from here on") and shown[1] == ["ok 9 count"]
+    assert shown[3][1] == "prints: 0"
+    assert shown[4][0].startswith("ok ") and shown[4][1].startswith("(from here on")
+
+
+def test_completion(session: Open, rewind: str) -> None:  # noqa: F811
+    shell = Shell(rewind, session("philosophers").program, Screen(sys.stdout, lambda: False), Interrupts(), None)
+    shell.obey("run 1000")
+    completing = Completing(shell)
+    assert completing.of("x") == [] and completing.of("gorou") == ["goroutine", "goroutines"]
+    assert completing.of("bt g0.") == ["g0.1", "g0.2", "g0.3"]
+    assert completing.of("chan g0/c") == ["g0/c1", "g0/c2", "g0/c3", "g0/c4"]
+    assert "g0.3#3" in completing.of("back g0.3#") and "22" in completing.of("break 2") and "main" in completing.of("break ")
+    assert completing.of("print f") == ["f1", "f2", "f3"]
+    assert completing.of("help re") == ["redo", "restart", "reverse-continue", "reverse-next"]
+    assert completing.of("nobody x") == []
+    shell.session.core.process.end()
+    assert completing.of("bt nobody") == []
+    shell.end()
 
 
 def test_saving_and_loading(talk: Talk, tmp_path: Path, rewind: str) -> None:
