@@ -25,6 +25,7 @@ PARTS = {
     "tests": ["tests/crate.py", "tests"],
     "page": ["tests/page.py", "PROGRAM"],
     "racing": ["tests/crate.py", "racing"],
+    "clients": ["tests/clients.py", "PROGRAM"],
     "replay": ["bench/replay.py", "PROGRAM", "--sessions", "100000", "--seconds", "60", "--jobs", "1"],
     "growth": ["hostile/growth.py", "PROGRAM", "--commands", "10", "--jobs", "1"],
     "part_tests": ["tests/crate.py", "part_tests"],
