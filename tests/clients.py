@@ -14,21 +14,15 @@ import sys
 
 TOP = os.path.dirname(os.path.dirname(os.path.abspath(__file__)))
 CLIENTS = os.path.join(TOP, "clients")
-SYSTEM = "/usr/bin/python3"
+sys.path.insert(0, CLIENTS)
+
+from rewind_shell.interpreter import python_with  # noqa: E402
+
 MODULES = ["mypy", "pytest", "prompt_toolkit"]
 PACKAGES = ["mypy", "python3-pytest", "python3-prompt-toolkit"]
 OLDEST = "3.9"
 INSTALL = 200
 SECONDS = 300
-
-
-def has_modules(python):
-    """Whether a Python has what the tests want."""
-    try:
-        words = [python, "-c", "import " + ", ".join(MODULES)]
-        return subprocess.run(words, stdin=subprocess.DEVNULL, capture_output=True, timeout=60).returncode == 0
-    except (OSError, subprocess.SubprocessError):
-        return False
 
 
 def install():
@@ -44,12 +38,11 @@ def install():
 
 def python_for_tests():
     """The Python that has what the tests want: this one, or that of the system; none where it can't be had."""
-    for attempt in (lambda: None, install):
-        attempt()
-        found = next(filter(has_modules, (sys.executable, SYSTEM)), None)
-        if found:
-            return found
-    return None
+    found = python_with(*MODULES)
+    if found is None:
+        install()
+        found = python_with(*MODULES)
+    return found
 
 
 def run(words, program):
@@ -99,8 +92,7 @@ def main():
     program = os.path.abspath(sys.argv[1])
     python = python_for_tests()
     if python is None:
-        wanted = "skipped: the clients want %s" % ", ".join(PACKAGES)
-        print(("FAILED clients: " if "CI" in os.environ else "") + wanted)
+        print(("FAILED" if "CI" in os.environ else "skipped") + " clients: they want %s of Debian" % ", ".join(PACKAGES))
         print("0 passed, 1 failed" if "CI" in os.environ else "0 passed, 0 failed, 1 skipped")
         sys.exit(1 if "CI" in os.environ else 0)
     passed, failed = types(python, program)

@@ -53,7 +53,10 @@ class Program:
         return next((it.name for it in self.functions.values() if it.line <= line <= it.last_line), "")
 
     def printed_width(self) -> int:
-        """An upper bound of the bytes that one step prints; 0 where the program prints nothing. A short name may stand for 20 digits."""
+        """An upper bound of the bytes that one step prints; 0 where the program prints nothing.
+
+        A name of one letter may stand for 20 digits.
+        """
         printing = [call.width for it in self.functions.values() for call in it.calls if call.function == "println"]
         return WIDEST * max(printing, default=0)
 

@@ -56,9 +56,6 @@ class Kind(NamedTuple):
     def __str__(self) -> str:
         return " ".join([self.word.value] + [str(more) for more in (self.clause, self.fault) if more])
 
-    def is_like(self, *words: KindWord) -> bool:
-        return self.word in words
-
 
 class Entry(NamedTuple):
     """A step with its kind."""

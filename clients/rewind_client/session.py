@@ -8,7 +8,7 @@ from __future__ import annotations
 from typing import Callable, Dict, List, Optional, Sequence, TypeVar
 
 from . import replies
-from .core import MOVING, Core, Refused, end_of_step, first_word, step_words
+from .core import Core, Refused, end_of_step, first_word, step_words
 from .errors import ProcessError
 from .follower import NOTED, Follower
 from .names import channel_maker, channel_of, channel_order, child_of, name_order, step_owner
@@ -142,6 +142,7 @@ class Session:
         """The kept steps in their order."""
         if self.kept_log is None:
             self.kept_log = self.core.log()
+            self.core.kept = len(self.kept_log)
             if not self.is_end_known:
                 self.core.end = end_of_step(self.kept_log[-1]) if self.kept_log else None
                 self.is_end_known = True
@@ -259,7 +260,3 @@ class Session:
                 return [Place(functions[0], goroutine.line), *noted]
         outer_lines = [lines[0] if len(lines) == 1 else 0 for lines in told]
         return [Place(*pair) for pair in zip(functions, [goroutine.line, *outer_lines])]
-
-
-def is_moving(command: str) -> bool:
-    return first_word(command) in MOVING

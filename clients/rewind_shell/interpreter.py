@@ -11,6 +11,7 @@ SYSTEM = "/usr/bin/python3"
 
 def python_with(*modules: str) -> Optional[str]:
     """The path of a Python that has some modules: this one where it has them, else that of the system; none where neither has."""
+    importlib.invalidate_caches()
     if all(importlib.util.find_spec(module) for module in modules):
         return sys.executable
     try:

@@ -4,7 +4,6 @@ from __future__ import annotations
 from typing import TYPE_CHECKING, Callable, Dict, List, Optional
 
 from rewind_client import motion
-from rewind_client.core import Refused
 from rewind_client.motion import Motion, Stop, StopReason
 from rewind_client.names import is_goroutine, is_step, step_owner
 from rewind_client.replies import Goroutine, Ran, Reason, State
@@ -240,7 +239,3 @@ class Moving:
 
 def listed(names: List[str]) -> str:
     return " ".join(names[:LISTED]) + (" .. %s" % names[-1] if len(names) > LISTED else "")
-
-
-def is_refusal(fault: Exception) -> bool:
-    return isinstance(fault, Refused)

@@ -8,9 +8,11 @@ from typing import Callable, Iterator, List
 import pytest
 
 from rewind_client.core import Refused, step_command
+from rewind_client.errors import Cancelled
 from rewind_client.finding import start
 from rewind_client.notes import Place
 from rewind_client.operations import Verb
+from rewind_client.process import never
 from rewind_client.program import read_program
 from rewind_client.replies import KindWord
 from rewind_client.session import Session
@@ -220,3 +222,32 @@ def test_a_long_log_is_noted_at_its_end(session: Open, monkeypatch: pytest.Monke
     one.back(one.log()[-150].step)
     assert len(one.notes()) == min(100, len(one.log()))
     assert step_command(one.log()[0]) == "step g0"
+
+
+def test_a_run_that_was_not_waited_for(session: Open, monkeypatch: pytest.MonkeyPatch) -> None:
+    """What is known is asked anew, and is that of the run, which Rewind did none the less."""
+    monkeypatch.setattr("rewind_client.process.TICK_MS", 1)
+    one = session("starved_select")
+    one.run(5)
+    one.core.process.cancelled = lambda: True
+    with pytest.raises(Cancelled):
+        one.run(300_000)
+    one.core.process.cancelled = never
+    assert len(one.log()) == one.core.kept == 300_005
+    assert one.stopped_by() is None
+    one.core.process.cancelled = lambda: True
+    with pytest.raises(Cancelled):
+        one.back("g0#1")
+    one.core.process.cancelled = never
+    assert one.log() == [] and one.core.kept == 0
+    assert [it.name for it in one.goroutines()] == ["g0"]
+
+
+def test_following_that_is_left_begins_anew(session: Open) -> None:
+    one, stops = session("lost_update"), [False]
+    one.follow().session().process.cancelled = lambda: stops[0]
+    one.run(1000)
+    stops[0] = True
+    with pytest.raises(Cancelled):
+        one.notes()
+    assert len(one.notes()) == len(one.log())

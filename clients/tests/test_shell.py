@@ -20,7 +20,7 @@ from rewind_shell.terminal import Screen
 from rewind_shell.words import ALIASES, WORDS
 
 from conftest import CLIENTS, EXAMPLES
-from test_session import Open, opened, session  # noqa: F401
+from test_session import Open, session  # noqa: F401
 
 SHELL = CLIENTS / "rewind-shell"
 Talk = Callable[..., "subprocess.CompletedProcess[str]"]
