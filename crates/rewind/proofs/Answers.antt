@@ -1,5 +1,5 @@
 -- Answers to lines, one after another.
-use Rattle.std.proofs.Common.{◌≡◌, ℕ, suc, codes, true, false, List, [], ◌∷◌, ◌++◌, length, refl, sym, ap, subst, ◌∙◌, append-nil, append_assoc, arith, Ok, Err, IfOk, OnErr}
+use Rattle.std.proofs.Common.{◌≡◌, ℕ, suc, codes, true, false, List, [], ◌∷◌, ◌++◌, length, refl, sym, ap, subst, ◌∙◌, append-nil, append_assoc, arith, Ok, Err, IfOk, Vec, Global}
 use Rattle.std.specs.declared.option.Option.{Option}
 use Rattle.std.specs.declared.result.Result.{Result}
 use Rattle.gr_program.specs.Programs.{Program}
@@ -13,8 +13,9 @@ use Rattle.gr_command.specs.Commands.{meaning}
 use Rattle.rewind.specs.Lines.{is_quit}
 use Rattle.rewind.specs.Replies.{Answer, Replied, answer_text}
 use Rattle.gr_command.specs.Replies.{Said}
-use Rattle.rewind.specs.Stream.{output_at, output, commands_at, commands, Gets, of_session, Answered, Answers, AnsweredLine, NoQuit, QuitLast}
+use Rattle.rewind.specs.Stream.{output_at, output, commands_at, commands, Gets, of_session, Answered, AnsweredLine, NoQuit, QuitLast}
 use Rattle.rewind.specs.Served.{Served, Begun}
+use Rattle.rewind.specs.Clients.{IsAnswered}
 use Rattle.rewind.proofs.Known.{Keeps-refl, Appends-nil, Appends-then, Appends-kept}
 
 pub NoQuit-append : (ls ms : List (List ℕ)) → NoQuit ls → NoQuit ms → NoQuit (ls ++ ms)
@@ -114,13 +115,11 @@ pub Begun-same : {S : Type 0} {gets : Gets S} {k l : List ℕ} {old new : S} {a 
     → meaning k ≡ meaning l → Begun gets k old new a b → Begun gets l old new a b
 Begun-same e s = record { answers = s.answers; answered = rw (← e) s.answered; count = s.count; written = rw (← e) s.written }
 
--- what came of one command
-pub Answers-one : {S : Type 0} {gets : Gets S} {command : Command} {old new : S} {text : List ℕ} (a : Answer)
-    → gets old command a new → text ≡ answer_text a → Answers gets (says.Command command) old new text
-Answers-one {new = new} a h e = record { answers = a ∷ []; answered = (new, h, refl); text_is = e ∙ sym (append-nil (answer_text a)) }
-
-pub Answered-one : {S : Type 0} {gets : Gets S} {command : Command} {old new : S} (a : Answer) → gets old command a new → AnsweredLine gets (says.Command command) old new
-Answered-one {new = new} a h = record { answers = a ∷ []; answered = (new, h, refl) }
+-- what came of one command, with its text or without memory for one
+pub told : {S E : Type 0} (gets : Gets S) (command : Command) (old new : S) (result : Result (Vec ℕ Global) E) (a : Answer)
+    → gets old command a new → IfOk result (λ text. text.items ≡ answer_text a) → IsAnswered gets (says.Command command) old new result
+told gets command old new (Ok text) a h e = record { answers = a ∷ []; answered = (new, h, refl); text_is = e ∙ sym (append-nil (answer_text a)) }
+told gets command old new (Err e) a h t = record { answers = a ∷ []; answered = (new, h, refl) }
 
 -- an entry of a session is numbered by its place
 pub entered : (program : Program) (asker : ℕ) (command : Command) (old new : List Entry) (number : ℕ) (said : Said)
@@ -137,11 +136,3 @@ begun_none gets line old new held h = record {
   count = 0;
   written = Appends-nil held held (Keeps-refl held);
 }
-
-pub if_ok : {T E : Type 0} (r : Result T E) (P Q : T → Type 0) → ((v : T) → P v → Q v) → IfOk r P → IfOk r Q
-if_ok (Ok v) P Q f h = f v h
-if_ok (Err e) P Q f h = h
-
-pub on_err : {T E : Type 0} (r : Result T E) (P : Type 0) → P → OnErr r P
-on_err (Ok v) P h = tt
-on_err (Err e) P h = h

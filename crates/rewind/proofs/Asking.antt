@@ -1,23 +1,28 @@
--- What came of a desk's command.
-use Rattle.std.proofs.Common.{◌≡◌, Result, Ok, Err, subst, refl}
+-- What came of a command.
+use Rattle.std.proofs.Common.{◌≡◌, ℕ, ◌↔◌, length, Result, Ok, Err, refl, ap}
+use Rattle.std.specs.Prelude.{IsErrOf}
 use Rattle.std.specs.Borrow.{Bor}
+use Rattle.gr_program.specs.Programs.{Program}
 use Rattle.gr_command.specs.declared.command.Command.{Command}
-use Rattle.gr_command.specs.Replies.{said_of}
+use Rattle.gr_session.specs.declared.TheConstants.{JOURNAL_LIMIT}
 use Rattle.gr_session.specs.declared.journal.AskRefused.{AskRefused}
+use Rattle.gr_session.specs.declared.journal.AskRefused.TheVariants.{JournalFull, NoMemory}
+use Rattle.gr_session.specs.declared.journal.Receipt.{Receipt}
+use Rattle.gr_session.specs.Keeps.{Seen}
 use Rattle.gr_share.specs.Calls.{Asker, Asked}
 use Rattle.gr_share.specs.declared.desk.Asked.TheVariants as asks
-use Rattle.gr_session.specs.declared.journal.Receipt.{Receipt}
-use Rattle.rewind.specs.Replies.{Replied}
-use Rattle.rewind.specs.Stream.{of_desk}
+use Rattle.rewind.specs.Replies.{answer_of}
+use Rattle.rewind.specs.Stream.{of_session, of_desk}
 
-pub replied : (old new : Asker) (command : Command) (result : Result (Bor Receipt) AskRefused) (r : Bor Receipt) → result ≡ Ok r → Asked old (asks.Command command) result new
-    → of_desk old command (Replied (said_of r.now.reply)) new
-replied old new command result r is asked =
-    let ok = subst (λ (z : Result (Bor Receipt) AskRefused). Asked old (asks.Command command) z new) is asked in
-    (r.now, ok.0, refl)
+-- a session that refused a command
+pub refused : (program : Program) (asker : ℕ) (command : Command) (old new : Seen) (why : AskRefused)
+    → IsErrOf {T = Receipt} (Err why) JournalFull ↔ (length old.journal ≡ JOURNAL_LIMIT) → new ≡ old → of_session program asker old.journal command (answer_of (Err why)) new.journal
+refused program asker command old new JournalFull when same = (when.0 refl, ap (λ s. s.journal) same)
+refused program asker command old new NoMemory when same = (λ full. let bad : IsErrOf {T = Receipt} (Err NoMemory) JournalFull = when.1 full in cc, ap (λ s. s.journal) same)
 
-pub refused : (old new : Asker) (command : Command) (result : Result (Bor Receipt) AskRefused) (why : AskRefused) → result ≡ Err why → Asked old (asks.Command command) result new
-    → new ≡ old
-refused old new command result why is asked =
-    let err = subst (λ (z : Result (Bor Receipt) AskRefused). Asked old (asks.Command command) z new) is asked in
-    err.1
+-- a desk that asked a command
+pub asked : (old new : Asker) (command : Command) (result : Result (Bor Receipt) AskRefused) → Asked old (asks.Command command) result new
+    → of_desk old command (answer_of result) new
+asked old new command (Ok receipt) h = (receipt.now, h.0, refl)
+asked old new command (Err JournalFull) h = h.1
+asked old new command (Err NoMemory) h = h.1

@@ -12,6 +12,8 @@ use Rattle.rewind.specs.declared.debug.DebugFault.TheVariants.{Source, Open, Ser
 use Rattle.rewind.specs.Devices.{Change, NeverFails}
 use Rattle.rewind.specs.Fault.{Blames}
 use Rattle.rewind.specs.Debug.{Opened, Unopened, NothingDone}
+use Rattle.rewind.specs.Stream.{of_desk}
+use Rattle.rewind.specs.Clients.{StreamEnds}
 use Rattle.rewind.specs.DeskStreams.{Serves, Leaves}
 
 -- the lines were served by a desk without calls before
@@ -58,8 +60,7 @@ BlamesStream Threads reader writer = NeverFails reader × NeverFails writer
 
 -- how a stream of a desk ended
 abbrev pub Streamed : {A : Type 0} → (old new : Asker) → Result A ServeFault → (reader writer : Change) → Type 0
-Streamed old new (Ok v) reader writer = Serves old new reader writer × (NeverFails reader × NeverFails writer)
-Streamed old new (Err fault) reader writer = Leaves fault old new reader writer × Blames fault reader writer
+Streamed old new result reader writer = StreamEnds of_desk old new result reader writer
 
 -- the device is as it was
 abbrev pub IsStill : Change → Type 0

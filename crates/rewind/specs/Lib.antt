@@ -4,6 +4,7 @@ pub mod Lines
 pub mod Replies
 pub mod Served
 pub mod Stream
+pub mod Clients
 pub mod Streams
 pub mod DeskStreams
 pub mod Debug

@@ -1,6 +1,7 @@
 //! The debugger: lines of commands in, lines of replies out.
 #![tactic(auto)]
 
+mod client;
 pub mod command_line;
 pub mod counted;
 pub mod debug;

@@ -1,0 +1,31 @@
+-- How the lines of a client end: a stepping stone of the proofs, of which no public clause speaks.
+use Rattle.std.specs.Prelude.{◌≡◌, ℕ, Bool, List, ◌∷◌, [], Result, Ok, Err, Vec}
+use Rattle.std.proofs.Common.{Global}
+use Rattle.gr_command.specs.declared.command.Line.{Line}
+use Rattle.gr_command.specs.Commands.{meaning}
+use Rattle.rewind.specs.declared.stream.ServeFault.{ServeFault}
+use Rattle.rewind.specs.Lines.{is_quit}
+use Rattle.rewind.specs.Devices.{Change, Fails, NeverFails}
+use Rattle.rewind.specs.Stream.{Gets, Answers, AnsweredLine}
+use Rattle.rewind.specs.Served.{Served, ServedAll}
+use Rattle.rewind.specs.Fault.{LineLeft, Left, Blames, BlamesWriter}
+
+-- a line was answered, with this text or without memory for one
+abbrev pub IsAnswered : {S E : Type 0} → Gets S → Line → (old new : S) → Result (Vec ℕ Global) E → Type 0
+IsAnswered gets line old new (Ok text) = Answers gets line old new text.items
+IsAnswered gets line old new (Err e) = AnsweredLine gets line old new
+
+-- a line was answered, and the writer got the answer; whether it was `quit`; or what a fault leaves
+abbrev pub LineEnds : {S : Type 0} → Gets S → List ℕ → (old new : S) → Result Bool ServeFault → (writer : Change) → Type 0
+LineEnds gets line old new (Ok quit) writer =
+    Served gets (line ∷ []) old new writer.old.bytes writer.new.bytes × ((quit ≡ is_quit (meaning line)) × NeverFails writer)
+LineEnds gets line old new (Err fault) writer =
+    LineLeft fault gets line old new writer.old.bytes writer.new.bytes (Fails writer) × BlamesWriter fault writer
+
+-- the lines that the reader gave were answered, and the writer got the answers; or what a fault leaves
+abbrev pub StreamEnds : {S A : Type 0} → Gets S → (old new : S) → Result A ServeFault → (reader writer : Change) → Type 0
+StreamEnds gets old new (Ok v) reader writer =
+    ServedAll gets reader.old.bytes reader.new.bytes old new writer.old.bytes writer.new.bytes × (NeverFails reader × NeverFails writer)
+StreamEnds gets old new (Err fault) reader writer =
+    Left fault gets reader.old.bytes reader.new.bytes old new writer.old.bytes writer.new.bytes (Fails reader) (Fails writer)
+    × Blames fault reader writer
