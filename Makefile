@@ -11,7 +11,7 @@ RT = $(if $(HAS_RT),rt,$(error rewind: 'rt' is not on the path: install the Ratt
 NEEDS_RT = @: $(RT)
 
 .DEFAULT_GOAL := $(if $(HAS_RT),all,help)
-.PHONY: all help quick quick-page demo test gate edits words command-line-test bench replay hostile gate-times dap-test page page-test \
+.PHONY: all help quick quick-page demo test gate edits words command-line-test bench replay hostile times gate-times dap-test page page-test \
 	page-pictures install uninstall clean
 
 ## Use it
@@ -108,6 +108,10 @@ bench: bin/rewind bin/channel_bench bin/front_bench ## times of steps, rollback,
 	bench/workers.py bin/rewind
 	bench/channels.py bin/channel_bench
 	bench/front.py bin/front_bench
+
+times: ## how long demo, quick, quick-page and test take on two processors, in fresh clones (15 minutes)
+	$(NEEDS_RT)
+	tools/times.py
 
 gate-times: ## the gate in a fresh clone, with the processor minutes of each crate: bin/gate.md (hours)
 	$(NEEDS_RT)

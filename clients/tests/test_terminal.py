@@ -239,6 +239,9 @@ def test_without_prompt_toolkit(begin: Begin, tmp_path: Path) -> None:
     time.sleep(0.5)
     terminal.write("\x03")
     terminal.expect("'quit' or Ctrl-D leaves")
+    # What is typed before the next prompt is lost.
+    terminal.expect("(rewind ")
+    time.sleep(0.5)
     terminal.write("\x04")
     assert terminal.end() == 0
 
