@@ -5,6 +5,7 @@
 
 Leaves the program as PROGRAM, and what the toolchain says in make.log beside it. What is proved already stays proved.
 """
+import functools
 import os
 import shutil
 import subprocess
@@ -14,11 +15,11 @@ import time
 import kit
 
 
-def order(crate):
-    """The libraries below a crate that the repository has, lowest first."""
-    found = []
+def order(crate, found):
+    """Adds the libraries below a crate that the repository has to those found already, lowest first."""
     for it in crate.deps:
-        found += [below for below in [*order(it), it] if below not in found]
+        if it not in found:
+            found = [*order(it, found), it]
     return found
 
 
@@ -36,7 +37,7 @@ def minutes_since(start):
 def prove(program, words_of_run, log):
     """Proves the crates that are not proved yet, and then the program."""
     start = time.monotonic()
-    wanted = [it for it in order(program) if not it.is_built()]
+    wanted = [it for it in order(program, []) if not it.is_built()]
     for number, crate in enumerate([*wanted, program], 1):
         print(f"crate {number} of {len(wanted) + 1}: {crate.name} ({minutes_since(start)} so far)", flush=True)
         words = ["rt", "run", "--", *words_of_run] if crate is program else ["rt", "lib"]
@@ -54,6 +55,8 @@ def main():
     if not os.path.isdir(place):
         kit.stop(f"there is no crate {name}")
     library = kit.library(kit.folder())
+    # A stamp is made of those of all crates below: each is made once.
+    library.Crate.stamp = functools.lru_cache(maxsize=None)(library.Crate.stamp)
     os.chdir(place)
     program = library.Crate(place, kit.ROOT, {}, ())
     with open(f"{os.path.dirname(out)}/make.log", "a", encoding="utf-8") as log:
