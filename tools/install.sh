@@ -1,6 +1,6 @@
 #!/bin/sh
-# install.sh [--remove] DESTDIR PREFIX: installs the program, its manual page and the adapter for editors under DESTDIR/PREFIX, or
-# removes them. The program is bin/rewind if it is there, else bin/rewind-quick.
+# install.sh [--remove] DESTDIR PREFIX: installs the program, its manual page, the shell, the hunt and the adapter for editors under
+# DESTDIR/PREFIX, or removes them. The program is bin/rewind if it is there, else bin/rewind-quick.
 set -eu
 top=$(cd "$(dirname "$0")/.." && pwd)
 
@@ -22,7 +22,10 @@ if [ -n "$removes" ]; then
   if [ -e "$to/bin/rewind" ] && [ ! -w "$to/bin" ]; then
     stop "cannot write in $to/bin"
   fi
-  rm -rf "$to/bin/rewind" "$to/bin/rewind-dap" "$to/share/man/man1/rewind.1" "$to/lib/rewind"
+  for name in rewind rewind-shell rewind-hunt rewind-dap; do
+    rm -f "$to/bin/$name"
+  done
+  rm -rf "$to/share/man/man1/rewind.1" "$to/lib/rewind"
   echo "removed rewind from $to"
   exit 0
 fi
@@ -39,11 +42,19 @@ mkdir -p "$to/bin" "$to/share/man/man1" "$to/lib/rewind/bin" "$to/lib/rewind/edi
 
 install -m 755 "$program" "$to/bin/rewind"
 install -m 644 "$top/docs/rewind.1" "$to/share/man/man1/rewind.1"
-rm -rf "$to/lib/rewind/editors/dap"
-mkdir -p "$to/lib/rewind/editors/dap/rewind_dap"
+rm -rf "$to/lib/rewind/editors/dap" "$to/lib/rewind/clients"
+mkdir -p "$to/lib/rewind/editors/dap"
 install -m 755 "$top/editors/dap/rewind-dap" "$to/lib/rewind/editors/dap/rewind-dap"
-install -m 644 "$top"/editors/dap/rewind_dap/*.py "$to/lib/rewind/editors/dap/rewind_dap"
-# The adapter finds the program beside itself, and is found on the path.
+for package in "$top"/clients/rewind_*; do
+  mkdir -p "$to/lib/rewind/clients/${package##*/}"
+  (cd "$package" && find . -name '*.py' -o -name '*.json') | while read -r file; do
+    install -D -m 644 "$package/$file" "$to/lib/rewind/clients/${package##*/}/$file"
+  done
+done
+# The clients find the program beside themselves, and are found on the path.
 ln -sfn ../../../bin/rewind "$to/lib/rewind/bin/rewind"
-ln -sfn ../lib/rewind/editors/dap/rewind-dap "$to/bin/rewind-dap"
+for client in rewind-shell rewind-hunt rewind-dap; do
+  install -m 755 "$top/clients/$client" "$to/lib/rewind/clients/$client"
+  ln -sfn "../lib/rewind/clients/$client" "$to/bin/$client"
+done
 echo "installed $kind as $to/bin/rewind"

@@ -49,7 +49,7 @@ def start(
     """
     process = Process([rewind, *(options or []), path], timeout, cancelled)
     try:
-        process.ask("show g0")
+        Core(process).show("g0")
     except ProcessError as fault:
         raise refusal_of(path, str(fault)) from None
     return Core(process, journal)

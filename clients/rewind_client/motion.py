@@ -5,6 +5,7 @@ before it is left stays done.
 """
 from __future__ import annotations
 
+from bisect import bisect_right
 from enum import Enum
 from itertools import count
 from typing import AbstractSet, Callable, Generator, NamedTuple, Optional, Tuple
@@ -17,6 +18,8 @@ from .session import Session
 RUN_PORTION = 50_000
 STEP_PORTION = 100
 MAX_FRAMES = 1000
+# Goroutines that are asked for in one go, until one is ready.
+ASKED = 64
 
 # The lines with breakpoints; they may change while the program runs.
 Lines = Callable[[], AbstractSet[int]]
@@ -38,13 +41,14 @@ class StopReason(Enum):
 
 
 class Stop(NamedTuple):
-    """Why a movement stopped, with the goroutine that is to be looked at, its last step, the line of a breakpoint, and a run."""
+    """Why a movement stopped, with the goroutine to look at, its last step, a breakpoint's line, a run, the step last taken back."""
 
     reason: StopReason
     goroutine: str
     entry: Optional[Entry] = None
     line: int = 0
     ran: Optional[Ran] = None
+    before: str = ""
 
 
 Motion = Generator[int, None, Stop]
@@ -81,22 +85,22 @@ def forward(session: Session, lines: Lines, goroutine: str, most: Optional[int] 
 def stop_of_run(session: Session, run: Ran, goroutine: str) -> Stop:
     """Where a run stopped; a fault and the end of the program are shown at the goroutine of the last step."""
     if run.reason is Reason.BREAK:
-        return Stop(StopReason.BREAKPOINT, next_at(session, run.line), line=run.line, ran=run)
+        return Stop(StopReason.BREAKPOINT, next_in_turn(session), line=run.line, ran=run)
     if run.reason in (Reason.ENDED, Reason.FAULT):
         return end(session)._replace(ran=run)
     return Stop(STOPS[run.reason], goroutine, ran=run)
 
 
-def next_at(session: Session, line: int) -> str:
-    """The goroutine whose turn it is after a run that ended at a breakpoint on this line."""
-    ready = [it for it in session.goroutines() if it.state is State.READY]
-    standing = [it.name for it in ready if it.line == line]
-    if len(standing) == 1:
-        return standing[0]
-    names = [it.name for it in ready]
-    last = step_owner(session.log()[-1].step)
-    after = [name for name in names if name_order(name) > name_order(last)]
-    return (after or names or ["g0"])[0]
+def next_in_turn(session: Session) -> str:
+    """The goroutine whose turn it is after a run: the first that is ready behind the one of the last step."""
+    names, last = session.goroutine_names(), name_order(step_owner(session.log()[-1].step))
+    first = bisect_right([name_order(name) for name in names], last)
+    turns = names[first:] + names[:first]
+    for at in range(0, len(turns), ASKED):
+        for one in session.goroutines(turns[at : at + ASKED]):
+            if one.state is State.READY:
+                return one.name
+    return "g0"
 
 
 def end(session: Session) -> Stop:
@@ -173,7 +177,7 @@ def backward(session: Session, lines: Lines) -> Motion:
         name = step_owner(step)
         shown = session.goroutine(name) if lines() else None
         if shown is not None and shown.line in lines():
-            return Stop(StopReason.BREAKPOINT, name, line=shown.line)
+            return Stop(StopReason.BREAKPOINT, name, line=shown.line, before=step)
         if number % STEP_PORTION == 0:
             yield number
     raise AssertionError("count has no end")

@@ -8,6 +8,7 @@ from __future__ import annotations
 from typing import Callable, Dict, List, Optional, Sequence, TypeVar
 
 from . import replies
+from .callers import callers_taken_again
 from .core import Core, Refused, end_of_step, first_word, step_words
 from .errors import ProcessError
 from .follower import NOTED, Follower
@@ -199,9 +200,9 @@ class Session:
             self.shown[name] = self.core.show(name)
         return self.shown[name]
 
-    def goroutines(self) -> List[Goroutine]:
-        """The goroutines as they stand, in the order of their names."""
-        names = self.goroutine_names()
+    def goroutines(self, some: Optional[Sequence[str]] = None) -> List[Goroutine]:
+        """The goroutines as they stand, in the order of their names; or some of them."""
+        names = self.goroutine_names() if some is None else some
         wanted = [name for name in names if name not in self.shown]
         for name, reply in zip(wanted, self.core.ask_all(["show " + name for name in wanted])):
             self.shown[name] = replies.goroutine(reply) if replies.is_ok(reply) else None
@@ -256,6 +257,8 @@ class Session:
         told = [self.program.calling_lines(outer, inner) for inner, outer in zip(functions, functions[1:])]
         if any(len(lines) != 1 for lines in told):
             noted = self.follow().callers_now(goroutine)
+            if len(noted) != len(told):
+                noted = callers_taken_again(self.core, self.log(), goroutine, self.follower.begin)
             if len(noted) == len(told):
                 return [Place(functions[0], goroutine.line), *noted]
         outer_lines = [lines[0] if len(lines) == 1 else 0 for lines in told]

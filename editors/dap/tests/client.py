@@ -8,8 +8,9 @@ import time
 from typing import Any, Dict, List, Optional
 
 HERE = os.path.dirname(os.path.abspath(__file__))
-ADAPTER = os.path.join(os.path.dirname(HERE), "rewind-dap")
 REPOSITORY = os.path.dirname(os.path.dirname(os.path.dirname(HERE)))
+ADAPTER = os.path.join(REPOSITORY, "clients", "rewind-dap")
+sys.path.insert(0, os.path.join(REPOSITORY, "clients"))
 DATA = os.path.join(REPOSITORY, "crates", "sessions", "data")
 REWIND = os.path.abspath(os.environ.get("REWIND") or os.path.join(REPOSITORY, "bin", "rewind"))
 LIMIT = 20.0

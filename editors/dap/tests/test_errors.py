@@ -9,10 +9,9 @@ import unittest
 from typing import Any, Dict
 
 sys.path.insert(0, os.path.dirname(os.path.abspath(__file__)))
-from client import DATA, HERE, REWIND, Client, framed  # noqa: E402
+from client import ADAPTER, DATA, HERE, REWIND, Client, framed  # noqa: E402
 
-sys.path.insert(0, os.path.dirname(HERE))
-from rewind_dap.codes import REFUSALS_OF_SOURCES  # noqa: E402
+from rewind_client.meanings import REFUSED_SOURCES  # noqa: E402
 
 MAX = 16 * 1024 * 1024
 PING = b'{"seq":1,"type":"request","command":"initialize"}'
@@ -137,7 +136,7 @@ class Sources(unittest.TestCase):
             if text.startswith("rewind: "):
                 code, place = text.split()[1], text.split()[3]
                 path = expected.replace(".expect", ".go")
-                wanted = "%s:%s: %s (%s)" % (path, place, REFUSALS_OF_SOURCES[code], code)
+                wanted = "%s:%s: %s (%s)" % (path, place, REFUSED_SOURCES[code], code)
                 self.assertEqual(client.ask("launch", {"program": path})["message"], wanted)
                 event = client.event("output")["body"]
                 self.assertEqual("%d:%d" % (event["line"], event["column"]), place)
@@ -203,9 +202,10 @@ class Failures(unittest.TestCase):
         self.assertTrue(self.launch(fake)["success"])
         self.client.event("initialized")
         self.client.body("configurationDone")
+        self.client.stop()
+        self.assertIn("has ended", self.client.ask("threads")["message"])
         self.client.event("terminated")
-        said = [event for event in self.client.events if event["event"] == "output"]
-        self.assertFalse(self.client.ask("threads")["success"], said)
+        self.assertFalse(self.client.ask("threads")["success"])
 
     def test_it_dies_in_a_run(self) -> None:
         fake = self.script("sed -u '/^run/q' | sed -u 's/^run.*/quit/' | %s \"$@\"\nexit 7" % REWIND)
@@ -250,14 +250,19 @@ class Failures(unittest.TestCase):
         self.child_ends(leave)
 
     def test_workers_that_a_rewind_does_not_know(self) -> None:
-        fake = 'if [ "$2" = --workers ]; then echo "unknown option --workers" >&2; exit 2; fi'
+        fake = 'if [ "$1" = --workers ]; then echo "unknown option --workers" >&2; exit 2; fi'
         self.assertIn("unknown option --workers", self.refused(fake, workers=2))
 
 
 class CommandLine(unittest.TestCase):
     def run_adapter(self, *words: str) -> Any:
-        adapter = os.path.join(os.path.dirname(HERE), "rewind-dap")
-        return subprocess.run([sys.executable, adapter, *words], input=b"", capture_output=True, timeout=60)
+        return subprocess.run([sys.executable, ADAPTER, *words], input=b"", capture_output=True, timeout=60)
+
+    def test_the_paths_that_configurations_name_start_it(self) -> None:
+        for path in ("dap", "vscode"):
+            words = [os.path.join(os.path.dirname(os.path.dirname(HERE)), path, "rewind-dap"), "--help"]
+            done = subprocess.run(words, stdout=subprocess.PIPE, timeout=60, check=True)
+            self.assertIn(b"Debug Adapter", done.stdout)
 
     def test_options(self) -> None:
         self.assertEqual(self.run_adapter("--help").returncode, 0)

@@ -1,4 +1,4 @@
-"""Parts that need no client: where statements begin, what became of printed lines, and the meanings of codes."""
+"""Parts that need no editor: where statements begin, what became of printed lines, and the meanings of codes."""
 import glob
 import os
 import re
@@ -10,13 +10,14 @@ from typing import List
 from unittest import mock
 
 sys.path.insert(0, os.path.dirname(os.path.abspath(__file__)))
-from client import DATA, HERE, REPOSITORY, REWIND  # noqa: E402
+from client import DATA, REPOSITORY, REWIND  # noqa: E402
 
-sys.path.insert(0, os.path.dirname(HERE))
-from rewind_dap import launching  # noqa: E402
-from rewind_dap.codes import FAULTS, REFUSALS_OF_COMMANDS, REFUSALS_OF_SOURCES  # noqa: E402
-from rewind_dap.printed import Change, change, changes_in_words  # noqa: E402
-from rewind_dap.source import Source  # noqa: E402
+from rewind_client import finding  # noqa: E402
+from rewind_client.errors import NotFound  # noqa: E402
+from rewind_client.meanings import FAULTS, REFUSED_COMMANDS, REFUSED_SOURCES  # noqa: E402
+from rewind_client.printed import Change, change  # noqa: E402
+from rewind_client.program import Program  # noqa: E402
+from rewind_dap.told import changes_in_words  # noqa: E402
 
 FORMS = b"""\xef\xbb\xbfpackage main
 
@@ -59,8 +60,8 @@ outer:
 
 class Lines(unittest.TestCase):
     def test_where_statements_begin(self) -> None:
-        source = Source(FORMS)
-        self.assertEqual(source.lines, [6, 8, 9, 12, 15, 16, 18, 19, 20, 21, 22, 25, 27, 30, 32, 34, 36])
+        source = Program(FORMS)
+        self.assertEqual(source.statements, [6, 8, 9, 12, 15, 16, 18, 19, 20, 21, 22, 25, 27, 30, 32, 34, 36])
         self.assertEqual(source.calling_lines("main", "f"), [18, 22])
         self.assertEqual(source.calling_lines("main", "g"), [32])
         self.assertEqual([source.heading(name) for name in ("f", "g", "main", "h")], [3, 11, 14, 0])
@@ -69,7 +70,7 @@ class Lines(unittest.TestCase):
             with open(path, "wb") as file:
                 file.write(FORMS)
             self.assertGreater(len(stands(path)), 10)
-            self.assertLessEqual(set(stands(path)), set(source.lines))
+            self.assertLessEqual(set(stands(path)), set(source.statements))
         self.assertEqual([source.statement_at(line) for line in (1, 17, 18, 23, 37)], [6, 18, 18, 25, None])
 
     def test_each_step_stands_where_a_statement_begins(self) -> None:
@@ -77,7 +78,7 @@ class Lines(unittest.TestCase):
         seen = 0
         for path in sorted(programs):
             with open(path, "rb") as file:
-                lines = set(Source(file.read()).lines)
+                lines = set(Program(file.read()).statements)
             stood = set(stands(path))
             self.assertLessEqual(stood, lines, path)
             seen += len(stood)
@@ -85,9 +86,9 @@ class Lines(unittest.TestCase):
 
     def test_any_bytes_are_walked_to_their_end(self) -> None:
         for end in range(len(FORMS)):
-            Source(FORMS[:end])
-            Source(FORMS[end:])
-        Source(bytes(range(256)) * 4)
+            Program(FORMS[:end])
+            Program(FORMS[end:])
+        Program(bytes(range(256)) * 4)
 
 
 def stands(path: str) -> List[int]:
@@ -120,24 +121,24 @@ class Meanings(unittest.TestCase):
             return re.findall(pattern, file.read(), re.M)
 
     def test_each_code_of_the_documents_has_a_meaning(self) -> None:
-        self.assertEqual(self.codes("LANGUAGE.md", r"^\| ([SPC]\d+) \|"), list(REFUSALS_OF_SOURCES))
-        self.assertEqual(self.codes("COMMANDS.md", r"^\| ([NBQ]\d) \|"), list(REFUSALS_OF_COMMANDS))
+        self.assertEqual(self.codes("LANGUAGE.md", r"^\| ([SPC]\d+) \|"), list(REFUSED_SOURCES))
+        self.assertEqual(self.codes("COMMANDS.md", r"^\| ([NBQ]\d) \|"), list(REFUSED_COMMANDS))
         (faults,) = self.codes("COMMANDS.md", r"^\| `fault F` \| .*: F is (.*) \|$")
         self.assertEqual(re.findall(r"\w+(?=`)", faults), list(FAULTS))
 
 
 class WhichRewind(unittest.TestCase):
     def test_the_order_in_which_it_is_looked_for(self) -> None:
-        with tempfile.TemporaryDirectory() as folder, mock.patch.object(launching, "REPOSITORY", folder):
-            with mock.patch.dict(os.environ, {"REWIND": "/named", "PATH": folder}):
-                self.assertEqual(launching.find_rewind(), "/named")
+        with tempfile.TemporaryDirectory() as folder, mock.patch.object(finding, "REPOSITORY", folder):
+            with mock.patch.dict(os.environ, {"REWIND": REWIND, "PATH": folder}):
+                self.assertEqual(finding.find_rewind(), REWIND)
             with mock.patch.dict(os.environ, {"REWIND": "", "PATH": folder}):
-                self.assertRaises(launching.BadRequest, launching.find_rewind)
+                self.assertRaises(NotFound, finding.find_rewind)
                 for path in (os.path.join(folder, "rewind"), os.path.join(folder, "bin", "rewind")):
                     os.makedirs(os.path.dirname(path), exist_ok=True)
                     with open(path, "w", encoding="utf-8"):
                         os.chmod(path, 0o755)
-                    self.assertEqual(launching.find_rewind(), path)
+                    self.assertEqual(finding.find_rewind(), path)
 
 
 if __name__ == "__main__":

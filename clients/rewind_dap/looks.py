@@ -1,4 +1,6 @@
 """Requests that only look, and those that set breakpoints."""
+from __future__ import annotations
+
 from typing import TYPE_CHECKING, Any, Callable, Dict, List, Optional, TypeVar
 
 from .arguments import Arguments, BadRequest
@@ -14,7 +16,7 @@ Part = TypeVar("Part")
 class Looks:
     """What an editor asks of a program that stands still, and its breakpoints."""
 
-    def __init__(self, adapter: "Adapter") -> None:
+    def __init__(self, adapter: Adapter) -> None:
         self.adapter = adapter
 
     def handlers(self) -> Dict[str, Callable[[Arguments], Optional[Body]]]:
@@ -70,12 +72,14 @@ class Looks:
     def related(self, word: str, arguments: Arguments) -> Body:
         """The steps that a step rests on, or that rest on it."""
         debuggee = self.adapter.stopped_debuggee()
-        return {"steps": debuggee.session.related(word, step_name(debuggee, arguments))}
+        core = debuggee.session.core
+        ask = core.causes if word == "causes" else core.dependents
+        return {"steps": ask(step_name(debuggee, arguments))}
 
     def log(self, arguments: Arguments) -> Body:
         """The kept steps, or a part of them."""
         entries = self.adapter.stopped_debuggee().session.log()
-        bodies = [{"step": entry.step, "kind": entry.kind} for entry in entries]
+        bodies = [{"step": entry.step, "kind": str(entry.kind)} for entry in entries]
         return {"steps": portion(bodies, arguments, "start", "count"), "total": len(entries)}
 
 

@@ -1,12 +1,18 @@
 """Requests that move the program, forward or back."""
+from __future__ import annotations
+
 import re
 from typing import TYPE_CHECKING, Any, Callable, Dict, List, Optional
+
+from rewind_client import motion
+from rewind_client.core import MOVING, words_of
+from rewind_client.names import is_channel, step_owner
+from rewind_client.replies import Goroutine, is_ok
 
 from .arguments import Arguments, BadRequest
 from .debuggee import Debuggee
 from .looks import step_name
-from .motion import Stop, at_once, backward, end, forward, one_step, one_step_back, steps, taken
-from .session import CHANGING, Goroutine, step_owner, words_of
+from .stops import Stop, at_once, end, one_step_back, taken, told
 
 if TYPE_CHECKING:
     from .adapter import Adapter
@@ -20,7 +26,7 @@ CONTROL = re.compile("[\x00-\x08\x0a-\x1f]")
 class Moves:
     """Steps and runs in both directions, and commands as the user writes them."""
 
-    def __init__(self, adapter: "Adapter") -> None:
+    def __init__(self, adapter: Adapter) -> None:
         self.adapter = adapter
 
     def handlers(self) -> Dict[str, Callable[[Arguments], Optional[Body]]]:
@@ -42,17 +48,18 @@ class Moves:
 
     def go_on(self, _arguments: Arguments) -> Body:
         debuggee = self.adapter.stopped_debuggee()
-        self.adapter.begin(forward(debuggee.session, debuggee.view, debuggee.breakpoints.lines, debuggee.focus))
+        self.begin(motion.forward(debuggee.session, debuggee.breakpoints.lines, debuggee.focus))
         return {"allThreadsContinued": True}
 
     def steps(self, arguments: Arguments, out: bool) -> None:
         goroutine = self.goroutine(arguments)
         debuggee = self.focused(goroutine)
-        self.adapter.begin(steps(debuggee.session, goroutine, debuggee.breakpoints.lines, out))
+        go = motion.out_of_frame if out else motion.next_line
+        self.begin(go(debuggee.session, goroutine, debuggee.breakpoints.lines))
 
     def step_in(self, arguments: Arguments) -> None:
         goroutine = self.goroutine(arguments)
-        self.adapter.begin(one_step(self.focused(goroutine).session, goroutine.name))
+        self.begin(motion.some_steps(self.focused(goroutine).session, goroutine.name, 1))
 
     def step_back(self, arguments: Arguments) -> None:
         goroutine = self.goroutine(arguments)
@@ -60,7 +67,12 @@ class Moves:
 
     def reverse(self, _arguments: Arguments) -> None:
         debuggee = self.adapter.stopped_debuggee()
-        self.adapter.begin(backward(debuggee.session, debuggee.breakpoints.lines))
+        self.begin(motion.backward(debuggee.session, debuggee.breakpoints.lines))
+
+    def begin(self, movement: motion.Motion) -> None:
+        """Sets the program going."""
+        debuggee = self.adapter.stopped_debuggee()
+        self.adapter.begin(told(debuggee.session, debuggee.view, movement))
 
     def focused(self, goroutine: Goroutine) -> Debuggee:
         """The program, with a goroutine as the one that the editor looks at."""
@@ -84,7 +96,7 @@ class Moves:
     def answer(self, debuggee: Debuggee, did: str, names: List[str], shown: int) -> Body:
         """Answers with the steps that went or came; the editor is shown the goroutine of one of them."""
         stop = taken(did, names, step_owner(names[shown]) if names else debuggee.focus)
-        self.adapter.begin(at_once(end(debuggee.session) if debuggee.session.end else stop))
+        self.adapter.begin(at_once(end(debuggee.session) if debuggee.session.stopped_by() else stop))
         return {"steps": names}
 
     # The console.
@@ -101,15 +113,15 @@ class Moves:
         return self.value(self.adapter.stopped_debuggee(), text.strip(), frame)
 
     def command(self, text: str, frame: int) -> Body:
-        words = [word for word in words_of(text) if word]
-        changing = words[:1] and words[0] in CHANGING
-        debuggee = self.adapter.stopped_debuggee() if changing else self.adapter.any_debuggee()
+        words = words_of(text)
+        moving = words[:1] and words[0] in MOVING
+        debuggee = self.adapter.stopped_debuggee() if moving else self.adapter.any_debuggee()
         if not words:
             return {"result": "", "variablesReference": 0}
         reply = debuggee.session.ask(text)
         if reply[-1].startswith("?") and frame and len(words) == 1:
             return self.value(debuggee, words[0], frame)
-        if reply[-1].startswith("ok"):
+        if is_ok(reply):
             self.after_command(debuggee, words, reply[-1])
         return {"result": "\n".join(reply), "variablesReference": 0}
 
@@ -119,18 +131,19 @@ class Moves:
             self.adapter.later.append(self.adapter.gone)
         elif words[0] in ("break", "clear"):
             debuggee.breakpoints.note_command(words)
-        elif words[0] in CHANGING:
+        elif words[0] in MOVING:
             named = [step_owner(word) for word in last.split(" ") if "#" in word]
             focus = named[-1 if words[0] in ("step", "redo") else 0] if named else debuggee.focus
             stop = Stop("step", focus, "After '%s': %s" % (" ".join(words)[:40], last[:80]))
-            self.adapter.begin(at_once(end(debuggee.session) if debuggee.session.end else stop))
+            self.adapter.begin(at_once(end(debuggee.session) if debuggee.session.stopped_by() else stop))
 
     def value(self, debuggee: Debuggee, name: str, frame: int) -> Body:
         """The value of a variable of a frame, or of a channel by its name."""
         view = debuggee.view
-        bodies = [body for body in view.of_frame(view.place(frame)) if body["name"] == name] if frame else []
-        if not bodies and "/c" in name and view.channel(one_line(name)) is not None:
-            bodies = [view.variable(name, name)]
+        bodies = [body for body in view.of_frame(frame) if body["name"] == name] if frame else []
+        if not bodies and is_channel(name) and debuggee.session.channel(name) is not None:
+            view.renew()
+            bodies = [view.values.variable(name, name)]
         if not bodies:
             raise BadRequest("there is no variable '%s' with a value here" % name[:80])
         return {"result": bodies[-1]["value"], **{key: bodies[-1][key] for key in ("type", "variablesReference")}}

@@ -1,16 +1,20 @@
 """The adapter: requests of an editor in, responses and events out."""
+from __future__ import annotations
+
 import time
-from typing import Any, Callable, Dict, List, Optional
+from typing import Any, Callable, Dict, List, Optional, cast
+
+from rewind_client import motion
+from rewind_client.core import Refused
+from rewind_client.errors import Cancelled, ProcessError, RewindError, SourceRefused
 
 from .arguments import Arguments, BadRequest
-from .child import Cancelled, ChildError
 from .debuggee import Debuggee
-from .launching import SourceRefused, described, program_of, start
+from .launching import described, launch_of, start
 from .looks import Looks
-from .motion import Motion, Stop, at_once, forward
 from .moves import Moves
-from .printed import changes_in_words
-from .session import Refused
+from .stops import Motion, Stop, at_once, not_taken, told
+from .told import changes_in_words
 from .transport import Closed, Malformed, Transport
 
 Body = Dict[str, Any]
@@ -89,10 +93,11 @@ class Adapter:
         try:
             body = self.body_for(command, message.get("arguments"))
             self.transport.send({**response, "success": True, **({"body": body} if body is not None else {})})
-        except (BadRequest, Refused, ChildError) as fault:
+        except Cancelled:
+            raise
+        except RewindError as fault:
             self.refuse(response, str(fault))
-            if isinstance(fault, ChildError):
-                self.lost(str(fault))
+            self.see_lost()
         for action in self.later:
             action()
 
@@ -130,18 +135,14 @@ class Adapter:
     def launch(self, arguments: Arguments) -> None:
         if self.debuggee is not None:
             raise BadRequest("a program was launched before")
-        program = program_of(arguments, self.rewind)
+        launch = launch_of(arguments, self.rewind)
         try:
-            session = start(program, self.transport.closed.is_set, self.journal)
+            session = start(launch, self.transport.closed.is_set, self.journal)
         except SourceRefused as refusal:
-            place = {"source": described(program.path), "line": refusal.line, "column": refusal.column}
+            place = {"source": described(launch.path), "line": refusal.line, "column": refusal.column}
             self.say("stderr", str(refusal), place if refusal.line else None)
             raise
-        try:
-            self.debuggee = Debuggee(program, session, self.first_line, self.first_column)
-        except BadRequest:
-            session.child.end("the session is over")
-            raise
+        self.debuggee = Debuggee(launch, session, self.first_line, self.first_column)
         self.later.append(lambda: self.event("initialized"))
 
     def attach(self, _arguments: Arguments) -> None:
@@ -149,10 +150,11 @@ class Adapter:
 
     def configuration_done(self, _arguments: Arguments) -> None:
         debuggee = self.stopped_debuggee()
-        if debuggee.program.stop_on_entry:
+        if debuggee.launch.stop_on_entry:
             self.begin(at_once(Stop("entry", "g0", "The start of the program")))
         else:
-            self.begin(forward(debuggee.session, debuggee.view, debuggee.breakpoints.lines, "g0"))
+            movement = motion.forward(debuggee.session, debuggee.breakpoints.lines, "g0")
+            self.begin(told(debuggee.session, debuggee.view, movement))
 
     def terminate(self, _arguments: Arguments) -> None:
         self.any_debuggee()
@@ -167,16 +169,17 @@ class Adapter:
         self.end_program()
         self.event("terminated")
 
-    def lost(self, why: str) -> None:
-        """Rewind itself is gone."""
-        if self.debuggee is not None:
+    def see_lost(self) -> None:
+        """Ends the program, and tells the editor why, where Rewind itself is gone."""
+        why = self.debuggee.session.core.process.ended if self.debuggee else None
+        if why is not None:
             self.say("stderr", why)
             self.gone()
 
     def end_program(self) -> None:
         self.motion = None
         if self.debuggee is not None:
-            self.debuggee.session.child.end("the session is over")
+            self.debuggee.session.end()
             self.debuggee = None
 
     def any_debuggee(self) -> Debuggee:
@@ -191,29 +194,32 @@ class Adapter:
 
     # Movement.
 
-    def begin(self, motion: Motion) -> None:
+    def begin(self, movement: Motion) -> None:
         """Sets the program going, once the request is answered."""
-        self.motion = motion
+        self.motion = movement
 
     def advance(self) -> None:
         """A portion of the movement under way."""
         try:
-            stop = self.portion()
+            stop = self.portion(self.motion) if self.motion else None
             if stop is not None:
                 self.stopped(stop)
             elif time.monotonic() > self.any_debuggee().told + SECONDS_BETWEEN_OUTPUTS:
                 self.tell_output()
-        except ChildError as fault:
-            self.lost(str(fault))
+        except ProcessError:
+            self.see_lost()
 
-    def portion(self) -> Optional[Stop]:
+    def portion(self, movement: Motion) -> Optional[Stop]:
         """A portion of the movement, and where it stopped, if it did."""
         try:
-            next(self.motion)
+            next(movement)
         except StopIteration as stop:
-            return stop.value
-        except Refused as refusal:
-            return Stop("pause", self.any_debuggee().focus, "No step was taken: %s" % refusal)
+            return cast(Stop, stop.value)
+        except (Refused, ProcessError) as fault:
+            debuggee = self.any_debuggee()
+            if debuggee.session.core.process.ended is not None:
+                raise
+            return not_taken(fault, debuggee.focus)
         return None
 
     def pause(self, _arguments: Arguments) -> None:
@@ -231,7 +237,7 @@ class Adapter:
         self.tell_output()
         if stop.text:
             self.say("stderr" if stop.reason in TROUBLE else "console", stop.text)
-        if debuggee.program.no_debug:
+        if debuggee.launch.no_debug:
             self.say("console", stop.description)
             self.gone()
             return
@@ -248,13 +254,13 @@ class Adapter:
         """Tells the lines that were printed since it was last told, and those that no longer are."""
         debuggee = self.any_debuggee()
         debuggee.told = time.monotonic()
-        if debuggee.printed_at == debuggee.session.changes:
+        if debuggee.printed_at == debuggee.session.version:
             return
         before = debuggee.printed
         try:
-            debuggee.printed = debuggee.session.console()
+            debuggee.printed = debuggee.session.core.console()
         except Refused as refusal:
             self.say("stderr", "What is printed cannot be told: %s" % refusal)
-        debuggee.printed_at = debuggee.session.changes
+        debuggee.printed_at = debuggee.session.version
         for category, text in changes_in_words(before, debuggee.printed):
             self.say(category, text)

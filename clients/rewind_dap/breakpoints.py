@@ -1,10 +1,12 @@
 """Breakpoints of an editor, and the lines on which Rewind has one."""
+from __future__ import annotations
+
 import os
 from typing import Any, Dict, List, Set
 
+from rewind_client.session import Session
+
 from .arguments import Arguments
-from .session import Session
-from .source import Source
 
 Body = Dict[str, Any]
 
@@ -12,10 +14,10 @@ Body = Dict[str, Any]
 class Breakpoints:
     """The breakpoints that the editor set, each moved to a line on which a statement begins; and those set by commands."""
 
-    def __init__(self, session: Session, source: Source, path: str, first_line: int) -> None:
+    def __init__(self, session: Session, path: str, first_line: int) -> None:
         """`first_line` is the number that the editor gives the first line."""
         self.session = session
-        self.source = source
+        self.program = session.program
         self.path = path
         self.first_line = first_line
         self.last_number = 0
@@ -38,16 +40,16 @@ class Breakpoints:
         self.numbers = {}
         bodies = [self.one(line, wish) for line, wish in zip(asked, wanted)]
         for line in sorted(before - self.lines()):
-            self.session.change_breakpoint("clear", line)
+            self.session.core.clear_breakpoint(line)
         for line in sorted(self.lines() - before):
-            self.session.change_breakpoint("break", line)
+            self.session.core.set_breakpoint(line)
         return bodies
 
     def one(self, line: int, wish: Arguments) -> Body:
         for name in ("condition", "hitCondition", "logMessage"):
             if wish.has(name):
                 return self.refused(line, "Breakpoints with a condition or a message are not there")
-        place = self.source.statement_at(line)
+        place = self.program.statement_at(line)
         if place is None:
             return self.refused(line, "No statement begins on this line or after it")
         self.last_number += 1
@@ -72,4 +74,4 @@ class Breakpoints:
         if not self.is_here(path):
             return []
         shift = self.first_line - 1
-        return [{"line": line + shift} for line in self.source.statements_between(first - shift, last - shift)]
+        return [{"line": line + shift} for line in self.program.statements_between(first - shift, last - shift)]

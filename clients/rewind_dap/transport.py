@@ -3,6 +3,8 @@
 A message is a header with its length, an empty line, and a JSON object in UTF-8. One thread reads, so that a request comes in
 while the program runs; all else is done by the thread that calls `next_message` and `send`.
 """
+from __future__ import annotations
+
 import json
 import os
 import re
@@ -39,7 +41,7 @@ class Transport:
         self.source = source
         self.target = target
         self.closed = threading.Event()
-        self.inbox: "Queue[Union[Message, Malformed, Closed]]" = Queue(WAITING_MESSAGES)
+        self.inbox: Queue[Union[Message, Malformed, Closed]] = Queue(WAITING_MESSAGES)
         self.sent = 0
         self.reader = threading.Thread(target=self.read_all, daemon=True)
         self.reader.start()

@@ -1,0 +1,79 @@
+"""The arguments of a request, each taken with its type."""
+from __future__ import annotations
+
+from typing import Any, Dict, List, Optional
+
+from rewind_client.errors import RewindError
+
+
+class BadRequest(RewindError):
+    """A request that can't be done; the text says why, for the user."""
+
+
+class Arguments:
+    """The members of a JSON object; one of the wrong type is refused in words."""
+
+    def __init__(self, members: Any, where: str = "arguments") -> None:
+        if members is None:
+            members = {}
+        if not isinstance(members, dict):
+            raise BadRequest("%s must be an object" % where)
+        self.members: Dict[str, Any] = members
+        self.where = where
+
+    def wrong(self, name: str, kind: str) -> BadRequest:
+        return BadRequest("%s: %s must be %s" % (self.where, name, kind))
+
+    def text(self, name: str, default: Optional[str] = None) -> str:
+        """A string; without a default it must be there."""
+        value = self.members.get(name, default)
+        if value is None and default is not None:
+            return default
+        if not isinstance(value, str):
+            raise self.wrong(name, "a string")
+        return value
+
+    def flag(self, name: str, default: bool) -> bool:
+        value = self.members.get(name)
+        if value is None:
+            return default
+        if not isinstance(value, bool):
+            raise self.wrong(name, "true or false")
+        return value
+
+    def number(self, name: str, default: Optional[int] = None, least: int = 0, most: int = 2**53) -> int:
+        """A whole number from `least` to `most`; without a default it must be there."""
+        value = self.members.get(name)
+        if value is None and default is not None:
+            return default
+        if not isinstance(value, int) or isinstance(value, bool):
+            raise self.wrong(name, "a whole number")
+        if not least <= value <= most:
+            raise BadRequest("%s: %s must lie between %d and %d" % (self.where, name, least, most))
+        return value
+
+    def seconds(self, name: str, default: float) -> float:
+        """A number over 0 and up to a day."""
+        value = self.members.get(name)
+        if value is None:
+            return default
+        if not isinstance(value, (int, float)) or isinstance(value, bool):
+            raise self.wrong(name, "a number of seconds")
+        if not 0 < value <= 86_400:
+            raise BadRequest("%s: %s must lie between 0 and 86400" % (self.where, name))
+        return float(value)
+
+    def object(self, name: str) -> Arguments:
+        return Arguments(self.members.get(name), name)
+
+    def objects(self, name: str) -> List[Arguments]:
+        """A list of objects, empty where it is left out."""
+        members = self.members.get(name)
+        if members is None:
+            return []
+        if not isinstance(members, list):
+            raise self.wrong(name, "a list")
+        return [Arguments(member, name) for member in members]
+
+    def has(self, name: str) -> bool:
+        return self.members.get(name) is not None

@@ -1,0 +1,56 @@
+"""Starting `rewind` on the program that a launch names."""
+from __future__ import annotations
+
+import os
+from typing import Any, Callable, Dict, List, NamedTuple, Optional
+
+from rewind_client import finding
+from rewind_client.errors import RewindError
+from rewind_client.program import read_program
+from rewind_client.session import Session
+
+from .arguments import Arguments
+
+TIMEOUT = 30.0
+MAX_WORKERS = 64
+
+
+class Launch(NamedTuple):
+    """What a launch asks for."""
+
+    path: str
+    stop_on_entry: bool
+    no_debug: bool
+    workers: int
+    rewind: str
+    timeout: float
+
+
+def launch_of(arguments: Arguments, chosen: Optional[str]) -> Launch:
+    """What the arguments of a launch say; `chosen` is the `rewind` that the command line of the adapter names."""
+    no_debug = arguments.flag("noDebug", False)
+    return Launch(
+        os.path.abspath(arguments.text("program")),
+        arguments.flag("stopOnEntry", True) and not no_debug,
+        no_debug,
+        arguments.number("workers", 0, most=MAX_WORKERS),
+        arguments.text("rewind", "") or chosen or finding.find_rewind(),
+        arguments.seconds("timeout", TIMEOUT),
+    )
+
+
+def start(launch: Launch, cancelled: Callable[[], bool], journal: Callable[[str], None]) -> Session:
+    """A session on the program; the second session that it may begin has no workers."""
+    options: List[str] = ["--workers", str(launch.workers)] if launch.workers else []
+    core = finding.start(launch.rewind, launch.path, launch.timeout, cancelled, journal, options)
+    try:
+        program = read_program(launch.path)
+    except RewindError:
+        core.process.end()
+        raise
+    return Session(core, program, lambda: finding.start(launch.rewind, launch.path, launch.timeout, cancelled))
+
+
+def described(path: str) -> Dict[str, Any]:
+    """A source as the protocol describes it."""
+    return {"name": os.path.basename(path), "path": path}

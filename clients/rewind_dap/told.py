@@ -1,0 +1,25 @@
+"""What the console of an editor is told of the lines that a program printed."""
+from __future__ import annotations
+
+from typing import Iterator, List, Tuple
+
+from rewind_client.printed import change
+
+MAX_LINES = 100
+
+
+def changes_in_words(before: List[str], now: List[str]) -> Iterator[Tuple[str, str]]:
+    """What to write in the console of an editor, which can't take lines back: categories of the protocol, with text."""
+    found = change(before, now)
+    if found.added:
+        yield "stdout", "\n".join(found.added)
+    if found.taken_back:
+        yield "console", "\n".join("No longer printed: " + line for line in first_lines(found.taken_back))
+    if found.reordered:
+        yield "console", "\n".join(["The printed lines stand in another order now:"] + first_lines(now))
+
+
+def first_lines(lines: List[str]) -> List[str]:
+    """No more than MAX_LINES of some lines, with a word for the others."""
+    left_out = len(lines) - MAX_LINES
+    return lines[:MAX_LINES] + ["(and %d lines more)" % left_out] if left_out > 0 else lines

@@ -1,0 +1,126 @@
+"""Variables, goroutines and channels as lists that an editor opens, by the numbers that the protocol wants."""
+from __future__ import annotations
+
+from typing import Any, Callable, Dict, List, Sequence, TypeVar
+
+from rewind_client.names import is_channel
+from rewind_client.replies import Channel, Goroutine, Variable, Waiter
+from rewind_client.session import Session
+
+from .arguments import BadRequest
+
+Body = Dict[str, Any]
+Member = TypeVar("Member")
+
+MAX_SHOWN = 1000
+
+
+class Variables:
+    """The lists of one state of a session."""
+
+    def __init__(self, session: Session, next_number: Callable[[], int]) -> None:
+        self.session = session
+        self.next_number = next_number
+        self.children: Dict[int, Callable[[], List[Body]]] = {}
+
+    def reference(self, children: Callable[[], List[Body]]) -> int:
+        number = self.next_number()
+        self.children[number] = children
+        return number
+
+    def children_of(self, number: int) -> List[Body]:
+        if number not in self.children:
+            raise BadRequest("there are no variables %d in the present state" % number)
+        return self.children[number]()
+
+    def scope(self, name: str, expensive: bool, children: Callable[[], List[Body]], hint: str = "") -> Body:
+        body = {"name": name, "variablesReference": self.reference(children), "expensive": expensive}
+        return {**body, "presentationHint": hint} if hint else body
+
+    # What a scope holds.
+
+    def of_frame(self, variables: Sequence[Variable]) -> List[Body]:
+        """The variables of a frame; one whose name is there before is told with a count."""
+        told: Dict[str, int] = {}
+        bodies = []
+        for variable in variables:
+            told[variable.name] = count = told.get(variable.name, 0) + 1
+            name = variable.name if count == 1 else "%s (%d)" % (variable.name, count)
+            bodies.append(self.variable(name, variable.value))
+        return bodies
+
+    def of_goroutine(self, goroutine: Goroutine) -> List[Body]:
+        last = goroutine.last_step if goroutine.steps else "none"
+        state, steps = goroutine.state.value, str(goroutine.steps)
+        pairs = (("name", goroutine.name), ("state", state), ("steps", steps), ("last step", last))
+        return [plain(name, value) for name, value in pairs]
+
+    def of_channels(self) -> List[Body]:
+        return [self.variable(channel.name, channel.name) for channel in self.session.channels()[:MAX_SHOWN]]
+
+    # Values.
+
+    def variable(self, name: str, value: str) -> Body:
+        """A variable with its value; a channel can be opened."""
+        body: Body = {"name": name, "value": value, "type": type_of(value), "variablesReference": 0}
+        channel = self.session.channel(value) if is_channel(value) else None
+        return body if channel is None else {**body, **self.opened(channel)}
+
+    def opened(self, channel: Channel) -> Body:
+        return {"value": channel_in_words(channel), "variablesReference": self.reference(lambda: self.of_channel(channel))}
+
+    def of_channel(self, channel: Channel) -> List[Body]:
+        return [
+            {**plain("capacity", str(channel.capacity)), "type": "int"},
+            plain("state", state_of(channel)),
+            self.branch("items", channel.items, self.item),
+            self.branch("senders", channel.senders, self.waiter),
+            self.branch("receivers", channel.receivers, self.waiter),
+        ]
+
+    def branch(self, name: str, members: Sequence[Member], show: Callable[[int, Member], Body]) -> Body:
+        """A list of values, the first of which is told first."""
+        body = plain(name, "none" if not members else str(len(members)))
+        if members:
+            body["variablesReference"] = self.reference(lambda: self.of_list(members, show))
+        return body
+
+    def of_list(self, members: Sequence[Member], show: Callable[[int, Member], Body]) -> List[Body]:
+        bodies = [show(place, member) for place, member in enumerate(members[:MAX_SHOWN])]
+        left_out = len(members) - MAX_SHOWN
+        return bodies + [plain("..", "%d more" % left_out)] if left_out > 0 else bodies
+
+    def item(self, place: int, value: str) -> Body:
+        return self.variable("[%d]" % place, value)
+
+    def waiter(self, _place: int, one: Waiter) -> Body:
+        """A goroutine that waits: at which clause of a select, and with which value to send."""
+        at = " (clause %d)" % one.clause if one.clause else ""
+        return self.variable(one.goroutine + at, one.value) if one.value else plain(one.goroutine + at, "waits")
+
+
+def plain(name: str, value: str) -> Body:
+    return {"name": name, "value": value, "variablesReference": 0}
+
+
+def type_of(value: str) -> str:
+    """The type of a value, as far as the value tells it."""
+    if value in ("true", "false"):
+        return "bool"
+    if value == "{}":
+        return "struct{}"
+    return "chan" if value == "nil" or "/c" in value else "int"
+
+
+def state_of(channel: Channel) -> str:
+    return "open" if channel.is_open else "closed"
+
+
+def channel_in_words(channel: Channel) -> str:
+    """A channel on one line: `g0/c1 (open, 2 of 2, 1 waits to send)`."""
+    held = "%d of %d" % (len(channel.items), channel.capacity) if channel.capacity else "no buffer"
+    parts = [state_of(channel), held]
+    for waiters, wish in ((channel.senders, "send"), (channel.receivers, "receive")):
+        if waiters:
+            parts.append("%d %s to %s" % (len(waiters), "waits" if len(waiters) == 1 else "wait", wish))
+    return "%s (%s)" % (channel.name, ", ".join(parts))

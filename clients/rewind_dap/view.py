@@ -1,0 +1,188 @@
+"""What an editor sees of a session: goroutines as threads, and their frames.
+
+Everything is asked of Rewind when an editor wants it, and kept until a step is taken or taken back.
+"""
+from __future__ import annotations
+
+from typing import Any, Dict, List, NamedTuple, Tuple
+
+from rewind_client.core import Refused
+from rewind_client.errors import ProcessError
+from rewind_client.replies import Goroutine, State, Variable
+from rewind_client.session import Session
+
+from .arguments import BadRequest
+from .variables import Variables
+
+Body = Dict[str, Any]
+
+MAX_THREADS = 1000
+NIL_WISH = "send to or receive from a nil channel"
+
+
+class FramePlace(NamedTuple):
+    goroutine: Goroutine
+    depth: int
+
+
+class View:
+    """Threads, frames and variables, by the numbers that the protocol wants."""
+
+    def __init__(self, session: Session, described: Body, first: Tuple[int, int]) -> None:
+        """`described` is the source as the protocol describes it, `first` how the editor counts lines and columns."""
+        self.session = session
+        self.described = described
+        self.first_line, self.first_column = first
+        self.names: List[str] = []
+        self.numbers: Dict[str, int] = {}
+        self.last_number = 0
+        self.seen = -1
+        self.forget()
+
+    def forget(self) -> None:
+        """Drops the numbers that were given before the last step."""
+        self.seen = self.session.version
+        self.lines: Dict[str, List[int]] = {}
+        self.frames: Dict[int, FramePlace] = {}
+        self.values = Variables(self.session, self.next_number)
+
+    def renew(self) -> None:
+        if self.seen != self.session.version:
+            self.forget()
+
+    def next_number(self) -> int:
+        """A number for a frame or a list of variables, which is never given twice."""
+        self.last_number += 1
+        return self.last_number
+
+    # Goroutines as threads.
+
+    def thread_number(self, goroutine: str) -> int:
+        """The number of a thread, which is that of its goroutine as long as the session lives.
+
+        Those that are new get theirs in the order of their names.
+        """
+        if goroutine not in self.numbers:
+            for name in self.names_now() + [goroutine]:
+                if name not in self.numbers:
+                    self.names.append(name)
+                    self.numbers[name] = len(self.names)
+        return self.numbers[goroutine]
+
+    def names_now(self) -> List[str]:
+        """The names of the goroutines that are listed; none where Rewind refuses to tell them."""
+        try:
+            return self.session.goroutine_names()[:MAX_THREADS]
+        except Refused:
+            return []
+
+    def goroutine_of(self, thread: int) -> Goroutine:
+        """The goroutine of a thread as it stands now."""
+        name = self.names[thread - 1] if 0 < thread <= len(self.names) else ""
+        goroutine = self.session.goroutine(name) if name else None
+        if goroutine is None:
+            raise BadRequest("there is no thread %d" % thread)
+        return goroutine
+
+    def goroutines(self) -> List[Goroutine]:
+        """The goroutines in the order of their names, but no more than MAX_THREADS."""
+        return self.session.goroutines(self.session.goroutine_names()[:MAX_THREADS])
+
+    def threads(self) -> List[Body]:
+        return [{"id": self.thread_number(one.name), "name": thread_name(one)} for one in self.goroutines()]
+
+    # Frames.
+
+    def places(self, goroutine: Goroutine) -> List[FramePlace]:
+        """The frames of a goroutine, the innermost first; one that is done has one that says so."""
+        return [FramePlace(goroutine, depth) for depth in range(max(1, len(goroutine.frames)))]
+
+    def stack(self, places: List[FramePlace]) -> List[Body]:
+        """Some frames of a goroutine, as the protocol tells them."""
+        self.renew()
+        return [self.outer_frame(place) if place.depth else self.inner_frame(place) for place in places]
+
+    def inner_frame(self, place: FramePlace) -> Body:
+        goroutine = place.goroutine
+        if not goroutine.frames:
+            return self.frame(place, goroutine.name + " has ended", 0, "label")
+        return self.frame(place, goroutine.frames[0].function, goroutine.line, "normal")
+
+    def outer_frame(self, place: FramePlace) -> Body:
+        """An outer frame; where its line can't be told it is shown at the heading of its function."""
+        goroutine = place.goroutine
+        if goroutine.name not in self.lines:
+            self.lines[goroutine.name] = self.lines_of(goroutine)
+        function, line = goroutine.frames[place.depth].function, self.lines[goroutine.name][place.depth]
+        if line:
+            return self.frame(place, function, line, "normal")
+        return self.frame(place, function + " (line not known)", self.session.program.heading(function), "subtle")
+
+    def lines_of(self, goroutine: Goroutine) -> List[int]:
+        """The line of each frame, the innermost first; 0 where it can't be told."""
+        try:
+            return [place.line for place in self.session.places(goroutine)]
+        except ProcessError:
+            if self.session.core.process.ended is not None:
+                raise
+            return [0] * len(goroutine.frames)
+
+    def frame(self, place: FramePlace, name: str, line: int, hint: str) -> Body:
+        number = self.next_number()
+        self.frames[number] = place
+        body: Body = {"id": number, "name": name, "line": 0, "column": 0, "presentationHint": hint}
+        if line:
+            body.update({"line": line + self.first_line - 1, "column": self.first_column, "source": self.described})
+        return body
+
+    def place(self, number: int) -> FramePlace:
+        self.renew()
+        if number not in self.frames:
+            raise BadRequest("there is no frame %d in the present state" % number)
+        return self.frames[number]
+
+    def variables_of(self, place: FramePlace) -> Tuple[Variable, ...]:
+        frames = place.goroutine.frames
+        return frames[place.depth].variables if frames else ()
+
+    # Scopes and variables.
+
+    def scopes(self, number: int) -> List[Body]:
+        place = self.place(number)
+        values = self.values
+        return [
+            values.scope("Variables", False, lambda: values.of_frame(self.variables_of(place)), "locals"),
+            values.scope("Goroutine", False, lambda: values.of_goroutine(place.goroutine)),
+            values.scope("Channels", True, values.of_channels),
+        ]
+
+    def variables(self, number: int) -> List[Body]:
+        self.renew()
+        return self.values.children_of(number)
+
+    def of_frame(self, number: int) -> List[Body]:
+        """The variables of the frame of a number."""
+        return self.values.of_frame(self.variables_of(self.place(number)))
+
+    # In words.
+
+    def waits_in_words(self, most: int) -> List[str]:
+        """Who waits for what, a line for each goroutine that waits, up to a number of lines."""
+        waits: Dict[str, List[str]] = {}
+        for channel in self.session.channels():
+            for word, waiters in (("send to", channel.senders), ("receive from", channel.receivers)):
+                for one in waiters:
+                    waits.setdefault(one.goroutine, []).append("%s %s" % (word, channel.name))
+        waiting = [one for one in self.goroutines() if one.state is State.WAITING]
+        return [
+            "%s waits at line %d to %s" % (one.name, one.line, " or ".join(waits.get(one.name, [NIL_WISH])))
+            for one in waiting[:most]
+        ]
+
+
+
+def thread_name(goroutine: Goroutine) -> str:
+    """How a goroutine is listed: `g0.1 deposit, waiting at line 15`."""
+    if goroutine.state is State.DONE:
+        return goroutine.name + ", done"
+    return "%s %s, %s at line %d" % (goroutine.name, goroutine.frames[0].function, goroutine.state.value, goroutine.line)
