@@ -8,7 +8,7 @@ import subprocess
 import sys
 import tempfile
 
-from retarget import NeedsX86, retarget
+from retarget import NeedsX86, always_inlined, retarget
 
 HERE = os.path.dirname(os.path.realpath(__file__))
 sys.path.insert(0, f"{HERE}/../../tools")
@@ -51,9 +51,11 @@ def retargeted(module, work, tools):
     """The module as text for wasm64."""
     before, after = f"{work}/x86.ll", f"{work}/wasm.ll"
     tools.clang(*AS_TEXT, "-x", "ir", module, "-o", before)
+    with open(before, encoding="latin-1") as lines:
+        inlined = always_inlined(lines)
     with open(before, encoding="latin-1") as lines, open(after, "w", encoding="latin-1") as out:
         try:
-            out.writelines(retarget(lines))
+            out.writelines(retarget(lines, inlined))
         except NeedsX86 as line:
             kit.stop(f"the program needs an x86-64 processor, and the page has none: {line}")
     os.remove(before)

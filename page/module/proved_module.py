@@ -4,7 +4,7 @@
     page/module/proved_module.py OUT.bc
 
 The crate rewind_cli and those below it are built already (`make` does that). `rattle build` proves the program again over what it
-kept, and hands its module to `keep_module` of this folder.
+kept, and hands its module to `keep_module` of this folder. What it says is left in OUT.bc.log.
 """
 import filecmp
 import os
@@ -46,9 +46,11 @@ def main():
         kit.stop("the program is not proved yet: run 'make' first")
     with tempfile.TemporaryDirectory(prefix="rewind-page-") as work:
         tools = kit.tools(folder, f"{work}/tools", f"{HERE}/keep_module")
-        built = subprocess.run(words_of_build(folder, tools, f"{work}/program.o"), stdin=subprocess.DEVNULL)
+        with open(f"{out}.log", "w", encoding="utf-8") as log:
+            how = {"stdin": subprocess.DEVNULL, "stdout": log, "stderr": subprocess.STDOUT}
+            built = subprocess.run(words_of_build(folder, tools, f"{work}/program.o"), **how)
         if built.returncode or not os.path.exists(f"{tools}/module.bc"):
-            kit.fail("the program is not proved: see what the toolchain says above")
+            kit.fail(f"the program is not proved: see {out}.log")
         keep(f"{tools}/module.bc", out)
 
 

@@ -14,8 +14,8 @@ OF_PROCESSOR = re.compile(
 NAMED = re.compile(r"^define (?!internal)[^@]*@(\w+)\(")
 ATTRIBUTES = re.compile(r" (?=(?:#\d+ )?\{$)")
 LOCAL = re.compile(r" = alloca \[(\d+) x i8\]")
-# Bytes. Each function with more in its locals is compiled on its own. LLVM takes apart large locals that are copied within one
-# function, and then most of a minute for a single one.
+# Bytes of locals. A function with more is not inlined: where one function copies large locals to each other, LLVM takes them apart,
+# and took half a minute for a single function.
 LARGE = 8192
 # A hint to the processor that a loop only waits.
 PAUSE = re.compile(r"^ *(?:tail )?(?:call|declare) void @llvm\.x86\.sse2\.pause\(\)")
@@ -60,19 +60,28 @@ def with_attribute(attribute, head):
     return ATTRIBUTES.sub(f" {attribute} ", head, count=1)
 
 
-def definition(lines):
+def always_inlined(lines):
+    """The groups of attributes by which a function is inlined wherever it is called."""
+    return {line.split()[1] for line in lines if line.startswith("attributes #") and " alwaysinline " in line}
+
+
+def is_large(lines):
+    return sum(int(size) for line in lines if " = alloca [" in line for size in LOCAL.findall(line)) > LARGE
+
+
+def definition(lines, inlined):
     """The lines of a function's definition, with the attributes that it needs here."""
     head = lines[0].replace("define i32 @main(", "define i32 @program_main(")
     named = NAMED.match(head)
     if named:
         head = with_attribute(f'"wasm-export-name"="{named[1]}"', head)
-    if sum(int(size) for line in lines if " = alloca [" in line for size in LOCAL.findall(line)) > LARGE:
+    if inlined.isdisjoint(head.split()) and is_large(lines):
         head = with_attribute("noinline", head)
     return [head, *lines[1:]]
 
 
-def retarget(lines):
-    """The lines of a module for x86-64 as those of a module for wasm64."""
+def retarget(lines, inlined):
+    """The lines of a module for x86-64 as those of a module for wasm64. `inlined` is what `always_inlined` says of its lines."""
     function = []
     for line in map(changed, lines):
         if function or line.startswith("define "):
@@ -80,5 +89,5 @@ def retarget(lines):
         else:
             yield line
         if function and line == "}\n":
-            yield from definition(function)
+            yield from definition(function, inlined)
             function = []

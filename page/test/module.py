@@ -8,7 +8,7 @@ import sys
 
 sys.dont_write_bytecode = True
 sys.path.insert(0, f"{os.path.dirname(os.path.realpath(__file__))}/../module")
-from retarget import LARGE, NeedsX86, retarget  # noqa: E402
+from retarget import LARGE, NeedsX86, always_inlined, retarget  # noqa: E402
 
 counts = {"passed": 0, "failed": 0}
 
@@ -20,7 +20,8 @@ def equal(what, got, wanted):
 
 
 def of(*lines):
-    return [line.rstrip("\n") for line in retarget(f"{line}\n" for line in lines) if line]
+    lines = [f"{line}\n" for line in lines]
+    return [line.rstrip("\n") for line in retarget(lines, always_inlined(lines)) if line]
 
 
 def refusal(*lines):
@@ -44,6 +45,8 @@ def functions():
     small, large = (["define internal void @f() {", f"  %r0 = alloca [{size} x i8], align 8", "}"] for size in (LARGE, LARGE + 1))
     equal("small locals", of(*small), small)
     equal("large locals", of(*large), ["define internal void @f() noinline {", *large[1:]])
+    inlined = ["define internal void @f() #3 {", *large[1:], "attributes #3 = { alwaysinline nounwind }"]
+    equal("large locals of a function that is always inlined", of(*inlined), inlined)
 
 
 def operations():
