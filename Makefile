@@ -65,7 +65,7 @@ page/out/rewind.bc: bin/rewind page/module/proved_module.py page/module/keep_mod
 	$(NEEDS_RT)
 	page/module/proved_module.py $@
 
-install: ## installs the program, its manual page and the editor adapter (PREFIX=/usr/local, DESTDIR)
+install: ## installs the program, its manual page and the clients (PREFIX=/usr/local, DESTDIR)
 	tools/install.sh "$(DESTDIR)" "$(PREFIX)"
 
 uninstall: ## removes what install installed

@@ -90,7 +90,7 @@ def check_settings(checks, program, block):
 
 def adapter():
     """The text of the adapter."""
-    folder = "editors/dap/rewind_dap/"
+    folder = "clients/rewind_dap/"
     return "\n".join(repository.read(it) for it in repository.files() if it.startswith(folder) and it.endswith(".py"))
 
 
