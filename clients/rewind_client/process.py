@@ -6,11 +6,11 @@ answer the user stopped waiting for is still owed its reply, which is read befor
 from __future__ import annotations
 
 import os
-import re
 import select
 import subprocess
 import time
-from typing import Callable, Iterable, List, Optional, Sequence
+from collections import deque
+from typing import Callable, Deque, Iterable, List, Optional, Sequence
 
 from .errors import Cancelled, ProcessError
 from .meanings import meaning_of_exit
@@ -19,7 +19,8 @@ TIMEOUT = 30.0
 TICK_MS = 100
 PART = 1 << 16
 MAX_REPLY = 1 << 28
-LAST_LINE = re.compile(rb"^(?!\| ).*\n", re.MULTILINE)
+# What begins the lines of a reply before its last one.
+WITHIN = "| "
 # Commands sent in one exchange: their replies are read while the next ones are written.
 MAX_BATCH = 2000
 
@@ -41,9 +42,10 @@ class Process:
         self.cancelled = cancelled
         self.ended: Optional[str] = None
         self.owed = 0
-        self.unread = b""
-        self.start = 0
-        self.last_line_at = 0
+        self.whole: Deque[List[str]] = deque()
+        self.begun: List[str] = []
+        self.rest = b""
+        self.held = 0
         pipe = subprocess.PIPE
         try:
             self.child = subprocess.Popen(words, stdin=pipe, stdout=pipe, stderr=pipe, bufsize=0, start_new_session=True)
@@ -90,28 +92,32 @@ class Process:
 
     def read_reply(self, rest: memoryview, until: float) -> "tuple[List[str], memoryview]":
         """The next reply, and what is still to be written."""
-        reply = self.taken_reply()
-        while reply is None:
-            if len(self.unread) - self.start > MAX_REPLY:
+        while not self.whole:
+            if self.held > MAX_REPLY:
                 raise self.ended_for("%s gave an answer of more than %d bytes, and was ended" % (self.name, MAX_REPLY))
             events = self.wait(len(rest), until)
             if events & 1:
                 rest = self.write_some(rest)
             if events & 2:
                 self.read_some()
-            reply = self.taken_reply()
         self.owed -= 1
-        return reply, rest
+        return self.whole.popleft(), rest
 
-    def taken_reply(self) -> Optional[List[str]]:
-        """The first whole reply of what was read: it ends in the first line that does not begin with `| `."""
-        found = LAST_LINE.search(self.unread, self.last_line_at)
-        if found is None:
-            self.last_line_at = max(self.last_line_at, self.unread.rfind(b"\n") + 1)
-            return None
-        text = self.unread[self.start : found.end() - 1].decode("utf-8", "replace")
-        self.start = self.last_line_at = found.end()
-        return text.split("\n")
+    def sort_out(self, read: bytes) -> None:
+        """Sorts what was read into replies: each ends in the first line that is none of those within."""
+        self.held += len(read)
+        end = read.rfind(b"\n") + 1
+        if not end:
+            self.rest += read
+            return
+        lines = (self.rest + read[: end - 1]).decode("utf-8", "replace").split("\n")
+        self.rest = read[end:]
+        for line in lines:
+            self.begun.append(line)
+            if not line.startswith(WITHIN):
+                self.whole.append(self.begun)
+                self.begun = []
+                self.held = len(self.rest)
 
     def write_some(self, rest: memoryview) -> memoryview:
         try:
@@ -136,9 +142,7 @@ class Process:
             pass
         if not parts:
             raise self.gone()
-        self.last_line_at -= self.start
-        self.unread = b"".join([self.unread[self.start :], *parts])
-        self.start = 0
+        self.sort_out(b"".join(parts))
 
     def wait(self, left: int, until: float) -> int:
         """Waits until the process takes something (1) or gives something (2), or has closed its end."""
@@ -181,7 +185,7 @@ class Process:
         if self.ended is not None:
             return
         self.ended = why
-        self.unread = b""
+        self.whole, self.begun, self.rest = deque(), [], b""
         assert self.child.stdin and self.child.stdout and self.child.stderr
         self.child.stdin.close()
         try:
