@@ -6,6 +6,7 @@ they differ, and steps on from there. Steps far back in a long log are taken wit
 from __future__ import annotations
 
 from contextlib import contextmanager
+from itertools import islice
 from typing import Callable, Dict, Iterator, List, Optional, Sequence, Tuple
 
 from . import replies
@@ -34,6 +35,8 @@ class Follower:
         self.program = program
         self.core: Optional[Core] = None
         self.entries: List[Entry] = []
+        # From this place on all steps are noted.
+        self.noted_from = 0
         self.notes: Dict[str, Note] = {}
         self.wakers: Dict[str, str] = {}
         self.channel_names: Dict[str, str] = {}
@@ -46,7 +49,7 @@ class Follower:
             self.core.process.end()
         self.core = None
         self.entries, self.notes, self.wakers, self.counts, self.channel_names = [], {}, {}, {}, {}
-        self.unvalued = []
+        self.unvalued, self.noted_from = [], 0
 
     def is_alive(self) -> bool:
         return self.core is not None and not self.core.process.ended
@@ -58,10 +61,13 @@ class Follower:
             self.core = self.begin()
         return self.core
 
-    def follow(self, log: Sequence[Entry]) -> None:
-        """Comes to stand behind the last step of a log, with its last steps noted."""
+    def follow(self, log: Sequence[Entry], unchanged: int = 0) -> None:
+        """Comes to stand behind the last step of a log, with its last steps noted.
+
+        The first `unchanged` steps of the log are known to be those of the session.
+        """
         with self.whole():
-            self.come_behind(log)
+            self.come_behind(log, min(unchanged, len(self.entries)))
 
     @contextmanager
     def whole(self) -> Iterator[None]:
@@ -72,11 +78,11 @@ class Follower:
             self.end()
             raise
 
-    def come_behind(self, log: Sequence[Entry]) -> None:
+    def come_behind(self, log: Sequence[Entry], unchanged: int) -> None:
         core = self.session()
         first_noted = max(0, len(log) - NOTED)
-        common = self.common_with(log)
-        if any(entry.step not in self.notes for entry in log[first_noted:common]):
+        common = self.common_with(log, unchanged)
+        if first_noted < min(self.noted_from, common):
             common = first_noted
         self.undo_to(common)
         while len(self.entries) < len(log):
@@ -100,16 +106,25 @@ class Follower:
                 self.end()
                 return
         self.entries = list(log)
+        self.noted_from = len(log)
         last = dict(entry.step.split("#") for entry in log)
         self.counts = {owner: int(number) for owner, number in last.items()}
 
-    def common_with(self, log: Sequence[Entry]) -> int:
-        count = 0
-        for mine, other in zip(self.entries, log):
+    def common_with(self, log: Sequence[Entry], unchanged: int) -> int:
+        count = unchanged
+        for mine, other in zip(islice(self.entries, unchanged, None), islice(log, unchanged, None)):
             if mine != other:
                 break
             count += 1
         return count
+
+    def moved_to_end(self, steps: Sequence[str]) -> int:
+        """Takes account of steps that went back and came again, so that they are the last ones; the place of the first."""
+        moved = set(steps)
+        first = next((at for at, it in enumerate(self.entries) if it.step in moved), len(self.entries))
+        later = self.entries[first:]
+        self.entries[first:] = [it for it in later if it.step not in moved] + [it for it in later if it.step in moved]
+        return first
 
     def undo_to(self, count: int) -> None:
         gone = self.entries[count:]
@@ -117,6 +132,7 @@ class Follower:
             return
         self.session().ask_all(["undo"] * len(gone))
         del self.entries[count:]
+        self.noted_from = min(self.noted_from, count)
         for entry in reversed(gone):
             self.counts[step_owner(entry.step)] = step_number(entry.step) - 1
             note = self.notes.pop(entry.step, None)
@@ -130,6 +146,7 @@ class Follower:
         self.expect(entries, found)
         for entry in entries:
             self.keep(entry)
+        self.noted_from = len(self.entries)
 
     def keep(self, entry: Entry) -> None:
         self.entries.append(entry)

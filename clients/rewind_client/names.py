@@ -54,7 +54,7 @@ def name_order(goroutine: str) -> Tuple[int, ...]:
     return tuple(int(count) for count in goroutine[1:].split("."))
 
 
-def channel_order(channel: str) -> Tuple[Tuple[int, ...], int]:
-    """A key that sorts channels by the goroutines that made them."""
+def channel_order(channel: str) -> Tuple[int, ...]:
+    """A key that sorts channels by the goroutines that made them; a 0 stands before the number of each."""
     maker, _, number = channel.partition("/c")
-    return name_order(maker), int(number)
+    return (*name_order(maker), 0, int(number))

@@ -12,7 +12,8 @@ from .callers import callers_taken_again
 from .core import Core, Refused, end_of_step, first_word, step_words
 from .errors import ProcessError
 from .follower import NOTED, Follower
-from .names import channel_maker, channel_of, channel_order, child_of, name_order, step_owner
+from .ledger import Ledger
+from .names import channel_maker, name_order, step_owner
 from .notes import Note, Place
 from .program import Program
 from .replies import Channel, Entry, Goroutine, KindWord, Ran, Reason, State
@@ -37,8 +38,8 @@ class Session:
         self.is_end_known = True
         self.version = 0
         self.followed = -1
-        self.made_at = -1
-        self.made: Dict[str, str] = {}
+        self.unchanged = 0
+        self.kept_ledger: Optional[Ledger] = Ledger()
         self.taken_back: Dict[str, Entry] = {}
         self.shown: Dict[str, Optional[Goroutine]] = {}
         self.channels_shown: Dict[str, Optional[Channel]] = {}
@@ -75,20 +76,39 @@ class Session:
         self.forget_states()
         log = self.kept_log
         if word == "undo" and log and replies.is_ok(reply):
-            entry = log.pop()
-            self.taken_back = {entry.step: entry}
+            self.went([log.pop()], len(log))
         elif word == "back" and log is not None:
             gone = set(replies.steps(reply)) if reply[-1] != "no B6 0" else set()
-            self.taken_back = {it.step: it for it in log if it.step in gone}
+            first = next((at for at, it in enumerate(log) if it.step in gone), len(log))
             self.kept_log = [it for it in log if it.step not in gone]
+            self.went([it for it in log[first:] if it.step in gone], first)
         elif word == "redo" and log is not None and all(it in self.taken_back for it in replies.steps(reply)):
-            log += [self.taken_back[step] for step in replies.steps(reply)]
+            for step in replies.steps(reply):
+                self.came(self.taken_back[step])
         else:
-            self.kept_log = None
+            self.forget_log()
 
-    def after_step(self, entry: Entry) -> None:
+    def came(self, entry: Entry) -> None:
+        """A step joins the log, where that is known."""
         if self.kept_log is not None:
             self.kept_log.append(entry)
+        if self.kept_ledger is not None:
+            self.kept_ledger.add(entry)
+
+    def went(self, entries: Sequence[Entry], first: int) -> None:
+        """Steps that were taken back, in the order of the log; those before the place of the first are unchanged."""
+        self.taken_back = {it.step: it for it in entries}
+        self.unchanged = min(self.unchanged, first)
+        if self.kept_ledger is not None:
+            for entry in reversed(entries):
+                self.kept_ledger.remove(entry)
+
+    def forget_log(self) -> None:
+        self.kept_log = self.kept_ledger = None
+        self.unchanged = 0
+
+    def after_step(self, entry: Entry) -> None:
+        self.came(entry)
         if entry.kind.word in OWN:
             self.shown.pop(step_owner(entry.step), None)
         else:
@@ -102,7 +122,7 @@ class Session:
         """Forgets all that was asked, where it is not known what became of a command."""
         self.forget_states()
         self.version += 1
-        self.kept_log = None
+        self.forget_log()
         self.is_end_known = False
 
     def moved(self, command: str, read: Callable[[Sequence[str]], Found]) -> Found:
@@ -133,9 +153,11 @@ class Session:
         reply = core.ask("back " + target)
         if not replies.is_ok(reply):
             raise Refused("back " + target, reply)
+        gone = replies.steps(reply)
         with self.follower.whole():
             core.redo()
-        return replies.steps(reply)
+        self.unchanged = min(self.unchanged, self.follower.moved_to_end(gone))
+        return gone
 
     # The log.
 
@@ -160,8 +182,8 @@ class Session:
         log = self.log()
         if self.followed != self.version or not self.follower.is_alive():
             self.follower.catch_up(log, self.core.given, lambda: self.core.ask("log"))
-            self.follower.follow(log)
-            self.followed = self.version
+            self.follower.follow(log, self.unchanged)
+            self.followed, self.unchanged = self.version, len(log)
         return self.follower
 
     def notes(self) -> List[Note]:
@@ -171,29 +193,20 @@ class Session:
 
     # Goroutines and channels.
 
-    def made_by(self) -> Dict[str, str]:
-        """The goroutine or the channel that each step made which made one, in the order of the log."""
-        if self.made_at != self.version:
-            counts: Dict[str, int] = {}
-            self.made, self.made_at = {}, self.version
-            for entry in self.log():
-                word = entry.kind.word
-                if word is KindWord.GO or word is KindWord.MAKE:
-                    owner = step_owner(entry.step)
-                    key = owner + word.value
-                    counts[key] = number = counts.get(key, 0) + 1
-                    self.made[entry.step] = child_of(owner, number) if word is KindWord.GO else channel_of(owner, number)
-        return self.made
+    def ledger(self) -> Ledger:
+        """What the log tells of goroutines and channels."""
+        log = self.log()
+        if self.kept_ledger is None:
+            self.kept_ledger = Ledger(log)
+        return self.kept_ledger
 
     def goroutine_names(self) -> List[str]:
         """The goroutines in the order of their names, as the log tells them."""
-        started = [name for name in self.made_by().values() if "/" not in name]
-        return sorted(["g0", *started[: MAX_GOROUTINES - 1]], key=name_order)
+        return [name for _, name in self.ledger().goroutines[:MAX_GOROUTINES]]
 
     def channel_names(self) -> List[str]:
         """The channels by the goroutines that made them."""
-        made = [name for name in self.made_by().values() if "/" in name]
-        return sorted(made[:MAX_CHANNELS], key=channel_order)
+        return [name for _, name in self.ledger().channels[:MAX_CHANNELS]]
 
     def goroutine(self, name: str) -> Optional[Goroutine]:
         if name not in self.shown:

@@ -17,7 +17,7 @@ class Stories:
 
     def __init__(self, session: Session) -> None:
         self.session = session
-        self.made = session.made_by()
+        self.made = session.ledger().made
 
     def step(self, note: Note) -> str:
         """What a step did; an empty text where it touched its own goroutine alone."""

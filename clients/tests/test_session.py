@@ -3,18 +3,21 @@ from __future__ import annotations
 
 import random
 from pathlib import Path
-from typing import Callable, Iterator, List
+from typing import Callable, Iterator, List, Sequence
 
 import pytest
 
 from rewind_client.core import Refused, step_command
 from rewind_client.errors import Cancelled
 from rewind_client.finding import start
+from rewind_client.follower import Follower
+from rewind_client.ledger import Ledger
+from rewind_client.motion import next_in_turn
 from rewind_client.notes import Place
 from rewind_client.operations import Verb
 from rewind_client.process import never
 from rewind_client.program import read_program
-from rewind_client.replies import KindWord
+from rewind_client.replies import Entry, KindWord, State
 from rewind_client.session import Session
 
 from conftest import EXAMPLES
@@ -251,3 +254,60 @@ def test_following_that_is_left_begins_anew(session: Open) -> None:
     with pytest.raises(Cancelled):
         one.notes()
     assert len(one.notes()) == len(one.log())
+
+
+def test_a_long_log_costs_nothing_at_each_step(session: Open, monkeypatch: pytest.MonkeyPatch) -> None:
+    """Behind 100,000 steps a step is added to what is known of goroutines and channels, and nothing is walked anew."""
+    one = session("starved_select")
+    one.run(100_000)
+    names, made = one.goroutine_names(), dict(one.ledger().made)
+    added: List[str] = []
+    add = Ledger.add
+
+    def counted(self: Ledger, entry: Entry) -> None:
+        added.append(entry.step)
+        add(self, entry)
+
+    monkeypatch.setattr(Ledger, "add", counted)
+    monkeypatch.setattr("rewind_client.follower.NOTED", 100)
+    compared: List[int] = []
+    common_with = Follower.common_with
+
+    def compares(self: Follower, log: Sequence[Entry], unchanged: int) -> int:
+        compared.append(unchanged)
+        return common_with(self, log, unchanged)
+
+    monkeypatch.setattr(Follower, "common_with", compares)
+    one.follow()
+    for _ in range(50):
+        one.step(next_in_turn(one))
+        assert one.goroutine_names() == names
+        one.follow()
+    assert len(added) == 50
+    assert compared[1:] == list(range(100_000, 100_050))
+    one.undo()
+    assert one.ledger().made == made == Ledger(one.core.log()).made
+
+
+def test_what_the_log_tells_of_goroutines_is_what_it_tells_from_the_start(session: Open) -> None:
+    one, chance = session("leak"), random.Random(4)
+    for _ in range(200):
+        random_command(one, chance)
+        afresh, kept = Ledger(one.log()), one.ledger()
+        assert (kept.made, kept.goroutines, kept.channels) == (afresh.made, afresh.goroutines, afresh.channels)
+        assert {it.name for it in one.goroutines() if it.state is State.DONE} == kept.done == afresh.done
+
+
+def test_after_a_preview_the_steps_are_followed_on(session: Open) -> None:
+    """A preview takes steps back and again in the second session, where they stand in another order then."""
+    one = session("lost_update")
+    one.run(1000)
+    before, notes = list(one.log()), one.notes()
+    gone = len(one.preview("g0.1#5"))
+    assert gone < len(before) - [it.step for it in before].index("g0.1#5")
+    for _ in range(gone):
+        one.undo()
+    assert one.notes() == notes[:-gone]
+    for entry in before[-gone:]:
+        one.ask(step_command(entry))
+    assert one.notes() == notes
