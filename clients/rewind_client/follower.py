@@ -6,7 +6,6 @@ they differ, and steps on from there. Steps far back in a long log are taken wit
 from __future__ import annotations
 
 from contextlib import contextmanager
-from itertools import islice
 from typing import Callable, Dict, Iterator, List, Optional, Sequence, Tuple
 
 from . import replies
@@ -111,12 +110,9 @@ class Follower:
         self.counts = {owner: int(number) for owner, number in last.items()}
 
     def common_with(self, log: Sequence[Entry], unchanged: int) -> int:
-        count = unchanged
-        for mine, other in zip(islice(self.entries, unchanged, None), islice(log, unchanged, None)):
-            if mine != other:
-                break
-            count += 1
-        return count
+        """How many steps at the start of a log are those of the session; so many are known to be."""
+        shortest = min(len(self.entries), len(log))
+        return next((at for at in range(unchanged, shortest) if self.entries[at] != log[at]), shortest)
 
     def moved_to_end(self, steps: Sequence[str]) -> int:
         """Takes account of steps that went back and came again, so that they are the last ones; the place of the first."""
