@@ -1,12 +1,13 @@
 #!/usr/bin/env python3
 """Writes what is said of commands, codes and exit statuses from the texts beside this file: the program's constants
-(crates/rewind/src/words.rt, meanings), the list of the codes (crates/rewind/specs/Codes.antt), the manual page (docs/rewind.1), and the
-marked tables of docs/COMMANDS.md and docs/LANGUAGE.md.
+(crates/rewind/src/words.rt, meanings), the list of the codes (crates/rewind/specs/Codes.antt), the manual page (docs/rewind.1), the
+marked tables of docs/COMMANDS.md and docs/LANGUAGE.md, and what the clients know of codes (clients/rewind_client/words.json).
 
     docs/words/make.py           writes them
     docs/words/make.py --check   fails where one does not stand as made, or where a code of the definitions has no text
 """
 
+import json
 import os
 import re
 import sys
@@ -18,6 +19,7 @@ WORDS = "crates/rewind/src/words.rt"
 MEANINGS = "crates/rewind/src/meanings/%s.rt"
 NAMES = "crates/rewind/specs/Codes.antt"
 MANUAL = "docs/rewind.1"
+CLIENTS = "clients/rewind_client/words.json"
 WIDTH = 78
 
 
@@ -319,6 +321,16 @@ def with_tables(page_name, made):
     return text
 
 
+# What the clients know.
+
+
+def client_words():
+    """The meaning of each code by section, and what Go says of faults and of a deadlock."""
+    told = {section: {it.name: plain(it.means) for it in CODES[section]} for section in CODES if section}
+    told["go"] = {it.name: it.go for section in CODES for it in CODES[section] if it.go}
+    return json.dumps(told, indent=1, ensure_ascii=False) + "\n"
+
+
 # That each code has its text.
 
 
@@ -350,7 +362,7 @@ def without_text():
 
 
 def main():
-    made = {WORDS: words(), NAMES: names(), MANUAL: manual()}
+    made = {WORDS: words(), NAMES: names(), MANUAL: manual(), CLIENTS: client_words()}
     made.update((MEANINGS % section, pages(section)) for section in CODES if section)
     made.update((name, with_tables(name, content)) for name, content in tables().items())
     wrong = without_text()
