@@ -8,11 +8,13 @@ from __future__ import annotations
 from bisect import bisect_right
 from enum import Enum
 from itertools import count
-from typing import AbstractSet, Callable, Generator, NamedTuple, Optional, Tuple
+from typing import AbstractSet, Callable, Generator, NamedTuple, Optional
 
 from .core import Refused
-from .names import name_order, step_owner
+from .ledger import FRAMES
+from .names import name_order, step_of, step_owner
 from .replies import Entry, Goroutine, KindWord, Ran, Reason, State
+from .scout import last_step_at
 from .session import Session
 
 RUN_PORTION = 50_000
@@ -34,6 +36,7 @@ class StopReason(Enum):
     FAULT = "fault"
     ENDED = "ended"
     WAITS = "waits"
+    VALUE = "value"
     COUNT = "count"
     ENTRY = "entry"
     FULL = "full"
@@ -133,7 +136,7 @@ def through(session: Session, start: Goroutine, lines: Lines, is_there: Callable
         entry = session.step(start.name)
         if session.stopped_by():
             return end(session)
-        depth += {KindWord.CALL: 1, KindWord.RETURN: -1}.get(entry.kind.word, 0)
+        depth += FRAMES.get(entry.kind.word, 0)
         if entry.kind.waits:
             return Stop(StopReason.WAITS, start.name, entry)
         if depth < 0:
@@ -165,43 +168,90 @@ def until_line(session: Session, start: Goroutine, lines: Lines, wanted: int) ->
     return through(session, start, lines, lambda depth, line: line == wanted, deepest=MAX_FRAMES)
 
 
+def waited_for(session: Session, start: Goroutine, lines: Lines, go_on: Callable[[Goroutine], Motion], leaves: bool) -> Motion:
+    """A movement of a goroutine; where it waits the others run by turns first, until it can go on or they stop.
+
+    Where `leaves` holds, it is over when the wait itself has led to another line.
+    """
+    if start.state is not State.WAITING or session.stopped_by():
+        return (yield from go_on(start))
+    stop = yield from others(session, start, lines)
+    if stop is not None:
+        return stop
+    shown = session.goroutine(start.name)
+    assert shown is not None
+    if leaves and shown.line != start.line:
+        return Stop(StopReason.STEP, start.name, session.log()[-1], shown.line)
+    return (yield from go_on(shown._replace(line=start.line)))
+
+
+def others(session: Session, waiting: Goroutine, lines: Lines) -> Generator[int, None, Optional[Stop]]:
+    """Runs the others by turns until a goroutine that waits could take a step; where they stop before that, the stop.
+
+    The portions grow; where the goroutine has moved in one, what came after it could is taken back.
+    """
+    taken, again, portion = 0, 0, 1
+    while True:
+        if again:
+            session.undo()
+        before = session.core.kept
+        run = session.run(portion + again)
+        shown = session.goroutine(waiting.name)
+        if shown is not None and shown.steps > waiting.steps:
+            steps = enumerate(session.log()[before:], before)
+            session.cut(next(at for at, entry in steps if step_owner(entry.step) == waiting.name))
+            return None
+        taken += run.taken - again
+        if run.reason is not Reason.COUNT:
+            return stop_of_run(session, Ran(taken, run.reason, run.line), waiting.name)
+        if shown is not None and shown.state is State.READY:
+            return None
+        yield taken
+        again = 1 if lines() else 0
+        portion = min(2 * portion, RUN_PORTION)
+
+
 def backward(session: Session, lines: Lines) -> Motion:
-    """Takes steps back, the last one first, until one that belongs to a statement with a breakpoint is back, or all are."""
-    for number in count(1):
-        try:
-            step = session.undo()
-        except Refused as refusal:
-            if refusal.code != "B1":
-                raise
-            return Stop(StopReason.ENTRY, "g0")
-        name = step_owner(step)
-        shown = session.goroutine(name) if lines() else None
-        if shown is not None and shown.line in lines():
-            return Stop(StopReason.BREAKPOINT, name, line=shown.line, before=step)
-        if number % STEP_PORTION == 0:
-            yield number
-    raise AssertionError("count has no end")
+    """Takes back all steps from the last one of a statement with a breakpoint on, or all there are.
+
+    Nothing is taken back before that step is found.
+    """
+    return back_to(session, (yield from last_step_at(session, lines())) if lines() else -1)
+
+
+def back_to(session: Session, place: int) -> Stop:
+    """Takes back the step at a place of the log, which has a breakpoint, and those behind it; all where the place is -1."""
+    if place < 0:
+        session.cut(0)
+        return Stop(StopReason.ENTRY, "g0")
+    step = session.log()[place].step
+    session.cut(place)
+    shown = session.goroutine(step_owner(step))
+    return Stop(StopReason.BREAKPOINT, step_owner(step), line=shown.line if shown else 0, before=step)
 
 
 def line_before(session: Session, goroutine: Goroutine) -> str:
     """The step with which a goroutine began the line before the one where it stands; an empty text where it has taken none.
 
-    A line that it has begun and not ended counts as the line before.
+    A line that it has begun and not ended counts as the line before. Where the steps on that line are more than its statements
+    have tokens, they are a loop, of which only the last step counts; so it is where the steps are not noted.
     """
-    notes = session.follow().notes
-    depth, found, line = len(goroutine.frames) or 1, "", (0, 0)
+    notes, program = session.follow().notes, session.program
+    depth, found, line, count = 0 if goroutine.frames else -1, "", (0, 0), 0
     for number in range(goroutine.steps, 0, -1):
-        note = notes.get("%s#%d" % (goroutine.name, number))
+        note = notes.get(step_of(goroutine.name, number))
         if note is None:
             break
-        at = len(note.callers) + 1
-        if at > depth:
+        depth -= FRAMES.get(note.kind.word, 0)
+        if depth > 0:
             continue
-        here: Tuple[int, int] = (at, note.line)
+        here = (depth, note.line)
         if found and here != line:
             break
-        found, line = note.step, here
-    return found
+        found, line, count = note.step, here, count + 1
+        if count > program.widths.get(note.line, 0) + 1:
+            return goroutine.last_step
+    return found or (goroutine.last_step if goroutine.steps else "")
 
 
 def last_at_line(session: Session, goroutine: str, line: int) -> str:

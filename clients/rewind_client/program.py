@@ -11,7 +11,7 @@ from typing import Dict, List, Optional
 from .errors import RewindError
 from .operations import Operation
 from .tokens import all_tokens
-from .walk import Function, Walk
+from .walk import Clause, Function, Walk
 
 WIDEST = 12
 
@@ -22,10 +22,13 @@ class Program:
     def __init__(self, text: bytes, path: str = "") -> None:
         walk = Walk(all_tokens(text))
         self.path = path
+        self.bytes = text
         self.text = text.decode("utf-8", "replace")
         self.lines: List[str] = self.text.split("\n")
         self.functions: Dict[str, Function] = walk.functions
         self.statements: List[int] = sorted(walk.lines)
+        self.widths: Dict[int, int] = walk.widths
+        self.selects: Dict[int, List[Clause]] = walk.selects
 
     def line(self, number: int) -> str:
         """The text of a line with single spaces in it; an empty text where there is no such line."""

@@ -17,6 +17,7 @@ from .names import channel_maker, name_order, step_owner
 from .notes import Note, Place
 from .program import Program
 from .replies import Channel, Entry, Goroutine, KindWord, Ran, Reason, State
+from .source import Source
 
 MAX_GOROUTINES = 10_000
 MAX_CHANNELS = 10_000
@@ -29,10 +30,12 @@ Found = TypeVar("Found")
 class Session:
     """All that is known of a program as it stands."""
 
-    def __init__(self, core: Core, program: Program, begin: Callable[[], Core]) -> None:
-        """`begin` starts the second session."""
+    def __init__(self, core: Core, program: Program, begin: Callable[[], Core], source: Optional[Source] = None) -> None:
+        """`begin` starts the second session; `source` is ended with both."""
         self.core = core
         self.program = program
+        self.begin = begin
+        self.source = source
         self.follower = Follower(begin, program)
         self.kept_log: Optional[List[Entry]] = []
         self.is_end_known = True
@@ -48,6 +51,8 @@ class Session:
         """Ends both sessions."""
         self.core.process.end()
         self.follower.end()
+        if self.source is not None:
+            self.source.end()
 
     # Commands.
 
@@ -125,6 +130,15 @@ class Session:
         self.forget_log()
         self.is_end_known = False
 
+    def refresh(self) -> bool:
+        """Asks for the log anew, where others than the commands of this session take steps; whether it has changed."""
+        before, log = self.kept_log, self.core.log()
+        if log == before:
+            return False
+        self.forget()
+        self.keep_log(log)
+        return True
+
     def moved(self, command: str, read: Callable[[Sequence[str]], Found]) -> Found:
         """What is read from the reply to a command that moves; Refused where it is."""
         reply = self.ask(command)
@@ -147,6 +161,11 @@ class Session:
     def redo(self) -> List[str]:
         return self.moved("redo", replies.steps)
 
+    def cut(self, length: int) -> None:
+        """Takes back all steps behind the first so many of the log, by few commands: each takes back all that depends on a step."""
+        while len(self.log()) > length:
+            self.back(self.log()[length].step)
+
     def preview(self, target: str) -> List[str]:
         """The steps that `back` would take back, as the second session does and takes again; Refused where it would be."""
         core = self.follow().session()
@@ -164,12 +183,16 @@ class Session:
     def log(self) -> List[Entry]:
         """The kept steps in their order."""
         if self.kept_log is None:
-            self.kept_log = self.core.log()
-            self.core.kept = len(self.kept_log)
-            if not self.is_end_known:
-                self.core.end = end_of_step(self.kept_log[-1]) if self.kept_log else None
-                self.is_end_known = True
+            self.keep_log(self.core.log())
+        assert self.kept_log is not None
         return self.kept_log
+
+    def keep_log(self, log: List[Entry]) -> None:
+        self.kept_log = log
+        self.core.kept = len(log)
+        if not self.is_end_known:
+            self.core.end = end_of_step(log[-1]) if log else None
+            self.is_end_known = True
 
     def stopped_by(self) -> Optional[Reason]:
         """Why the program goes no further: its end, a fault, or nothing."""
@@ -240,6 +263,16 @@ class Session:
         """The goroutines of which one could take the next step."""
         return [] if self.stopped_by() else [it for it in self.goroutines() if it.state is State.READY]
 
+    def ready_clauses(self, goroutine: str, count: int) -> List[int]:
+        """Which of the clauses of a select, at which a goroutine stands, could be taken now."""
+        core, found = self.follow().session(), []
+        with self.follower.whole():
+            for clause in range(1, count + 1):
+                if replies.is_ok(core.ask("step %s %d" % (goroutine, clause))):
+                    found.append(clause)
+                    core.undo()
+        return found
+
     # What the source calls them, and where they stand.
 
     def name_of(self, channel: str) -> str:
@@ -261,6 +294,10 @@ class Session:
                     if variable.value == channel:
                         return variable.name
         return ""
+
+    def channels_named(self, variable: str) -> List[str]:
+        """The channels that a variable of this name held first."""
+        return [name for name in self.channel_names() if self.variable_of(name) == variable]
 
     def places(self, goroutine: Goroutine) -> List[Place]:
         """The place of each frame of a goroutine, the innermost first; the line is 0 where it can't be told."""

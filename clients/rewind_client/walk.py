@@ -2,7 +2,7 @@
 from __future__ import annotations
 
 from dataclasses import dataclass, field
-from typing import Dict, List, Sequence, Set, Tuple
+from typing import Dict, List, NamedTuple, Sequence, Set, Tuple
 
 from .operations import Call, Operation, Passing, calls_of, operations_of, parameters_of, passings_of
 from .tokens import Token
@@ -24,13 +24,25 @@ class Function:
     loops: List[Tuple[int, int]] = field(default_factory=list)
 
 
+class Clause(NamedTuple):
+    """A clause of a select: the line of its `case` or `default`, and its text up to the colon."""
+
+    line: int
+    text: str
+
+
 class Walk:
-    """The walk itself: `lines` are those on which a statement begins, or a function ends."""
+    """The walk itself: `lines` are those on which a statement begins, or a function ends.
+
+    `widths` has the number of tokens of the statements that begin on a line, and `selects` the clauses of a select by its line.
+    """
 
     def __init__(self, file_tokens: Sequence[Token]) -> None:
         self.tokens = file_tokens
         self.at = 0
         self.lines: Set[int] = set()
+        self.widths: Dict[int, int] = {}
+        self.selects: Dict[int, List[Clause]] = {}
         self.functions: Dict[str, Function] = {}
         self.function = Function("", 0)
         self.file()
@@ -136,9 +148,12 @@ class Walk:
             if self.peek().text == ";":
                 self.take()
                 continue
-            self.take()
+            word = self.take()
             clause += 1
-            self.note(line, *self.part((":",)), clause)
+            begin, end = self.part((":",))
+            text = " ".join([word.text, *(token.text for token in self.tokens[begin:end])])
+            self.selects.setdefault(line, []).append(Clause(word.line, text))
+            self.note(line, begin, end, clause)
             self.take()
             self.statements(("case", "default", "}"))
         self.take()
@@ -158,6 +173,7 @@ class Walk:
     def note(self, line: int, begin: int, end: int, clause: int = 0) -> None:
         """Notes the calls and the uses of channels among some tokens."""
         part = self.tokens[begin:end]
+        self.widths[line] = self.widths.get(line, 0) + len(part)
         self.function.calls += calls_of(part, line)
         self.function.operations += operations_of(part, line, clause)
         self.function.passings += passings_of(part, line)

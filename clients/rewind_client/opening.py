@@ -1,0 +1,30 @@
+"""A session on a source, and a second one beside it when that is wanted."""
+from __future__ import annotations
+
+from typing import Callable, List, Optional
+
+from .core import unnoted
+from .errors import RewindError
+from .finding import start
+from .process import TIMEOUT, never
+from .program import read_program
+from .session import Session
+from .source import Source
+
+
+def open_session(
+    rewind: str,
+    path: str,
+    timeout: float = TIMEOUT,
+    cancelled: Callable[[], bool] = never,
+    journal: Callable[[str], None] = unnoted,
+    options: Optional[List[str]] = None,
+) -> Session:
+    """A session on a source; SourceRefused where Rewind refuses it. The second session has no options and no journal."""
+    core = start(rewind, path, timeout, cancelled, journal, options)
+    try:
+        source = Source(read_program(path))
+    except RewindError:
+        core.process.end()
+        raise
+    return Session(core, source.program, lambda: start(rewind, source.copy(), timeout, cancelled), source)
