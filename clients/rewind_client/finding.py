@@ -4,6 +4,7 @@ from __future__ import annotations
 import os
 import re
 import shutil
+import subprocess
 from typing import Callable, List, Optional
 
 from .core import Core, unnoted
@@ -53,6 +54,18 @@ def start(
     except ProcessError as fault:
         raise refusal_of(path, str(fault)) from None
     return Core(process, journal)
+
+
+def explained(rewind: str, code: str) -> List[str]:
+    """What a `rewind` tells of a code, in any letters; nothing where it is none."""
+    for text in (code, code.upper()):
+        try:
+            done = subprocess.run([rewind, "--explain", text], capture_output=True, timeout=10, check=False)
+        except (OSError, ValueError, subprocess.SubprocessError):
+            return []
+        if done.returncode == 0:
+            return done.stdout.decode("utf-8", "replace").splitlines()
+    return []
 
 
 def refusal_of(path: str, said: str) -> Exception:

@@ -3,14 +3,12 @@ from __future__ import annotations
 
 import glob
 import os
-from typing import TYPE_CHECKING, Callable, Dict, List
+from typing import Callable, Dict, List
 
 from rewind_client.errors import RewindError
 
+from .desk import Desk
 from .words import WORDS, word_of
-
-if TYPE_CHECKING:
-    from .shell import Shell
 
 SHOWN_STEPS = 200
 
@@ -18,7 +16,7 @@ SHOWN_STEPS = 200
 class Completing:
     """Finds the beginnings of words that fit."""
 
-    def __init__(self, shell: Shell) -> None:
+    def __init__(self, shell: Desk) -> None:
         self.shell = shell
         goroutine, channel, step, line = self.goroutines, self.channels, self.steps, self.lines
         self.by_word: Dict[str, List[Callable[[], List[str]]]] = {

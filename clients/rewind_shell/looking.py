@@ -1,7 +1,7 @@
 """The words that only look: who is where, and why."""
 from __future__ import annotations
 
-from typing import TYPE_CHECKING, Callable, Dict, List, Optional
+from typing import Callable, Dict, List, Optional
 
 from rewind_client.direct import DirectCauses
 from rewind_client.explanations import explain
@@ -11,10 +11,8 @@ from rewind_client.replies import Goroutine
 from rewind_client.sentences import Sentences
 from rewind_client.stories import Stories, relation
 
+from .desk import Desk
 from .words import GROUPS, HINTS, BY_NAME, Word, word_of
-
-if TYPE_CHECKING:
-    from .shell import Shell
 
 AROUND = 5
 SHOWN_STEPS = 40
@@ -24,7 +22,7 @@ MAX_ROWS = 1000
 class Looking:
     """Answers from what is known of the session."""
 
-    def __init__(self, shell: Shell) -> None:
+    def __init__(self, shell: Desk) -> None:
         self.shell = shell
         self.screen = shell.screen
 
@@ -208,7 +206,7 @@ class Looking:
             return notes
         if is_goroutine(wanted):
             return [it for it in notes if step_owner(it.step) == wanted]
-        channels = [wanted] if is_channel(wanted) else self.shell.channels_named(wanted)
+        channels = [wanted] if is_channel(wanted) else self.shell.session.channels_named(wanted)
         return [it for it in notes if it.channel in channels] if channels else None
 
     def direct(self, words: List[str]) -> None:

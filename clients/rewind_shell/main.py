@@ -61,7 +61,7 @@ def main(words: List[str]) -> int:
     try:
         if not os.path.isfile(given.file):
             raise RewindError("there is no file %s" % given.file)
-        shell = Shell(find_rewind(given.rewind), read_program(given.file), screen, interrupts, asking())
+        shell = Shell(find_rewind(given.rewind), given.file, screen, interrupts, asking())
     except SourceRefused as refused:
         tell_refused(given.file, refused)
         return REFUSED

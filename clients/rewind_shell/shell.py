@@ -1,21 +1,20 @@
 """The shell itself: it obeys lines, one after the other."""
 from __future__ import annotations
 
-import subprocess
 from typing import Callable, Dict, List, Optional, Sequence
 
 from rewind_client.breakpoints import Breakpoints
 from rewind_client.core import MOVING as MOVING_WORDS
-from rewind_client.core import Core, Refused, words_of
+from rewind_client.core import Refused, words_of
 from rewind_client.errors import Cancelled, ProcessError, RewindError
 from rewind_client.explanations import Standing, standing_of
-from rewind_client.finding import start
+from rewind_client.finding import explained
 from rewind_client.meanings import FAULTS, REFUSED_COMMANDS
 from rewind_client.names import is_step, step_owner
+from rewind_client.opening import open_session
 from rewind_client.printed import change
 from rewind_client.program import Program
 from rewind_client.replies import Entry, State
-from rewind_client.session import Session
 from rewind_client.stories import Stories
 
 from .interrupts import Interrupts
@@ -37,15 +36,15 @@ class Shell:
     """A session with a person: the chosen goroutine, breakpoints, and what was printed and saved."""
 
     def __init__(
-        self, rewind: str, program: Program, screen: Screen, interrupts: Interrupts, asks: Optional[Callable[[str], str]]
+        self, rewind: str, path: str, screen: Screen, interrupts: Interrupts, asks: Optional[Callable[[str], str]]
     ) -> None:
         """`asks` puts a question at a terminal; None where there is none to answer."""
         self.rewind = rewind
-        self.program = program
+        self.path = path
         self.screen = screen
         self.interrupts = interrupts
         self.asks = asks
-        self.script = Script(program.path)
+        self.script = Script(path)
         self.is_over = False
         self.is_lost = False
         self.begin()
@@ -56,14 +55,14 @@ class Shell:
 
     def begin(self) -> None:
         """Begins the program, with nothing taken."""
-        core = self.start()
-        core.journal = self.script.note
-        self.session = Session(core, self.program, self.start)
+        path, gives_up = self.path, self.interrupts.gives_up
+        self.session = open_session(self.rewind, path, cancelled=gives_up, journal=self.script.note)
         self.chosen = "g0"
         self.printed: Optional[List[str]] = []
 
-    def start(self) -> Core:
-        return start(self.rewind, self.program.path, cancelled=self.interrupts.gives_up)
+    @property
+    def program(self) -> Program:
+        return self.session.program
 
     def end(self) -> None:
         self.session.end()
@@ -218,20 +217,9 @@ class Shell:
         except (EOFError, KeyboardInterrupt):
             return False
 
-    def channels_named(self, variable: str) -> List[str]:
-        """The channels that a variable of this name held first."""
-        return [name for name in self.session.channel_names() if self.session.variable_of(name) == variable]
-
     def explained(self, code: str) -> List[str]:
         """What Rewind tells of a code; nothing where it is none."""
-        for text in (code, code.upper()):
-            try:
-                done = subprocess.run([self.rewind, "--explain", text], capture_output=True, timeout=10, check=False)
-            except (OSError, ValueError, subprocess.SubprocessError):
-                return []
-            if done.returncode == 0:
-                return done.stdout.decode("utf-8", "replace").splitlines()
-        return []
+        return explained(self.rewind, code)
 
     def save(self, words: List[str]) -> None:
         if len(words) != 1:

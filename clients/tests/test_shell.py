@@ -249,8 +249,8 @@ def test_very_many_printed_lines(talk: Talk, tmp_path: Path) -> None:
     assert shown[4][0].startswith("ok ") and shown[4][1].startswith("(from here on")
 
 
-def test_completion(session: Open, rewind: str) -> None:  # noqa: F811
-    shell = Shell(rewind, session("philosophers").program, Screen(sys.stdout, lambda: False), Interrupts(), None)
+def test_completion(rewind: str) -> None:
+    shell = Shell(rewind, str(EXAMPLES / "philosophers.go"), Screen(sys.stdout, lambda: False), Interrupts(), None)
     shell.obey("run 1000")
     completing = Completing(shell)
     assert completing.of("x") == [] and completing.of("gorou") == ["goroutine", "goroutines"]
@@ -389,3 +389,16 @@ def test_backward_to_a_breakpoint(session: Open, core: Callable[[str], Core]) ->
     stop = finished(motion.backward(one, lambda: {14}))
     assert (stop.reason, stop.goroutine, stop.line) == (motion.StopReason.BREAKPOINT, "g0.2", 14)
     assert finished(motion.backward(one, lambda: set())).reason is motion.StopReason.ENTRY
+
+
+def test_a_restart_takes_the_file_as_it_is_then(rewind: str, tmp_path: Path, capsys: pytest.CaptureFixture[str]) -> None:
+    source = tmp_path / "changed.go"
+    source.write_text("package main\nfunc main() {\n\tprintln(1)\n}\n")
+    shell = Shell(rewind, str(source), Screen(sys.stdout, lambda: False), Interrupts(), None)
+    source.write_text("package main\n\nfunc main() {\n\tx := 2\n\tprintln(x)\n}\n")
+    shell.obey("list 3")
+    assert "println(1)" in capsys.readouterr().out
+    shell.obey("restart")
+    shell.obey("list 4")
+    assert "x := 2" in capsys.readouterr().out
+    shell.end()
