@@ -9,12 +9,14 @@ import json
 import os
 import re
 import threading
-from queue import Empty, Queue
 from typing import Any, BinaryIO, Dict, NamedTuple, Optional, Union
+
+from .inbox import Inbox
 
 MAX_MESSAGE = 16 * 1024 * 1024
 MAX_HEADER = 4096
-WAITING_MESSAGES = 64
+# A length beyond this is not believed, and what follows is not skipped.
+MOST_SKIPPED = 1 << 30
 
 # A field of a header; the length, wherever in a line it stands, so that one finds it again behind bytes that are no message.
 FIELD = re.compile(rb"[A-Za-z-]+:[^\r\n]*\r?\n\Z")
@@ -41,17 +43,14 @@ class Transport:
         self.source = source
         self.target = target
         self.closed = threading.Event()
-        self.inbox: Queue[Union[Message, Malformed, Closed]] = Queue(WAITING_MESSAGES)
+        self.inbox: Inbox[Union[Message, Malformed, Closed]] = Inbox()
         self.sent = 0
         self.reader = threading.Thread(target=self.read_all, daemon=True)
         self.reader.start()
 
     def next_message(self, wait: bool) -> Union[Message, Malformed, Closed, None]:
         """The next message; None where there is none yet and `wait` is false."""
-        try:
-            return self.inbox.get(block=wait)
-        except Empty:
-            return None
+        return self.inbox.get(wait)
 
     def send(self, message: Message) -> None:
         """Writes a message, with the next number as its `seq`."""
@@ -69,13 +68,21 @@ class Transport:
             while True:
                 length = self.read_header()
                 if length <= MAX_MESSAGE:
-                    self.inbox.put(self.read_body(length))
+                    self.inbox.put(self.read_body(length), length)
                 else:
-                    self.complain("a message of %d bytes is refused: at most %d are read" % (length, MAX_MESSAGE))
-                    self.skip(length)
+                    self.refuse(length)
         except (EOFError, OSError):
             self.closed.set()
             self.inbox.put(Closed())
+
+    def refuse(self, length: int) -> None:
+        """A message that is too long is skipped; where that would never end, the next header is looked for."""
+        told = "a message of %d bytes is refused: at most %d are read" % (length, MAX_MESSAGE)
+        if length <= MOST_SKIPPED:
+            self.complain(told)
+            self.skip(length)
+        else:
+            self.complain(told + ", and no more than %d are skipped: the next header is looked for" % MOST_SKIPPED)
 
     def complain(self, reason: str) -> None:
         self.inbox.put(Malformed(reason))
