@@ -4,6 +4,7 @@ from __future__ import annotations
 from typing import Dict, List, NamedTuple, Set
 
 from .errors import RewindError
+from .program import Program
 from .session import Session
 
 
@@ -22,6 +23,21 @@ class NoPlace(RewindError):
     """A breakpoint can't stand there."""
 
 
+def place_of(program: Program, wanted: str) -> Breakpoint:
+    """Where a breakpoint on a line, or at the first statement of a function, stands."""
+    if wanted.isdigit():
+        place = program.statement_at(int(wanted))
+        if place is None:
+            raise NoPlace("no statement begins on line %s or after it: the source has %d lines" % (wanted, len(program.lines)))
+        return Breakpoint(place, wanted)
+    function = program.functions.get(wanted)
+    if function is None:
+        raise NoPlace("there is no function %s: the functions are %s" % (wanted, ", ".join(sorted(program.functions))))
+    inside = program.statements_between(function.line, function.last_line)
+    after = [line for line in inside if line > function.line]
+    return Breakpoint((after or inside)[0], wanted)
+
+
 class Breakpoints:
     """The breakpoints of a session."""
 
@@ -35,30 +51,13 @@ class Breakpoints:
     def all(self) -> List[Breakpoint]:
         return [self.by_line[line] for line in sorted(self.by_line)]
 
-    def place_of(self, wanted: str) -> Breakpoint:
-        """Where a breakpoint on a line, or at the first statement of a function, stands."""
-        program = self.session.program
-        if wanted.isdigit():
-            place = program.statement_at(int(wanted))
-            if place is None:
-                raise NoPlace(
-                    "no statement begins on line %s or after it: the source has %d lines" % (wanted, len(program.lines))
-                )
-            return Breakpoint(place, wanted)
-        function = program.functions.get(wanted)
-        if function is None:
-            raise NoPlace("there is no function %s: the functions are %s" % (wanted, ", ".join(sorted(program.functions))))
-        inside = program.statements_between(function.line, function.last_line)
-        after = [line for line in inside if line > function.line]
-        return Breakpoint((after or inside)[0], wanted)
-
     def note(self, line: int) -> None:
         """Takes account of a breakpoint that a command has set."""
         self.by_line[line] = Breakpoint(line, str(line))
 
     def set(self, wanted: str) -> Breakpoint:
         """Sets a breakpoint on a line or at a function."""
-        found = self.place_of(wanted)
+        found = place_of(self.session.program, wanted)
         self.session.core.set_breakpoint(found.line)
         self.by_line[found.line] = found
         return found

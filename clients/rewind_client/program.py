@@ -55,6 +55,10 @@ class Program:
         """The name of the function to which a line belongs, or an empty text."""
         return next((it.name for it in self.functions.values() if it.line <= line <= it.last_line), "")
 
+    def has_variable(self, function: str, name: str) -> bool:
+        """Whether a function may have a variable of this name: it is written there."""
+        return function in self.functions and name in self.functions[function].names
+
     def printed_width(self) -> int:
         """An upper bound of the bytes that one step prints; 0 where the program prints nothing.
 

@@ -18,6 +18,7 @@ class Function:
     line: int
     last_line: int = 0
     parameters: List[str] = field(default_factory=list)
+    names: Set[str] = field(default_factory=set)
     operations: List[Operation] = field(default_factory=list)
     calls: List[Call] = field(default_factory=list)
     passings: List[Passing] = field(default_factory=list)
@@ -73,6 +74,7 @@ class Walk:
             if self.take().text == "struct":
                 self.at += 2
         self.function.last_line = self.block()
+        self.function.names = {token.text for token in self.tokens[begin : self.at] if token.is_name}
         self.lines.add(self.function.last_line)
 
     def skip_parentheses(self) -> None:

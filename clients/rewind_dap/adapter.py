@@ -4,17 +4,20 @@ from __future__ import annotations
 import time
 from typing import Any, Callable, Dict, List, Optional, cast
 
-from rewind_client import motion
 from rewind_client.core import Refused
-from rewind_client.errors import Cancelled, ProcessError, RewindError, SourceRefused
+from rewind_client.errors import Cancelled, ProcessError, RewindError
+from rewind_client.watches import Watch
 
 from .arguments import Arguments, BadRequest
+from .capabilities import CAPABILITIES
+from .console import Console
 from .debuggee import Debuggee
-from .launching import described, launch_of, start
+from .lives import Lives
 from .looks import Looks
 from .moves import Moves
-from .stops import Motion, Stop, at_once, not_taken, told
-from .told import changes_in_words
+from .offers import Offers
+from .stops import Motion, Stop, at_once, not_taken
+from .telling import tell_output, tell_threads, warn_of_change
 from .transport import Closed, Malformed, Transport
 
 Body = Dict[str, Any]
@@ -22,16 +25,8 @@ Handler = Callable[[Arguments], Optional[Body]]
 
 SECONDS_BETWEEN_OUTPUTS = 1.0
 TROUBLE = frozenset(("exception", "deadlock"))
-
-CAPABILITIES = {
-    "supportsConfigurationDoneRequest": True,
-    "supportsStepBack": True,
-    "supportsTerminateRequest": True,
-    "supportsEvaluateForHovers": True,
-    "supportsExceptionInfoRequest": True,
-    "supportsBreakpointLocationsRequest": True,
-    "supportsDelayedStackTraceLoading": True,
-}
+# The status with which Go ends after a fault or a deadlock.
+FAILED = 2
 
 
 class Adapter:
@@ -51,14 +46,12 @@ class Adapter:
         self.later: List[Callable[[], None]] = []
         self.handlers: Dict[str, Handler] = {
             "initialize": self.initialize,
-            "launch": self.launch,
-            "attach": self.attach,
-            "configurationDone": self.configuration_done,
             "pause": self.pause,
-            "terminate": self.terminate,
-            "disconnect": self.disconnect,
+            **Lives(self).handlers(),
             **Looks(self).handlers(),
+            **Offers(self).handlers(),
             **Moves(self).handlers(),
+            **Console(self).handlers(),
         }
 
     # Messages.
@@ -120,7 +113,7 @@ class Adapter:
         """A line, or several, in the console of the editor."""
         self.event("output", {"category": category, "output": text + "\n", **(more or {})})
 
-    # The life of a session.
+    # The program under the debugger.
 
     def initialize(self, arguments: Arguments) -> Body:
         if self.greeted:
@@ -132,56 +125,6 @@ class Adapter:
         self.greeted = True
         return CAPABILITIES
 
-    def launch(self, arguments: Arguments) -> None:
-        if self.debuggee is not None:
-            raise BadRequest("a program was launched before")
-        launch = launch_of(arguments, self.rewind)
-        try:
-            session = start(launch, self.transport.closed.is_set, self.journal)
-        except SourceRefused as refusal:
-            place = {"source": described(launch.path), "line": refusal.line, "column": refusal.column}
-            self.say("stderr", str(refusal), place if refusal.line else None)
-            raise
-        self.debuggee = Debuggee(launch, session, self.first_line, self.first_column)
-        self.later.append(lambda: self.event("initialized"))
-
-    def attach(self, _arguments: Arguments) -> None:
-        raise BadRequest("Rewind runs programs itself and attaches to none: use launch")
-
-    def configuration_done(self, _arguments: Arguments) -> None:
-        debuggee = self.stopped_debuggee()
-        if debuggee.launch.stop_on_entry:
-            self.begin(at_once(Stop("entry", "g0", "The start of the program")))
-        else:
-            movement = motion.forward(debuggee.session, debuggee.breakpoints.lines, "g0")
-            self.begin(told(debuggee.session, debuggee.view, movement))
-
-    def terminate(self, _arguments: Arguments) -> None:
-        self.any_debuggee()
-        self.later.append(self.gone)
-
-    def disconnect(self, _arguments: Arguments) -> None:
-        self.end_program()
-        self.finished = True
-
-    def gone(self) -> None:
-        """Ends the program under the debugger, and tells the editor."""
-        self.end_program()
-        self.event("terminated")
-
-    def see_lost(self) -> None:
-        """Ends the program, and tells the editor why, where Rewind itself is gone."""
-        why = self.debuggee.session.core.process.ended if self.debuggee else None
-        if why is not None:
-            self.say("stderr", why)
-            self.gone()
-
-    def end_program(self) -> None:
-        self.motion = None
-        if self.debuggee is not None:
-            self.debuggee.session.end()
-            self.debuggee = None
-
     def any_debuggee(self) -> Debuggee:
         if self.debuggee is None:
             raise BadRequest("no program runs under the debugger")
@@ -191,6 +134,24 @@ class Adapter:
         if self.motion is not None:
             raise BadRequest("the program runs: pause it first")
         return self.any_debuggee()
+
+    def see_lost(self) -> None:
+        """Ends the program, and tells the editor why, where Rewind itself is gone."""
+        why = self.debuggee.session.core.process.ended if self.debuggee else None
+        if why is not None:
+            self.say("stderr", why)
+            self.gone()
+
+    def gone(self) -> None:
+        """Ends the program under the debugger, and tells the editor."""
+        self.end_program()
+        self.event("terminated")
+
+    def end_program(self) -> None:
+        self.motion = None
+        if self.debuggee is not None:
+            self.debuggee.session.end()
+            self.debuggee = None
 
     # Movement.
 
@@ -205,7 +166,7 @@ class Adapter:
             if stop is not None:
                 self.stopped(stop)
             elif time.monotonic() > self.any_debuggee().told + SECONDS_BETWEEN_OUTPUTS:
-                self.tell_output()
+                tell_output(self, self.any_debuggee())
         except ProcessError:
             self.see_lost()
 
@@ -226,7 +187,7 @@ class Adapter:
         debuggee = self.any_debuggee()
         if self.motion is not None:
             self.motion.close()
-            self.begin(at_once(Stop("pause", debuggee.focus, "Paused")))
+        self.begin(at_once(Stop("pause", debuggee.focus, "Paused")))
 
     def stopped(self, stop: Stop) -> None:
         """Tells the editor where and why the program stopped, and what was printed."""
@@ -234,33 +195,31 @@ class Adapter:
         debuggee = self.any_debuggee()
         debuggee.focus = stop.goroutine
         debuggee.fault = stop if stop.reason == "exception" else None
-        self.tell_output()
+        tell_output(self, debuggee)
         if stop.text:
             self.say("stderr" if stop.reason in TROUBLE else "console", stop.text)
         if debuggee.launch.no_debug:
             self.say("console", stop.description)
+            self.exited(stop)
             self.gone()
             return
+        warn_of_change(self, debuggee)
+        tell_threads(self, debuggee)
+        self.event("stopped", self.stop_body(debuggee, stop))
+
+    def exited(self, stop: Stop) -> None:
+        """Tells with which status Go would have ended."""
+        self.event("exited", {"exitCode": 0 if stop.reason == "ended" else FAILED})
+
+    def stop_body(self, debuggee: Debuggee, stop: Stop) -> Body:
         body: Body = {"reason": stop.reason, "description": stop.description}
         body["threadId"] = debuggee.view.thread_number(stop.goroutine)
         body["allThreadsStopped"] = True
         if stop.reason in TROUBLE:
             body["text"] = stop.text.split("\n")[0]
-        if stop.line in debuggee.breakpoints.numbers:
-            body["hitBreakpointIds"] = debuggee.breakpoints.numbers[stop.line]
-        self.event("stopped", body)
-
-    def tell_output(self) -> None:
-        """Tells the lines that were printed since it was last told, and those that no longer are."""
-        debuggee = self.any_debuggee()
-        debuggee.told = time.monotonic()
-        if debuggee.printed_at == debuggee.session.version:
-            return
-        before = debuggee.printed
-        try:
-            debuggee.printed = debuggee.session.core.console()
-        except Refused as refusal:
-            self.say("stderr", "What is printed cannot be told: %s" % refusal)
-        debuggee.printed_at = debuggee.session.version
-        for category, text in changes_in_words(before, debuggee.printed):
-            self.say(category, text)
+        if stop.line in debuggee.breakpoints.lines():
+            body["hitBreakpointIds"] = debuggee.breakpoints.numbers(stop.line)
+        watch = Watch(stop.goroutine, stop.variable)
+        if watch in debuggee.watches:
+            body["hitBreakpointIds"] = [debuggee.watches[watch]]
+        return body

@@ -1,9 +1,10 @@
 """A program that was launched, with all that is kept of it."""
 from __future__ import annotations
 
-from typing import List, Optional
+from typing import Any, Callable, Dict, List, Optional, Set
 
 from rewind_client.session import Session
+from rewind_client.watches import Watch
 
 from .breakpoints import Breakpoints
 from .launching import Launch, described
@@ -12,16 +13,45 @@ from .view import View
 
 
 class Debuggee:
-    """A program under the debugger."""
+    """A program under the debugger.
 
-    def __init__(self, launch: Launch, session: Session, first_line: int, first_column: int) -> None:
-        """The two numbers are those that the editor gives the first line and the first column."""
+    `granted` are steps that workers may still take, as far as is known, and `targets` the steps that `goto` was offered.
+    """
+
+    def __init__(
+        self, launch: Launch, session: Session, first_line: int, first_column: int, tell: Callable[[Dict[str, Any]], None]
+    ) -> None:
+        """The two numbers are those that the editor gives the first line and the first column; `tell` is told of breakpoints."""
         self.launch = launch
+        self.first_line, self.first_column = first_line, first_column
+        self.breakpoints = Breakpoints(session, described(launch.path), first_line, tell)
+        self.watches: Dict[Watch, int] = {}
+        self.begin(session)
+
+    def begin(self, session: Session) -> None:
+        """Begins with a session in which no step is taken."""
         self.session = session
-        self.view = View(session, described(launch.path), (first_line, first_column))
-        self.breakpoints = Breakpoints(session, launch.path, first_line)
+        self.view = View(session, described(self.launch.path), (self.first_line, self.first_column))
         self.focus = "g0"
         self.fault: Optional[Stop] = None
         self.printed: List[str] = []
         self.printed_at = 0
         self.told = 0.0
+        self.alive: Set[str] = set()
+        self.granted = 0
+        self.targets: Dict[int, str] = {}
+        self.has_warned = False
+
+    def begin_anew(self, launch: Launch, session: Session) -> None:
+        """Begins once more, with the breakpoints as they are."""
+        self.launch = launch
+        self.begin(session)
+        self.breakpoints.begin_anew(session)
+
+    def watched(self) -> List[Watch]:
+        return list(self.watches)
+
+    def look_anew(self) -> None:
+        """Asks what the workers have done, where they may have done something."""
+        if self.granted:
+            self.session.refresh()

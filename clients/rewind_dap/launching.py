@@ -5,8 +5,7 @@ import os
 from typing import Any, Callable, Dict, List, NamedTuple, Optional
 
 from rewind_client import finding
-from rewind_client.errors import RewindError
-from rewind_client.program import read_program
+from rewind_client.opening import open_session
 from rewind_client.session import Session
 
 from .arguments import Arguments
@@ -42,13 +41,7 @@ def launch_of(arguments: Arguments, chosen: Optional[str]) -> Launch:
 def start(launch: Launch, cancelled: Callable[[], bool], journal: Callable[[str], None]) -> Session:
     """A session on the program; the second session that it may begin has no workers."""
     options: List[str] = ["--workers", str(launch.workers)] if launch.workers else []
-    core = finding.start(launch.rewind, launch.path, launch.timeout, cancelled, journal, options)
-    try:
-        program = read_program(launch.path)
-    except RewindError:
-        core.process.end()
-        raise
-    return Session(core, program, lambda: finding.start(launch.rewind, launch.path, launch.timeout, cancelled))
+    return open_session(launch.rewind, launch.path, launch.timeout, cancelled, journal, options)
 
 
 def described(path: str) -> Dict[str, Any]:

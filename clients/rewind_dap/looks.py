@@ -1,7 +1,13 @@
 """Requests that only look, and those that set breakpoints."""
 from __future__ import annotations
 
+import re
 from typing import TYPE_CHECKING, Any, Callable, Dict, List, Optional, TypeVar
+
+from rewind_client.explanations import explain
+from rewind_client.names import is_goroutine
+from rewind_client.sentences import Sentences
+from rewind_client.watches import Watch
 
 from .arguments import Arguments, BadRequest
 from .debuggee import Debuggee
@@ -11,6 +17,9 @@ if TYPE_CHECKING:
 
 Body = Dict[str, Any]
 Part = TypeVar("Part")
+
+MAX_COMMAND = 1_048_576
+CONTROL = re.compile("[\x00-\x08\x0a-\x1f]")
 
 
 class Looks:
@@ -23,6 +32,7 @@ class Looks:
         return {
             "setBreakpoints": self.set_breakpoints,
             "setExceptionBreakpoints": lambda arguments: None,
+            "setDataBreakpoints": self.set_data_breakpoints,
             "breakpointLocations": self.breakpoint_locations,
             "threads": self.threads,
             "stackTrace": self.stack_trace,
@@ -40,6 +50,19 @@ class Looks:
         path = arguments.object("source").text("path", "")
         return {"breakpoints": debuggee.breakpoints.replace(path, arguments.objects("breakpoints"))}
 
+    def set_data_breakpoints(self, arguments: Arguments) -> Body:
+        """Watches variables, in place of those before."""
+        debuggee, bodies = self.adapter.any_debuggee(), []
+        debuggee.watches = {}
+        for wanted in arguments.objects("breakpoints"):
+            words = wanted.text("dataId").split(" ")
+            number = debuggee.breakpoints.next_number()
+            is_watch = len(words) == 2 and is_goroutine(words[0]) and words[1].isidentifier()
+            if is_watch:
+                debuggee.watches[Watch(words[0], words[1])] = number
+            bodies.append({"id": number, "verified": is_watch})
+        return {"breakpoints": bodies}
+
     def breakpoint_locations(self, arguments: Arguments) -> Body:
         debuggee = self.adapter.any_debuggee()
         first = arguments.number("line")
@@ -48,10 +71,14 @@ class Looks:
         return {"breakpoints": debuggee.breakpoints.between(path, first, last)}
 
     def threads(self, _arguments: Arguments) -> Body:
-        return {"threads": self.adapter.any_debuggee().view.threads()}
+        debuggee = self.adapter.any_debuggee()
+        debuggee.look_anew()
+        return {"threads": debuggee.view.threads(debuggee.focus)}
 
     def stack_trace(self, arguments: Arguments) -> Body:
-        view = self.adapter.stopped_debuggee().view
+        debuggee = self.adapter.stopped_debuggee()
+        debuggee.look_anew()
+        view = debuggee.view
         places = view.places(view.goroutine_of(arguments.number("threadId")))
         return {"stackFrames": view.stack(portion(places, arguments, "startFrame", "levels")), "totalFrames": len(places)}
 
@@ -63,11 +90,15 @@ class Looks:
         return {"variables": portion(bodies, arguments, "start", "count")}
 
     def exception_info(self, _arguments: Arguments) -> Body:
-        """The fault that stopped the program, in Go's words."""
-        stop = self.adapter.stopped_debuggee().fault
+        """The fault that stopped the program, in Go's words, with where and why in sentences."""
+        debuggee = self.adapter.stopped_debuggee()
+        stop = debuggee.fault
         if stop is None:
             raise BadRequest("no fault stopped the program")
-        return {"exceptionId": stop.description.split(" ")[-1], "description": stop.text, "breakMode": "always"}
+        name, session = stop.description.split(" ")[-1], debuggee.session
+        told = "\n".join(Sentences(session).all(explain(session)))
+        details = {"message": stop.text, "typeName": name, "stackTrace": told}
+        return {"exceptionId": name, "description": stop.text, "breakMode": "always", "details": details}
 
     def related(self, word: str, arguments: Arguments) -> Body:
         """The steps that a step rests on, or that rest on it."""
@@ -105,3 +136,13 @@ def one_word(text: str) -> str:
     if not text or any(character <= " " for character in text):
         raise BadRequest("'%s' is no name of a step" % text[:80])
     return text
+
+
+def one_line(text: str) -> str:
+    """A command as it is sent: a newline or another control character would make more, or none, of it."""
+    line = text.strip(" \t\r\n")
+    if len(line) > MAX_COMMAND:
+        raise BadRequest("a command has at most %d bytes" % MAX_COMMAND)
+    if CONTROL.search(line):
+        raise BadRequest("a command is one line, without control characters")
+    return line

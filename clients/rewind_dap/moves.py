@@ -1,30 +1,29 @@
 """Requests that move the program, forward or back."""
 from __future__ import annotations
 
-import re
 from typing import TYPE_CHECKING, Any, Callable, Dict, List, Optional
 
 from rewind_client import motion
-from rewind_client.core import MOVING, words_of
-from rewind_client.names import is_channel, step_owner
-from rewind_client.replies import Goroutine, is_ok
+from rewind_client.frames import first_step_of_frame
+from rewind_client.names import step_number, step_owner
+from rewind_client.replies import Goroutine
 
 from .arguments import Arguments, BadRequest
 from .debuggee import Debuggee
-from .looks import step_name
-from .stops import Stop, at_once, end, one_step_back, taken, told
+from .looks import one_line, step_name
+from .offers import ONE_STEP
+from .runs import backward, forward
+from .stops import Stop, at_once, end, step_back, taken, told
 
 if TYPE_CHECKING:
     from .adapter import Adapter
 
 Body = Dict[str, Any]
-
-MAX_COMMAND = 1_048_576
-CONTROL = re.compile("[\x00-\x08\x0a-\x1f]")
+INSTRUCTION = "instruction"
 
 
 class Moves:
-    """Steps and runs in both directions, and commands as the user writes them."""
+    """Steps and runs in both directions."""
 
     def __init__(self, adapter: Adapter) -> None:
         self.adapter = adapter
@@ -32,12 +31,13 @@ class Moves:
     def handlers(self) -> Dict[str, Callable[[Arguments], Optional[Body]]]:
         return {
             "continue": self.go_on,
-            "next": lambda arguments: self.steps(arguments, out=False),
+            "next": lambda arguments: self.next(self.goroutine(arguments)),
             "stepIn": self.step_in,
-            "stepOut": lambda arguments: self.steps(arguments, out=True),
+            "stepOut": lambda arguments: self.step_out(self.goroutine(arguments)),
             "stepBack": self.step_back,
             "reverseContinue": self.reverse,
-            "evaluate": self.evaluate,
+            "restartFrame": self.restart_frame,
+            "goto": self.goto,
             "rewind/back": self.back,
             "rewind/redo": self.redo,
         }
@@ -46,28 +46,29 @@ class Moves:
         """The goroutine that a request names by its thread, of a program that stands still."""
         return self.adapter.stopped_debuggee().view.goroutine_of(arguments.number("threadId"))
 
+    # Forward.
+
     def go_on(self, _arguments: Arguments) -> Body:
-        debuggee = self.adapter.stopped_debuggee()
-        self.begin(motion.forward(debuggee.session, debuggee.breakpoints.lines, debuggee.focus))
+        self.adapter.begin(forward(self.adapter.stopped_debuggee(), self.adapter.say))
         return {"allThreadsContinued": True}
 
-    def steps(self, arguments: Arguments, out: bool) -> None:
-        goroutine = self.goroutine(arguments)
-        debuggee = self.focused(goroutine)
-        go = motion.out_of_frame if out else motion.next_line
-        self.begin(go(debuggee.session, goroutine, debuggee.breakpoints.lines))
+    def next(self, goroutine: Goroutine) -> None:
+        session, lines = self.focused(goroutine).session, self.lines
+        self.begin(motion.waited_for(session, goroutine, lines, lambda one: motion.next_line(session, one, lines), leaves=True))
+
+    def step_out(self, goroutine: Goroutine) -> None:
+        session, lines = self.focused(goroutine).session, self.lines
+        self.begin(motion.waited_for(session, goroutine, lines, lambda one: motion.out_of_frame(session, one, lines), leaves=False))
 
     def step_in(self, arguments: Arguments) -> None:
-        goroutine = self.goroutine(arguments)
-        self.begin(motion.some_steps(self.focused(goroutine).session, goroutine.name, 1))
+        """One step; the target is a clause of the select at which the goroutine stands."""
+        goroutine, clause = self.goroutine(arguments), arguments.number("targetId", ONE_STEP)
+        session = self.focused(goroutine).session
+        go_on: Callable[[Goroutine], motion.Motion] = lambda one: motion.some_steps(session, one.name, 1, clause)
+        self.begin(motion.waited_for(session, goroutine, self.lines, go_on, leaves=False))
 
-    def step_back(self, arguments: Arguments) -> None:
-        goroutine = self.goroutine(arguments)
-        self.adapter.begin(one_step_back(self.focused(goroutine).session, goroutine))
-
-    def reverse(self, _arguments: Arguments) -> None:
-        debuggee = self.adapter.stopped_debuggee()
-        self.begin(motion.backward(debuggee.session, debuggee.breakpoints.lines))
+    def lines(self) -> "set[int]":
+        return self.adapter.any_debuggee().breakpoints.lines()
 
     def begin(self, movement: motion.Motion) -> None:
         """Sets the program going."""
@@ -79,6 +80,44 @@ class Moves:
         debuggee = self.adapter.stopped_debuggee()
         debuggee.focus = goroutine.name
         return debuggee
+
+    # Back.
+
+    def step_back(self, arguments: Arguments) -> None:
+        """A statement back, as a step over goes one forward; or one step."""
+        goroutine = self.goroutine(arguments)
+        whole = arguments.text("granularity", "statement") != INSTRUCTION
+        self.adapter.begin(step_back(self.focused(goroutine).session, goroutine, whole))
+
+    def reverse(self, _arguments: Arguments) -> None:
+        self.adapter.begin(backward(self.adapter.stopped_debuggee()))
+
+    def restart_frame(self, arguments: Arguments) -> None:
+        """Takes back what a goroutine did in a frame."""
+        debuggee = self.adapter.stopped_debuggee()
+        place = debuggee.view.place(arguments.number("frameId"))
+        goroutine = place.goroutine
+        if not goroutine.frames:
+            raise BadRequest("%s has ended and has no frame" % goroutine.name)
+        first = first_step_of_frame(debuggee.session, goroutine, place.depth)
+        if step_number(first) > goroutine.steps:
+            self.adapter.begin(at_once(Stop("restart", goroutine.name, "The start of the frame")))
+        else:
+            self.take_back(debuggee, "restart", goroutine.name, first)
+
+    def goto(self, arguments: Arguments) -> None:
+        """Goes back to a step that `gotoTargets` told."""
+        debuggee = self.adapter.stopped_debuggee()
+        step = debuggee.targets.get(arguments.number("targetId"))
+        if step is None:
+            raise BadRequest("there is no target %d" % arguments.number("targetId"))
+        self.take_back(debuggee, "goto", step_owner(step), step)
+
+    def take_back(self, debuggee: Debuggee, reason: str, goroutine: str, target: str) -> List[str]:
+        """Takes a step back with its consequences, and shows a goroutine."""
+        names = debuggee.session.back(target)
+        self.adapter.begin(at_once(taken("Took back", names, goroutine)._replace(reason=reason)))
+        return names
 
     # Beyond other debuggers.
 
@@ -98,62 +137,3 @@ class Moves:
         stop = taken(did, names, step_owner(names[shown]) if names else debuggee.focus)
         self.adapter.begin(at_once(end(debuggee.session) if debuggee.session.stopped_by() else stop))
         return {"steps": names}
-
-    # The console.
-
-    def evaluate(self, arguments: Arguments) -> Body:
-        """In the console any command of Rewind; elsewhere, and where it is no command, the value of a variable.
-
-        An editor that names no context means its console.
-        """
-        text = arguments.text("expression")
-        frame = arguments.number("frameId", 0)
-        if arguments.text("context", "repl") == "repl":
-            return self.command(one_line(text), frame)
-        return self.value(self.adapter.stopped_debuggee(), text.strip(), frame)
-
-    def command(self, text: str, frame: int) -> Body:
-        words = words_of(text)
-        moving = words[:1] and words[0] in MOVING
-        debuggee = self.adapter.stopped_debuggee() if moving else self.adapter.any_debuggee()
-        if not words:
-            return {"result": "", "variablesReference": 0}
-        reply = debuggee.session.ask(text)
-        if reply[-1].startswith("?") and frame and len(words) == 1:
-            return self.value(debuggee, words[0], frame)
-        if is_ok(reply):
-            self.after_command(debuggee, words, reply[-1])
-        return {"result": "\n".join(reply), "variablesReference": 0}
-
-    def after_command(self, debuggee: Debuggee, words: List[str], last: str) -> None:
-        """What follows from a command that was done."""
-        if words[0] == "quit":
-            self.adapter.later.append(self.adapter.gone)
-        elif words[0] in ("break", "clear"):
-            debuggee.breakpoints.note_command(words)
-        elif words[0] in MOVING:
-            named = [step_owner(word) for word in last.split(" ") if "#" in word]
-            focus = named[-1 if words[0] in ("step", "redo") else 0] if named else debuggee.focus
-            stop = Stop("step", focus, "After '%s': %s" % (" ".join(words)[:40], last[:80]))
-            self.adapter.begin(at_once(end(debuggee.session) if debuggee.session.stopped_by() else stop))
-
-    def value(self, debuggee: Debuggee, name: str, frame: int) -> Body:
-        """The value of a variable of a frame, or of a channel by its name."""
-        view = debuggee.view
-        bodies = [body for body in view.of_frame(frame) if body["name"] == name] if frame else []
-        if not bodies and is_channel(name) and debuggee.session.channel(name) is not None:
-            view.renew()
-            bodies = [view.values.variable(name, name)]
-        if not bodies:
-            raise BadRequest("there is no variable '%s' with a value here" % name[:80])
-        return {"result": bodies[-1]["value"], **{key: bodies[-1][key] for key in ("type", "variablesReference")}}
-
-
-def one_line(text: str) -> str:
-    """A command as it is sent: a newline or another control character would make more, or none, of it."""
-    line = text.strip(" \t\r\n")
-    if len(line) > MAX_COMMAND:
-        raise BadRequest("a command has at most %d bytes" % MAX_COMMAND)
-    if CONTROL.search(line):
-        raise BadRequest("a command is one line, without control characters")
-    return line

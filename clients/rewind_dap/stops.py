@@ -17,13 +17,14 @@ LISTED = 20
 
 
 class Stop(NamedTuple):
-    """Why a goroutine stopped: a reason of the protocol, a line of words, more words, and the line of a breakpoint."""
+    """Why a goroutine stopped: a reason of the protocol, a line of words, more words, a breakpoint's line, a watched variable."""
 
     reason: str
     goroutine: str
     description: str
     text: str = ""
     line: int = 0
+    variable: str = ""
 
 
 # A movement in portions, which returns where and why it stopped.
@@ -49,6 +50,9 @@ def in_words(session: Session, view: View, found: motion.Stop) -> Stop:
     if reason is StopReason.BREAKPOINT:
         before = ", before %s" % found.before if found.before else ""
         return Stop("breakpoint", name, "Breakpoint on line %d%s" % (found.line, before), line=found.line)
+    if reason is StopReason.VALUE and found.entry:
+        did = "%s gave %s a value" % (found.entry.step, found.before)
+        return Stop("data breakpoint", name, did, variable=found.before)
     if reason is StopReason.DEADLOCK:
         words = "\n".join([DEADLOCK] + view.waits_in_words(LISTED))
         return Stop("deadlock", name, "Deadlock: every goroutine that is left waits", words)
@@ -70,13 +74,14 @@ def end(session: Session) -> Stop:
     return Stop("exception", found.goroutine, "Fault: " + fault, FAULTS.get(fault, fault))
 
 
-def one_step_back(session: Session, goroutine: Goroutine) -> Motion:
-    """Takes the last step of the goroutine back, with all that depends on it."""
+def step_back(session: Session, goroutine: Goroutine, whole: bool) -> Motion:
+    """Takes the last step of the goroutine back, or the whole statement to which it belongs, with all that depends on it."""
     yield from ()
     if goroutine.steps == 0:
         words = "%s has taken no step; 'back go %s' takes its start back" % (goroutine.name, goroutine.name)
         return Stop("step", goroutine.name, words if goroutine.name != "g0" else "The start of the program")
-    return taken("Took back", session.back(goroutine.last_step), goroutine.name)
+    step = motion.line_before(session, goroutine) if whole else goroutine.last_step
+    return taken("Took back", session.back(step), goroutine.name)
 
 
 def taken(did: str, names: List[str], goroutine: str) -> Stop:

@@ -1,11 +1,20 @@
 """What the console of an editor is told of the lines that a program printed."""
 from __future__ import annotations
 
-from typing import Iterator, List, Tuple
+from typing import Iterator, List, NamedTuple, Sequence, Tuple
 
 from rewind_client.printed import change
 
 MAX_LINES = 100
+# An event has no more letters of output than this.
+MAX_OUTPUT = 1 << 16
+
+
+class Piece(NamedTuple):
+    """Some output, and the line of the statement that printed it; 0 where that is not known."""
+
+    text: str
+    line: int
 
 
 def changes_in_words(before: List[str], now: List[str]) -> Iterator[Tuple[str, str]]:
@@ -23,3 +32,19 @@ def first_lines(lines: List[str]) -> List[str]:
     """No more than MAX_LINES of some lines, with a word for the others."""
     left_out = len(lines) - MAX_LINES
     return lines[:MAX_LINES] + ["(and %d lines more)" % left_out] if left_out > 0 else lines
+
+
+def pieces(printed: Sequence[str], places: Sequence[int]) -> Iterator[Piece]:
+    """Printed lines, each with that of its statement, as pieces that an event holds: lines of one statement together."""
+    text, at = "", 0
+    for line, place in zip(printed, places):
+        if text and (place != at or len(text) + len(line) >= MAX_OUTPUT):
+            yield Piece(text, at)
+            text = ""
+        at = place
+        text += line + "\n"
+        while len(text) > MAX_OUTPUT:
+            yield Piece(text[:MAX_OUTPUT], at)
+            text = text[MAX_OUTPUT:]
+    if text:
+        yield Piece(text, at)

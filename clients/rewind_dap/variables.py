@@ -56,7 +56,8 @@ class Variables:
         return [plain(name, value) for name, value in pairs]
 
     def of_channels(self) -> List[Body]:
-        return [self.variable(channel.name, channel.name) for channel in self.session.channels()[:MAX_SHOWN]]
+        """All channels, each by the name that the source has for it."""
+        return [self.variable(self.session.name_of(it.name), it.name) for it in self.session.channels()[:MAX_SHOWN]]
 
     # Values.
 
@@ -94,9 +95,12 @@ class Variables:
         return self.variable("[%d]" % place, value)
 
     def waiter(self, _place: int, one: Waiter) -> Body:
-        """A goroutine that waits: at which clause of a select, and with which value to send."""
+        """A goroutine that waits: at which clause of a select, and with which value to send, or at which line."""
         at = " (clause %d)" % one.clause if one.clause else ""
-        return self.variable(one.goroutine + at, one.value) if one.value else plain(one.goroutine + at, "waits")
+        if one.value:
+            return self.variable(one.goroutine + at, one.value)
+        shown = self.session.goroutine(one.goroutine)
+        return plain(one.goroutine + at, "waits at line %d" % shown.line if shown else "waits")
 
 
 def plain(name: str, value: str) -> Body:

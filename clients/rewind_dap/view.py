@@ -4,7 +4,7 @@ Everything is asked of Rewind when an editor wants it, and kept until a step is 
 """
 from __future__ import annotations
 
-from typing import Any, Dict, List, NamedTuple, Tuple
+from typing import Any, Dict, List, NamedTuple, Optional, Tuple
 
 from rewind_client.core import Refused
 from rewind_client.errors import ProcessError
@@ -44,6 +44,8 @@ class View:
         self.seen = self.session.version
         self.lines: Dict[str, List[int]] = {}
         self.frames: Dict[int, FramePlace] = {}
+        # The goroutine of each list of variables of a frame.
+        self.owners: Dict[int, str] = {}
         self.values = Variables(self.session, self.next_number)
 
     def renew(self) -> None:
@@ -72,9 +74,15 @@ class View:
     def names_now(self) -> List[str]:
         """The names of the goroutines that are listed; none where Rewind refuses to tell them."""
         try:
-            return self.session.goroutine_names()[:MAX_THREADS]
+            return self.listed("g0")
         except Refused:
             return []
+
+    def listed(self, focus: str) -> List[str]:
+        """The goroutines that are told: the first MAX_THREADS, and the one that is looked at, if it is there."""
+        names = self.session.goroutine_names()
+        first = names[:MAX_THREADS]
+        return first + [focus] if focus not in first and self.session.goroutine(focus) else first
 
     def goroutine_of(self, thread: int) -> Goroutine:
         """The goroutine of a thread as it stands now."""
@@ -84,12 +92,9 @@ class View:
             raise BadRequest("there is no thread %d" % thread)
         return goroutine
 
-    def goroutines(self) -> List[Goroutine]:
-        """The goroutines in the order of their names, but no more than MAX_THREADS."""
-        return self.session.goroutines(self.session.goroutine_names()[:MAX_THREADS])
-
-    def threads(self) -> List[Body]:
-        return [{"id": self.thread_number(one.name), "name": thread_name(one)} for one in self.goroutines()]
+    def threads(self, focus: str) -> List[Body]:
+        goroutines = self.session.goroutines(self.listed(focus))
+        return [{"id": self.thread_number(one.name), "name": thread_name(one)} for one in goroutines]
 
     # Frames.
 
@@ -141,6 +146,11 @@ class View:
             raise BadRequest("there is no frame %d in the present state" % number)
         return self.frames[number]
 
+    def goroutine_at(self, number: int) -> Optional[Goroutine]:
+        """The goroutine of a frame; none where there is no such frame in the present state."""
+        self.renew()
+        return self.frames[number].goroutine if number in self.frames else None
+
     def variables_of(self, place: FramePlace) -> Tuple[Variable, ...]:
         frames = place.goroutine.frames
         return frames[place.depth].variables if frames else ()
@@ -150,8 +160,10 @@ class View:
     def scopes(self, number: int) -> List[Body]:
         place = self.place(number)
         values = self.values
+        variables = values.scope("Variables", False, lambda: values.of_frame(self.variables_of(place)), "locals")
+        self.owners[variables["variablesReference"]] = place.goroutine.name
         return [
-            values.scope("Variables", False, lambda: values.of_frame(self.variables_of(place)), "locals"),
+            variables,
             values.scope("Goroutine", False, lambda: values.of_goroutine(place.goroutine)),
             values.scope("Channels", True, values.of_channels),
         ]
@@ -173,7 +185,7 @@ class View:
             for word, waiters in (("send to", channel.senders), ("receive from", channel.receivers)):
                 for one in waiters:
                     waits.setdefault(one.goroutine, []).append("%s %s" % (word, channel.name))
-        waiting = [one for one in self.goroutines() if one.state is State.WAITING]
+        waiting = [one for one in self.session.goroutines(self.listed("g0")) if one.state is State.WAITING]
         return [
             "%s waits at line %d to %s" % (one.name, one.line, " or ".join(waits.get(one.name, [NIL_WISH])))
             for one in waiting[:most]

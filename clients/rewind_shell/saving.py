@@ -3,7 +3,7 @@ from __future__ import annotations
 
 import os
 import time
-from typing import IO, List, Optional
+from typing import IO, List, Optional, Sequence
 
 from rewind_client.core import CHANGING, first_word
 from rewind_client.errors import RewindError
@@ -72,11 +72,7 @@ class Script:
 
     def save(self, path: str) -> None:
         """Writes the commands so far to a file."""
-        try:
-            with open(path, "w", encoding="utf-8", errors="backslashreplace") as file:
-                file.write("".join(line + "\n" for line in self.lines))
-        except OSError as fault:
-            raise CannotSave("%s cannot be written: %s" % (path, fault.strerror)) from None
+        write_script(path, self.lines)
 
     def end(self) -> None:
         """Closes the file; one without a command goes."""
@@ -85,6 +81,15 @@ class Script:
             self.file = None
             if not self.lines:
                 os.unlink(self.path)
+
+
+def write_script(path: str, commands: Sequence[str]) -> None:
+    """Writes commands to a file, a line each."""
+    try:
+        with open(path, "w", encoding="utf-8", errors="backslashreplace") as file:
+            file.write("".join(line + "\n" for line in commands))
+    except OSError as fault:
+        raise CannotSave("%s cannot be written: %s" % (path, fault.strerror)) from None
 
 
 def read_script(path: str) -> List[str]:

@@ -130,6 +130,10 @@ def word_of(text: str) -> Optional[str]:
     return begun[0] if len(begun) == 1 and len(text) > 1 else None
 
 
+# Of a longer word no more is compared.
+LONGEST = 40
+
+
 def hint(line: str) -> str:
     """What is wrong with a line that is no command."""
     word = line.split()[0]
@@ -137,6 +141,6 @@ def hint(line: str) -> str:
         return HINTS[word]
     if word.lower() in BY_NAME:
         return "commands are written in small letters: %s" % word.lower()
-    near = difflib.get_close_matches(word, [*BY_NAME, *ALIASES], 1)
+    near = difflib.get_close_matches(word[:LONGEST], [*BY_NAME, *ALIASES], 1)
     also = "did you mean '%s'? " % near[0] if near else ""
-    return "there is no command '%s'; %s'help' lists them" % (word[:40], also)
+    return "there is no command '%s'; %s'help' lists them" % (word[:LONGEST], also)

@@ -81,7 +81,7 @@ class Wanderer:
         """One request, up to the stop that comes of it."""
         command, arguments = self.request()
         response = self.client.ask(command, arguments)
-        moved = command in MOVES and command != "pause" or command in ("rewind/back", "rewind/redo")
+        moved = command in MOVES or command in ("rewind/back", "rewind/redo")
         if command == "evaluate" and response["success"]:
             word = arguments["expression"].split()[:1]
             ok = response["body"]["result"].split("\n")[-1].startswith("ok")

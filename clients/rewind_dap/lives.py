@@ -1,0 +1,97 @@
+"""Requests that begin a program, begin it anew, and end it."""
+from __future__ import annotations
+
+from typing import TYPE_CHECKING, Any, Callable, Dict, Optional
+
+from rewind_client.errors import RewindError, SourceRefused
+from rewind_client.program import read_program
+from rewind_client.refusals import explain_refusal
+from rewind_client.session import Session
+
+from .arguments import Arguments, BadRequest
+from .debuggee import Debuggee
+from .launching import Launch, described, launch_of, start
+from .runs import forward
+from .stops import Stop, at_once
+
+if TYPE_CHECKING:
+    from .adapter import Adapter
+
+Body = Dict[str, Any]
+
+
+class Lives:
+    """The life of a program under the debugger."""
+
+    def __init__(self, adapter: Adapter) -> None:
+        self.adapter = adapter
+
+    def handlers(self) -> Dict[str, Callable[[Arguments], Optional[Body]]]:
+        return {
+            "launch": self.launch,
+            "attach": self.attach,
+            "configurationDone": self.configuration_done,
+            "restart": self.restart,
+            "terminate": self.terminate,
+            "disconnect": self.disconnect,
+        }
+
+    def launch(self, arguments: Arguments) -> None:
+        adapter = self.adapter
+        if adapter.debuggee is not None:
+            raise BadRequest("a program was launched before")
+        launch = launch_of(arguments, adapter.rewind)
+        session = self.session_of(launch)
+        places = (adapter.first_line, adapter.first_column)
+        adapter.debuggee = Debuggee(launch, session, *places, lambda body: adapter.event("breakpoint", body))
+        adapter.later.append(lambda: adapter.event("initialized"))
+
+    def session_of(self, launch: Launch) -> Session:
+        """A session on the program of a launch; a refused source is told in the console with what to write instead."""
+        try:
+            return start(launch, self.adapter.transport.closed.is_set, self.adapter.journal)
+        except SourceRefused as refusal:
+            self.tell_refusal(launch.path, refusal)
+            raise
+
+    def tell_refusal(self, path: str, refusal: SourceRefused) -> None:
+        try:
+            found = explain_refusal(read_program(path).text, refusal.code, refusal.line, refusal.column)
+        except RewindError:
+            self.adapter.say("stderr", str(refusal))
+            return
+        shift = (self.adapter.first_line - 1, self.adapter.first_column - 1)
+        place = {"source": described(path), "line": refusal.line + shift[0], "column": refusal.column + shift[1]}
+        self.adapter.say("stderr", "%s (%s)" % (found.text(path), refusal.code), place if refusal.line else None)
+
+    def attach(self, _arguments: Arguments) -> None:
+        raise BadRequest("Rewind runs programs itself and attaches to none: use launch")
+
+    def configuration_done(self, _arguments: Arguments) -> None:
+        self.set_off(self.adapter.stopped_debuggee())
+
+    def set_off(self, debuggee: Debuggee) -> None:
+        if debuggee.launch.stop_on_entry:
+            self.adapter.begin(at_once(Stop("entry", "g0", "The start of the program")))
+        else:
+            self.adapter.begin(forward(debuggee, self.adapter.say))
+
+    def restart(self, arguments: Arguments) -> None:
+        """Begins the program anew, from the file as it is now, with the breakpoints as they are."""
+        debuggee = self.adapter.any_debuggee()
+        given = arguments.object("arguments")
+        launch = launch_of(given, self.adapter.rewind) if given.has("program") else debuggee.launch
+        session = self.session_of(launch)
+        if self.adapter.motion is not None:
+            self.adapter.motion.close()
+        debuggee.session.end()
+        debuggee.begin_anew(launch, session)
+        self.set_off(debuggee)
+
+    def terminate(self, _arguments: Arguments) -> None:
+        self.adapter.any_debuggee()
+        self.adapter.later.append(self.adapter.gone)
+
+    def disconnect(self, _arguments: Arguments) -> None:
+        self.adapter.end_program()
+        self.adapter.finished = True

@@ -1,0 +1,78 @@
+"""Requests that ask what one could do next: clauses of a select, lines to go back to, words of the console, variables to watch."""
+from __future__ import annotations
+
+from typing import TYPE_CHECKING, Any, Callable, Dict, List, Optional
+
+from rewind_client.motion import last_at_line
+from rewind_client.names import step_owner
+from rewind_client.replies import State
+
+from .arguments import Arguments
+from .debuggee import Debuggee
+
+if TYPE_CHECKING:
+    from .adapter import Adapter
+
+Body = Dict[str, Any]
+
+MAX_OFFERS = 50
+# The target of a step that leaves the choice to Rewind: the first clause that can proceed.
+ONE_STEP = 0
+
+
+class Offers:
+    """What an editor shows in menus."""
+
+    def __init__(self, adapter: Adapter) -> None:
+        self.adapter = adapter
+
+    def handlers(self) -> Dict[str, Callable[[Arguments], Optional[Body]]]:
+        return {
+            "stepInTargets": self.step_in_targets,
+            "gotoTargets": self.goto_targets,
+            "dataBreakpointInfo": self.data_breakpoint_info,
+        }
+
+    def step_in_targets(self, arguments: Arguments) -> Body:
+        """The clauses of a select that can be taken now; the number of a target is that of its clause."""
+        debuggee = self.adapter.stopped_debuggee()
+        goroutine = debuggee.view.place(arguments.number("frameId")).goroutine
+        clauses = debuggee.session.program.selects.get(goroutine.line, [])
+        ready: List[int] = []
+        if clauses and goroutine.state is State.READY and not debuggee.session.stopped_by():
+            ready = debuggee.session.ready_clauses(goroutine.name, len(clauses))
+        targets: List[Body] = [{"id": ONE_STEP, "label": "one step"}]
+        for number in ready:
+            clause = clauses[number - 1]
+            label = "clause %d: %s" % (number, clause.text)
+            targets.append({"id": number, "label": label, "line": clause.line + debuggee.first_line - 1})
+        return {"targets": targets}
+
+    def goto_targets(self, arguments: Arguments) -> Body:
+        """The steps with which goroutines last began a line, the one that is looked at first."""
+        debuggee = self.adapter.stopped_debuggee()
+        path = arguments.object("source").text("path", "")
+        line = debuggee.session.program.statement_at(arguments.number("line") - debuggee.first_line + 1)
+        if line is None or not debuggee.breakpoints.is_here(path):
+            return {"targets": []}
+        were_there = dict.fromkeys(step_owner(note.step) for note in debuggee.session.notes() if note.line == line)
+        names = sorted(were_there, key=lambda name: name != debuggee.focus)[:MAX_OFFERS]
+        return {"targets": [self.goto_target(debuggee, name, line) for name in names]}
+
+    def goto_target(self, debuggee: Debuggee, name: str, line: int) -> Body:
+        step, number = last_at_line(debuggee.session, name, line), debuggee.view.next_number()
+        debuggee.targets[number] = step
+        return {"id": number, "label": "back to %s before %s" % (name, step), "line": line + debuggee.first_line - 1}
+
+    def data_breakpoint_info(self, arguments: Arguments) -> Body:
+        """Whether one can watch a variable: of the goroutine of a frame, or of a list of variables."""
+        view = self.adapter.stopped_debuggee().view
+        name = arguments.text("name").split(" ")[0]
+        if arguments.has("variablesReference"):
+            goroutine = view.owners.get(arguments.number("variablesReference"), "")
+        else:
+            goroutine = view.place(arguments.number("frameId")).goroutine.name
+        if not goroutine or not name.isidentifier():
+            return {"dataId": None, "description": "only variables of a frame can be watched"}
+        words = "%s of %s is given a value" % (name, goroutine)
+        return {"dataId": "%s %s" % (goroutine, name), "description": words, "accessTypes": ["write"], "canPersist": False}
