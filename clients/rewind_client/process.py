@@ -44,7 +44,7 @@ class Process:
         self.owed = 0
         self.whole: Deque[List[str]] = deque()
         self.begun: List[str] = []
-        self.rest = b""
+        self.rest: List[bytes] = []
         self.held = 0
         pipe = subprocess.PIPE
         try:
@@ -108,16 +108,16 @@ class Process:
         self.held += len(read)
         end = read.rfind(b"\n") + 1
         if not end:
-            self.rest += read
+            self.rest.append(read)
             return
-        lines = (self.rest + read[: end - 1]).decode("utf-8", "replace").split("\n")
-        self.rest = read[end:]
+        lines = b"".join([*self.rest, read[: end - 1]]).decode("utf-8", "replace").split("\n")
+        self.rest = [read[end:]]
         for line in lines:
             self.begun.append(line)
             if not line.startswith(WITHIN):
                 self.whole.append(self.begun)
                 self.begun = []
-                self.held = len(self.rest)
+                self.held = len(read) - end
 
     def write_some(self, rest: memoryview) -> memoryview:
         try:
@@ -185,7 +185,7 @@ class Process:
         if self.ended is not None:
             return
         self.ended = why
-        self.whole, self.begun, self.rest = deque(), [], b""
+        self.whole, self.begun, self.rest = deque(), [], []
         assert self.child.stdin and self.child.stdout and self.child.stderr
         self.child.stdin.close()
         try:

@@ -6,6 +6,7 @@ import random
 import stat
 import subprocess
 import sys
+from functools import partial
 from pathlib import Path
 from typing import Callable, List
 
@@ -13,6 +14,8 @@ import pytest
 
 from rewind_client import motion
 from rewind_client.core import Core
+from rewind_client.opening import open_session
+from rewind_client.process import TIMEOUT
 from rewind_shell.completing import Completing
 from rewind_shell.interrupts import Interrupts
 from rewind_shell.shell import Shell
@@ -311,12 +314,35 @@ def fake(tmp_path: Path, body: str) -> str:
             "gave an answer to 'step g0' that means nothing: what",
         ),
         ("sys.stdin.readline(); sys.exit(3)", "reading or writing failed"),
+        ("sys.stdin.readline()\nwhile True: print('| ' + 'x' * 100_000)", "gave an answer of more than 268435456 bytes"),
     ],
 )
 def test_a_core_that_fails(talk: Talk, tmp_path: Path, body: str, sentence: str) -> None:
     done = talk(example("lock_order"), "step g0", "step g0", program=fake(tmp_path, body))
     assert sentence in done.stdout and "'restart' begins the program anew" in done.stdout
     assert done.returncode == 3 and not done.stderr
+
+
+def test_a_core_that_answers_nothing(
+    rewind: str, tmp_path: Path, monkeypatch: pytest.MonkeyPatch, capsys: pytest.CaptureFixture[str]
+) -> None:
+    """After 30 seconds, which are half a second here, that is told; what was done is saved, and the session begins anew."""
+    hangs = fake(tmp_path, "sys.stdin.readline(); time.sleep(60)")
+    assert TIMEOUT == 30
+    monkeypatch.setattr("rewind_shell.shell.open_session", partial(open_session, timeout=0.5))
+    monkeypatch.setenv("XDG_STATE_HOME", str(tmp_path))
+    shell = Shell(hangs, str(EXAMPLES / "lock_order.go"), Screen(sys.stdout, lambda: False), Interrupts(), None)
+    shell.script.begin()
+    shell.obey("step g0")
+    said = capsys.readouterr().out
+    assert "gave no answer within 0.5 seconds, and was ended" in said
+    assert "'restart' begins the program anew; the commands so far are in %s" % shell.script.path in said
+    assert Path(shell.script.path).read_text() == "step g0\n"
+    shell.rewind = rewind
+    shell.obey("restart")
+    shell.obey("step g0")
+    assert "ok g0#1 make" in capsys.readouterr().out
+    shell.end()
 
 
 @pytest.mark.parametrize(
