@@ -5,6 +5,7 @@ from typing import Callable, Dict, List, Optional
 
 from rewind_client.direct import DirectCauses
 from rewind_client.explanations import explain
+from rewind_client.follower import NOTED
 from rewind_client.names import is_channel, is_goroutine, is_step, step_number, step_of, step_owner
 from rewind_client.notes import Note
 from rewind_client.replies import Goroutine
@@ -112,6 +113,14 @@ class Looking:
         session = self.shell.session
         for line in Sentences(session).all(explain(session)):
             self.screen.say(line, "faint" if line.startswith(" ") else "")
+        self.tell_limit()
+
+    def tell_limit(self) -> None:
+        """Says where a log is so long that the first of its steps are not noted."""
+        number = len(self.shell.session.log())
+        if number > NOTED:
+            told = "(lines, channels and values are known of the last %d of %d steps: what came of the others is not told here)"
+            self.screen.say(told % (NOTED, number), "note")
 
     # Frames and the source.
 
@@ -197,6 +206,8 @@ class Looking:
             self.screen.row(row(stories, self.shell.program.line(note.line), note))
             if self.shell.interrupts.pending():
                 return
+        if not wanted.isdigit() or int(wanted) > len(chosen):
+            self.tell_limit()
 
     def selected(self, notes: List[Note], wanted: str) -> Optional[List[Note]]:
         """The steps that a word of `history` is about; none where it is no such word."""
@@ -229,6 +240,8 @@ class Looking:
                 else ""
             )
             self.screen.say("    it depends directly on no step of another goroutine%s" % own)
+        if any(name not in notes for name in [step, *(edge.source for edge in edges)]) or not edges:
+            self.tell_limit()
 
     def about(self, stories: Stories, step: str, notes: Dict[str, Note], related: str) -> None:
         """A step, and what it was to another one."""

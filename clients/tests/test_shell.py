@@ -428,3 +428,10 @@ def test_a_restart_takes_the_file_as_it_is_then(rewind: str, tmp_path: Path, cap
     shell.obey("list 4")
     assert "x := 2" in capsys.readouterr().out
     shell.end()
+
+
+def test_how_far_back_a_long_log_is_known_is_told(talk: Talk) -> None:
+    shown = answers(talk(example("starved_select"), "run 20005", "why", "history g0", "direct g0#1", "history 3").stdout)
+    told = "(lines, channels and values are known of the last 20000 of 20005 steps: what came of the others is not told here)"
+    assert [lines[-1] for lines in shown[1:4]] == [told] * 3
+    assert told not in shown[4]
