@@ -11,7 +11,7 @@ RT = $(if $(HAS_RT),rt,$(error rewind: 'rt' is not on the path: install the Ratt
 NEEDS_RT = @: $(RT)
 
 .DEFAULT_GOAL := $(if $(HAS_RT),all,help)
-.PHONY: all help quick quick-page demo test gate edits words command-line-test bench replay hostile times gate-times dap-test page page-test \
+.PHONY: all help quick quick-page demo test gate edits words command-line-test bench replay hostile times gate-times dap-test page page-test vsix \
 	page-pictures install uninstall clean
 
 ## Use it
@@ -64,6 +64,9 @@ page/out/rewind.wasm: page/out/rewind.bc $(PAGE_COMPILER)
 page/out/rewind.bc: bin/rewind page/module/proved_module.py page/module/keep_module
 	$(NEEDS_RT)
 	page/module/proved_module.py $@
+
+vsix: $(if $(wildcard bin/rewind),,bin/rewind-quick) ## the extension for VS Code, with all it needs: bin/rewind.vsix (a second)
+	tools/vsix.py $(firstword $(wildcard bin/rewind) bin/rewind-quick) bin/rewind.vsix
 
 install: ## installs the program, its manual page and the clients (PREFIX=/usr/local, DESTDIR)
 	tools/install.sh "$(DESTDIR)" "$(PREFIX)"

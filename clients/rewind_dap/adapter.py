@@ -16,7 +16,7 @@ from .lives import Lives
 from .looks import Looks
 from .moves import Moves
 from .offers import Offers
-from .stops import Motion, Stop, at_once, not_taken
+from .stops import Motion, Stop, not_taken
 from .telling import tell_output, tell_threads, warn_of_change
 from .transport import Closed, Malformed, Transport
 
@@ -64,7 +64,7 @@ class Adapter:
                 if isinstance(message, Closed):
                     break
                 if message is None:
-                    self.advance()
+                    self.guarded(self.advance)
                 elif isinstance(message, Malformed):
                     self.say("stderr", "This message was dropped: %s" % message.reason)
                 else:
@@ -159,16 +159,24 @@ class Adapter:
         """Sets the program going, once the request is answered."""
         self.motion = movement
 
-    def advance(self) -> None:
-        """A portion of the movement under way."""
+    def stop_at(self, stop: Stop) -> None:
+        """Tells a stop as soon as the request is answered."""
+        self.later.append(lambda: self.guarded(lambda: self.stopped(stop)))
+
+    def guarded(self, action: Callable[[], None]) -> None:
+        """Does what comes without a request, and tells the editor where Rewind is gone."""
         try:
-            stop = self.portion(self.motion) if self.motion else None
-            if stop is not None:
-                self.stopped(stop)
-            elif time.monotonic() > self.any_debuggee().told + SECONDS_BETWEEN_OUTPUTS:
-                tell_output(self, self.any_debuggee())
+            action()
         except ProcessError:
             self.see_lost()
+
+    def advance(self) -> None:
+        """A portion of the movement under way."""
+        stop = self.portion(self.motion) if self.motion else None
+        if stop is not None:
+            self.stopped(stop)
+        elif time.monotonic() > self.any_debuggee().told + SECONDS_BETWEEN_OUTPUTS:
+            tell_output(self, self.any_debuggee())
 
     def portion(self, movement: Motion) -> Optional[Stop]:
         """A portion of the movement, and where it stopped, if it did."""
@@ -187,7 +195,8 @@ class Adapter:
         debuggee = self.any_debuggee()
         if self.motion is not None:
             self.motion.close()
-        self.begin(at_once(Stop("pause", debuggee.focus, "Paused")))
+            self.motion = None
+        self.stop_at(Stop("pause", debuggee.focus, "Paused"))
 
     def stopped(self, stop: Stop) -> None:
         """Tells the editor where and why the program stopped, and what was printed."""

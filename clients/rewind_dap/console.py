@@ -26,7 +26,7 @@ from .conditions import evaluated
 from .debuggee import Debuggee
 from .looks import one_line
 from .runs import backward, forward
-from .stops import Stop, at_once, end, step_back, taken, told
+from .stops import Stop, end, step_back, taken, told
 from .workers import work
 
 if TYPE_CHECKING:
@@ -190,7 +190,7 @@ class Console:
             named = [step_owner(word) for word in last.split(" ") if "#" in word]
             focus = named[-1 if words[0] in ("step", "redo") else 0] if named else debuggee.focus
             stop = Stop("step", focus, "After '%s': %s" % (" ".join(words)[:40], last[:80]))
-            self.adapter.begin(at_once(end(debuggee.session) if debuggee.session.stopped_by() else stop))
+            self.adapter.stop_at(end(debuggee.session) if debuggee.session.stopped_by() else stop)
 
     def set_workers_going(self, debuggee: Debuggee, steps: int) -> None:
         """The workers take steps; without a movement under way that is one."""
@@ -233,7 +233,7 @@ class Console:
     def back(self, debuggee: Debuggee, name: str, words: List[str]) -> None:
         """`back LINE` and `back var X`; the other forms are commands of Rewind."""
         names = debuggee.session.back(target_of(debuggee, name, words))
-        self.adapter.begin(at_once(taken("Took back", names, name)))
+        self.adapter.stop_at(taken("Took back", names, name))
 
     def previewing(self, desk: Answer) -> Callable[[List[str]], None]:
         def preview(words: List[str]) -> None:
@@ -262,7 +262,7 @@ class Console:
                 if given[0] in ("break", "clear") and is_ok(reply):
                     debuggee.breakpoints.note_command(given)
         stop = Stop("step", name, "After the commands of %s, %d of them refused" % (words[0], refused))
-        self.adapter.begin(at_once(end(debuggee.session) if debuggee.session.stopped_by() else stop))
+        self.adapter.stop_at(end(debuggee.session) if debuggee.session.stopped_by() else stop)
 
     # Values.
 

@@ -12,7 +12,7 @@ from .arguments import Arguments, BadRequest
 from .debuggee import Debuggee
 from .launching import Launch, described, launch_of, start
 from .runs import forward
-from .stops import Stop, at_once
+from .stops import Stop
 
 if TYPE_CHECKING:
     from .adapter import Adapter
@@ -72,7 +72,7 @@ class Lives:
 
     def set_off(self, debuggee: Debuggee) -> None:
         if debuggee.launch.stop_on_entry:
-            self.adapter.begin(at_once(Stop("entry", "g0", "The start of the program")))
+            self.adapter.stop_at(Stop("entry", "g0", "The start of the program"))
         else:
             self.adapter.begin(forward(debuggee, self.adapter.say))
 

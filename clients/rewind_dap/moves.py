@@ -13,7 +13,7 @@ from .debuggee import Debuggee
 from .looks import one_line, step_name
 from .offers import ONE_STEP
 from .runs import backward, forward
-from .stops import Stop, at_once, end, step_back, taken, told
+from .stops import Stop, end, step_back, taken, told
 
 if TYPE_CHECKING:
     from .adapter import Adapter
@@ -101,7 +101,7 @@ class Moves:
             raise BadRequest("%s has ended and has no frame" % goroutine.name)
         first = first_step_of_frame(debuggee.session, goroutine, place.depth)
         if step_number(first) > goroutine.steps:
-            self.adapter.begin(at_once(Stop("restart", goroutine.name, "The start of the frame")))
+            self.adapter.stop_at(Stop("restart", goroutine.name, "The start of the frame"))
         else:
             self.take_back(debuggee, "restart", goroutine.name, first)
 
@@ -116,7 +116,7 @@ class Moves:
     def take_back(self, debuggee: Debuggee, reason: str, goroutine: str, target: str) -> List[str]:
         """Takes a step back with its consequences, and shows a goroutine."""
         names = debuggee.session.back(target)
-        self.adapter.begin(at_once(taken("Took back", names, goroutine)._replace(reason=reason)))
+        self.adapter.stop_at(taken("Took back", names, goroutine)._replace(reason=reason))
         return names
 
     # Beyond other debuggers.
@@ -135,5 +135,5 @@ class Moves:
     def answer(self, debuggee: Debuggee, did: str, names: List[str], shown: int) -> Body:
         """Answers with the steps that went or came; the editor is shown the goroutine of one of them."""
         stop = taken(did, names, step_owner(names[shown]) if names else debuggee.focus)
-        self.adapter.begin(at_once(end(debuggee.session) if debuggee.session.stopped_by() else stop))
+        self.adapter.stop_at(end(debuggee.session) if debuggee.session.stopped_by() else stop)
         return {"steps": names}

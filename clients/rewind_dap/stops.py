@@ -31,12 +31,6 @@ class Stop(NamedTuple):
 Motion = Generator[int, None, Stop]
 
 
-def at_once(stop: Stop) -> Motion:
-    """A movement that is over."""
-    yield from ()
-    return stop
-
-
 def told(session: Session, view: View, movement: motion.Motion) -> Motion:
     """A movement of the library, with its end in words."""
     found = yield from movement

@@ -1,0 +1,88 @@
+// Commands for what Rewind can do beyond other debuggers. The adapter does it; here are the menus.
+'use strict';
+
+const vscode = require('vscode');
+
+// The session of Rewind that is looked at; without one the user is told so.
+function session() {
+  const active = vscode.debug.activeDebugSession;
+  if (active && active.type === 'rewind') return active;
+  throw new Error('no program is debugged by Rewind');
+}
+
+// The number of the thread that a menu names, that is looked at, or that the user picks.
+async function threadOf(item) {
+  const named = /(\d+)$/.exec((item && item.threadId) || '');
+  if (named) return Number(named[1]);
+  const looked = vscode.debug.activeStackItem;
+  if (looked && looked.threadId) return looked.threadId;
+  const { threads } = await session().customRequest('threads');
+  const picked = await vscode.window.showQuickPick(threads.map(one => ({ label: one.name, id: one.id })));
+  return picked && picked.id;
+}
+
+// A step that the user picks from the log, the last one first.
+async function pickedStep() {
+  const { steps } = await session().customRequest('rewind/log', {});
+  const listed = steps.reverse().map(one => ({ label: one.step, description: one.kind }));
+  const picked = await vscode.window.showQuickPick(listed, { placeHolder: 'a step, the last one first' });
+  return picked && picked.label;
+}
+
+function write(text) {
+  vscode.debug.activeDebugConsole.appendLine(text);
+}
+
+async function takeBackLast(item) {
+  const threadId = await threadOf(item);
+  if (threadId) await session().customRequest('rewind/back', { threadId });
+}
+
+async function takeBack() {
+  const step = await pickedStep();
+  if (step) await session().customRequest('rewind/back', { step });
+}
+
+async function redo() {
+  await session().customRequest('rewind/redo');
+}
+
+async function related(request, words) {
+  const step = await pickedStep();
+  if (!step) return;
+  const { steps } = await session().customRequest(request, { step });
+  write(`${words} ${step}: ${steps.join(' ')}`);
+}
+
+async function why() {
+  const { result } = await session().customRequest('evaluate', { expression: 'why', context: 'repl' });
+  write(result);
+}
+
+const COMMANDS = {
+  'rewind.takeBackLast': takeBackLast,
+  'rewind.takeBack': takeBack,
+  'rewind.redo': redo,
+  'rewind.causes': () => related('rewind/causes', 'The causes of'),
+  'rewind.dependents': () => related('rewind/dependents', 'What depends on'),
+  'rewind.why': why,
+};
+
+// A command whose failure is told in words.
+function told(command) {
+  return async item => {
+    try {
+      await command(item);
+    } catch (fault) {
+      vscode.window.showErrorMessage(`Rewind: ${fault.message}`);
+    }
+  };
+}
+
+function activate(context) {
+  for (const [name, command] of Object.entries(COMMANDS)) {
+    context.subscriptions.push(vscode.commands.registerCommand(name, told(command)));
+  }
+}
+
+module.exports = { activate };
