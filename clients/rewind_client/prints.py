@@ -20,14 +20,11 @@ def printing_lines(session: Session) -> List[int]:
     functions = session.program.functions.values()
     printing = {call.line for function in functions for call in function.calls if call.function == "println"}
     # Where each goroutine stands after the step that is looked at: how many callers, and the line.
-    after: Dict[str, Tuple[int, int]] = {}
+    after: Dict[str, Tuple[int, int]] = {it.name: (len(it.frames) - 1, it.line) for it in session.goroutines()}
     found = []
     for note in reversed(notes):
         owner, here = step_owner(note.step), (len(note.callers), note.line)
-        if owner not in after:
-            shown = session.goroutine(owner)
-            after[owner] = (len(shown.frames) - 1, shown.line) if shown else (0, 0)
-        if note.kind.word is KindWord.PURE and note.line in printing and after[owner] != here:
+        if note.kind.word is KindWord.PURE and note.line in printing and after.get(owner) != here:
             found.append(note.line)
         after[owner] = here
     return found[::-1]

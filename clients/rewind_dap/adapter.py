@@ -148,7 +148,7 @@ class Adapter:
         self.event("terminated")
 
     def end_program(self) -> None:
-        self.motion = None
+        self.halt()
         if self.debuggee is not None:
             self.debuggee.session.end()
             self.debuggee = None
@@ -158,6 +158,12 @@ class Adapter:
     def begin(self, movement: Motion) -> None:
         """Sets the program going, once the request is answered."""
         self.motion = movement
+
+    def halt(self) -> None:
+        """Leaves the movement that is under way, if there is one; what it did stays done."""
+        if self.motion is not None:
+            self.motion.close()
+        self.motion = None
 
     def stop_at(self, stop: Stop) -> None:
         """Tells a stop as soon as the request is answered."""
@@ -193,9 +199,7 @@ class Adapter:
 
     def pause(self, _arguments: Arguments) -> None:
         debuggee = self.any_debuggee()
-        if self.motion is not None:
-            self.motion.close()
-            self.motion = None
+        self.halt()
         self.stop_at(Stop("pause", debuggee.focus, "Paused"))
 
     def stopped(self, stop: Stop) -> None:

@@ -82,8 +82,7 @@ class Lives:
         given = arguments.object("arguments")
         launch = launch_of(given, self.adapter.rewind) if given.has("program") else debuggee.launch
         session = self.session_of(launch)
-        if self.adapter.motion is not None:
-            self.adapter.motion.close()
+        self.adapter.halt()
         debuggee.session.end()
         debuggee.begin_anew(launch, session)
         self.set_off(debuggee)

@@ -2,8 +2,10 @@
 from __future__ import annotations
 
 import time
+from contextlib import suppress
 
 from rewind_client import motion
+from rewind_client.errors import ProcessError
 from rewind_client.motion import StopReason
 from rewind_client.replies import State
 
@@ -26,9 +28,10 @@ def work(debuggee: Debuggee) -> Motion:
             if session.refresh():
                 moved_at = time.monotonic()
     except GeneratorExit:
-        session.core.ask("free 0")
-        debuggee.granted = 0
-        session.refresh()
+        with suppress(ProcessError):
+            session.core.ask("free 0")
+            debuggee.granted = 0
+            session.refresh()
         raise
     if session.core.kept >= wanted:
         debuggee.granted = 0

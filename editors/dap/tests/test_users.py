@@ -194,6 +194,14 @@ class Source(Desk):
         self.assertEqual(self.move("stepIn")["reason"], "step")
 
 
+    def test_a_restart_of_a_program_that_runs(self) -> None:
+        self.start(self.file("e.go", ENDLESS))
+        self.client.body("continue", {"threadId": 1})
+        self.client.body("restart")
+        self.assertEqual(self.client.stop()["reason"], "entry")
+        self.assertEqual(self.typed("log"), "ok 0")
+
+
 class Threads(Desk):
     def test_a_breakpoint_behind_a_thousand_goroutines_stops_in_its_thread(self) -> None:
         self.start(self.file("m.go", MANY), 9)
