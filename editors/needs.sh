@@ -1,0 +1,19 @@
+#!/bin/sh
+# needs.sh: installs Debian's packages of the editors in which `make dap-test` tries the set-ups of docs/EDITORS.md, and of what runs
+# the extension for VS Code. Where one is missing its test is skipped.
+set -eu
+missing=
+command -v node >/dev/null || missing="$missing nodejs"
+command -v nvim >/dev/null || missing="$missing neovim"
+command -v emacs >/dev/null || missing="$missing emacs-nox"
+ls -d /usr/share/emacs/site-lisp/elpa-src/dap-mode-* >/dev/null 2>&1 || missing="$missing elpa-dap-mode"
+[ -n "$missing" ] || exit 0
+
+as_root() {
+  if [ "$(id -u)" = 0 ]; then "$@"; else sudo -n "$@"; fi
+}
+
+echo "editors: installing$missing"
+as_root apt-get -qq update
+# shellcheck disable=SC2086
+DEBIAN_FRONTEND=noninteractive as_root apt-get -qq install -y --no-install-recommends $missing
