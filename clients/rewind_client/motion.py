@@ -6,20 +6,23 @@ before it is left stays done.
 from __future__ import annotations
 
 from bisect import bisect_right
+from contextlib import closing
 from enum import Enum
 from itertools import count
 from typing import AbstractSet, Callable, Generator, NamedTuple, Optional
 
 from .core import Refused
 from .ledger import FRAMES
-from .names import name_order, step_of, step_owner
+from .names import name_order, step_owner
 from .replies import Entry, Goroutine, KindWord, Ran, Reason, State
-from .scout import last_step_at
+from .scout import last_step_at, lines_back
 from .session import Session
 
 RUN_PORTION = 50_000
 STEP_PORTION = 100
 MAX_FRAMES = 1000
+# So many steps are looked at for the beginning of a statement.
+MOST_LOOKED_AT = 100_000
 # Goroutines that are asked for in one go, until one is ready.
 ASKED = 64
 
@@ -234,23 +237,24 @@ def line_before(session: Session, goroutine: Goroutine) -> str:
     """The step with which a goroutine began the line before the one where it stands; an empty text where it has taken none.
 
     A line that it has begun and not ended counts as the line before. Where the steps on that line are more than its statements
-    have tokens, they are a loop, of which only the last step counts; so it is where the steps are not noted.
+    have tokens, they are a loop, of which only the last step counts; so it is where the goroutine has not moved for long.
     """
-    notes, program = session.follow().notes, session.program
-    depth, found, line, count = 0 if goroutine.frames else -1, "", (0, 0), 0
-    for number in range(goroutine.steps, 0, -1):
-        note = notes.get(step_of(goroutine.name, number))
-        if note is None:
-            break
-        depth -= FRAMES.get(note.kind.word, 0)
-        if depth > 0:
-            continue
-        here = (depth, note.line)
-        if found and here != line:
-            break
-        found, line, count = note.step, here, count + 1
-        if count > program.widths.get(note.line, 0) + 1:
-            return goroutine.last_step
+    log, widths, least = session.log(), session.program.widths, len(session.log()) - MOST_LOOKED_AT
+    depth, found, there, count = 0 if goroutine.frames else -1, "", (0, 0), 0
+    with closing(lines_back(session)) as stood:
+        for place, line in stood:
+            if place < least:
+                break
+            if step_owner(log[place].step) != goroutine.name:
+                continue
+            depth -= FRAMES.get(log[place].kind.word, 0)
+            if depth > 0:
+                continue
+            if found and (depth, line) != there:
+                break
+            found, there, count = log[place].step, (depth, line), count + 1
+            if count > widths.get(line, 0) + 1:
+                return goroutine.last_step
     return found or (goroutine.last_step if goroutine.steps else "")
 
 

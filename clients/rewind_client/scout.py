@@ -4,7 +4,8 @@ The user's session is asked nothing, and gets few commands when the place is fou
 """
 from __future__ import annotations
 
-from typing import AbstractSet, Callable, Generator, List, Optional, Sequence
+from contextlib import closing
+from typing import AbstractSet, Callable, Generator, List, Optional, Sequence, Tuple
 
 from . import replies
 from .core import Core, step_command
@@ -75,36 +76,45 @@ def last_step_at(session: Session, lines: AbstractSet[int]) -> Generator[int, No
 
     It yields now and then how many steps it has looked at.
     """
-    place = place_in_notes(session, lines)
-    if place is None and len(session.log()) > FAR:
-        place = place_by_turns(session, lines)
-    if place is None:
-        place = yield from place_gone_back_to(session, lines)
-    return place
+    log = session.log()
+    by_turns = place_by_turns(session, lines) if len(log) > FAR and not are_noted(session) else None
+    if by_turns is not None:
+        return by_turns
+    with closing(lines_back(session)) as stood:
+        for place, line in stood:
+            if line in lines:
+                return place
+            if place % LARGEST_PORTION == 0:
+                yield len(log) - place
+    return -1
 
 
-def place_gone_back_to(session: Session, lines: AbstractSet[int]) -> Generator[int, None, int]:
-    """The same, by going back step by step."""
-    scout, portion = Scout(session.begin, session.log()), FIRST_PORTION
+def lines_back(session: Session) -> Generator[Tuple[int, int], None, None]:
+    """The places of the log from the last one on, each with the line at which the goroutine of the step stood before it."""
+    log, notes = session.log(), session.follower.notes
+    if are_noted(session):
+        yield from ((place, notes[log[place].step].line) for place in range(len(log) - 1, -1, -1))
+        return
+    scout, portion = Scout(session.begin, log), FIRST_PORTION
     try:
-        if scout.log[-1].kind.word is KindWord.FAULT:
+        if log[-1].kind.word is KindWord.FAULT:
             # The log does not tell with which clause of a select a step faulted, so it is not taken again.
-            shown = session.goroutine(step_owner(scout.log[-1].step))
-            if shown and shown.line in lines:
-                return len(scout.log) - 1
-            scout.log, scout.at = scout.log[:-1], scout.at - 1
+            shown = session.goroutine(step_owner(log[-1].step))
+            yield len(log) - 1, shown.line if shown else 0
+            scout.log, scout.at = log[:-1], len(log) - 1
         else:
             scout.come_by(session.core.given, lambda: session.core.ask("log"))
         while scout.at:
             before = scout.at
-            for number, line in enumerate(scout.lines_before(min(portion, before)), 1):
-                if line in lines:
-                    return before - number
-            yield len(scout.log) - scout.at
+            yield from ((before - number, line) for number, line in enumerate(scout.lines_before(min(portion, before)), 1))
             portion = min(2 * portion, LARGEST_PORTION)
-        return -1
     finally:
         scout.end()
+
+
+def are_noted(session: Session) -> bool:
+    """Whether all steps of the log are noted."""
+    return not session.log() or (session.followed == session.version and not session.follower.noted_from)
 
 
 def place_by_turns(session: Session, lines: AbstractSet[int]) -> Optional[int]:
@@ -125,13 +135,3 @@ def place_by_turns(session: Session, lines: AbstractSet[int]) -> Optional[int]:
         return place if is_whole else None
     finally:
         core.process.end()
-
-
-def place_in_notes(session: Session, lines: AbstractSet[int]) -> Optional[int]:
-    """The same by the notes of a log of which all steps are noted; None where they are not."""
-    log, notes = session.log(), session.follower.notes
-    if not log:
-        return -1
-    if session.followed != session.version or session.follower.noted_from:
-        return None
-    return next((at for at in range(len(log) - 1, -1, -1) if notes[log[at].step].line in lines), -1)

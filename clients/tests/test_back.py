@@ -12,7 +12,7 @@ from rewind_client.motion import StopReason
 from rewind_client.names import step_owner
 from rewind_client.prints import printing_lines
 from rewind_client.replies import State
-from rewind_client.scout import last_step_at, place_by_turns, place_gone_back_to
+from rewind_client.scout import last_step_at, place_by_turns
 from rewind_client.session import Session
 from rewind_client.watches import Watch, backward_to_value, forward_to_value
 
@@ -53,17 +53,17 @@ def test_the_last_step_at_a_line(session: Open, seed: int, monkeypatch: pytest.M
     if not one.log():
         one.run(5)
     lines = set(chance.sample(one.program.statements, 2))
-    found = [driven(last_step_at(one, lines)), driven(place_gone_back_to(one, lines))]
+    found = [driven(last_step_at(one, lines))]
     one.follow()
     found.append(driven(last_step_at(one, lines)))
     by_turns = place_by_turns(one, lines)
     wanted = place_by_undo(one, lines)
-    assert found == [wanted] * 3 and by_turns in (None, wanted)
+    assert found == [wanted] * 2 and by_turns in (None, wanted)
 
 
 def test_a_log_by_turns_is_gone_through_by_runs(session: Open, monkeypatch: pytest.MonkeyPatch) -> None:  # noqa: F811
     monkeypatch.setattr(scout, "FAR", 100)
-    monkeypatch.setattr(scout, "place_gone_back_to", None)
+    monkeypatch.setattr(scout, "lines_back", None)
     one = session("starved_select")
     one.run(500)
     line = one.program.functions["main"].line + 1
