@@ -148,7 +148,7 @@ class Adapter:
         self.event("terminated")
 
     def end_program(self) -> None:
-        self.halt()
+        self.motion = None
         if self.debuggee is not None:
             self.debuggee.session.end()
             self.debuggee = None
@@ -164,6 +164,8 @@ class Adapter:
         if self.motion is not None:
             self.motion.close()
         self.motion = None
+        if self.debuggee is not None:
+            self.debuggee.rest()
 
     def stop_at(self, stop: Stop) -> None:
         """Tells a stop as soon as the request is answered."""

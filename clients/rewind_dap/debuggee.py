@@ -51,6 +51,13 @@ class Debuggee:
     def watched(self) -> List[Watch]:
         return list(self.watches)
 
+    def rest(self) -> None:
+        """Takes back what the workers were granted, where that is not all taken."""
+        if self.granted and self.session.core.process.ended is None:
+            self.session.core.ask("free 0")
+            self.session.refresh()
+        self.granted = 0
+
     def look_anew(self) -> None:
         """Asks what the workers have done, where they may have done something."""
         if self.granted:

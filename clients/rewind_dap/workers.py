@@ -2,10 +2,8 @@
 from __future__ import annotations
 
 import time
-from contextlib import suppress
 
 from rewind_client import motion
-from rewind_client.errors import ProcessError
 from rewind_client.motion import StopReason
 from rewind_client.replies import State
 
@@ -18,21 +16,14 @@ QUIET = 0.5
 
 
 def work(debuggee: Debuggee) -> Motion:
-    """Looks on while the workers take steps. Where it is left before its end, the rest of the grant is taken back."""
+    """Looks on while the workers take steps."""
     session, before = debuggee.session, debuggee.session.core.kept
     moved_at, wanted = time.monotonic(), before + debuggee.granted
-    try:
-        while session.core.kept < wanted and not session.stopped_by() and time.monotonic() < moved_at + QUIET:
-            yield session.core.kept
-            time.sleep(TICK)
-            if session.refresh():
-                moved_at = time.monotonic()
-    except GeneratorExit:
-        with suppress(ProcessError):
-            session.core.ask("free 0")
-            debuggee.granted = 0
-            session.refresh()
-        raise
+    while session.core.kept < wanted and not session.stopped_by() and time.monotonic() < moved_at + QUIET:
+        yield session.core.kept
+        time.sleep(TICK)
+        if session.refresh():
+            moved_at = time.monotonic()
     if session.core.kept >= wanted:
         debuggee.granted = 0
     return rested(debuggee, session.core.kept - before)
