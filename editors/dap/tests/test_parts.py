@@ -5,6 +5,7 @@ import re
 import subprocess
 import sys
 import tempfile
+import threading
 import unittest
 from typing import List
 from unittest import mock
@@ -17,6 +18,7 @@ from rewind_client.errors import NotFound  # noqa: E402
 from rewind_client.meanings import FAULTS, REFUSED_COMMANDS, REFUSED_SOURCES  # noqa: E402
 from rewind_client.printed import Change, change  # noqa: E402
 from rewind_client.program import Program  # noqa: E402
+from rewind_dap.inbox import MOST_BYTES, Inbox  # noqa: E402
 from rewind_dap.told import changes_in_words  # noqa: E402
 
 FORMS = b"""\xef\xbb\xbfpackage main
@@ -125,6 +127,21 @@ class Meanings(unittest.TestCase):
         self.assertEqual(self.codes("COMMANDS.md", r"^\| ([NBQ]\d) \|"), list(REFUSED_COMMANDS))
         (faults,) = self.codes("COMMANDS.md", r"^\| `fault F` \| .*: F is (.*) \|$")
         self.assertEqual(re.findall(r"\w+(?=`)", faults), list(FAULTS))
+
+
+class Waiting(unittest.TestCase):
+    def test_messages_that_wait_are_bounded_in_bytes(self) -> None:
+        inbox: Inbox[int] = Inbox()
+        putting = threading.Thread(target=lambda: [inbox.put(number, MOST_BYTES // 2) for number in range(4)], daemon=True)
+        putting.start()
+        seen = []
+        for _ in range(4):
+            putting.join(0.05)
+            self.assertLessEqual(inbox.bytes, MOST_BYTES)
+            seen.append(inbox.get(True))
+        self.assertEqual((seen, inbox.get(False)), ([0, 1, 2, 3], None))
+        inbox.put(5, 10 * MOST_BYTES)
+        self.assertEqual(inbox.get(False), 5)
 
 
 class WhichRewind(unittest.TestCase):

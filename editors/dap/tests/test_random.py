@@ -24,6 +24,10 @@ MOVES = ("next", "stepIn", "stepIn", "stepOut", "stepBack", "stepBack", "continu
 LOOKS = ("threads", "stackTrace", "scopes", "variables", "exceptionInfo", "rewind/log", "rewind/causes", "rewind/dependents")
 COMMANDS = ("step g0", "step g0.1", "step g0.2 2", "run 3", "run 1000", "undo", "redo", "back g0#2", "back g0.1#1", "back go g0.1")
 COMMANDS += ("back send g0/c1 1", "break 6", "clear 6", "log", "console", "order g0#1", "deps g0#1", "nonsense", "show g0", "\t")
+# Words of the shell: those that only look, and those that move.
+WORDS = ("why", "bt", "channels", "goroutines", "history all", "list", "direct g0#1", "preview g0#2", "print x", "help", "goroutine g0")
+GOING = ("next", "step", "step 3", "finish", "until 9", "continue", "reverse-next", "reverse-continue", "back 12", "back var x", "c", "n")
+VARIABLES = ("balance", "x", "v", "i", "ch", "a", "done", "n")
 ODD = (None, -1, 0, 3.5, True, "g0", "g0#1", [], {}, 2**70, "\x00", "x" * 5000)
 
 
@@ -67,9 +71,13 @@ class Wanderer:
             return choose(MOVES), thread
         if kind < 0.6:
             return "evaluate", {"expression": choose(COMMANDS), "context": choose(("repl", "repl", "hover"))}
-        if kind < 0.7:
-            lines = [{"line": self.chance.randint(1, 30)} for _ in range(self.chance.randint(0, 3))]
+        if kind < 0.65:
+            lines = [{"line": self.chance.randint(1, 30), **self.condition()} for _ in range(self.chance.randint(0, 3))]
             return "setBreakpoints", {"source": {"path": self.path}, "breakpoints": lines}
+        if kind < 0.7:
+            return self.offered(thread["threadId"])
+        if kind < 0.75:
+            return "evaluate", {"expression": choose(WORDS + GOING), "context": "repl"}
         if kind < 0.8:
             step = "g0%s#%d" % (choose(("", ".1", ".2")), self.chance.randint(1, 5))
             return choose(("rewind/back", "rewind/redo", "rewind/causes")), {"step": step}
@@ -77,15 +85,38 @@ class Wanderer:
         odd = {choose(names): choose(ODD) for _ in range(2)}
         return choose(LOOKS + MOVES + ("initialize", "launch", "attach", "evaluate", "fly", "rewind/back")), {**thread, **odd}
 
+    def condition(self) -> Dict[str, Any]:
+        """What a breakpoint may want besides a line."""
+        wishes = ({}, {"condition": "%s > 1" % self.chance.choice(VARIABLES)}, {"hitCondition": "2"}, {"logMessage": "{x} {balance}"})
+        return self.chance.choice(wishes)
+
+    def offered(self, thread: int) -> Tuple[str, Dict[str, Any]]:
+        """A request for what an editor offers: variables to watch, lines and frames to go back to, clauses."""
+        command = self.chance.choice(("setDataBreakpoints", "goto", "restartFrame", "stepIn", "completions"))
+        if command == "setDataBreakpoints":
+            watches = [{"dataId": "g0%s %s" % (self.chance.choice(("", ".1")), self.chance.choice(VARIABLES))}]
+            return command, {"breakpoints": self.chance.choice(([], watches))}
+        if command == "goto":
+            arguments = {"source": {"path": self.path}, "line": self.chance.randint(1, 30)}
+            targets = self.client.body("gotoTargets", arguments)["targets"]
+            return command, {"threadId": thread, "targetId": self.chance.choice(targets)["id"] if targets else 0}
+        frames = self.client.ask("stackTrace", {"threadId": thread})
+        frame = self.chance.choice(frames["body"]["stackFrames"])["id"] if frames["success"] else 0
+        if command == "stepIn" and frame:
+            targets = self.client.body("stepInTargets", {"frameId": frame})["targets"]
+            return command, {"threadId": thread, "targetId": self.chance.choice(targets)["id"]}
+        return command, {"frameId": frame, "threadId": thread, "text": "back g0", "column": self.chance.randint(1, 8)}
+
     def one(self) -> None:
         """One request, up to the stop that comes of it."""
         command, arguments = self.request()
         response = self.client.ask(command, arguments)
-        moved = command in MOVES or command in ("rewind/back", "rewind/redo")
+        moved = command in MOVES or command in ("rewind/back", "rewind/redo", "goto", "restartFrame")
         if command == "evaluate" and response["success"]:
             word = arguments["expression"].split()[:1]
             ok = response["body"]["result"].split("\n")[-1].startswith("ok")
             moved = ok and word and word[0] in ("step", "run", "undo", "back", "redo", "order")
+            moved = moved or arguments["expression"] in GOING and arguments["context"] == "repl"
         if moved and response["success"]:
             self.see_all()
 
