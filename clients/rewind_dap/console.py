@@ -1,77 +1,28 @@
 """The debug console: commands of Rewind, words of the shell, and values."""
 from __future__ import annotations
 
-import io
 from typing import TYPE_CHECKING, Any, Callable, Dict, List, Optional
 
-from rewind_client import motion
 from rewind_client.breakpoints import place_of
 from rewind_client.core import MOVING, words_of
-from rewind_client.errors import RewindError
-from rewind_client.finding import explained
-from rewind_client.names import is_channel, is_step, step_owner
-from rewind_client.program import Program
+from rewind_client.names import is_channel, step_owner
 from rewind_client.replies import is_ok
-from rewind_client.session import Session
-from rewind_client.stories import Stories
 from rewind_shell.completing import Completing
-from rewind_shell.desk import Stops
-from rewind_shell.looking import Looking
-from rewind_shell.saving import read_script, write_script
-from rewind_shell.terminal import Screen
-from rewind_shell.words import BY_NAME, HINTS, hint, word_of
+from rewind_shell.words import BY_NAME, hint, word_of
 
+from .answer import Answer
 from .arguments import Arguments, BadRequest
 from .conditions import evaluated
 from .debuggee import Debuggee
 from .looks import one_line
-from .runs import backward, forward
-from .stops import Stop, end, step_back, taken, told
+from .stops import Stop, end
+from .words import Words
 from .workers import work
 
 if TYPE_CHECKING:
     from .adapter import Adapter
 
 Body = Dict[str, Any]
-# Words of the shell that are no commands of Rewind, or have forms that are none.
-MAX_STEPS = 1_000_000
-
-
-class Answer:
-    """What a word writes: the desk at which the shell's words are obeyed, with one goroutine chosen."""
-
-    def __init__(self, debuggee: Debuggee, chosen: str) -> None:
-        self.debuggee = debuggee
-        self.chosen = chosen
-        self.out = io.StringIO()
-        self.screen = Screen(self.out, lambda: False)
-        self.interrupts = self
-
-    def pending(self) -> bool:
-        return False
-
-    @property
-    def session(self) -> Session:
-        return self.debuggee.session
-
-    @property
-    def program(self) -> Program:
-        return self.debuggee.session.program
-
-    @property
-    def breakpoints(self) -> Stops:
-        return self.debuggee.breakpoints
-
-    def explained(self, code: str) -> List[str]:
-        return explained(self.debuggee.launch.rewind, code)
-
-    def tell_chosen(self) -> None:
-        found = self.session.goroutine(self.chosen)
-        if found is not None:
-            self.screen.say("%s is %s" % (self.chosen, Stories(self.session).goroutine(found)))
-
-    def text(self) -> str:
-        return self.out.getvalue().rstrip("\n")
 
 
 class Console:
@@ -79,24 +30,10 @@ class Console:
 
     def __init__(self, adapter: Adapter) -> None:
         self.adapter = adapter
-        self.movements: Dict[str, Callable[[Debuggee, str, List[str]], None]] = {
-            "step": self.steps,
-            "next": lambda debuggee, name, words: self.along(debuggee, name, motion.next_line),
-            "finish": lambda debuggee, name, words: self.along(debuggee, name, motion.out_of_frame),
-            "until": self.until,
-            "continue": lambda debuggee, name, words: self.adapter.begin(forward(debuggee, self.adapter.say)),
-            "reverse-next": self.reverse_next,
-            "reverse-continue": lambda debuggee, name, words: self.adapter.begin(backward(debuggee)),
-            "back": self.back,
-            "load": self.load,
-            "restart": lambda debuggee, name, words: self.restart(),
-        }
+        self.words = Words(adapter)
 
     def handlers(self) -> Dict[str, Callable[[Arguments], Optional[Body]]]:
         return {"evaluate": self.evaluate, "completions": self.completions}
-
-    def restart(self) -> None:
-        self.adapter.handlers["restart"](Arguments({}))
 
     def evaluate(self, arguments: Arguments) -> Body:
         """In the console a command or a word of the shell; elsewhere, and where it is neither, a value.
@@ -145,21 +82,10 @@ class Console:
         name = word_of(words[0])
         if name is None or (words[0] not in BY_NAME and self.has_value(debuggee, " ".join(words), frame)):
             return None
-        chosen = self.chosen(debuggee, frame)
-        desk = Answer(debuggee, chosen)
-        looking: Dict[str, Callable[[List[str]], None]] = {**Looking(desk).handlers(), "preview": self.previewing(desk)}
-        looking["save"] = lambda given: self.save(desk, given)
-        if name in looking:
-            self.adapter.stopped_debuggee()
-            looking[name](words[1:])
-            debuggee.focus = desk.chosen if name == "goroutine" else debuggee.focus
-        elif name in self.movements:
-            self.movements[name](self.adapter.stopped_debuggee(), chosen, words[1:])
-        elif [name] != words[:1]:
-            return self.typed(" ".join([name, *words[1:]]), frame)
-        else:
-            return None
-        return said(desk.text())
+        answer = self.words.obey(name, words[1:], self.chosen(debuggee, frame))
+        if answer is not None:
+            return said(answer)
+        return self.typed(" ".join([name, *words[1:]]), frame) if words[0] != name else None
 
     def not_understood(self, debuggee: Debuggee, text: str, words: List[str], frame: int, reply: List[str]) -> Body:
         """A variable or an expression; else the reply of Rewind, with a hint."""
@@ -200,70 +126,6 @@ class Console:
             self.adapter.later.append(lambda: self.adapter.event("continued", body))
             self.adapter.begin(work(debuggee))
 
-    # Words of the shell.
-
-    def steps(self, debuggee: Debuggee, name: str, words: List[str]) -> None:
-        if len(words) > 1 or not "".join(words or ["1"]).isdigit() or not 0 < int((words or ["1"])[0]) <= MAX_STEPS:
-            raise BadRequest(HINTS["step"])
-        self.begin(debuggee, motion.some_steps(debuggee.session, name, int((words or ["1"])[0])))
-
-    def along(self, debuggee: Debuggee, name: str, how: Callable[..., motion.Motion]) -> None:
-        goroutine = debuggee.session.goroutine(name)
-        if goroutine is not None:
-            session, lines = debuggee.session, debuggee.breakpoints.lines
-            leaves = how is motion.next_line
-            self.begin(debuggee, motion.waited_for(session, goroutine, lines, lambda one: how(session, one, lines), leaves))
-
-    def until(self, debuggee: Debuggee, name: str, words: List[str]) -> None:
-        if len(words) != 1 or not words[0].isdigit():
-            raise BadRequest("until wants a line: until 12")
-        line = place_of(debuggee.session.program, words[0]).line
-        goroutine = debuggee.session.goroutine(name)
-        if goroutine is not None:
-            self.begin(debuggee, motion.until_line(debuggee.session, goroutine, debuggee.breakpoints.lines, line))
-
-    def begin(self, debuggee: Debuggee, movement: motion.Motion) -> None:
-        self.adapter.begin(told(debuggee.session, debuggee.view, movement))
-
-    def reverse_next(self, debuggee: Debuggee, name: str, _words: List[str]) -> None:
-        goroutine = debuggee.session.goroutine(name)
-        if goroutine is not None:
-            self.adapter.begin(step_back(debuggee.session, goroutine, True))
-
-    def back(self, debuggee: Debuggee, name: str, words: List[str]) -> None:
-        """`back LINE` and `back var X`; the other forms are commands of Rewind."""
-        names = debuggee.session.back(target_of(debuggee, name, words))
-        self.adapter.stop_at(taken("Took back", names, name))
-
-    def previewing(self, desk: Answer) -> Callable[[List[str]], None]:
-        def preview(words: List[str]) -> None:
-            target = target_of(desk.debuggee, desk.chosen, words)
-            names = desk.session.preview(target)
-            desk.screen.say("'back %s' would take back %d steps: %s" % (target, len(names), " ".join(names)))
-
-        return preview
-
-    def save(self, desk: Answer, words: List[str]) -> None:
-        if len(words) != 1:
-            raise BadRequest("save wants a file: save session.script")
-        write_script(words[0], desk.session.core.given)
-        desk.screen.say("%d commands are in %s" % (len(desk.session.core.given), words[0]))
-
-    def load(self, debuggee: Debuggee, name: str, words: List[str]) -> None:
-        """Takes the commands of a script."""
-        if len(words) != 1:
-            raise BadRequest("load wants a file: load session.script")
-        refused = 0
-        for line in read_script(words[0]):
-            given = words_of(line)
-            if given and given[0] != "quit":
-                reply = debuggee.session.ask(line)
-                refused += not is_ok(reply)
-                if given[0] in ("break", "clear") and is_ok(reply):
-                    debuggee.breakpoints.note_command(given)
-        stop = Stop("step", name, "After the commands of %s, %d of them refused" % (words[0], refused))
-        self.adapter.stop_at(end(debuggee.session) if debuggee.session.stopped_by() else stop)
-
     # Values.
 
     def has_value(self, debuggee: Debuggee, text: str, frame: int) -> bool:
@@ -290,19 +152,3 @@ class Console:
 
 def said(text: str) -> Body:
     return {"result": text, "variablesReference": 0}
-
-
-def target_of(debuggee: Debuggee, name: str, words: List[str]) -> str:
-    """What `back` and `preview` are about: a step, a line where the goroutine was last, or a variable of it."""
-    if len(words) == 1 and words[0].isdigit():
-        step = motion.last_at_line(debuggee.session, name, int(words[0]))
-        if not step:
-            raise RewindError("%s was not on line %s in the steps that are noted" % (name, words[0]))
-        return step
-    variable = words[1] if len(words) == 2 and words[0] == "var" else words[0] if len(words) == 1 else ""
-    if variable.isidentifier():
-        return "var %s %s" % (name, variable)
-    target = " ".join(words)
-    if is_step(target) or (len(words) > 1 and words[0] in ("go", "send", "recv", "var")):
-        return target
-    raise BadRequest(HINTS["back"])

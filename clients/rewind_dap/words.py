@@ -1,0 +1,147 @@
+"""Words of the shell in the console of an editor: they look, or move the program."""
+from __future__ import annotations
+
+from typing import TYPE_CHECKING, Callable, Dict, List, Optional
+
+from rewind_client import motion
+from rewind_client.breakpoints import place_of
+from rewind_client.core import words_of
+from rewind_client.errors import RewindError
+from rewind_client.names import is_step
+from rewind_client.replies import Goroutine, is_ok
+from rewind_shell.looking import Looking
+from rewind_shell.saving import read_script, write_script
+from rewind_shell.words import HINTS
+
+from .answer import Answer
+from .arguments import Arguments, BadRequest
+from .debuggee import Debuggee
+from .runs import backward, forward
+from .stops import Stop, end, step_back, taken, told
+
+if TYPE_CHECKING:
+    from .adapter import Adapter
+
+MAX_STEPS = 1_000_000
+
+# A movement of a goroutine of the program, with the words that came behind its name.
+Moving = Callable[[Debuggee, Goroutine, List[str]], None]
+
+
+class Words:
+    """Obeys the words of the shell, each by its full name."""
+
+    def __init__(self, adapter: Adapter) -> None:
+        self.adapter = adapter
+        self.movements: Dict[str, Moving] = {
+            "step": self.steps,
+            "next": lambda debuggee, one, words: self.along(debuggee, one, motion.next_line),
+            "finish": lambda debuggee, one, words: self.along(debuggee, one, motion.out_of_frame),
+            "until": self.until,
+            "continue": lambda debuggee, one, words: self.adapter.begin(forward(debuggee, self.adapter.say)),
+            "reverse-next": lambda debuggee, one, words: self.adapter.begin(step_back(debuggee.session, one, True)),
+            "reverse-continue": lambda debuggee, one, words: self.adapter.begin(backward(debuggee)),
+            "back": self.back,
+            "load": self.load,
+            "restart": lambda debuggee, one, words: self.restart(),
+        }
+
+    def obey(self, name: str, words: List[str], chosen: str) -> Optional[str]:
+        """What a word answers, about the chosen goroutine; None where it is no such word."""
+        if name in self.movements:
+            debuggee = self.adapter.stopped_debuggee()
+            goroutine = debuggee.session.goroutine(chosen) or debuggee.session.goroutine("g0")
+            assert goroutine is not None
+            self.movements[name](debuggee, goroutine, words)
+            return ""
+        desk = Answer(self.adapter.any_debuggee(), chosen)
+        looking = self.looking(desk)
+        if name not in looking:
+            return None
+        debuggee = self.adapter.stopped_debuggee()
+        looking[name](words)
+        if name == "goroutine":
+            debuggee.focus = desk.chosen
+        return desk.text()
+
+    # Movements.
+
+    def restart(self) -> None:
+        self.adapter.handlers["restart"](Arguments({}))
+
+    def steps(self, debuggee: Debuggee, goroutine: Goroutine, words: List[str]) -> None:
+        wanted = words[0] if words else "1"
+        if len(words) > 1 or not wanted.isdigit() or not 0 < int(wanted) <= MAX_STEPS:
+            raise BadRequest(HINTS["step"])
+        self.begin(debuggee, motion.some_steps(debuggee.session, goroutine.name, int(wanted)))
+
+    def along(self, debuggee: Debuggee, goroutine: Goroutine, how: Callable[..., motion.Motion]) -> None:
+        session, lines = debuggee.session, debuggee.breakpoints.lines
+        leaves = how is motion.next_line
+        self.begin(debuggee, motion.waited_for(session, goroutine, lines, lambda one: how(session, one, lines), leaves))
+
+    def until(self, debuggee: Debuggee, goroutine: Goroutine, words: List[str]) -> None:
+        if len(words) != 1 or not words[0].isdigit():
+            raise BadRequest("until wants a line: until 12")
+        line = place_of(debuggee.session.program, words[0]).line
+        self.begin(debuggee, motion.until_line(debuggee.session, goroutine, debuggee.breakpoints.lines, line))
+
+    def begin(self, debuggee: Debuggee, movement: motion.Motion) -> None:
+        self.adapter.begin(told(debuggee.session, debuggee.view, movement))
+
+    def back(self, debuggee: Debuggee, goroutine: Goroutine, words: List[str]) -> None:
+        """`back LINE` and `back var X`; the other forms are commands of Rewind."""
+        names = debuggee.session.back(target_of(debuggee, goroutine.name, words))
+        self.adapter.stop_at(taken("Took back", names, goroutine.name))
+
+    def load(self, debuggee: Debuggee, goroutine: Goroutine, words: List[str]) -> None:
+        """Takes the commands of a script."""
+        if len(words) != 1:
+            raise BadRequest("load wants a file: load session.script")
+        refused = 0
+        for line in read_script(words[0]):
+            given = words_of(line)
+            if given and given[0] != "quit":
+                reply = debuggee.session.ask(line)
+                refused += not is_ok(reply)
+                if given[0] in ("break", "clear") and is_ok(reply):
+                    debuggee.breakpoints.note_command(given)
+        stop = Stop("step", goroutine.name, "After the commands of %s, %d of them refused" % (words[0], refused))
+        self.adapter.stop_at(end(debuggee.session) if debuggee.session.stopped_by() else stop)
+
+    # Looks.
+
+    def looking(self, desk: Answer) -> Dict[str, Callable[[List[str]], None]]:
+        own = {"preview": lambda words: preview(desk, words), "save": lambda words: save(desk, words)}
+        return {**Looking(desk).handlers(), **own}
+
+
+def preview(desk: Answer, words: List[str]) -> None:
+    """The steps that `back` would take back."""
+    target = target_of(desk.debuggee, desk.chosen, words)
+    names = desk.session.preview(target)
+    desk.screen.say("'back %s' would take back %d steps: %s" % (target, len(names), " ".join(names)))
+
+
+def save(desk: Answer, words: List[str]) -> None:
+    """Writes the commands that changed the session to a file."""
+    if len(words) != 1:
+        raise BadRequest("save wants a file: save session.script")
+    write_script(words[0], desk.session.core.given)
+    desk.screen.say("%d commands are in %s" % (len(desk.session.core.given), words[0]))
+
+
+def target_of(debuggee: Debuggee, name: str, words: List[str]) -> str:
+    """What `back` and `preview` are about: a step, a line where the goroutine was last, or a variable of it."""
+    if len(words) == 1 and words[0].isdigit():
+        step = motion.last_at_line(debuggee.session, name, int(words[0]))
+        if not step:
+            raise RewindError("%s was not on line %s in the steps that are noted" % (name, words[0]))
+        return step
+    variable = words[1] if len(words) == 2 and words[0] == "var" else words[0] if len(words) == 1 else ""
+    if variable.isidentifier():
+        return "var %s %s" % (name, variable)
+    target = " ".join(words)
+    if is_step(target) or (len(words) > 1 and words[0] in ("go", "send", "recv", "var")):
+        return target
+    raise BadRequest(HINTS["back"])
