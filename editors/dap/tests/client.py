@@ -15,7 +15,12 @@ DATA = os.path.join(REPOSITORY, "crates", "sessions", "data")
 REWIND = os.path.abspath(os.environ.get("REWIND") or os.path.join(REPOSITORY, "bin", "rewind"))
 LIMIT = 20.0
 
+sys.path.insert(0, HERE)
+
+from schema import published  # noqa: E402
+
 Message = Dict[str, Any]
+SCHEMA = published()
 
 
 class Hang(Exception):
@@ -58,12 +63,15 @@ class Client:
         return taken
 
     def read(self) -> Message:
-        """The next message."""
+        """The next message, which must be one of the published protocol."""
         while b"\r\n\r\n" not in self.unread:
             if not self.more():
                 raise EOFError(self.unread)
         header, _, self.unread = self.unread.partition(b"\r\n\r\n")
-        return json.loads(self.take(int(header.split(b":")[1])))
+        message = json.loads(self.take(int(header.split(b":")[1])))
+        faults = SCHEMA.faults_of_message(message) if SCHEMA else []
+        assert not faults, (faults, message)
+        return message
 
     def send(self, command: str, arguments: Any = None) -> int:
         self.seq += 1
