@@ -8,10 +8,13 @@ from typing import Callable, Dict, List, NamedTuple, Optional, Sequence
 
 from . import replies
 from .core import Core, step_command
-from .motion import RUN_PORTION, Lines, Motion, Stop, StopReason, back_to, stop_of_run
+from .motion import Lines, Motion, Stop, StopReason, back_to, stop_of_run
 from .replies import Entry, KindWord, Ran, Reason
 from .scout import last_step_at
 from .session import Session
+
+# After each portion the whole log is asked for, so they grow large.
+LARGEST_PORTION = 400_000
 
 
 class Watch(NamedTuple):
@@ -108,7 +111,7 @@ def forward_to_value(session: Session, lines: Lines, watches: Watches, goroutine
                 return stop_of_run(session, Ran(taken, run.reason, run.line), goroutine)
             yield taken
             again = 1 if lines() else 0
-            portion = min(2 * portion, RUN_PORTION)
+            portion = min(2 * portion, LARGEST_PORTION)
     finally:
         watcher.end()
 

@@ -25,7 +25,7 @@ CHANGED = (
 def tell_output(adapter: Adapter, debuggee: Debuggee) -> None:
     """Tells the lines that were printed since it was last told, and those that no longer are."""
     debuggee.told = time.monotonic()
-    if debuggee.printed_at == debuggee.session.version:
+    if debuggee.printed_at == debuggee.session.version or not debuggee.session.program.printed_width():
         return
     before = debuggee.printed
     try:
