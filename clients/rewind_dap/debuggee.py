@@ -26,12 +26,12 @@ class Debuggee:
         self.first_line, self.first_column = first_line, first_column
         self.breakpoints = Breakpoints(session, described(launch.path), first_line, tell)
         self.watches: Dict[Watch, int] = {}
-        self.begin(session)
+        self.begin(session, 0)
 
-    def begin(self, session: Session) -> None:
-        """Begins with a session in which no step is taken."""
+    def begin(self, session: Session, last_number: int) -> None:
+        """Begins with a session in which no step is taken; frames and variables get numbers behind the last one given."""
         self.session = session
-        self.view = View(session, described(self.launch.path), (self.first_line, self.first_column))
+        self.view = View(session, described(self.launch.path), (self.first_line, self.first_column), last_number)
         self.focus = "g0"
         self.fault: Optional[Stop] = None
         self.printed: List[str] = []
@@ -45,7 +45,7 @@ class Debuggee:
     def begin_anew(self, launch: Launch, session: Session) -> None:
         """Begins once more, with the breakpoints as they are."""
         self.launch = launch
-        self.begin(session)
+        self.begin(session, self.view.last_number)
         self.breakpoints.begin_anew(session)
 
     def watched(self) -> List[Watch]:

@@ -28,14 +28,17 @@ class FramePlace(NamedTuple):
 class View:
     """Threads, frames and variables, by the numbers that the protocol wants."""
 
-    def __init__(self, session: Session, described: Body, first: Tuple[int, int]) -> None:
-        """`described` is the source as the protocol describes it, `first` how the editor counts lines and columns."""
+    def __init__(self, session: Session, described: Body, first: Tuple[int, int], last_number: int) -> None:
+        """`described` is the source as the protocol describes it, `first` how the editor counts lines and columns.
+
+        The numbers up to `last_number` were given before.
+        """
         self.session = session
         self.described = described
         self.first_line, self.first_column = first
         self.names: List[str] = []
         self.numbers: Dict[str, int] = {}
-        self.last_number = 0
+        self.last_number = last_number
         self.seen = -1
         self.forget()
 

@@ -187,10 +187,12 @@ class Source(Desk):
         self.start(path, 13)
         self.move("continue")
         self.file("r.go", "// one\n" + FIB)
+        frame = self.frame()
         self.client.body("restart")
         self.assertEqual(self.client.stop()["reason"], "entry")
         changed = [body["breakpoint"]["line"] for body in self.told("breakpoint")]
         self.assertEqual((self.frames(), changed), ([("main", 14)], [14]))
+        self.assertFalse(self.client.ask("scopes", {"frameId": frame})["success"])
         self.assertEqual(self.move("stepIn")["reason"], "step")
 
 
