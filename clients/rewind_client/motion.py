@@ -26,6 +26,8 @@ MOST_LOOKED_AT = 100_000
 # Goroutines that are asked for in one go, until one is ready.
 ASKED = 64
 
+# Whether a breakpoint on a line is hit by a goroutine that comes there.
+Hit = Callable[[str, int], bool]
 # The lines with breakpoints; they may change while the program runs.
 Lines = Callable[[], AbstractSet[int]]
 
@@ -129,8 +131,15 @@ def some_steps(session: Session, goroutine: str, times: int, clause: int = 0) ->
     return Stop(StopReason.WAITS if entry.kind.waits else StopReason.STEP, goroutine, entry)
 
 
-def through(session: Session, start: Goroutine, lines: Lines, is_there: Callable[[int, int], bool], deepest: int) -> Motion:
-    """Steps of one goroutine until it is where it shall be, or leaves its frame, waits, is done, or meets a breakpoint.
+def always(_goroutine: str, _line: int) -> bool:
+    """Each breakpoint is hit."""
+    return True
+
+
+def through(
+    session: Session, start: Goroutine, lines: Lines, hit: Hit, is_there: Callable[[int, int], bool], deepest: int
+) -> Motion:
+    """Steps of one goroutine until it is where it shall be, or leaves its frame, waits, is done, or hits a breakpoint.
 
     `is_there` is told how many frames deeper it stands, and its line. Deeper than `deepest` it is not there.
     """
@@ -149,36 +158,38 @@ def through(session: Session, start: Goroutine, lines: Lines, is_there: Callable
             line = shown.line if shown else 0
             if depth <= deepest and is_there(depth, line):
                 return Stop(StopReason.STEP, start.name, entry, line)
-            if (depth > 0 or line != start.line) and line in lines():
+            if (depth > 0 or line != start.line) and line in lines() and hit(start.name, line):
                 return Stop(StopReason.BREAKPOINT, start.name, entry, line)
         if number % STEP_PORTION == 0:
             yield number
     raise AssertionError("count has no end")
 
 
-def next_line(session: Session, start: Goroutine, lines: Lines) -> Motion:
+def next_line(session: Session, start: Goroutine, lines: Lines, hit: Hit = always) -> Motion:
     """Goes on to another line of the frame; frames that it calls are passed, but for breakpoints in them."""
-    return through(session, start, lines, lambda depth, line: line != start.line, deepest=0)
+    return through(session, start, lines, hit, lambda depth, line: line != start.line, deepest=0)
 
 
-def out_of_frame(session: Session, start: Goroutine, lines: Lines) -> Motion:
+def out_of_frame(session: Session, start: Goroutine, lines: Lines, hit: Hit = always) -> Motion:
     """Goes on until the frame is left."""
-    return through(session, start, lines, lambda depth, line: False, deepest=-1)
+    return through(session, start, lines, hit, lambda depth, line: False, deepest=-1)
 
 
-def until_line(session: Session, start: Goroutine, lines: Lines, wanted: int) -> Motion:
+def until_line(session: Session, start: Goroutine, lines: Lines, wanted: int, hit: Hit = always) -> Motion:
     """Goes on to a line, in the frame or in those that it calls."""
-    return through(session, start, lines, lambda depth, line: line == wanted, deepest=MAX_FRAMES)
+    return through(session, start, lines, hit, lambda depth, line: line == wanted, deepest=MAX_FRAMES)
 
 
-def waited_for(session: Session, start: Goroutine, lines: Lines, go_on: Callable[[Goroutine], Motion], leaves: bool) -> Motion:
+def waited_for(
+    session: Session, start: Goroutine, lines: Lines, hit: Hit, go_on: Callable[[Goroutine], Motion], leaves: bool
+) -> Motion:
     """A movement of a goroutine; where it waits the others run by turns first, until it can go on or they stop.
 
     Where `leaves` holds, it is over when the wait itself has led to another line.
     """
     if start.state is not State.WAITING or session.stopped_by():
         return (yield from go_on(start))
-    stop = yield from others(session, start, lines)
+    stop = yield from others(session, start, lines, hit)
     if stop is not None:
         return stop
     shown = session.goroutine(start.name)
@@ -188,7 +199,7 @@ def waited_for(session: Session, start: Goroutine, lines: Lines, go_on: Callable
     return (yield from go_on(shown._replace(line=start.line)))
 
 
-def others(session: Session, waiting: Goroutine, lines: Lines) -> Generator[int, None, Optional[Stop]]:
+def others(session: Session, waiting: Goroutine, lines: Lines, hit: Hit = always) -> Generator[int, None, Optional[Stop]]:
     """Runs the others by turns until a goroutine that waits could take a step; where they stop before that, the stop.
 
     The portions grow; where the goroutine has moved in one, what came after it could is taken back.
@@ -206,11 +217,13 @@ def others(session: Session, waiting: Goroutine, lines: Lines) -> Generator[int,
             return None
         taken += run.taken - again
         if run.reason is not Reason.COUNT:
-            return stop_of_run(session, Ran(taken, run.reason, run.line), waiting.name)
+            stop = stop_of_run(session, Ran(taken, run.reason, run.line), waiting.name)
+            if stop.reason is not StopReason.BREAKPOINT or hit(stop.goroutine, stop.line):
+                return stop
         if shown is not None and shown.state is State.READY:
             return None
         yield taken
-        again = 1 if lines() else 0
+        again = 1 if lines() and run.reason is Reason.COUNT else 0
         portion = min(2 * portion, RUN_PORTION)
 
 

@@ -12,8 +12,8 @@ from .arguments import Arguments, BadRequest
 from .debuggee import Debuggee
 from .looks import one_line, step_name
 from .offers import ONE_STEP
-from .runs import backward, forward
-from .stops import Stop, end, step_back, taken, told
+from .runs import How, along, backward, forward
+from .stops import Stop, end, step_back, taken
 
 if TYPE_CHECKING:
     from .adapter import Adapter
@@ -31,9 +31,9 @@ class Moves:
     def handlers(self) -> Dict[str, Callable[[Arguments], Optional[Body]]]:
         return {
             "continue": self.go_on,
-            "next": lambda arguments: self.next(self.goroutine(arguments)),
+            "next": lambda arguments: self.along(self.goroutine(arguments), motion.next_line, leaves=True),
             "stepIn": self.step_in,
-            "stepOut": lambda arguments: self.step_out(self.goroutine(arguments)),
+            "stepOut": lambda arguments: self.along(self.goroutine(arguments), motion.out_of_frame),
             "stepBack": self.step_back,
             "reverseContinue": self.reverse,
             "restartFrame": self.restart_frame,
@@ -52,28 +52,14 @@ class Moves:
         self.adapter.begin(forward(self.adapter.stopped_debuggee(), self.adapter.say))
         return {"allThreadsContinued": True}
 
-    def next(self, goroutine: Goroutine) -> None:
-        session, lines = self.focused(goroutine).session, self.lines
-        self.begin(motion.waited_for(session, goroutine, lines, lambda one: motion.next_line(session, one, lines), leaves=True))
-
-    def step_out(self, goroutine: Goroutine) -> None:
-        session, lines = self.focused(goroutine).session, self.lines
-        self.begin(motion.waited_for(session, goroutine, lines, lambda one: motion.out_of_frame(session, one, lines), leaves=False))
+    def along(self, goroutine: Goroutine, how: How, leaves: bool = False) -> None:
+        """Sets a goroutine going; the others run first where it waits."""
+        self.adapter.begin(along(self.focused(goroutine), goroutine, self.adapter.say, how, leaves))
 
     def step_in(self, arguments: Arguments) -> None:
         """One step; the target is a clause of the select at which the goroutine stands."""
-        goroutine, clause = self.goroutine(arguments), arguments.number("targetId", ONE_STEP)
-        session = self.focused(goroutine).session
-        go_on: Callable[[Goroutine], motion.Motion] = lambda one: motion.some_steps(session, one.name, 1, clause)
-        self.begin(motion.waited_for(session, goroutine, self.lines, go_on, leaves=False))
-
-    def lines(self) -> "set[int]":
-        return self.adapter.any_debuggee().breakpoints.lines()
-
-    def begin(self, movement: motion.Motion) -> None:
-        """Sets the program going."""
-        debuggee = self.adapter.stopped_debuggee()
-        self.adapter.begin(told(debuggee.session, debuggee.view, movement))
+        clause = arguments.number("targetId", ONE_STEP)
+        self.along(self.goroutine(arguments), lambda session, one, lines, hit: motion.some_steps(session, one.name, 1, clause))
 
     def focused(self, goroutine: Goroutine) -> Debuggee:
         """The program, with a goroutine as the one that the editor looks at."""

@@ -16,8 +16,8 @@ from rewind_shell.words import HINTS
 from .answer import Answer
 from .arguments import Arguments, BadRequest
 from .debuggee import Debuggee
-from .runs import backward, forward
-from .stops import Stop, end, step_back, taken, told
+from .runs import How, along, backward, forward
+from .stops import Stop, end, step_back, taken
 
 if TYPE_CHECKING:
     from .adapter import Adapter
@@ -35,7 +35,7 @@ class Words:
         self.adapter = adapter
         self.movements: Dict[str, Moving] = {
             "step": self.steps,
-            "next": lambda debuggee, one, words: self.along(debuggee, one, motion.next_line),
+            "next": lambda debuggee, one, words: self.along(debuggee, one, motion.next_line, leaves=True),
             "finish": lambda debuggee, one, words: self.along(debuggee, one, motion.out_of_frame),
             "until": self.until,
             "continue": lambda debuggee, one, words: self.adapter.begin(forward(debuggee, self.adapter.say)),
@@ -73,21 +73,16 @@ class Words:
         wanted = words[0] if words else "1"
         if len(words) > 1 or not wanted.isdigit() or not 0 < int(wanted) <= MAX_STEPS:
             raise BadRequest(HINTS["step"])
-        self.begin(debuggee, motion.some_steps(debuggee.session, goroutine.name, int(wanted)))
-
-    def along(self, debuggee: Debuggee, goroutine: Goroutine, how: Callable[..., motion.Motion]) -> None:
-        session, lines = debuggee.session, debuggee.breakpoints.lines
-        leaves = how is motion.next_line
-        self.begin(debuggee, motion.waited_for(session, goroutine, lines, lambda one: how(session, one, lines), leaves))
+        self.along(debuggee, goroutine, lambda session, one, lines, hit: motion.some_steps(session, one.name, int(wanted)))
 
     def until(self, debuggee: Debuggee, goroutine: Goroutine, words: List[str]) -> None:
         if len(words) != 1 or not words[0].isdigit():
             raise BadRequest("until wants a line: until 12")
-        line = place_of(debuggee.session.program, words[0]).line
-        self.begin(debuggee, motion.until_line(debuggee.session, goroutine, debuggee.breakpoints.lines, line))
+        wanted = place_of(debuggee.session.program, words[0]).line
+        self.along(debuggee, goroutine, lambda session, one, lines, hit: motion.until_line(session, one, lines, wanted, hit))
 
-    def begin(self, debuggee: Debuggee, movement: motion.Motion) -> None:
-        self.adapter.begin(told(debuggee.session, debuggee.view, movement))
+    def along(self, debuggee: Debuggee, goroutine: Goroutine, how: How, leaves: bool = False) -> None:
+        self.adapter.begin(along(debuggee, goroutine, self.adapter.say, how, leaves))
 
     def back(self, debuggee: Debuggee, goroutine: Goroutine, words: List[str]) -> None:
         """`back LINE` and `back var X`; the other forms are commands of Rewind."""

@@ -83,6 +83,26 @@ class Conditions(Desk):
         self.assertEqual(said, ["square of 1, twice 2\n", "square of 2, twice 4\n"])
 
 
+    def test_conditions_are_heeded_by_a_step_over(self) -> None:
+        path = self.file("l.go", LOOP)
+        self.start(path)
+        self.set_breakpoints(path, {"line": 4, "condition": "n == 2"}, {"line": 5, "logMessage": "m is {m}"})
+        while self.frames() != [("main", 11)]:
+            self.move("next")
+        self.assertEqual((self.move("next")["reason"], self.frames()), ("step", [("main", 10)]))
+        self.assertEqual([body["output"] for body in self.told("output")], ["m is 1\n"])
+        self.move("next")
+        self.assertEqual((self.move("next")["reason"], self.frames()[0]), ("breakpoint", ("square", 4)))
+
+    def test_conditions_are_heeded_where_the_others_run(self) -> None:
+        self.start(LOST_UPDATE)
+        self.set_breakpoints(LOST_UPDATE, {"line": 15, "condition": "amount == 20"})
+        while "waiting" not in self.threads()[1]:
+            self.move("next")
+        stop = self.move("next")
+        self.assertEqual((stop["reason"], stop["threadId"]), ("breakpoint", 4))
+
+
 class Offers(Desk):
     def test_each_clause_of_a_select_that_can_be_taken_is_a_target(self) -> None:
         self.start(RACE)
