@@ -3,7 +3,7 @@ from __future__ import annotations
 
 from typing import Callable, List, Optional
 
-from .core import unnoted
+from .core import Core, unnoted
 from .errors import RewindError
 from .finding import start
 from .process import TIMEOUT, never
@@ -27,4 +27,10 @@ def open_session(
     except RewindError:
         core.process.end()
         raise
-    return Session(core, source.program, lambda: start(rewind, source.copy(), timeout, cancelled), source)
+
+    def begin() -> Core:
+        """A second session, which has read the copy when it is there."""
+        with source.copied() as copy:
+            return start(rewind, copy, timeout, cancelled)
+
+    return Session(core, source.program, begin, source)

@@ -31,7 +31,7 @@ class Session:
     """All that is known of a program as it stands."""
 
     def __init__(self, core: Core, program: Program, begin: Callable[[], Core], source: Optional[Source] = None) -> None:
-        """`begin` starts the second session; `source` is ended with both."""
+        """`begin` starts the second session; `source` tells whether the file of the program has changed."""
         self.core = core
         self.program = program
         self.begin = begin
@@ -51,8 +51,6 @@ class Session:
         """Ends both sessions."""
         self.core.process.end()
         self.follower.end()
-        if self.source is not None:
-            self.source.end()
 
     # Commands.
 

@@ -3,28 +3,31 @@ from __future__ import annotations
 
 import os
 import tempfile
-from typing import Optional
+from contextlib import ExitStack, contextmanager
+from typing import Iterator
 
+from .errors import RewindError
 from .program import Program
 
 
 class Source:
-    """The text of a program, with a copy of it that is written when it is first wanted."""
+    """The text of a program, and the file from which it came."""
 
     def __init__(self, program: Program) -> None:
         self.program = program
-        self.folder: Optional[tempfile.TemporaryDirectory[str]] = None
 
-    def copy(self) -> str:
-        """The path of the copy."""
-        if self.folder is None:
-            self.folder = tempfile.TemporaryDirectory(prefix="rewind-")
-            with open(self.path_in(self.folder.name), "wb") as file:
-                file.write(self.program.bytes)
-        return self.path_in(self.folder.name)
-
-    def path_in(self, folder: str) -> str:
-        return os.path.join(folder, os.path.basename(self.program.path) or "source.go")
+    @contextmanager
+    def copied(self) -> Iterator[str]:
+        """The path of a copy of the text, which is there for a while."""
+        with ExitStack() as stack:
+            try:
+                folder = stack.enter_context(tempfile.TemporaryDirectory(prefix="rewind-"))
+                path = os.path.join(folder, os.path.basename(self.program.path) or "source.go")
+                with open(path, "wb") as file:
+                    file.write(self.program.bytes)
+            except OSError as fault:
+                raise RewindError("a copy of %s cannot be written: %s" % (self.program.path, fault.strerror)) from None
+            yield path
 
     def has_changed(self) -> bool:
         """Whether the file has another text now, or can't be read any more."""
@@ -33,9 +36,3 @@ class Source:
                 return file.read() != self.program.bytes
         except OSError:
             return True
-
-    def end(self) -> None:
-        """Removes the copy."""
-        if self.folder is not None:
-            self.folder.cleanup()
-            self.folder = None

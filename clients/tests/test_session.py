@@ -8,12 +8,13 @@ from typing import Callable, Iterator, List, Sequence
 import pytest
 
 from rewind_client.core import Refused, step_command
-from rewind_client.errors import Cancelled
+from rewind_client.errors import Cancelled, RewindError
 from rewind_client.finding import start
 from rewind_client.follower import Follower
 from rewind_client.ledger import Ledger
 from rewind_client.motion import next_in_turn
 from rewind_client.notes import Place
+from rewind_client.opening import open_session
 from rewind_client.operations import Verb
 from rewind_client.process import never
 from rewind_client.program import read_program
@@ -311,3 +312,27 @@ def test_after_a_preview_the_steps_are_followed_on(session: Open) -> None:
     for entry in before[-gone:]:
         one.ask(step_command(entry))
     assert one.notes() == notes
+
+
+def test_a_copy_that_cannot_be_written_is_told(rewind: str, monkeypatch: pytest.MonkeyPatch) -> None:
+    one = open_session(rewind, str(EXAMPLES / "lost_update.go"))
+    one.run(10)
+    monkeypatch.setattr("tempfile.tempdir", "/nowhere")
+    with pytest.raises(RewindError, match="lost_update.go cannot be written: No such file"):
+        one.notes()
+    monkeypatch.setattr("tempfile.tempdir", None)
+    assert len(one.notes()) == 10
+    one.end()
+
+
+def test_a_second_session_reads_the_text_of_the_first(rewind: str, tmp_path: Path) -> None:
+    path = tmp_path / "changed.go"
+    path.write_text("package main\nfunc main() {\n\tprintln(1)\n}\n")
+    one = open_session(rewind, str(path))
+    assert one.source and not one.source.has_changed()
+    path.write_text("package main\n\n\nfunc main() {\n\tprintln(2)\n}\n")
+    one.run(10)
+    assert [note.line for note in one.notes()] == [3, 4] and one.source.has_changed()
+    path.unlink()
+    assert one.source.has_changed()
+    one.end()

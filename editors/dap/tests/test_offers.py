@@ -248,7 +248,8 @@ class Words(Desk):
         targets = self.client.body("completions", {"text": "bt g0.", "column": 7})["targets"]
         self.assertEqual([one["label"] for one in targets], ["g0.1", "g0.2", "g0.3"])
         self.assertEqual({(one["start"], one["length"]) for one in targets}, {(4, 3)})
-        self.assertIn("goroutines", [one["label"] for one in self.client.body("completions", {"text": "gor", "column": 4})["targets"]])
+        targets = self.client.body("completions", {"text": "gor", "column": 4})["targets"]
+        self.assertIn("goroutines", [one["label"] for one in targets])
 
     def test_a_variable_that_is_called_like_a_command_is_asked_by_print(self) -> None:
         self.start(self.file("u.go", "package main\n\nfunc main() {\n\tundo := 7\n\tn := 8\n\tprintln(undo, n)\n}\n"))
@@ -263,11 +264,13 @@ class Output(Desk):
         self.client.launch("buffered_channel.go", stopOnEntry=False)
         self.client.stop()
         told = [(body["output"], body["line"], body["source"]["name"]) for body in self.told("output")[:3]]
-        self.assertEqual(told, [("2 2\n", 7, "buffered_channel.go"), ("1\n", 8, "buffered_channel.go"), ("2\n", 9, "buffered_channel.go")])
+        name = "buffered_channel.go"
+        self.assertEqual(told, [("2 2\n", 7, name), ("1\n", 8, name), ("2\n", 9, name)])
 
     def test_much_output_comes_in_pieces(self) -> None:
         text = "x" * 1000
-        self.client.launch(self.file("b.go", 'package main\n\nfunc main() {\n\tfor i := 0; i < 300; i++ {\n\t\tprintln("%s")\n\t}\n}\n' % text), stopOnEntry=False)
+        program = 'package main\n\nfunc main() {\n\tfor i := 0; i < 300; i++ {\n\t\tprintln("%s")\n\t}\n}\n' % text
+        self.client.launch(self.file("b.go", program), stopOnEntry=False)
         self.client.stop()
         pieces = [body["output"] for body in self.told("output") if body["category"] == "stdout"]
         self.assertEqual("".join(pieces), (text + "\n") * 300)
@@ -281,7 +284,8 @@ class Output(Desk):
         told = [(body["reason"], body["threadId"]) for body in self.told("thread")]
         self.assertEqual(told, [("started", 2), ("exited", 1)])
         self.move("reverseContinue")
-        self.assertEqual(sorted((body["reason"], body["threadId"]) for body in self.told("thread")), [("exited", 2), ("started", 1)])
+        told = sorted((body["reason"], body["threadId"]) for body in self.told("thread"))
+        self.assertEqual(told, [("exited", 2), ("started", 1)])
 
     def test_the_status_with_which_go_would_have_ended(self) -> None:
         for program, status in (("fibonacci_range.go", 0), ("send_on_closed.go", 2), ("deadlock.go", 2)):
@@ -297,7 +301,8 @@ class Output(Desk):
         self.assertEqual(self.move("pause")["reason"], "pause")
 
     def test_a_length_that_nobody_can_send_is_told_and_passed(self) -> None:
-        self.client.write(b"Content-Length: 999999999999999999\r\n\r\n" + framed(b'{"seq":1,"type":"request","command":"initialize"}'))
+        ping = framed(b'{"seq":1,"type":"request","command":"initialize"}')
+        self.client.write(b"Content-Length: 999999999999999999\r\n\r\n" + ping)
         self.assertIn("the next header is looked for", self.client.read()["body"]["output"])
         self.assertEqual(self.client.read()["command"], "initialize")
 

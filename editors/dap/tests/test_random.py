@@ -25,8 +25,10 @@ LOOKS = ("threads", "stackTrace", "scopes", "variables", "exceptionInfo", "rewin
 COMMANDS = ("step g0", "step g0.1", "step g0.2 2", "run 3", "run 1000", "undo", "redo", "back g0#2", "back g0.1#1", "back go g0.1")
 COMMANDS += ("back send g0/c1 1", "break 6", "clear 6", "log", "console", "order g0#1", "deps g0#1", "nonsense", "show g0", "\t")
 # Words of the shell: those that only look, and those that move.
-WORDS = ("why", "bt", "channels", "goroutines", "history all", "list", "direct g0#1", "preview g0#2", "print x", "help", "goroutine g0")
-GOING = ("next", "step", "step 3", "finish", "until 9", "continue", "reverse-next", "reverse-continue", "back 12", "back var x", "c", "n")
+WORDS = ("why", "bt", "channels", "goroutines", "history all", "list", "direct g0#1", "preview g0#2", "print x", "help")
+WORDS += ("goroutine g0", "goroutine g0.1")
+GOING = ("next", "step", "step 3", "finish", "until 9", "continue", "reverse-next", "reverse-continue", "back 12", "c", "n")
+GOING += ("back var x",)
 VARIABLES = ("balance", "x", "v", "i", "ch", "a", "done", "n")
 ODD = (None, -1, 0, 3.5, True, "g0", "g0#1", [], {}, 2**70, "\x00", "x" * 5000)
 
@@ -87,8 +89,8 @@ class Wanderer:
 
     def condition(self) -> Dict[str, Any]:
         """What a breakpoint may want besides a line."""
-        wishes = ({}, {"condition": "%s > 1" % self.chance.choice(VARIABLES)}, {"hitCondition": "2"}, {"logMessage": "{x} {balance}"})
-        return self.chance.choice(wishes)
+        holds = {"condition": "%s > 1" % self.chance.choice(VARIABLES)}
+        return self.chance.choice(({}, holds, {"hitCondition": "2"}, {"logMessage": "{x} {balance}"}))
 
     def offered(self, thread: int) -> Tuple[str, Dict[str, Any]]:
         """A request for what an editor offers: variables to watch, lines and frames to go back to, clauses."""

@@ -28,7 +28,8 @@ class Package(unittest.TestCase):
 
     def packed(self, name: str) -> str:
         path = os.path.join(self.folder, name)
-        subprocess.run([sys.executable, os.path.join(REPOSITORY, "tools", "vsix.py"), REWIND, path], check=True, stdout=subprocess.PIPE)
+        words = [sys.executable, os.path.join(REPOSITORY, "tools", "vsix.py"), REWIND, path]
+        subprocess.run(words, check=True, stdout=subprocess.PIPE)
         return path
 
     def unpacked(self) -> str:
