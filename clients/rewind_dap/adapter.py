@@ -159,6 +159,11 @@ class Adapter:
         """Sets the program going, once the request is answered."""
         self.motion = movement
 
+    def tell_continued(self, debuggee: Debuggee) -> None:
+        """Tells, once the request is answered, that the program runs, where the request itself does not say so."""
+        body = {"threadId": debuggee.view.thread_number(debuggee.focus), "allThreadsContinued": True}
+        self.later.append(lambda: self.event("continued", body))
+
     def halt(self) -> None:
         """Leaves the movement that is under way, if there is one; what it did stays done."""
         if self.motion is not None:

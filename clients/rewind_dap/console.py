@@ -122,8 +122,7 @@ class Console:
         """The workers take steps; without a movement under way that is one."""
         debuggee.granted = steps
         if steps and self.adapter.motion is None:
-            body = {"threadId": debuggee.view.thread_number(debuggee.focus), "allThreadsContinued": True}
-            self.adapter.later.append(lambda: self.adapter.event("continued", body))
+            self.adapter.tell_continued(debuggee)
             self.adapter.begin(work(debuggee))
 
     # Values.

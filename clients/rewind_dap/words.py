@@ -53,6 +53,8 @@ class Words:
             goroutine = debuggee.session.goroutine(chosen) or debuggee.session.goroutine("g0")
             assert goroutine is not None
             self.movements[name](debuggee, goroutine, words)
+            if self.adapter.motion is not None:
+                self.adapter.tell_continued(debuggee)
             return ""
         desk = Answer(self.adapter.any_debuggee(), chosen)
         looking = self.looking(desk)

@@ -226,6 +226,14 @@ class Words(Desk):
         for word in ("step", "step 2", "next", "n", "until 16", "finish", "reverse-continue"):
             self.assertTrue(self.moved(word)["reason"], word)
 
+    def test_a_word_that_sets_the_program_going_is_told(self) -> None:
+        self.start(LOST_UPDATE)
+        for word in ("next", "continue", "reverse-continue"):
+            self.assertEqual(self.moved(word)["allThreadsStopped"], True)
+            self.assertEqual(self.told("continued"), [{"threadId": 1, "allThreadsContinued": True}], word)
+        self.moved("step g0")
+        self.assertEqual(self.told("continued"), [])
+
     def test_what_is_saved_is_loaded(self) -> None:
         self.start(LOST_UPDATE)
         self.typed("run 9")
