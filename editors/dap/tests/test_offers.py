@@ -8,6 +8,8 @@ sys.path.insert(0, os.path.dirname(os.path.abspath(__file__)))
 from client import DATA, framed  # noqa: E402
 from desk import Desk  # noqa: E402
 
+from rewind_shell.words import WORDS  # noqa: E402
+
 LOST_UPDATE = os.path.join(DATA, "lost_update.go")
 RACE = os.path.join(DATA, "race_in_select.go")
 
@@ -225,6 +227,27 @@ class Words(Desk):
         self.assertEqual(self.moved("restart")["reason"], "entry")
         for word in ("step", "step 2", "next", "n", "until 16", "finish", "reverse-continue"):
             self.assertTrue(self.moved(word)["reason"], word)
+
+    def test_no_word_of_the_shell_is_left_out(self) -> None:
+        """Each word with what it wants, alone or in its abbreviation, is understood; what moves the program stops again."""
+        saved = os.path.join(self.folder, "saved")
+        wants = {"direct": "g0#1", "until": "23", "preview": "g0#2", "clear": "15", "back": "g0#5", "save": saved, "load": saved}
+        wants.update({"run": "3", "deps": "g0#1", "causes": "g0#1", "show": "g0", "chan": "g0/c1", "text": "g0", "free": "0"})
+        wants.update({"print": "done", "break": "15", "order": "g0#1"})
+        self.start(LOST_UPDATE)
+        words = [one for one in WORDS if one.name != "quit"]
+        self.assertGreater(len(words), 30)
+        for one in sorted(words, key=lambda word: word.name == "load"):
+            for name in filter(None, (one.name, one.short)):
+                self.moved("restart")
+                self.moved("run 20")
+                text = "%s %s" % (name, wants.get(one.name, ""))
+                answer = self.client.ask("evaluate", {"expression": text, "context": "repl"})
+                self.assertTrue(answer["success"], answer)
+                self.assertNotIn("?", answer["body"]["result"].split("\n")[-1], text)
+                self.client.ask("pause")
+                self.client.stop()
+                self.client.events = []
 
     def test_a_word_that_sets_the_program_going_is_told(self) -> None:
         self.start(LOST_UPDATE)
