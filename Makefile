@@ -49,7 +49,7 @@ page-needs:
 	@page/needs.sh libjs-codemirror
 
 browser-needs:
-	@page/needs.sh chromium nodejs
+	@page/needs.sh chromium nodejs node-typescript eslint
 
 PAGE_COMPILER := page/module/build.py page/module/retarget.py $(wildcard page/module/*.c) tools/kit.py
 

@@ -19,15 +19,26 @@ async function build(browser) {
   equal("the page says that it is an unproved build, in its title, heading and help", says, places.map(() => isUnproved));
 }
 
-// How the program's module becomes one for WebAssembly, and what is refused.
-function ofModule() {
-  const { stdout, stderr } = spawnSync(new URL("module.py", import.meta.url).pathname, { encoding: "utf8" });
-  const [, passed, bad] = /(\d+) passed, (\d+) failed\n$/.exec(stdout) || [];
-  if (passed === undefined) return failed(`module: ${stderr || "it does not run"}`);
+const HERE = new URL(".", import.meta.url).pathname;
+
+// A part that needs no browser: a command whose last line counts its checks.
+function ofCommand(name, ...words) {
+  const { stdout, stderr } = spawnSync(words[0], words.slice(1), { encoding: "utf8" });
+  const [, passed, bad] = /(\d+) passed, (\d+) failed\n$/.exec(stdout || "") || [];
+  if (passed === undefined) return failed(`${name}: ${stderr || "it does not run"}`);
   process.stdout.write(stdout.replace(/.*\n$/, ""));
   counts.passed += Number(passed);
   counts.failed += Number(bad);
-  console.log(`module: ${passed} checks passed`);
+  console.log(`${name}: ${passed} checks passed`);
+}
+
+// A tool that says what is wrong, and nothing where all is well. Debian's tools find their modules in Debian's folder.
+function ofTool(what, ...words) {
+  const env = { ...process.env, NODE_PATH: "/usr/share/nodejs" };
+  const { stdout, stderr, status } = spawnSync(words[0], words.slice(1), { encoding: "utf8", env });
+  if (status) return failed(`${what}: ${stdout || stderr || "it does not run"}`);
+  counts.passed++;
+  console.log(`${what}: no fault`);
 }
 
 const ALL = [
@@ -54,7 +65,11 @@ async function run({ name, part, hash }) {
   console.log(`${name}: ${counts.passed - passed} checks passed in ${((performance.now() - began) / 1000).toFixed(1)} seconds`);
 }
 
-ofModule();
+ofTool("types", "tsc", "-p", `${HERE}..`);
+ofTool("style", "eslint", "-f", "compact", "--ext", ".js,.mjs", `${HERE}../src`, `${HERE}../test`);
+// How the program's module becomes one for WebAssembly, and what is refused.
+ofCommand("module", `${HERE}module.py`);
+ofCommand("modules of the page", process.execPath, `${HERE}unit.mjs`);
 for (const it of form === "--short" ? SHORT : ALL) {
   try {
     await run(it);

@@ -10,11 +10,12 @@ const base64 = (file) => (existsSync(file) ? readFileSync(file).toString("base64
 async function sessionInPage(source, script, suspends) {
   const bytes = (text) => Uint8Array.from(atob(text), (letter) => letter.charCodeAt(0));
   const session = await window.rewind.Session.open(window.rewind.program, bytes(source), suspends);
-  const said = [session.said];
+  const said = [];
   if (script && session.status === null) said.push(await session.exchange(bytes(script)));
   said.push(await session.close());
+  said.push(new TextEncoder().encode(session.errors));
   const text = btoa(said.map((piece) => Array.from(piece, (byte) => String.fromCharCode(byte)).join("")).join(""));
-  return { text, isRefused: session.said.length > 0, status: String(session.status) };
+  return { text, isRefused: session.errors.length > 0, status: String(session.status) };
 }
 
 // The first line that differs, in words.

@@ -1,0 +1,162 @@
+// Finds the step behind what a pane shows: a variable, an item of a channel, a waiter, a goroutine, a printed line, a line of the source.
+// What it takes to know is asked of the session that follows the log, which takes back and does again.
+
+import { Log } from "./log.js";
+import { readScene } from "./scene.js";
+import { stepName } from "./protocol.js";
+
+const MOST_SENDS = 1 << 24; // of one channel, among which the last is looked for
+
+/** @typedef {import("./session.js").Session} Session */
+
+// The step that started a goroutine.
+/**
+ * @param {Session} session
+ * @param {string} name
+ */
+export function starterOf({ log }, name) {
+  const at = name.lastIndexOf(".");
+  const [parent, number] = [name.slice(0, at), Number(name.slice(at + 1))];
+  const rows = log.byName.get(parent)?.rows.filter((row) => log.kinds[row] === "go") || [];
+  return rows[number - 1] === undefined ? "" : log.id(rows[number - 1]);
+}
+
+// The last step of a goroutine: where it waits, the one in which it began to.
+/**
+ * @param {Session} session
+ * @param {string} name
+ */
+export function lastOf({ log }, name) {
+  const count = log.byName.get(name)?.rows.length || 0;
+  return count ? stepName(name, count) : "";
+}
+
+// The step that printed a line of the console, counted from 0.
+/**
+ * @param {Session} session
+ * @param {number} line
+ */
+export function printerOf({ log, follower }, line) {
+  let seen = 0;
+  for (let row = 0; row < log.length; row++) {
+    const id = log.id(row);
+    seen += follower.notes.get(id)?.printed.length || 0;
+    if (seen > line) return id;
+  }
+  return "";
+}
+
+// The kept steps of a line of the source, in the order of the log.
+/**
+ * @param {Session} session
+ * @param {number} line
+ */
+export function stepsOfLine({ log, follower }, line) {
+  const found = [];
+  for (let row = 0; row < log.length; row++) {
+    const id = log.id(row);
+    if (follower.notes.get(id)?.line === line) found.push(id);
+  }
+  return found;
+}
+
+// The kept steps whose name, kind, statement or print has this text.
+/**
+ * @param {Session} session
+ * @param {string} text
+ */
+export function stepsWith({ log, follower }, text) {
+  const wanted = text.toLowerCase();
+  const found = [];
+  for (let row = 0; row < log.length; row++) {
+    const id = log.id(row);
+    const note = follower.notes.get(id);
+    if ([id, log.kinds[row], note?.statement?.text || "", ...(note?.printed || [])].some((it) => it.toLowerCase().includes(wanted))) found.push(id);
+  }
+  return found;
+}
+
+// The step that a `back` would begin with, or "": it is taken back and done again in the session that follows the log.
+/**
+ * @param {Session} session
+ * @param {string} command
+ */
+function firstOf({ follower, log }, command) {
+  return follower.inTurn(async () => {
+    await follower.moveTo(log.length);
+    return (await triedBack(follower, command))[0] || "";
+  });
+}
+
+/**
+ * @param {import("./follower.js").Follower} follower
+ * @param {string} command
+ * @returns {Promise<string[]>}
+ */
+async function triedBack(follower, command) {
+  const session = await follower.session();
+  const reply = await session.ask(command);
+  if (!reply.isOk) return [];
+  await session.questions(["redo"]);
+  return reply.words.slice(2);
+}
+
+/**
+ * @param {Session} session
+ * @param {string} goroutine
+ * @param {string} name
+ */
+export const giverOf = (session, goroutine, name) => firstOf(session, `back var ${goroutine} ${name}`);
+
+// The step that sent an item of a channel: `fromEnd` is 1 for the newest item. How many sends there were is found by halving.
+/**
+ * @param {Session} session
+ * @param {string} channel
+ * @param {number} fromEnd
+ */
+export async function senderOf({ follower, log }, channel, fromEnd) {
+  return follower.inTurn(async () => {
+    await follower.moveTo(log.length);
+    const tried = (/** @type {number} */ count) => triedBack(follower, `back send ${channel} ${count}`);
+    let [low, high] = [0, 1];
+    while (high < MOST_SENDS && (await tried(high)).length) [low, high] = [high, high * 2];
+    while (high - low > 1) {
+      const middle = (low + high) >> 1;
+      if ((await tried(middle)).length) low = middle;
+      else high = middle;
+    }
+    return low - fromEnd + 1 > 0 ? (await tried(low - fromEnd + 1))[0] || "" : "";
+  });
+}
+
+// What the session would be without a step and its consequences: how many steps go, and the panes then.
+/**
+ * @param {Session} session
+ * @param {string} id
+ * @returns {Promise<{count: number, scene: Scene} | null>}
+ */
+export function withoutStep({ follower, log }, id) {
+  return follower.inTurn(async () => {
+    await follower.moveTo(log.length);
+    const session = await follower.session();
+    const reply = await session.ask(`back ${id}`);
+    if (!reply.isOk) return null;
+    try {
+      const gone = new Set(reply.words.slice(2));
+      const left = log.steps(0, log.length).filter((step) => !gone.has(step.id));
+      return { count: gone.size, scene: await sceneOf(follower, left) };
+    } finally {
+      await session.questions(["redo"]);
+    }
+  });
+}
+
+/**
+ * @param {import("./follower.js").Follower} follower
+ * @param {Step[]} steps
+ */
+async function sceneOf(follower, steps) {
+  const log = new Log();
+  log.restart(steps);
+  return readScene(await follower.session(), log.names, log.channels, follower.statements);
+}

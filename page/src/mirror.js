@@ -1,0 +1,182 @@
+// A second session that stands where the user's does and answers what the page asks, so that looking costs the user's session nothing.
+// It runs the expanded source, whose lines tell one statement from another.
+
+import { RemoteSession, SessionGone, Unanswered } from "./remote.js";
+import { readScene } from "./scene.js";
+import { goroutineOf, listedSteps, wordsOf } from "./protocol.js";
+
+const AT_ONCE = 2000; // steps that are taken in one exchange
+const CHOOSERS = 50; // of more goroutines at a select, the clauses of the first are tried
+
+// The command that takes a step of the log again. `clauses` tells which clause a fault was met in, which its kind leaves out.
+/**
+ * @param {{id: string, kind: string}} step
+ * @param {Map<string, string>} clauses
+ */
+export function stepCommand({ id, kind }, clauses) {
+  const goroutine = goroutineOf(id);
+  const [word, number] = kind.split(" ");
+  const clause = word === "pick" ? number : clauses.get(id);
+  return clause ? `step ${goroutine} ${clause}` : `step ${goroutine}`;
+}
+
+export class Mirror {
+  /**
+   * @param {Machine} machine
+   * @param {import("./statements.js").Statements} statements
+   * @param {import("./log.js").Log} log
+   * @param {Map<string, string>} clauses
+   */
+  constructor(machine, statements, log, clauses) {
+    this.machine = machine;
+    this.statements = statements;
+    this.log = log;
+    this.clauses = clauses;
+    /** @type {Set<number>} */
+    this.lines = new Set(); // with breakpoints, of the source that is run
+    /** @type {RemoteSession | null} */
+    this.remote = null;
+    this.isClosed = false;
+    this.isBehind = false; // it does not stand where the user's session does
+  }
+
+  async open() {
+    const remote = await openExpanded(this.machine, this.statements);
+    if (this.isClosed) remote.close();
+    this.remote = remote;
+  }
+
+  get session() {
+    if (!this.remote) throw new SessionGone("it was ended");
+    return this.remote;
+  }
+
+  close() {
+    this.isClosed = true;
+    this.remote?.close();
+  }
+
+  // Does what the user's session did; the log is as it was before that.
+  /**
+   * @param {string} line
+   * @param {Reply} reply
+   */
+  async follow(line, reply) {
+    const [word] = wordsOf(line);
+    if (reply.words[1] === "B6") this.isBehind = true;
+    if (!reply.isOk || this.isBehind) return;
+    try {
+      if (word === "redo") return await this.take(listedSteps(reply).map((id) => ({ id, kind: this.log.gone.get(id) || "" })));
+      const answer = await this.session.ask(line);
+      const isSame = word === "run" ? answer.words[1] === reply.words[1] : answer.last === reply.last;
+      if (!isSame) this.isBehind = true;
+    } catch {
+      this.isBehind = true;
+    }
+  }
+
+  /** @param {{id: string, kind: string}[]} steps */
+  async take(steps) {
+    for (let at = 0; at < steps.length; at += AT_ONCE) {
+      const some = steps.slice(at, at + AT_ONCE);
+      const commands = some.map((step) => stepCommand(step, this.clauses));
+      const replies = await this.session.askAll(commands);
+      if (replies.some((reply, row) => reply.words[1] !== some[row].id)) this.isBehind = true;
+    }
+  }
+
+  // Begins anew where the session was lost or its journal is full: the kept steps are taken again.
+  async rebuild() {
+    this.remote?.close();
+    await this.open();
+    this.isBehind = false;
+    await this.take(this.log.steps(0, this.log.length));
+    await this.setBreaks(this.lines);
+    if (this.isBehind) throw new SessionGone("its steps could not be taken again");
+  }
+
+  /** @param {Set<number>} lines */
+  async setBreaks(lines) {
+    const gone = [...this.lines].filter((line) => !lines.has(line)).map((line) => `clear ${line}`);
+    this.lines = lines;
+    await this.session.askAll([...gone, ...[...lines].map((line) => `break ${line}`)]);
+  }
+
+  // Answers by a session that stands where the user's does; one that cannot answer is made anew, once.
+  /**
+   * @template T
+   * @param {(remote: RemoteSession) => Promise<T>} question
+   * @returns {Promise<T>}
+   */
+  async answer(question) {
+    if (this.isBehind) await this.rebuild();
+    try {
+      return await question(this.session);
+    } catch (fault) {
+      if (this.isClosed || !(fault instanceof SessionGone || fault instanceof Unanswered)) throw fault;
+      await this.rebuild();
+      return question(this.session);
+    }
+  }
+
+  /** @returns {Promise<LogColumns>} */
+  readLog() {
+    return this.answer(async (remote) => (await remote.questions(["log"], "columns"))[0]);
+  }
+
+  /** @returns {Promise<Scene>} */
+  scene() {
+    return this.answer((remote) => readScene(remote, this.log.names, this.log.channels, this.statements));
+  }
+
+  // The steps that these commands list: `causes ID`, `deps ID`.
+  /**
+   * @param {string[]} commands
+   * @returns {Promise<Listed[]>}
+   */
+  lists(commands) {
+    return this.answer((remote) => remote.questions(commands, "listed"));
+  }
+
+  // The clauses that each ready goroutine at a select could take now: each is tried and undone.
+  /** @param {Goroutine[]} goroutines */
+  readyClauses(goroutines) {
+    const choosing = goroutines.filter(({ state, statement }) => state === "ready" && statement?.clauses.length).slice(0, CHOOSERS);
+    return this.answer(async (remote) => {
+      /** @type {Map<string, Clause[]>} */
+      const found = new Map();
+      for (const { name, statement } of choosing) found.set(name, await this.tried(remote, name, statement?.clauses || []));
+      return found;
+    });
+  }
+
+  /**
+   * @param {RemoteSession} remote
+   * @param {string} name
+   * @param {string[]} clauses
+   */
+  async tried(remote, name, clauses) {
+    const ready = [];
+    for (let number = 1; number <= clauses.length; number++) {
+      const reply = await remote.ask(`step ${name} ${number}`);
+      if (reply.words[1] === "Q1" || reply.words[1] === "Q2") throw new Unanswered(reply.last);
+      if (!reply.isOk) continue;
+      await remote.questions(["undo"]);
+      ready.push({ number, text: clauses[number - 1] });
+    }
+    return ready;
+  }
+}
+
+// A session on the expanded source, or on the user's own where the expanded one is not accepted.
+/**
+ * @param {Machine} machine
+ * @param {import("./statements.js").Statements} statements
+ */
+export async function openExpanded(machine, statements) {
+  const remote = await RemoteSession.open(machine, statements.runText);
+  if (remote.status === null || !statements.isExpanded) return remote;
+  remote.close();
+  statements.giveUp();
+  return RemoteSession.open(machine, statements.runText);
+}
