@@ -1,6 +1,7 @@
 // What the buttons of the page do.
 
 import { asPng } from "./saved.js";
+import { bringBack } from "./losses.js";
 import { download, field, find } from "./element.js";
 import { fromFiles, toFile, toHash } from "./linking.js";
 import { MOST_STEPS } from "./page.js";
@@ -133,7 +134,7 @@ const ACTIONS = {
   "open-file": () => field("file").click(),
   present,
   now: (page) => page.past.back(),
-  "bring-back": (page) => page.bringBack(),
+  "bring-back": bringBack,
   compare: showCompared,
 };
 

@@ -7,7 +7,7 @@ import { pause } from "./element.js";
 const WHOLE = 20000; // a log of up to this many steps is followed from its start; of a longer one what is in view
 const FOLLOWED = 300000; // a longer log is not followed at all
 export const ALL_EDGES = 5000; // of a longer log only the edges into the steps around the view are found
-const NEAR = 100; // so many steps above and below it
+const NEAR = 40; // so many steps above and below it
 const EDGES_AT_ONCE = 60;
 
 export class Annotating {
@@ -40,6 +40,8 @@ export class Annotating {
       await this.work;
       await pause();
     }
+    await new Promise((go) => requestAnimationFrame(go));
+    await pause();
   }
 
   /** @param {number} stamp */

@@ -108,7 +108,7 @@ async function triedBack(follower, command) {
  */
 export const giverOf = (session, goroutine, name) => firstOf(session, `back var ${goroutine} ${name}`);
 
-// The step that sent an item of a channel: `fromEnd` is 1 for the newest item. How many sends there were is found by halving.
+// The step that sent an item of a channel: `fromEnd` is 1 for the last send. How many sends there were is found by halving.
 /**
  * @param {Session} session
  * @param {string} channel

@@ -9,6 +9,7 @@ import { listenInPicture, listenToKeys } from "./shortcuts.js";
 import { makeToolbar } from "./toolbars.js";
 import { makeViews } from "./views.js";
 import { Page } from "./page.js";
+import { asPng } from "./saved.js";
 import { savePicture } from "./saving.js";
 import { paletteRules } from "./palette.js";
 import { PICTURE_RULES } from "./picture.js";
@@ -135,7 +136,7 @@ async function start() {
     return page.say("The program cannot run in this browser."), false;
   }
   // The tests and the pictures of the documents reach the page by this name.
-  window.rewind = { page, program: page.machine.program, Session: Engine, act, openStory, savePicture };
+  window.rewind = { page, program: page.machine.program, Session: Engine, act, openStory, savePicture, asPng };
   await openBeginning(page, shared);
   keepWork(page);
   return true;

@@ -56,23 +56,43 @@ export class Mirror {
     this.remote?.close();
   }
 
-  // Does what the user's session did; the log is as it was before that.
+  // Begins to do what the user's session is commanded at the same time. What can be done again is known to that one alone.
+  /**
+   * @param {string} line
+   * @returns {Promise<Reply> | null}
+   */
+  begin(line) {
+    if (this.isBehind || wordsOf(line)[0] === "redo") return null;
+    const begun = this.session.ask(line);
+    begun.catch(() => {}); // its end is seen by `follow`
+    return begun;
+  }
+
+  // Does what the user's session did, or sees that it was done; the log is as it was before that.
   /**
    * @param {string} line
    * @param {Reply} reply
+   * @param {Promise<Reply> | null} begun
    */
-  async follow(line, reply) {
-    const [word] = wordsOf(line);
+  async follow(line, reply, begun) {
     if (reply.words[1] === "B6") this.isBehind = true;
-    if (!reply.isOk || this.isBehind) return;
     try {
-      if (word === "redo") return await this.take(listedSteps(reply).map((id) => ({ id, kind: this.log.gone.get(id) || "" })));
-      const answer = await this.session.ask(line);
-      const isSame = word === "run" ? answer.words[1] === reply.words[1] : answer.last === reply.last;
-      if (!isSame) this.isBehind = true;
+      if (begun) this.compare(wordsOf(line)[0], reply, await begun);
+      else if (reply.isOk && !this.isBehind) await this.take(listedSteps(reply).map((id) => ({ id, kind: this.log.gone.get(id) || "" })));
     } catch {
       this.isBehind = true;
     }
+  }
+
+  // The lines of breakpoints are other ones here, and so are the meanings of some refusals.
+  /**
+   * @param {string} word
+   * @param {Reply} reply
+   * @param {Reply} answer
+   */
+  compare(word, reply, answer) {
+    const isSame = word === "run" ? answer.words[1] === reply.words[1] : answer.last === reply.last;
+    if ((reply.isOk || answer.isOk) && !isSame) this.isBehind = true;
   }
 
   /** @param {{id: string, kind: string}[]} steps */

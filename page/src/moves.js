@@ -2,6 +2,7 @@
 // session, as if it were commanded by hand.
 
 import { isWait } from "./edges.js";
+import { lost } from "./losses.js";
 import { parseGoroutine } from "./protocol.js";
 import { placed } from "./scene.js";
 import { SessionGone } from "./remote.js";
@@ -37,7 +38,7 @@ async function stepUntil(page, isThere) {
       page.showPlace();
     } catch (fault) {
       if (!(fault instanceof SessionGone)) throw fault;
-      page.lost(session, fault);
+      lost(page, session, fault);
     }
   });
   page.chosen = chosen;
@@ -71,10 +72,12 @@ async function stepping(page, session, isThere) {
 export async function stepOver(page) {
   const { session, chosen } = page;
   if (!session || page.hindrance) return page.say(page.hindrance, "bad");
-  const start = await standing(session, chosen);
-  if (start.state === "waiting") return helpOn(page, session);
-  const deep = start.frames.length;
-  return stepUntil(page, ({ frames, statement }) => frames.length < deep || (frames.length === deep && statement !== start.statement));
+  return page.doing(async () => {
+    const start = await standing(session, chosen);
+    if (start.state === "waiting") return helpOn(page, session);
+    const deep = start.frames.length;
+    return stepUntil(page, ({ frames, statement }) => frames.length < deep || (frames.length === deep && statement !== start.statement));
+  });
 }
 
 // Lets the others run, a step each, until the chosen goroutine is ready.
@@ -83,17 +86,15 @@ export async function stepOver(page) {
  * @param {import("./session.js").Session} session
  */
 async function helpOn(page, session) {
-  await page.doing(async () => {
-    for (let count = 0; count < MOST; count++) {
-      const reply = await session.perform("run 1");
-      if (!reply.isOk || reply.words[1] === "0") break;
-      page.views.transcript.add("run 1", reply);
-      if ((await standing(session, page.chosen)).state !== "waiting") break;
-    }
-    await page.refresh();
-    const { state, line } = await standing(session, page.chosen);
-    page.say(state === "waiting" ? `${page.chosen} still waits, and nobody can help it on.` : `${page.chosen} goes on at line ${line}: the others ran until then.`);
-  });
+  for (let count = 0; count < MOST; count++) {
+    const reply = await session.perform("run 1");
+    if (!reply.isOk || reply.words[1] === "0") break;
+    page.views.transcript.add("run 1", reply);
+    if ((await standing(session, page.chosen)).state !== "waiting") break;
+  }
+  await page.refresh();
+  const { state, line } = await standing(session, page.chosen);
+  page.say(state === "waiting" ? `${page.chosen} still waits, and nobody can help it on.` : `${page.chosen} goes on at line ${line}: the others ran until then.`);
 }
 
 // Steps the chosen goroutine until it waits or is done.
@@ -110,8 +111,10 @@ export async function runToLine(page, line) {
   if (!session || page.hindrance) return page.say(page.hindrance, "bad");
   const goal = session.statements.snap(line);
   if (!goal) return page.say("There is no statement at this line or below.", "bad");
-  const had = session.breakpoints.has(goal);
-  if (!had) await session.perform(`break ${goal}`);
-  await page.run(LONGEST_RUN);
-  if (!had && !session.gone) await session.perform(`clear ${goal}`);
+  return page.doing(async () => {
+    const had = session.breakpoints.has(goal);
+    if (!had) await session.perform(`break ${goal}`);
+    await page.run(LONGEST_RUN);
+    if (!had && !session.gone) await session.perform(`clear ${goal}`);
+  });
 }

@@ -4,7 +4,7 @@
 import { sideOf } from "./picture.js";
 import { endsAll } from "./edges.js";
 
-const MOST = 4000; // steps that are drawn; of more, one in so many
+const MOST = 1500; // steps that are drawn; of more, one in so many
 
 export class Overview {
   /**
@@ -14,6 +14,7 @@ export class Overview {
   constructor(canvas, picture) {
     this.canvas = canvas;
     this.picture = picture;
+    this.frame = 0;
     const go = (/** @type {PointerEvent} */ event) => event.buttons && this.goTo(event.offsetY);
     canvas.addEventListener("pointerdown", go);
     canvas.addEventListener("pointermove", go);
@@ -26,6 +27,11 @@ export class Overview {
   }
 
   draw() {
+    cancelAnimationFrame(this.frame);
+    this.frame = requestAnimationFrame(() => this.drawNow());
+  }
+
+  drawNow() {
     const { canvas, picture } = this;
     const { rows, layout } = picture;
     canvas.hidden = !rows || picture.host.scrollHeight <= picture.host.clientHeight + 4;

@@ -6,7 +6,7 @@ import { SessionGone } from "./remote.js";
 import { Refused, Session } from "./session.js";
 import { endOfRun } from "./words.js";
 import { explain } from "./refusals.js";
-import { inSteps } from "./element.js";
+import { blinded, lost } from "./losses.js";
 import { parseFault } from "./protocol.js";
 import { Past } from "./past.js";
 import { Pointing } from "./pointing.js";
@@ -147,7 +147,10 @@ export class Page {
     const [text, session] = [line.trim(), this.session];
     if (!text) return null;
     const hindrance = this.hindrance || (text.length > LONGEST_LINE ? "This is too long for one command: the program takes lines of up to 1,048,576 bytes." : "");
-    if (hindrance || !session) return this.say(hindrance, "bad"), null;
+    if (hindrance || !session) {
+      this.showControls();
+      return this.say(hindrance, "bad"), null;
+    }
     const [word, count] = wordsOf(text);
     if (word === "run" && /^[1-9]\d{0,6}$/.test(count) && Number(count) > PORTION && Number(count) <= MOST_STEPS) return this.run(Number(count));
     return this.doing(() => this.performNow(session, text));
@@ -166,7 +169,7 @@ export class Page {
       await this.after(line, reply);
       return reply;
     } catch (fault) {
-      this.lost(session, fault);
+      lost(this, session, fault);
       return null;
     }
   }
@@ -184,34 +187,6 @@ export class Page {
     if (reply.words[1] === "B4") this.pointing.forbid(reply.words.slice(2));
   }
 
-  // A session that answers no more: it is said, and its commands can be taken again.
-  /**
-   * @param {Session} session
-   * @param {unknown} fault
-   */
-  lost(session, fault) {
-    if (session !== this.session || session.isLeft) return;
-    const reason = fault instanceof SessionGone ? fault.message : String(fault);
-    this.views.transcript.fault(`The session is gone: ${reason}.`);
-    this.say(`The session is gone: ${reason}. What was printed and drawn is that of before.`, "bad");
-    this.showControls();
-  }
-
-  // Takes the kept commands again in a new session, but for the last one where the session died of it.
-  async bringBack() {
-    const { session, machine } = this;
-    if (!session || !machine) return;
-    const { commands, source, breakpoints } = session;
-    await this.doing(async () => {
-      const fresh = await Session.open(machine, source);
-      await this.swap(fresh);
-      await this.replay(commands);
-      await fresh.setBreaks(breakpoints);
-      this.views.editor.markBreaks(breakpoints);
-      this.say(`${inSteps(fresh.log.length)} are there again.`);
-    });
-  }
-
   // Performs commands one after another, and shows the state after the last.
   /** @param {string[]} commands */
   async replay(commands) {
@@ -221,7 +196,7 @@ export class Page {
       try {
         for (const line of commands) this.views.transcript.add(line, await session.perform(line));
       } catch (fault) {
-        this.lost(session, fault);
+        lost(this, session, fault);
       }
       if (session === this.session) await this.refresh();
     });
@@ -251,7 +226,7 @@ export class Page {
         this.say(`${reply ? this.words.reply(asked, reply) : endOfRun(taken, reason)} ${((performance.now() - began) / 1000).toFixed(1)} s.`);
         return told;
       } catch (fault) {
-        this.lost(session, fault);
+        lost(this, session, fault);
         return null;
       } finally {
         this.views.status.progress(0, 0);
@@ -279,7 +254,7 @@ export class Page {
       await this.pointing.color();
       this.tell();
     } catch (fault) {
-      if (stamp === this.stamp) this.lost(session, fault);
+      if (stamp === this.stamp) blinded(this, session, fault);
     }
     this.annotating.begin(stamp);
   }

@@ -126,7 +126,8 @@ function listed(title, values) {
  */
 function channelCard({ name, capacity, isClosed, items, senders, receivers }, on) {
   const top = make("div", { class: "top" }, make("strong", {}, name), make("span", { class: "state" }, `${isClosed ? "closed" : "open"}, room for ${capacity}`));
-  const item = (/** @type {string} */ it, /** @type {number} */ at) => asked("Find the step that sent it", it, () => on.findStep({ item: [name, items.length - at] }));
+  const sending = senders.filter((it) => !parseWaiter(it).clause).length; // their sends come after those of the items
+  const item = (/** @type {string} */ it, /** @type {number} */ at) => asked("Find the step that sent it", it, () => on.findStep({ item: [name, items.length - at + sending] }));
   const waiter = (/** @type {string} */ it) => asked("Find the step in which it began to wait", it, () => on.findStep({ waiter: parseWaiter(it).goroutine }));
   const rows = [listed("items", items.slice(0, 60).map(item)), listed("senders", senders.map(waiter)), listed("receivers", receivers.map(waiter))];
   return make("div", { class: "card", "data-channel": name }, top, make("dl", { class: "queues" }, ...rows));

@@ -282,7 +282,8 @@ export function drawRows(place, edges, drawing, from, to) {
   };
   const arrows = edges.filter(crosses).map((edge) => drawEdge(place, edge, view, near));
   const lives = place.rows.length ? place.names.map((name) => drawLife(place, name, from, last)) : [];
-  const cycle = view.cycle.length && last === place.rows.length - 1 ? drawCycle(place, view.cycle) : "";
+  const isWhole = view.cycle.every((name) => place.lefts.has(name));
+  const cycle = view.cycle.length && isWhole && last === place.rows.length - 1 ? drawCycle(place, view.cycle) : "";
   const margin = left ? drawMargin(place, drawn, left) : "";
   const quiet = (/** @type {string[]} */ parts) => `<g aria-hidden="true">${parts.join("")}</g>`;
   return [quiet([...drawn.map((it) => it.under), ...lives, ...arrows, cycle]), ...drawn.map((it) => it.over), margin].join("");

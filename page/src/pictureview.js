@@ -5,6 +5,7 @@ import { DEFINITIONS, NOTHING_POINTED, cycleHeight, drawNames, drawRows } from "
 import { Rows } from "./rows.js";
 
 const SIZES = [[14, 10], [18, 11], [22, 12], [28, 14], [36, 18], [44, 22]]; // heights of rows, and of their letters
+const MEASURED = 300; // rows: of more, the labels in view are measured
 const AROUND = 8; // rows drawn beyond those in view
 const TALLEST = 15000000; // pixels: browsers show no taller element
 const BUTTON = 24; // its least height
@@ -56,6 +57,7 @@ export class PictureView {
     /** @type {number | null} */
     this.pressedRow = null;
     this.frame = 0;
+    this.isToMeasure = false;
     this.length = 0;
     this.head = svg("picture names", host);
     this.head.setAttribute("aria-hidden", "true");
@@ -140,7 +142,7 @@ export class PictureView {
     this.rows = new Rows(log, { isFolded: this.isFolded, hidden: this.hidden, isKept });
     this.measure();
     this.host.style.setProperty("--picture-size", `${SIZES[this.size][1]}px`);
-    this.draw();
+    this.drawSoon();
   }
 
   // Lays out the rows around the view.
@@ -148,7 +150,7 @@ export class PictureView {
     if (!this.shown || !this.rows) return;
     const [from, to] = this.inView();
     const { clientWidth: room } = this.host;
-    const how = { rowHeight: this.rowHeight, letter: this.letter, room, first: from, last: this.rows.length > 2000 ? to : Infinity, top: this.top };
+    const how = { rowHeight: this.rowHeight, letter: this.letter, room, first: from, last: this.rows.length > MEASURED ? to : Infinity, top: this.top };
     this.layout = layOut({ ...this.shown, rows: this.rows, labels: this.labels }, how);
     const height = this.layout.y(this.rows.length) + 6 + cycleHeight(this.view.cycle);
     const width = Math.max(this.layout.width, room);
@@ -162,8 +164,7 @@ export class PictureView {
   /** @param {Edge[]} edges */
   update(edges) {
     this.edges = edges;
-    this.measure();
-    this.draw();
+    this.drawSoon(true);
   }
 
   /** @param {PointedView} view */
@@ -174,13 +175,16 @@ export class PictureView {
     this.view = view;
     if (isOther) this.measure();
     if (isTaller && atEnd) this.host.scrollTop = this.host.scrollHeight;
-    this.draw();
+    this.drawSoon();
   }
 
-  drawSoon() {
+  // Draws before the next frame, once; what was found since may need more room.
+  drawSoon(isMeasured = false) {
+    this.isToMeasure ||= isMeasured || Boolean(this.rows && this.rows.length > MEASURED);
     cancelAnimationFrame(this.frame);
     this.frame = requestAnimationFrame(() => {
-      if (this.rows && this.rows.length > 2000) this.measure();
+      if (this.isToMeasure) this.measure();
+      this.isToMeasure = false;
       this.draw();
     });
   }

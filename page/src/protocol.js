@@ -76,7 +76,7 @@ function parseFrame(line) {
 
 // The reply of `show G`.
 /**
- * @param {Reply} reply
+ * @param {{lines: string[]}} reply
  * @returns {Goroutine}
  */
 export function parseGoroutine(reply) {
@@ -87,7 +87,7 @@ export function parseGoroutine(reply) {
 // The reply of `chan C`.
 /**
  * @param {string} name
- * @param {Reply} reply
+ * @param {{lines: string[]}} reply
  * @returns {Channel}
  */
 export function parseChannel(name, reply) {

@@ -15,8 +15,9 @@ const SHOWN = 200; // of more goroutines, and of more channels, the first are sh
 export async function readScene(remote, names, channels, statements) {
   const [shown, made] = [names.slice(0, SHOWN), channels.slice(0, SHOWN)];
   const hidden = names.length - shown.length + channels.length - made.length;
-  const replies = await remote.questions([...shown.map((name) => `show ${name}`), ...made.map((name) => `chan ${name}`)]);
-  const [console] = await remote.questions(["console"], "tail");
+  const commands = [...shown.map((name) => `show ${name}`), ...made.map((name) => `chan ${name}`), "console"];
+  const replies = await remote.questions(commands, "tail");
+  const console = replies[commands.length - 1];
   const goroutines = shown.map((_, at) => placed(parseGoroutine(replies[at]), statements));
   return { goroutines, channels: made.map((name, at) => parseChannel(name, replies[shown.length + at])), console, hidden, clauses: new Map() };
 }

@@ -106,11 +106,13 @@ export class Session {
    * @returns {Promise<Reply>}
    */
   async command(line) {
-    const reply = await this.user.ask(line);
     const words = wordsOf(line);
+    const changes = CHANGES.has(words[0]);
+    const mirrored = changes ? this.mirror.begin(line) : null;
+    const reply = await this.user.ask(line);
     this.note(words, reply);
-    if (CHANGES.has(words[0])) {
-      await this.mirror.follow(line, reply);
+    if (changes) {
+      await this.mirror.follow(line, reply, mirrored);
       if (!this.isRunning) this.follower.forget(this.log.apply(line, reply));
     }
     if (reply.isOk && (words[0] === "break" || words[0] === "clear")) await this.noteBreak(words);

@@ -1,25 +1,34 @@
 // What a worker hands on of the replies that it got, so that long texts are read beside the page.
 
-import { goroutineOf, numberOf, parseReplies } from "./protocol.js";
+import { parseReplies } from "./protocol.js";
 
+const ZERO = "0".charCodeAt(0);
 const LINES = 1100; // of more lines the last are handed on: more than a goroutine has frames
 
-// A list of steps as numbers: of each goroutine the first and the last that is listed.
+// A list of steps as numbers: of each goroutine the first and the last that is listed. Such a line may be long, so it is not split.
 /**
- * @param {Reply} reply
+ * @param {string} line
  * @returns {Listed}
  */
-function listed(reply) {
+function listed(line) {
+  const [status, ...rest] = line.slice(0, 40).split(" ");
+  const isOk = status === "ok";
+  const count = Number(rest[isOk ? 0 : 1]) || 0;
   /** @type {Map<string, number[]>} */
   const spans = new Map();
-  const from = reply.isOk ? 2 : 3;
-  for (let at = from; at < reply.words.length; at++) {
-    const id = reply.words[at];
-    const span = spans.get(goroutineOf(id));
-    if (span) span[1] = numberOf(id);
-    else spans.set(goroutineOf(id), [numberOf(id), numberOf(id)]);
+  let at = line.indexOf("g");
+  for (let left = count; left > 0 && at >= 0; left--) {
+    const sign = line.indexOf("#", at);
+    let number = 0;
+    let end = sign + 1;
+    for (let digit = line.charCodeAt(end) - ZERO; digit >= 0 && digit <= 9; digit = line.charCodeAt(++end) - ZERO) number = 10 * number + digit;
+    const name = line.slice(at, sign);
+    const span = spans.get(name);
+    if (span) span[1] = number;
+    else spans.set(name, [number, number]);
+    at = end + 1;
   }
-  return { isOk: reply.isOk, count: reply.words.length - from, spans };
+  return { isOk, count, spans, last: isOk ? "ok" : line };
 }
 
 // A log as columns: the goroutine and the kind of each step.
@@ -50,10 +59,13 @@ function columns(reply) {
 const tail = (reply) => ({ isOk: reply.isOk, count: reply.lines.length, lines: reply.lines.slice(-LINES), last: reply.last });
 
 /** @type {{[shape: string]: (reply: Reply) => any}} */
-const SHAPES = { replies: (reply) => reply, listed, columns, tail };
+const SHAPES = { replies: (reply) => reply, columns, tail };
 
 /**
  * @param {string} text
  * @param {string} shape
  */
-export const shaped = (text, shape) => parseReplies(text).map(SHAPES[shape]);
+export function shaped(text, shape) {
+  if (shape === "listed") return text.split("\n").filter((line) => line).map(listed);
+  return parseReplies(text).map(SHAPES[shape]);
+}

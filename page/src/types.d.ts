@@ -7,7 +7,7 @@ interface Frame { name: string; variables: Variable[] }
 interface Goroutine { name: string; state: string; steps: number; line: number | null; frames: Frame[]; statement?: Statement | null; doing?: string }
 interface Channel { name: string; capacity: number; isClosed: boolean; items: string[]; senders: string[]; receivers: string[] }
 interface Tail { isOk: boolean; count: number; lines: string[]; last?: string }
-interface Listed { isOk: boolean; count: number; spans: Map<string, number[]> }
+interface Listed { isOk: boolean; count: number; spans: Map<string, number[]>; last: string }
 interface LogColumns { isOk: boolean; names: string[]; kinds: string[]; of: Int32Array; kindOf: Int32Array }
 
 interface Step { id: string; goroutine: string; number: number; kind: string; row: number }

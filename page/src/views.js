@@ -98,10 +98,14 @@ const state = {
 
 // Which goroutines have a column.
 const columns = {
+  shown: "",
   /** @param {Page} page */
   show(page) {
     const { picture } = page.views;
     const names = page.session?.log.names.slice(0, MOST_COLUMNS) || [];
+    const shown = names.map((name) => `${name} ${page.annotating.functionOf.get(name)} ${picture.hidden.has(name)}`).join();
+    if (columns.shown === shown) return;
+    columns.shown = shown;
     const box = (/** @type {string} */ name) => make("label", {}, make("input", { type: "checkbox", checked: !picture.hidden.has(name), onchange: () => page.toggleColumn(name) }), ` ${name} ${page.annotating.functionOf.get(name) || ""}`);
     find("columns-list").replaceChildren(...names.map(box));
   },

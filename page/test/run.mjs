@@ -1,5 +1,5 @@
-// run.mjs PAGE.html FOLDER [--short]: tests a page. Pictures to look at go to FOLDER. The short form has the example sessions and one
-// story. The last line counts the checks; the status is 0 where all passed, else 1.
+// run.mjs PAGE.html FOLDER [--short | --only PART]: tests a page. Pictures to look at go to FOLDER. The short form has the example sessions
+// and one story. The last line counts the checks; the status is 0 where all passed, else 1.
 
 import { spawnSync } from "node:child_process";
 import { basename } from "node:path";
@@ -8,8 +8,13 @@ import { counts, equal, failed, noFaults } from "./checks.mjs";
 import { looks } from "./looks.mjs";
 import { sessions } from "./sessions.mjs";
 import { firstStory, stories } from "./story.mjs";
+import { access } from "./access.mjs";
+import { lessons } from "./lesson.mjs";
+import { saidWords } from "./words.mjs";
+import { truths } from "./truths.mjs";
+import { works } from "./work.mjs";
 
-const [page, folder, form] = process.argv.slice(2);
+const [page, folder, form, only] = process.argv.slice(2);
 
 // The page says of its program whether it is proved, where it is named and in the help.
 async function build(browser) {
@@ -46,6 +51,11 @@ const ALL = [
   { name: "sessions", part: sessions },
   { name: "stories in one run that waits", part: stories },
   { name: "stories run anew for each exchange", part: stories, hash: "#repeat" },
+  { name: "true in every state", part: truths },
+  { name: "work that is kept", part: works },
+  { name: "words", part: saidWords },
+  { name: "for everybody", part: access },
+  { name: "for a lesson", part: lessons },
   { name: "looks", part: (browser) => looks(browser, folder) },
 ];
 const SHORT = [ALL[0], ALL[1], { name: "a story", part: firstStory }];
@@ -70,7 +80,8 @@ ofTool("style", "eslint", "-f", "compact", "--ext", ".js,.mjs", `${HERE}../src`,
 // How the program's module becomes one for WebAssembly, and what is refused.
 ofCommand("module", `${HERE}module.py`);
 ofCommand("modules of the page", process.execPath, `${HERE}unit.mjs`);
-for (const it of form === "--short" ? SHORT : ALL) {
+const PARTS = { "--short": SHORT, "--only": ALL.filter(({ name }) => name === only) };
+for (const it of PARTS[form] || ALL) {
   try {
     await run(it);
   } catch (fault) {

@@ -1,0 +1,85 @@
+// Work is not lost: over a reload, a change of story, a refused text, a busy page. And what a refusal says.
+
+import { Hands } from "./hands.mjs";
+import { equal, holds } from "./checks.mjs";
+
+const OWN = "package main\nfunc main() {\n\tprintln(7)\n}\n";
+
+async function reload(browser, hands) {
+  await browser.call("Page.reload");
+  await hands.until("window.started");
+  await browser.run("window.started");
+  await hands.idle();
+}
+
+async function overAReload(hands) {
+  const { browser } = hands;
+  await hands.source(OWN);
+  await hands.browser.run("rewind.page.toggleBreak(3)");
+  await hands.perform("step g0");
+  await hands.browser.run("document.getElementById('theme').value = 'dark', document.getElementById('theme').onchange()");
+  await new Promise((go) => setTimeout(go, 400));
+  await reload(browser, hands);
+  equal("a reload keeps the source", await browser.run("rewind.page.views.editor.text"), OWN);
+  equal("and the session", [await hands.ids(), await hands.texts("#console li")], [["g0#1"], ["7"]]);
+  equal("and the breakpoint, and the colours", await browser.run("[[...rewind.page.session.breakpoints], document.documentElement.dataset.theme]"), [[3], "dark"]);
+  await hands.browser.run("rewind.page.toggleBreak(3), document.getElementById('theme').value = '', document.getElementById('theme').onchange()");
+  await hands.idle();
+}
+
+async function overAChangeOfStory(hands) {
+  await hands.source(OWN);
+  await hands.story("deadlock");
+  await hands.browser.run("rewind.page.views.editor.editor.undo()");
+  equal("undoing in the editor brings the text before a story back", await hands.browser.run("rewind.page.views.editor.text"), OWN);
+}
+
+async function refusedTexts(hands) {
+  await hands.source(OWN);
+  await hands.perform("step g0");
+  await hands.source(OWN.replace("println(7)", "println(seven)"));
+  equal("a refused text leaves the session as it is", await hands.ids(), ["g0#1"]);
+  holds("the page says so", /The session is still that of the text before/.test(await hands.text("#status")));
+  holds("and names what is not declared", /the name seven is not declared/.test(await hands.text(".refusal-note")));
+  equal("and marks it", await hands.texts(".refused-word"), ["seven"]);
+  equal("lines of another text are not marked", await hands.texts("#editor .at-line"), []);
+  await hands.source(`package main\nimport "fmt"\nfunc main() {}\n`);
+  holds("an import is refused in words for students", /import/.test(await hands.text(".refusal-note")) && !/no file has these tokens/.test(await hands.text(".refusal-note")));
+  await hands.source("package main\nfunc main() {\n\tx := 1\n\tx = x + true\n}\n");
+  equal("the whole statement is marked", (await hands.texts(".refused-word")).join("").replace(/\s/g, ""), "x=x+true");
+}
+
+async function keptLines(hands) {
+  await hands.source(OWN.replace("println(7)", "for { }"));
+  await hands.browser.run("rewind.page.perform('run 400000'), 0");
+  await hands.until("rewind.page.session.isRunning");
+  await hands.browser.run("document.getElementById('line').value = 'step g0', document.getElementById('ask').onsubmit(new Event('submit'))");
+  await hands.browser.run("rewind.page.stop()");
+  await hands.idle();
+  equal("a line that was typed during a run is kept", await hands.browser.run("document.getElementById('line').value"), "step g0");
+  await hands.browser.run("document.getElementById('line').value = ''");
+  holds("a stopped run says so", /stopped by you/.test(await hands.text("#status")));
+}
+
+async function numbersOfRuns(hands) {
+  await hands.source(OWN);
+  for (const count of ["0", "1.5", "2000000", "1e3", "ten"]) {
+    await hands.browser.run(`document.getElementById('count').value = ${JSON.stringify(count)}`);
+    await hands.act("run");
+    equal(`a run of ${count} steps is refused in words`, await hands.text("#status"), "Run takes a whole number of steps, from 1 to 1,000,000.");
+  }
+  await hands.browser.run("document.getElementById('count').value = '100'");
+}
+
+async function storyOfAnother(hands) {
+  await hands.story("send_on_closed");
+  holds("a story has a next command", await hands.browser.run("!document.getElementById('next').hidden"));
+  await hands.source(OWN);
+  holds("a program of one's own has none", await hands.browser.run("document.getElementById('next').hidden"));
+}
+
+const WORKS = [overAReload, overAChangeOfStory, refusedTexts, keptLines, numbersOfRuns, storyOfAnother];
+
+export async function works(browser) {
+  for (const work of WORKS) await work(new Hands(browser));
+}
