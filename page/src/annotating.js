@@ -3,12 +3,14 @@
 import { SessionGone, Unanswered } from "./remote.js";
 import { cycleIn, waitGraph, waitsOf } from "./waits.js";
 import { pause } from "./element.js";
+import { starterOf } from "./finding.js";
 
 const WHOLE = 20000; // a log of up to this many steps is followed from its start; of a longer one what is in view
 const FOLLOWED = 300000; // a longer log is not followed at all
 export const ALL_EDGES = 5000; // of a longer log only the edges into the steps around the view are found
-const NEAR = 40; // so many steps above and below it
+const NEAR = 10; // so many steps above and below it
 const EDGES_AT_ONCE = 60;
+const EDGES_OF_LONG = 4; // at once of a longer log, whose causes take their time
 
 export class Annotating {
   /** @param {import("./page.js").Page} page */
@@ -52,9 +54,7 @@ export class Annotating {
     if (!session || isOld()) return;
     await this.findClauses(session);
     if (isOld()) return;
-    await session.follower.inTurn(async () => {
-      if (session.log.length <= FOLLOWED) await this.follow(session, isOld);
-    });
+    if (session.log.length <= FOLLOWED) await this.follow(session, isOld);
     if (isOld()) return;
     this.findCycle(session);
     this.done = stamp;
@@ -65,8 +65,10 @@ export class Annotating {
   // Shows what was found since.
   show() {
     const { page } = this;
+    this.functions();
     page.views.picture.update(this.edges());
     page.views.overview.draw();
+    page.views.columns.show(page);
     page.pointing.draw();
     page.showControls();
   }
@@ -96,7 +98,7 @@ export class Annotating {
     let shown = performance.now();
     const ranges = [this.wanted(session).edges, this.wanted(session).notes]; // what is in view comes first
     for (const [from, to] of session.log.length <= WHOLE ? ranges.slice(1) : ranges) {
-      while (!isOld() && !(await session.follower.annotate(from, to))) {
+      while (!isOld() && !(await session.follower.inTurn(() => session.follower.annotate(from, to)))) {
         if (performance.now() - shown < 400) continue;
         this.page.views.picture.update(this.edges());
         shown = performance.now();
@@ -105,15 +107,17 @@ export class Annotating {
     await this.findEdges(session, isOld);
   }
 
+  // Finds edges, a few steps at once, so that whoever wants the follower meanwhile gets it.
   /**
    * @param {import("./session.js").Session} session
    * @param {() => boolean} isOld
    */
   async findEdges(session, isOld, [from, to] = this.wanted(session).edges) {
     const { log, follower, direct } = session;
-    for (let row = from; row < to && !isOld(); row += EDGES_AT_ONCE) {
-      const missing = log.steps(row, Math.min(to, row + EDGES_AT_ONCE)).filter(({ id }) => follower.notes.has(id) && !follower.notes.get(id)?.edges);
-      if (missing.length) await direct.find(missing);
+    const some = log.length > ALL_EDGES ? EDGES_OF_LONG : EDGES_AT_ONCE;
+    for (let row = from; row < to && !isOld(); row += some) {
+      const missing = log.steps(row, Math.min(to, row + some)).filter(({ id }) => follower.notes.has(id) && !follower.notes.get(id)?.edges);
+      if (missing.length) await follower.inTurn(async () => (isOld() ? undefined : direct.find(missing)));
     }
   }
 
@@ -151,8 +155,21 @@ export class Annotating {
     for (const { name, frames } of session?.scene.goroutines || []) {
       const outermost = frames[frames.length - 1];
       if (outermost) this.functionOf.set(name, outermost.name);
+      else if (session && !this.functionOf.has(name)) this.nameByStart(session, name);
     }
     return this.functionOf;
+  }
+
+  // A goroutine that is done has no frames: its function stands in the statement that started it.
+  /**
+   * @param {import("./session.js").Session} session
+   * @param {string} name
+   */
+  nameByStart(session, name) {
+    const started = name === "g0" ? "" : starterOf(session, name);
+    const called = /^go (\w+)/.exec(this.page.note(started)?.statement?.text || "");
+    if (called) this.functionOf.set(name, called[1]);
+    else if (name === "g0") this.functionOf.set(name, "main");
   }
 
   // What the picture does not show, in words, or "".

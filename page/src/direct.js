@@ -38,25 +38,28 @@ export class DirectEdges {
   async find(steps) {
     this.known.clear();
     const open = steps.filter(({ id }) => this.note(id) && !this.note(id)?.edges);
+    const notes = open.map(({ id }) => this.note(id));
     const resting = open.filter(({ id, kind }) => restsOnOthers(kind, this.log.kindOf(this.log.before(id))));
     await this.askCauses(resting.flatMap(({ id }) => [id, this.log.before(id)]));
     const sources = new Map(resting.map((step) => [step.id, this.newSources(step)]));
     await this.askCauses([...sources.values()].flat());
-    for (const step of open) {
-      const note = this.note(step.id);
-      if (note) note.edges = sources.has(step.id) ? this.into(step, sources.get(step.id) || []) : [];
-    }
+    open.forEach((step, at) => {
+      const note = notes[at];
+      if (!note || this.note(step.id) !== note) return; // the step was taken back meanwhile
+      note.edges = sources.has(step.id) ? this.into(step, sources.get(step.id) || []) : [];
+    });
   }
 
   /** @param {string[]} ids */
   async askCauses(ids) {
-    const open = [...new Set(ids)].filter((id) => id && !this.note(id)?.causes && !this.known.has(id));
-    if (!open.length) return;
-    const last = Math.max(...open.map((id) => this.log.row(id)));
-    if (this.follower.at <= last || this.follower.at > this.log.changedFrom) await this.follower.moveTo(this.log.length);
+    const wanted = [...new Set(ids)].filter((id) => id && !this.note(id)?.causes && !this.known.has(id));
+    if (!wanted.length) return;
+    const last = Math.max(...wanted.map((id) => this.log.row(id)));
+    if (this.follower.at <= last || this.follower.at > this.log.changedFrom) await this.follower.moveTo(last + 1);
     const session = await this.follower.session();
+    const open = wanted.filter((id) => this.log.row(id) >= 0 && this.log.row(id) < this.follower.at);
     for (let at = 0; at < open.length; at += AT_ONCE) {
-      const some = open.slice(at, at + AT_ONCE);
+      const some = open.slice(at, at + AT_ONCE).filter((id) => this.log.row(id) < this.log.changedFrom);
       const lists = await session.questions(some.map((id) => `causes ${id}`), "listed");
       some.forEach((id, which) => this.keepCauses(id, lists[which]));
     }

@@ -76,30 +76,18 @@ export function stepsWith({ log, follower }, text) {
   return found;
 }
 
-// The step that a `back` would begin with, or "": it is taken back and done again in the session that follows the log.
+// The step that a `back` would begin with, or "": it is tried in the session that follows the log.
 /**
  * @param {Session} session
  * @param {string} command
  */
-function firstOf({ follower, log }, command) {
-  return follower.inTurn(async () => {
-    await follower.moveTo(log.length);
-    return (await triedBack(follower, command))[0] || "";
-  });
-}
+const firstOf = ({ follower }, command) => follower.inTurn(() => triedBack(follower, command));
 
 /**
  * @param {import("./follower.js").Follower} follower
  * @param {string} command
- * @returns {Promise<string[]>}
  */
-async function triedBack(follower, command) {
-  const session = await follower.session();
-  const reply = await session.ask(command);
-  if (!reply.isOk) return [];
-  await session.questions(["redo"]);
-  return reply.words.slice(2);
-}
+const triedBack = async (follower, command) => (await follower.without(command, async (_, gone) => gone[0])) || "";
 
 /**
  * @param {Session} session
@@ -114,18 +102,17 @@ export const giverOf = (session, goroutine, name) => firstOf(session, `back var 
  * @param {string} channel
  * @param {number} fromEnd
  */
-export async function senderOf({ follower, log }, channel, fromEnd) {
+export async function senderOf({ follower }, channel, fromEnd) {
   return follower.inTurn(async () => {
-    await follower.moveTo(log.length);
     const tried = (/** @type {number} */ count) => triedBack(follower, `back send ${channel} ${count}`);
     let [low, high] = [0, 1];
-    while (high < MOST_SENDS && (await tried(high)).length) [low, high] = [high, high * 2];
+    while (high < MOST_SENDS && (await tried(high))) [low, high] = [high, high * 2];
     while (high - low > 1) {
       const middle = (low + high) >> 1;
-      if ((await tried(middle)).length) low = middle;
+      if (await tried(middle)) low = middle;
       else high = middle;
     }
-    return low - fromEnd + 1 > 0 ? (await tried(low - fromEnd + 1))[0] || "" : "";
+    return low - fromEnd + 1 > 0 ? tried(low - fromEnd + 1) : "";
   });
 }
 
@@ -135,28 +122,12 @@ export async function senderOf({ follower, log }, channel, fromEnd) {
  * @param {string} id
  * @returns {Promise<{count: number, scene: Scene} | null>}
  */
-export function withoutStep({ follower, log }, id) {
-  return follower.inTurn(async () => {
-    await follower.moveTo(log.length);
-    const session = await follower.session();
-    const reply = await session.ask(`back ${id}`);
-    if (!reply.isOk) return null;
-    try {
-      const gone = new Set(reply.words.slice(2));
-      const left = log.steps(0, log.length).filter((step) => !gone.has(step.id));
-      return { count: gone.size, scene: await sceneOf(follower, left) };
-    } finally {
-      await session.questions(["redo"]);
-    }
-  });
-}
-
-/**
- * @param {import("./follower.js").Follower} follower
- * @param {Step[]} steps
- */
-async function sceneOf(follower, steps) {
-  const log = new Log();
-  log.restart(steps);
-  return readScene(await follower.session(), log.names, log.channels, follower.statements);
+export function withoutStep({ follower }, id) {
+  return follower.inTurn(() =>
+    follower.without(`back ${id}`, async (session, gone, left) => {
+      const log = new Log();
+      log.restart(left);
+      return { count: gone.length, scene: await readScene(session, log.names, log.channels, follower.statements) };
+    }),
+  );
 }

@@ -83,18 +83,26 @@ export class Follower {
     }
   }
 
-  // Goes to where this many steps of the log are taken.
+  // Goes to where this many steps of the log are taken. The log may change meanwhile.
   /** @param {number} row */
   async moveTo(row) {
     const session = await this.session();
-    const kept = Math.min(this.at, this.log.changedFrom, row);
-    this.log.changedFrom = Infinity;
-    while (this.at > kept) {
-      const count = Math.min(AT_ONCE, this.at - kept);
-      await session.questions(Array(count).fill("undo"));
-      this.at -= count;
+    while (!this.lost) {
+      if (this.at <= this.log.changedFrom) this.log.changedFrom = Infinity;
+      const goal = Math.min(row, this.log.length, this.log.changedFrom);
+      if (this.at > goal) await this.undoSome(session, Math.min(AT_ONCE, this.at - goal));
+      else if (this.at < goal) await this.takeSome(session, Math.min(goal, this.at + AT_ONCE));
+      else return;
     }
-    while (this.at < row && !this.lost) await this.takeSome(session, Math.min(row, this.at + AT_ONCE));
+  }
+
+  /**
+   * @param {RemoteSession} session
+   * @param {number} count
+   */
+  async undoSome(session, count) {
+    this.at -= count;
+    await session.questions(Array(count).fill("undo"));
   }
 
   /**
@@ -130,8 +138,9 @@ export class Follower {
     while (first < last && this.notes.has(this.log.id(first))) first++;
     if (first >= last || this.lost) return true;
     await this.moveTo(first);
-    if (this.lost) return true;
-    await this.note(this.log.steps(first, Math.min(last, first + ASKED)));
+    const steps = this.at === first ? this.log.steps(first, Math.min(last, first + ASKED)) : [];
+    if (this.lost || !steps.length) return true;
+    await this.note(steps);
     return first + ASKED >= last;
   }
 
@@ -145,7 +154,7 @@ export class Follower {
       const some = replies.slice(at, at + one.commands.length);
       at += one.commands.length;
       if (!this.check(one.step, some[one.commands.indexOf(stepCommand(one.step, this.clauses))].last)) break;
-      this.keep(one, some);
+      if (one.step.row < this.log.changedFrom) this.keep(one, some); // else the step was taken back meanwhile
     }
     if (!this.isUnsure) await this.takePrinted(session, steps);
   }
@@ -213,6 +222,31 @@ export class Follower {
       const lines = texts[which].lines.slice(-notes.length);
       notes.forEach((note, at) => (note.printed = [lines[at]]));
     });
+  }
+
+  // Takes steps back by a command, and reads what is left: `read` is given the names of those that went, and of those that are left.
+  // It stands before the first of them afterwards. Nothing where the command is refused.
+  /**
+   * @template T
+   * @param {string} command
+   * @param {(session: RemoteSession, gone: string[], left: Step[]) => Promise<T>} read
+   * @returns {Promise<T | null>}
+   */
+  async without(command, read) {
+    await this.moveTo(this.log.length);
+    const session = await this.session();
+    const steps = this.log.steps(0, this.at);
+    const reply = await session.ask(command);
+    if (!reply.isOk) return null;
+    const gone = new Set(/** @type {string[]} */ (reply.words.slice(2)));
+    const first = steps.findIndex(({ id }) => gone.has(id));
+    const left = steps.filter(({ id }) => !gone.has(id));
+    this.at = first;
+    try {
+      return await read(session, [...gone], left);
+    } finally {
+      await session.questions(Array(left.length - first).fill("undo"));
+    }
   }
 
   // The panes after this many steps of the log.

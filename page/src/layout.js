@@ -84,14 +84,14 @@ function statementRoom(room, left, letter) {
 
 // `first` and `last` are the first and the last row of which labels are measured.
 /**
- * @param {{log: import("./log.js").Log, rows: import("./rows.js").Rows, names: string[], functions: Map<string, string>,
+ * @param {{log: import("./log.js").Log, rows: import("./rows.js").Rows, functions: Map<string, string>,
  *   notes: (id: string) => Note | undefined, labels: string}} shown
  * @param {{rowHeight: number, letter?: number, room?: number, first?: number, last?: number, top?: number}} how
  * @returns {Place}
  */
 export function layOut(shown, { rowHeight, letter = 7, room = Infinity, first = 0, last = Infinity, top = 0 }) {
   const { rows, log, functions, notes } = shown;
-  const names = shown.names.filter((name) => !rows.hidden.has(name));
+  const names = log.names.filter((name) => !rows.hidden.has(name));
   const gutter = Math.ceil(24 + String(log.length).length * (letter + 0.4));
   const left = gutter + AFTER_GUTTER;
   const pitch = pitchOf([...names, "g0"], names.map((name) => (functions.get(name) || "").slice(0, MOST_HEAD)), room - left, letter);

@@ -34,7 +34,8 @@ export class Log {
     this.byName = new Map();
     /** @type {Map<string, string>} */
     this.gone = new Map(); // what `redo` would take: the steps with their kinds
-    this.changedFrom = 0; // no row before this one was changed since it was last set
+    this.changedFrom = Infinity; // no row before this one was changed since it was last set
+    this.version = 0; // counts the changes
     /** @type {string[] | null} */
     this.named = null;
     this.column("g0");
@@ -136,6 +137,7 @@ export class Log {
 
   /** @param {number} row */
   touch(row) {
+    this.version++;
     this.changedFrom = Math.min(this.changedFrom, row);
   }
 
@@ -144,6 +146,7 @@ export class Log {
    * @param {string} kind
    */
   append(goroutine, kind) {
+    this.version++;
     const column = this.column(goroutine);
     column.rows.push(this.length);
     column.count(kind, 1);

@@ -38,6 +38,20 @@ export class Mirror {
     this.remote = null;
     this.isClosed = false;
     this.isBehind = false; // it does not stand where the user's session does
+    /** @type {Promise<unknown>} */
+    this.turn = Promise.resolve();
+  }
+
+  // Does one thing after another: what is tried and undone must not be met by a command of the user.
+  /**
+   * @template T
+   * @param {() => Promise<T>} act
+   * @returns {Promise<T>}
+   */
+  inTurn(act) {
+    const done = this.turn.then(act);
+    this.turn = done.catch(() => {});
+    return done;
   }
 
   async open() {
@@ -63,7 +77,7 @@ export class Mirror {
    */
   begin(line) {
     if (this.isBehind || wordsOf(line)[0] === "redo") return null;
-    const begun = this.session.ask(line);
+    const begun = this.inTurn(async () => this.session.ask(line));
     begun.catch(() => {}); // its end is seen by `follow`
     return begun;
   }
@@ -78,7 +92,7 @@ export class Mirror {
     if (reply.words[1] === "B6") this.isBehind = true;
     try {
       if (begun) this.compare(wordsOf(line)[0], reply, await begun);
-      else if (reply.isOk && !this.isBehind) await this.take(listedSteps(reply).map((id) => ({ id, kind: this.log.gone.get(id) || "" })));
+      else if (reply.isOk && !this.isBehind) await this.inTurn(() => this.take(listedSteps(reply).map((id) => ({ id, kind: this.log.gone.get(id) || "" }))));
     } catch {
       this.isBehind = true;
     }
@@ -111,15 +125,15 @@ export class Mirror {
     await this.open();
     this.isBehind = false;
     await this.take(this.log.steps(0, this.log.length));
-    await this.setBreaks(this.lines);
+    await this.session.askAll([...this.lines].map((line) => `break ${line}`));
     if (this.isBehind) throw new SessionGone("its steps could not be taken again");
   }
 
   /** @param {Set<number>} lines */
-  async setBreaks(lines) {
+  setBreaks(lines) {
     const gone = [...this.lines].filter((line) => !lines.has(line)).map((line) => `clear ${line}`);
     this.lines = lines;
-    await this.session.askAll([...gone, ...[...lines].map((line) => `break ${line}`)]);
+    return this.inTurn(async () => this.session.askAll([...gone, ...[...lines].map((line) => `break ${line}`)]));
   }
 
   // Answers by a session that stands where the user's does; one that cannot answer is made anew, once.
@@ -128,15 +142,17 @@ export class Mirror {
    * @param {(remote: RemoteSession) => Promise<T>} question
    * @returns {Promise<T>}
    */
-  async answer(question) {
-    if (this.isBehind) await this.rebuild();
-    try {
-      return await question(this.session);
-    } catch (fault) {
-      if (this.isClosed || !(fault instanceof SessionGone || fault instanceof Unanswered)) throw fault;
-      await this.rebuild();
-      return question(this.session);
-    }
+  answer(question) {
+    return this.inTurn(async () => {
+      if (this.isBehind) await this.rebuild();
+      try {
+        return await question(this.session);
+      } catch (fault) {
+        if (this.isClosed || !(fault instanceof SessionGone || fault instanceof Unanswered)) throw fault;
+        await this.rebuild();
+        return question(this.session);
+      }
+    });
   }
 
   /** @returns {Promise<LogColumns>} */
@@ -160,31 +176,29 @@ export class Mirror {
 
   // The clauses that each ready goroutine at a select could take now: each is tried and undone.
   /** @param {Goroutine[]} goroutines */
-  readyClauses(goroutines) {
+  async readyClauses(goroutines) {
     const choosing = goroutines.filter(({ state, statement }) => state === "ready" && statement?.clauses.length).slice(0, CHOOSERS);
-    return this.answer(async (remote) => {
-      /** @type {Map<string, Clause[]>} */
-      const found = new Map();
-      for (const { name, statement } of choosing) found.set(name, await this.tried(remote, name, statement?.clauses || []));
-      return found;
-    });
+    /** @type {Map<string, Clause[]>} */
+    const found = new Map();
+    for (const { name, statement } of choosing) {
+      const ready = [];
+      for (const [at, text] of (statement?.clauses || []).entries()) if (await this.canTake(name, at + 1)) ready.push({ number: at + 1, text });
+      found.set(name, ready);
+    }
+    return found;
   }
 
   /**
-   * @param {RemoteSession} remote
    * @param {string} name
-   * @param {string[]} clauses
+   * @param {number} clause
    */
-  async tried(remote, name, clauses) {
-    const ready = [];
-    for (let number = 1; number <= clauses.length; number++) {
-      const reply = await remote.ask(`step ${name} ${number}`);
+  canTake(name, clause) {
+    return this.answer(async (remote) => {
+      const reply = await remote.ask(`step ${name} ${clause}`);
       if (reply.words[1] === "Q1" || reply.words[1] === "Q2") throw new Unanswered(reply.last);
-      if (!reply.isOk) continue;
-      await remote.questions(["undo"]);
-      ready.push({ number, text: clauses[number - 1] });
-    }
-    return ready;
+      if (reply.isOk) await remote.questions(["undo"]);
+      return reply.isOk;
+    });
   }
 }
 

@@ -25,7 +25,7 @@ export const PICTURE_RULES = `
 .picture marker path{fill:var(--order)}
 .picture .tip-message path{fill:var(--message)}.picture .tip-start path{fill:var(--start)}.picture .tip-close path{fill:var(--close)}
 .picture .tip-cycle path{fill:var(--danger)}
-.picture .cycle{fill:none;stroke:var(--danger);stroke-width:2.6}.picture .cycle-word{fill:var(--danger);font-weight:700;text-anchor:middle}
+.picture .cycle{fill:none;stroke:var(--danger);stroke-width:2.6}.picture .cycle-word{fill:var(--danger);font-weight:700}
 .picture .mark{fill:var(--step);stroke:var(--step);stroke-width:1.6}
 .picture .wait .mark{fill:var(--page)}
 .picture .wait.stuck .mark{fill:var(--danger-wash);stroke:var(--danger)}
@@ -250,11 +250,13 @@ function drawMargin(place, drawn, left) {
 /** @param {Place} place */
 function drawCycle(place, /** @type {string[]} */ cycle) {
   const y = place.y(place.rows.length - 1) + place.rowHeight;
+  const right = Math.max(...cycle.map((name) => Number(place.lefts.get(name)))) + BESIDE;
   return cycle.map((name, at) => {
-    const [from, to] = [name, cycle[(at + 1) % cycle.length]].map((it) => Number(place.lefts.get(it)));
-    const deep = 16 + 20 * at;
+    const next = cycle[(at + 1) % cycle.length];
+    const [from, to] = [name, next].map((it) => Number(place.lefts.get(it)));
+    const deep = 16 + 24 * at;
     const bend = `M${from} ${y - 4}C${from} ${y + deep} ${to} ${y + deep} ${to} ${y - 2}`;
-    return `<path class="cycle" marker-end="url(#tip-cycle)" d="${bend}"/><text class="cycle-word halo" x="${(from + to) / 2}" y="${y + 12 + deep * 0.75}">${name} waits for ${cycle[(at + 1) % cycle.length]}</text>`;
+    return `<path class="cycle" marker-end="url(#tip-cycle)" d="${bend}"/><text class="cycle-word halo" x="${right}" y="${y + 4 + 20 * at}">${name} waits for ${next}</text>`;
   }).join("");
 }
 

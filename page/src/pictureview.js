@@ -50,7 +50,7 @@ export class PictureView {
     /** @type {Set<string>} */
     this.hidden = new Set();
     this.labels = "statement";
-    /** @type {{log: import("./log.js").Log, names: string[], functions: Map<string, string>, notes: (id: string) => Note | undefined} | null} */
+    /** @type {{log: import("./log.js").Log, functions: Map<string, string>, notes: (id: string) => Note | undefined} | null} */
     this.shown = null;
     /** @type {{from: number, row: number} | null} */
     this.drag = null;
@@ -58,6 +58,7 @@ export class PictureView {
     this.pressedRow = null;
     this.frame = 0;
     this.isToMeasure = false;
+    this.version = -1; // of the log that is laid out
     this.length = 0;
     this.head = svg("picture names", host);
     this.head.setAttribute("aria-hidden", "true");
@@ -117,7 +118,7 @@ export class PictureView {
     const atEnd = this.isAtEnd;
     const grown = log.length > this.length;
     this.length = log.length;
-    this.shown = { log, names: log.names, functions, notes };
+    this.shown = { log, functions, notes };
     this.edges = edges;
     this.place();
     if (atEnd && grown) this.host.scrollTop = this.host.scrollHeight;
@@ -134,20 +135,27 @@ export class PictureView {
 
   place() {
     if (!this.shown) return;
-    const { log, notes } = this.shown;
-    const isKept = (/** @type {number} */ row) => {
-      const id = log.id(row);
-      return id === this.view.pointed || Boolean(notes(id)?.printed.length);
-    };
-    this.rows = new Rows(log, { isFolded: this.isFolded, hidden: this.hidden, isKept });
+    this.rows = this.rowsOf(this.shown);
     this.measure();
     this.host.style.setProperty("--picture-size", `${SIZES[this.size][1]}px`);
     this.drawSoon();
   }
 
-  // Lays out the rows around the view.
+  // The rows of a log: what printed and what is pointed at is not folded.
+  /** @param {{log: import("./log.js").Log, notes: (id: string) => Note | undefined}} shown */
+  rowsOf({ log, notes }) {
+    const isKept = (/** @type {number} */ row) => {
+      const id = log.id(row);
+      return id === this.view.pointed || Boolean(notes(id)?.printed.length);
+    };
+    return new Rows(log, { isFolded: this.isFolded, hidden: this.hidden, isKept });
+  }
+
+  // Lays out the rows around the view; of a log that has changed, these are other ones.
   measure() {
     if (!this.shown || !this.rows) return;
+    this.rows = this.rowsOf(this.shown);
+    this.version = this.shown.log.version;
     const [from, to] = this.inView();
     const { clientWidth: room } = this.host;
     const how = { rowHeight: this.rowHeight, letter: this.letter, room, first: from, last: this.rows.length > MEASURED ? to : Infinity, top: this.top };
@@ -203,7 +211,8 @@ export class PictureView {
   }
 
   draw() {
-    if (!this.layout) return;
+    if (!this.layout || !this.shown) return;
+    if (this.version !== this.shown.log.version) this.measure();
     const [from, to] = this.inView();
     const left = this.host.scrollLeft;
     this.head.innerHTML = drawNames(this.layout, left);

@@ -4,7 +4,7 @@ import { ALL_EDGES } from "./annotating.js";
 import { Rows } from "./rows.js";
 import { savedPicture } from "./saved.js";
 
-const PART = 1000; // steps above and below the view that are saved of a longer log
+const PARTS = [[20000, 800], [Infinity, 60]]; // up to so many steps of a longer log, how many above and below the view are saved
 
 // The SVG text of the picture.
 /**
@@ -17,17 +17,16 @@ export async function savePicture(page, { title = "", labels = "", hasLegend = t
   const { log, follower } = session;
   const isWhole = log.length <= ALL_EDGES;
   const [inView, below] = views.picture.stepsInView();
-  const [from, to] = isWhole ? [0, log.length] : [Math.max(0, inView - PART), Math.min(log.length, below + PART)];
+  const [, part] = /** @type {number[]} */ (PARTS.find(([most]) => log.length <= most));
+  const [from, to] = isWhole ? [0, log.length] : [Math.max(0, inView - part), Math.min(log.length, below + part)];
   const isOld = () => session.isLeft;
-  await follower.inTurn(async () => {
-    while (!isOld() && !(await follower.annotate(from, to)));
-    await annotating.findEdges(session, isOld, [from, to]);
-  });
+  while (!isOld() && !(await follower.inTurn(() => follower.annotate(from, to))));
+  await annotating.findEdges(session, isOld, [from, to]);
   const { picture } = views;
   const isSplit = !isWhole || Boolean(follower.lost);
   const rows = new Rows(log, { isFolded: isWhole && picture.isFolded, hidden: isWhole ? picture.hidden : new Set() });
   const edges = log.steps(from, to).flatMap(({ id }) => (page.note(id)?.edges || []).filter((edge) => log.row(edge.from) >= from));
-  const shown = { log, rows, names: log.names, functions: annotating.functions(), notes: page.note, labels: labels || picture.labels };
+  const shown = { log, rows, functions: annotating.functions(), notes: page.note, labels: labels || picture.labels };
   const name = views.stories.name.replaceAll("_", " ");
   return savedPicture(shown, edges, picture.view, {
     title: title || `Steps of ${name}, a column for each goroutine`, rowHeight: picture.rowHeight, from, to: isWhole ? rows.length : to, hasLegend,

@@ -11,6 +11,8 @@ import { firstStory, stories } from "./story.mjs";
 import { access } from "./access.mjs";
 import { lessons } from "./lesson.mjs";
 import { saidWords } from "./words.mjs";
+import { monkey } from "./monkey.mjs";
+import { speed } from "./speed.mjs";
 import { truths } from "./truths.mjs";
 import { works } from "./work.mjs";
 
@@ -56,6 +58,9 @@ const ALL = [
   { name: "words", part: saidWords },
   { name: "for everybody", part: access },
   { name: "for a lesson", part: lessons },
+  { name: "long logs", part: speed },
+  { name: "a monkey", part: (browser) => monkey(browser, page.replace(/\.html$/, ""), Number(process.env.ROUNDS) || 25, Number(process.env.SEED) || 1) },
+  { name: "a monkey without suspension", part: (browser) => monkey(browser, page.replace(/\.html$/, ""), Number(process.env.ROUNDS) || 10, 1000), hash: "#repeat" },
   { name: "looks", part: (browser) => looks(browser, folder) },
 ];
 const SHORT = [ALL[0], ALL[1], { name: "a story", part: firstStory }];

@@ -62,6 +62,6 @@ export function picture() {
   equal("a text that XML cannot hold", escaped("a\ufffe<b>\u0001&\ud800"), "a\ufffd&#60;b&#62;\ufffd&#38;\ufffd");
   equal("a long statement is cut", shortened("total := first + second", 12), "total := fi…");
   const log = logOf(["g0", "pure"], ["g0", "fault DivideByZero"]);
-  const place = layOut({ log, rows: new Rows(log), names: log.names, functions: new Map(), notes: () => undefined, labels: "statement" }, { rowHeight: 22 });
+  const place = layOut({ log, rows: new Rows(log), functions: new Map(), notes: () => undefined, labels: "statement" }, { rowHeight: 22 });
   holds("a fault is drawn as one", drawRows(place, [], { view: NOTHING_POINTED }, 0, 1).includes('class="step fault"'));
 }
