@@ -111,10 +111,10 @@ def narrations():
 
 
 def narration(section):
-    """The commands of a section, each with the paragraphs before it."""
+    """The commands of a section, each with the paragraphs before it. What stands before the source tells of the picture there."""
     found, said = [], []
     for at, part in enumerate(section.split("```")):
-        if at % 2 == 0:
+        if at % 2 == 0 and at:
             paragraphs = [it for it in part.strip().split("\n\n") if it and not it.startswith("!")]
             said += [re.sub(r"\*([^*]+)\*", r"\1", it.replace("`", "").replace("\n", " ")) for it in paragraphs[-2:]]
         for command in re.findall(r"^> (.*)$", part, re.M) if at % 2 else []:

@@ -47,6 +47,8 @@ export class DirectEdges {
       const note = notes[at];
       if (!note || this.note(step.id) !== note) return; // the step was taken back meanwhile
       note.edges = sources.has(step.id) ? this.into(step, sources.get(step.id) || []) : [];
+      const message = note.edges.find(({ kind }) => kind === "message");
+      note.received = message ? this.note(message.from)?.sent || "" : "";
     });
   }
 

@@ -62,10 +62,11 @@ export class Editor {
     return this.editor.getValue();
   }
 
-  // Another text, which undoing takes back.
+  // Another text, which undoing takes back. It has no breakpoints.
   set text(text) {
     this.clearRefusal();
     if (text === this.text) return;
+    this.markBreaks([]);
     const last = this.editor.lastLine();
     this.editor.replaceRange(text, { line: 0, ch: 0 }, { line: last, ch: this.editor.getLine(last).length });
     this.editor.setCursor({ line: 0, ch: 0 });

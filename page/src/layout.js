@@ -39,10 +39,11 @@ export function labelParts(step, note, { labels, most }) {
   const printed = printedText(note?.printed || [], most + 6);
   const kind = step.kind === "pure" ? "" : step.kind;
   const line = note?.line ? `:${note.line}` : "";
-  if (labels === "kind" || !note?.statement) return { number: `#${step.number}`, kind, line, printed };
+  if (labels === "kind" || !note?.statement) return { number: `#${step.number}`, kind, received: "", line, printed };
   const fault = step.kind.startsWith("fault") ? `${step.kind}: ` : "";
   const statement = printed ? "println" : shortened(fault + note.statement.text, most);
-  return { number: `#${step.number}`, kind: note.statement.text === "}" ? kind : statement, line, printed };
+  const received = note.received && `← ${shortened(note.received, 12)}`;
+  return { number: `#${step.number}`, kind: note.statement.text === "}" ? kind : statement, received, line, printed };
 }
 
 /**

@@ -40,6 +40,24 @@ export class Mirror {
     this.isBehind = false; // it does not stand where the user's session does
     /** @type {Promise<unknown>} */
     this.turn = Promise.resolve();
+    /** @type {Promise<unknown> | null} */
+    this.held = null; // while the user's session does something that the log does not have yet
+  }
+
+  // Is not made anew while this is done: the log does not tell yet what the user's session did.
+  /**
+   * @template T
+   * @param {() => Promise<T>} act
+   * @returns {Promise<T>}
+   */
+  async during(act) {
+    const done = act();
+    this.held = done.catch(() => {});
+    try {
+      return await done;
+    } finally {
+      this.held = null;
+    }
   }
 
   // Does one thing after another: what is tried and undone must not be met by a command of the user.
@@ -73,29 +91,33 @@ export class Mirror {
   // Begins to do what the user's session is commanded at the same time. What can be done again is known to that one alone.
   /**
    * @param {string} line
-   * @returns {Promise<Reply> | null}
+   * @returns {{remote: RemoteSession | null, answer: Promise<Reply> | null}}
    */
   begin(line) {
-    if (this.isBehind || wordsOf(line)[0] === "redo") return null;
-    const begun = this.inTurn(async () => this.session.ask(line));
-    begun.catch(() => {}); // its end is seen by `follow`
-    return begun;
+    const { remote } = this;
+    if (this.isBehind || wordsOf(line)[0] === "redo") return { remote, answer: null };
+    const answer = this.inTurn(async () => this.session.ask(line));
+    answer.catch(() => {}); // its end is seen by `follow`
+    return { remote, answer };
   }
 
   // Does what the user's session did, or sees that it was done; the log is as it was before that.
   /**
    * @param {string} line
    * @param {Reply} reply
-   * @param {Promise<Reply> | null} begun
+   * @param {ReturnType<Mirror["begin"]>} begun
    */
-  async follow(line, reply, begun) {
+  async follow(line, reply, { remote, answer }) {
     if (reply.words[1] === "B6") this.isBehind = true;
+    const [word] = wordsOf(line);
     try {
-      if (begun) this.compare(wordsOf(line)[0], reply, await begun);
-      else if (reply.isOk && !this.isBehind) await this.inTurn(() => this.take(listedSteps(reply).map((id) => ({ id, kind: this.log.gone.get(id) || "" }))));
+      if (answer) this.compare(word, reply, await answer);
+      else if (reply.isOk && word === "redo" && !this.isBehind) await this.inTurn(() => this.take(listedSteps(reply).map((id) => ({ id, kind: this.log.gone.get(id) || "" }))));
     } catch {
       this.isBehind = true;
     }
+    // One that was made anew meanwhile took the steps of before.
+    if (remote !== this.remote) this.isBehind = true;
   }
 
   // The lines of breakpoints are other ones here, and so are the meanings of some refusals.
@@ -142,22 +164,34 @@ export class Mirror {
    * @param {(remote: RemoteSession) => Promise<T>} question
    * @returns {Promise<T>}
    */
-  answer(question) {
-    return this.inTurn(async () => {
-      if (this.isBehind) await this.rebuild();
-      try {
-        return await question(this.session);
-      } catch (fault) {
-        if (this.isClosed || !(fault instanceof SessionGone || fault instanceof Unanswered)) throw fault;
-        await this.rebuild();
-        return question(this.session);
-      }
-    });
+  async answer(question) {
+    for (;;) {
+      await this.held;
+      const found = await this.inTurn(async () => (this.held ? null : { answer: await this.answerNow(question) }));
+      if (found) return found.answer;
+    }
   }
 
-  /** @returns {Promise<LogColumns>} */
+  /**
+   * @template T
+   * @param {(remote: RemoteSession) => Promise<T>} question
+   * @returns {Promise<T>}
+   */
+  async answerNow(question) {
+    if (this.isBehind) await this.rebuild();
+    try {
+      return await question(this.session);
+    } catch (fault) {
+      if (this.isClosed || !isLoss(fault)) throw fault;
+      await this.rebuild();
+      return question(this.session);
+    }
+  }
+
+  // The log, or nothing where this session does not stand where the user's does.
+  /** @returns {Promise<LogColumns | null>} */
   readLog() {
-    return this.answer(async (remote) => (await remote.questions(["log"], "columns"))[0]);
+    return this.inTurn(async () => (this.isBehind ? null : (await this.session.questions(["log"], "columns"))[0])).catch(() => null);
   }
 
   /** @returns {Promise<Scene>} */
@@ -201,6 +235,10 @@ export class Mirror {
     });
   }
 }
+
+// Whether a session can answer no more: it is gone, its journal is full, or it has no memory.
+/** @param {unknown} fault */
+const isLoss = (fault) => fault instanceof SessionGone || (fault instanceof Unanswered && fault.code.startsWith("Q"));
 
 // A session on the expanded source, or on the user's own where the expanded one is not accepted.
 /**

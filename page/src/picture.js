@@ -31,6 +31,7 @@ export const PICTURE_RULES = `
 .picture .wait.stuck .mark{fill:var(--danger-wash);stroke:var(--danger)}
 .picture .fault .mark,.picture .fault .kind{fill:var(--danger);stroke:var(--danger)}
 .picture .fault .kind{stroke:var(--page)}
+.picture .received{fill:var(--message)}
 .picture .printed{fill:var(--message);font-weight:700}
 .picture .fold .kind{fill:var(--muted)}
 .picture .wash{fill:none}
@@ -173,13 +174,13 @@ function drawMark(kind, x, y) {
 }
 
 /**
- * @param {{number: string, kind: string, line: string, printed: string}} parts
+ * @param {{number: string, kind: string, received: string, line: string, printed: string}} parts
  * @param {number} x
  * @param {number} y
  */
-function drawLabel({ number, kind, line, printed }, x, y) {
+function drawLabel({ number, kind, received, line, printed }, x, y) {
   const part = (/** @type {string} */ name, /** @type {string} */ text) => (text ? `<tspan class="${name}">${escaped(text)} </tspan>` : "");
-  return `<text class="halo" x="${x}" y="${y}">${part("muted", number)}${part("kind", kind)}${part("muted", line)}${part("printed", printed)}</text>`;
+  return `<text class="halo" x="${x}" y="${y}">${part("muted", number)}${part("kind", kind)}${part("received", received)}${part("muted", line)}${part("printed", printed)}</text>`;
 }
 
 const SIDES = /** @type {{[side: string]: string}} */ ({ cause: "↑", consequence: "↓" });
@@ -222,7 +223,7 @@ function drawStep(place, at, { view, wide = 0, left = 0, describe }) {
   const isWashed = side || view.found?.has(step.id);
   const arrow = SIDES[side] ? `<text class="side" x="9" y="${y + 4}">${SIDES[side]}</text>` : "";
   const ring = view.forbids.includes(step.id) ? `<circle class="ring" cx="${x}" cy="${y}" r="10"/>` : "";
-  const folded = { number: `#${step.number}`, kind: `… ${count} own steps`, line: "", printed: "" };
+  const folded = { number: `#${step.number}`, kind: `… ${count} own steps`, received: "", line: "", printed: "" };
   const label = drawLabel(count > 1 ? folded : labelParts(step, place.notes(step.id), place), x + BESIDE, y + 4);
   const number = `${arrow}<text class="number" x="${place.gutter - 6}" y="${y + 4}">${step.row + 1}</text>`;
   const group = `<g class="${classesOf(step, view, side, count)}"`;

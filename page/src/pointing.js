@@ -1,7 +1,7 @@
 // The step that is pointed at or chosen: its causes and its consequences get a colour, and it can be taken back or moved.
 
 import { NOTHING_POINTED } from "./picture.js";
-import { SessionGone } from "./remote.js";
+import { SessionGone, Unanswered } from "./remote.js";
 import { goroutineOf, numberOf } from "./protocol.js";
 
 const DELAY = 25; // milliseconds that the pointer rests before a step is asked for
@@ -95,7 +95,7 @@ export class Pointing {
       this.view = { ...NOTHING_POINTED, causes: causes.spans, consequences: consequences.spans };
       this.draw();
     } catch (fault) {
-      if (!(fault instanceof SessionGone)) throw fault;
+      if (!(fault instanceof SessionGone || fault instanceof Unanswered)) throw fault; // else the step is gone
     }
   }
 

@@ -10,7 +10,7 @@ export class Unanswered extends Error {
   /** @param {string} refusal */
   constructor(refusal) {
     super(`the session refused a question: ${refusal}`);
-    this.code = refusal.split(" ")[1];
+    this.code = refusal.split(" ")[1] || "";
   }
 }
 

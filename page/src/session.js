@@ -88,7 +88,7 @@ export class Session {
    * @returns {Promise<Reply>}
    */
   perform(line) {
-    const done = this.turn.then(() => this.performNow(line.trim()));
+    const done = this.turn.then(() => this.mirror.during(() => this.performNow(line.trim())));
     this.turn = done.then(() => {}, () => {});
     return done;
   }
@@ -108,11 +108,11 @@ export class Session {
   async command(line) {
     const words = wordsOf(line);
     const changes = CHANGES.has(words[0]);
-    const mirrored = changes ? this.mirror.begin(line) : null;
+    const begun = changes ? this.mirror.begin(line) : null;
     const reply = await this.user.ask(line);
     this.note(words, reply);
-    if (changes) {
-      await this.mirror.follow(line, reply, mirrored);
+    if (begun) {
+      await this.mirror.follow(line, reply, begun);
       if (!this.isRunning) this.follower.forget(this.log.apply(line, reply));
     }
     if (reply.isOk && (words[0] === "break" || words[0] === "clear")) await this.noteBreak(words);
@@ -140,8 +140,9 @@ export class Session {
     await this.mirror.setBreaks(new Set([...this.breakpoints].flatMap((it) => this.statements.runLines(it))));
   }
 
+  // Reads the log after a run, of the mirror or else of the user's own session.
   async readLog() {
-    const columns = await this.mirror.readLog();
+    const columns = (await this.mirror.readLog()) || (await this.user.questions(["log"], "columns"))[0];
     this.log.load(columns);
   }
 
@@ -159,7 +160,7 @@ export class Session {
    * @param {(taken: number) => void} going
    */
   run(count, going) {
-    const done = this.turn.then(() => this.runNow(count, going));
+    const done = this.turn.then(() => this.mirror.during(() => this.runNow(count, going)));
     this.turn = done.then(() => {}, () => {});
     return done;
   }

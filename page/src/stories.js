@@ -69,7 +69,7 @@ export class Stories {
 
   show() {
     const told = this.commands[this.at]?.text || (this.at && this.at >= this.commands.length ? "That was the story. Go on by yourself: point at steps, take them back." : "");
-    const shows = this.story ? this.story.shows : this.exercise?.task || "";
+    const shows = this.story?.shows || "";
     this.about.replaceChildren(...(told && this.at ? [told] : [shows, ...(told ? [make("span", { class: "told" }, ` ${told}`)] : [])]));
   }
 }

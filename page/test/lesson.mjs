@@ -179,6 +179,12 @@ async function pictures(hands) {
   holds("a saved picture has a legend", (await browser.run("rewind.savePicture(rewind.page)")).includes("order of waiting"));
 }
 
+async function messages(hands) {
+  await hands.story("send_on_closed");
+  await hands.key("r");
+  equal("the step that takes a message has its value", await hands.browser.run("document.querySelector('[data-step=\"g0#5\"] .received').textContent.trim()"), "← 0");
+}
+
 async function comparisons(hands) {
   await hands.story("race_in_select");
   await hands.perform("run 100");
@@ -207,7 +213,7 @@ async function presentation(hands) {
   await browser.size(1280, 800);
 }
 
-const LESSONS = [links, files, moves, pasts, clicks, previews, stories, pictures, comparisons, presentation, exercises];
+const LESSONS = [links, files, moves, pasts, clicks, previews, stories, pictures, messages, comparisons, presentation, exercises];
 
 export async function lessons(browser) {
   for (const lesson of LESSONS) await lesson(new Hands(browser));

@@ -93,6 +93,7 @@ async function toldNatively(native, names, channels) {
 async function round(hands, program, seed) {
   const roll = dice(seed * 7919 + 13);
   const name = STORIES[roll(STORIES.length)];
+  await hands.browser.run("rewind.page.views.editor.markBreaks([])"); // breakpoints of the round before would stay with their text
   await hands.program(name);
   const native = new Native(program, `${SESSIONS}${name}.go`);
   try {

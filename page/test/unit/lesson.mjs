@@ -8,10 +8,11 @@ import { meantKey } from "../../src/keys.js";
 import { paired } from "../../src/compare.js";
 import { differences } from "../../src/preview.js";
 import { endOfRun } from "../../src/words.js";
+import { sentValue } from "../../src/values.js";
 import { equal, holds } from "../checks.mjs";
 
-const one = (name, state, line, values = {}) => ({
-  name, state, line, steps: 1, frames: [{ name: "f", variables: Object.entries(values).map(([key, value]) => ({ name: key, value })) }],
+const one = (name, state, line, variables = {}) => ({
+  name, state, line, steps: 1, frames: [{ name: "f", variables: Object.entries(variables).map(([key, value]) => ({ name: key, value })) }],
 });
 const channel = (name, capacity, senders, receivers, items = []) => ({ name, capacity, isClosed: false, items, senders, receivers });
 const CONSOLE = { isOk: true, count: 1, lines: ["20"] };
@@ -67,7 +68,15 @@ function keys() {
   equal("and so is the question mark", key({ key: "÷", code: "Slash", shiftKey: true }), "?");
 }
 
+function values() {
+  const variables = [{ name: "balance", value: "7" }, { name: "c", value: "g0/c1" }, { name: "most", value: "9223372036854775807" }];
+  const value = (text) => sentValue(text, variables);
+  equal("the value of a send, where its text tells it", ["out <- balance", "out <- 3", "out <- (balance + 3) * -2", "out <- true", "out <- c", "out <- most + 1"].map(value), ["7", "3", "-20", "true", "g0/c1", "-9223372036854775808"]);
+  equal("and nothing else", ["out <- f(2)", "out <- balance / 2", "out <- other", "x := <-out", "out <- 07"].map(value), ["", "", "", "", ""]);
+}
+
 export async function lesson() {
+  values();
   waits();
   exercises();
   await links();
