@@ -15,7 +15,7 @@ export const PICTURE_RULES = `
 .picture .halo{paint-order:stroke;stroke:var(--page);stroke-width:4px;stroke-linejoin:round}
 .picture .muted,.picture .number,.picture .of{fill:var(--muted)}
 .picture .number{text-anchor:end}
-.picture .name,.picture .of{text-anchor:middle}.picture .name{font-weight:700}.picture .of{font-size:.92em}
+.picture .name,.picture .of{text-anchor:middle}.picture .name{font-weight:700}.picture .of{font-size:calc(var(--picture-size,12px)*.92)}
 .picture .life{stroke:var(--order);stroke-width:1.5}
 .picture .asleep{stroke:var(--order);stroke-width:1.5;stroke-dasharray:2 4}
 .picture .edge{fill:none;stroke-width:1.6;stroke:var(--order)}
@@ -259,6 +259,14 @@ function drawCycle(place, /** @type {string[]} */ cycle) {
     const bend = `M${from} ${y - 4}C${from} ${y + deep} ${to} ${y + deep} ${to} ${y - 2}`;
     return `<path class="cycle" marker-end="url(#tip-cycle)" d="${bend}"/><text class="cycle-word halo" x="${right}" y="${y + 4 + 20 * at}">${name} waits for ${next}</text>`;
   }).join("");
+}
+
+// The width that the words of a cycle take.
+/** @param {Place} place */
+export function cycleWidth({ lefts, letter }, /** @type {string[]} */ cycle) {
+  if (!cycle.length || !cycle.every((name) => lefts.has(name))) return 0;
+  const words = Math.max(...cycle.map((name, at) => `${name} waits for ${cycle[(at + 1) % cycle.length]}`.length));
+  return Math.max(...cycle.map((name) => Number(lefts.get(name)))) + 2 * BESIDE + Math.ceil(words * (letter + 0.4));
 }
 
 /** @param {string[]} cycle */

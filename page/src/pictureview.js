@@ -1,7 +1,7 @@
 // The space-time picture in the page: only the rows in view are drawn. It tells of pointing, choosing and dragging.
 
 import { HEAD, labelWidth, layOut } from "./layout.js";
-import { DEFINITIONS, NOTHING_POINTED, cycleHeight, drawNames, drawRows } from "./picture.js";
+import { DEFINITIONS, NOTHING_POINTED, cycleHeight, cycleWidth, drawNames, drawRows } from "./picture.js";
 import { Rows } from "./rows.js";
 
 const SIZES = [[14, 10], [18, 11], [22, 12], [28, 14], [36, 18], [44, 22]]; // heights of rows, and of their letters
@@ -161,7 +161,7 @@ export class PictureView {
     const how = { rowHeight: this.rowHeight, letter: this.letter, room, first: from, last: this.rows.length > MEASURED ? to : Infinity, top: this.top };
     this.layout = layOut({ ...this.shown, rows: this.rows, labels: this.labels }, how);
     const height = this.layout.y(this.rows.length) + 6 + cycleHeight(this.view.cycle);
-    const width = Math.max(this.layout.width, room);
+    const width = Math.max(this.layout.width, room, cycleWidth(this.layout, this.view.cycle));
     this.head.setAttribute("width", String(width));
     this.head.setAttribute("height", String(HEAD));
     this.body.setAttribute("width", String(width));

@@ -1,6 +1,6 @@
 // The picture as a file of its own: SVG with a legend, or the same as PNG.
 
-import { DEFINITIONS, PICTURE_RULES, cycleHeight, drawNames, drawRows } from "./picture.js";
+import { DEFINITIONS, PICTURE_RULES, cycleHeight, cycleWidth, drawNames, drawRows } from "./picture.js";
 import { escaped } from "./labels.js";
 import { layOut } from "./layout.js";
 import { LEGEND_HEIGHT, legendDrawing } from "./legend.js";
@@ -15,7 +15,7 @@ import { paletteRules } from "./palette.js";
  */
 export function savedPicture(shown, edges, view, { title, rowHeight, from, to, part, hasLegend }) {
   const layout = layOut(shown, { rowHeight, first: from, last: to, top: from });
-  const width = hasLegend ? Math.max(layout.width, 640) : layout.width;
+  const width = Math.max(layout.width, hasLegend ? 640 : 0, cycleWidth(layout, view.cycle));
   const bottom = layout.height + (to >= shown.rows.length ? cycleHeight(view.cycle) : 0);
   const said = part ? `<text x="8" y="${bottom + 14}">${escaped(part)}</text>` : "";
   const legendTop = bottom + (part ? 24 : 0);

@@ -78,7 +78,22 @@ async function storyOfAnother(hands) {
   holds("a program of one's own has none", await hands.browser.run("document.getElementById('next').hidden"));
 }
 
-const WORKS = [overAReload, overAChangeOfStory, refusedTexts, keptLines, numbersOfRuns, storyOfAnother];
+// A browser that cannot compile the program.
+async function otherBrowsers(hands) {
+  const { browser } = hands;
+  const { identifier } = await browser.call("Page.addScriptToEvaluateOnNewDocument", { source: "WebAssembly.compile = () => Promise.reject(new WebAssembly.CompileError('no 64-bit memory'))" });
+  await browser.call("Page.reload");
+  await hands.until("window.started instanceof Promise");
+  equal("a browser that cannot run the program starts no session", await browser.run("window.started"), false);
+  holds("it has the menu and the source", (await hands.texts("#story option")).length > 20 && /package main/.test(await browser.run("document.querySelector('.CodeMirror').CodeMirror.getValue()")));
+  holds("and is told which browsers work", /Chrome .*Firefox .*no 64-bit memory/.test(await hands.text("#cannot")));
+  equal("its buttons are off", await browser.run("[...document.querySelectorAll('#step, #run, #undo')].every((it) => it.disabled)"), true);
+  await browser.call("Page.removeScriptToEvaluateOnNewDocument", { identifier });
+  await reload(browser, hands);
+  holds("another one goes on", (await hands.ids()).length >= 0);
+}
+
+const WORKS = [overAReload, overAChangeOfStory, refusedTexts, keptLines, numbersOfRuns, storyOfAnother, otherBrowsers];
 
 export async function works(browser) {
   for (const work of WORKS) await work(new Hands(browser));
