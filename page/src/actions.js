@@ -39,12 +39,12 @@ const shared = (page) => ({ ...page.work, chosen: page.pointing.pinned, theme: d
 /** @param {Page} page */
 async function copyLink(page) {
   const address = location.href.split("#")[0] + (await toHash(shared(page)));
-  history.replaceState(null, "", address);
   try {
     await navigator.clipboard.writeText(address);
     page.say(`The link is copied: ${address.length.toLocaleString("en")} letters. Whoever opens it sees this session.`);
   } catch {
-    page.say("The link stands in the address: copy it from there.");
+    history.replaceState(null, "", address);
+    page.say("The link stands in the address until the next change: copy it from there.");
   }
 }
 
@@ -161,8 +161,24 @@ export async function openStory(page, name) {
   return isOpen;
 }
 
+// The lines that were typed, which arrow keys bring back.
+function listenToHistory() {
+  /** @type {string[]} */
+  const lines = [];
+  let at = 0;
+  find("line").addEventListener("keydown", (event) => {
+    if (event.key === "Enter" && field("line").value.trim()) at = lines.push(field("line").value);
+    const by = { ArrowUp: -1, ArrowDown: 1 }[event.key];
+    if (!by || !lines.length) return;
+    event.preventDefault();
+    at = Math.max(0, Math.min(lines.length, at + by));
+    field("line").value = lines[at] || "";
+  });
+}
+
 /** @param {Page} page */
 function listenToFields(page) {
+  listenToHistory();
   find("story").onchange = () => void openStory(page, field("story").value);
   find("ask").onsubmit = async (event) => {
     event.preventDefault();

@@ -10,7 +10,7 @@
  * @property {string} [name]
  */
 
-const MARK = "#s=";
+export const LINK = "#s="; // before what a link holds
 const COMMANDS = "\n// commands of Rewind:\n"; // between source and commands in one file
 
 /**
@@ -31,7 +31,7 @@ const toBytes = (text) => Uint8Array.from(atob(text.replace(/-/g, "+").replace(/
 /** @param {Shared} shared */
 export async function toHash(shared) {
   const bytes = new TextEncoder().encode(JSON.stringify(shared));
-  return MARK + toText(await through(bytes, new CompressionStream("deflate-raw")));
+  return LINK + toText(await through(bytes, new CompressionStream("deflate-raw")));
 }
 
 /** @param {unknown} it */
@@ -47,8 +47,8 @@ export const inflated = (text) => through(toBytes(text.trim()), new Decompressio
  * @returns {Promise<Shared | null>}
  */
 export async function fromHash(hash) {
-  if (!hash.startsWith(MARK)) return null;
-  return checked(JSON.parse(new TextDecoder().decode(await inflated(hash.slice(MARK.length)))));
+  if (!hash.startsWith(LINK)) return null;
+  return checked(JSON.parse(new TextDecoder().decode(await inflated(hash.slice(LINK.length)))));
 }
 
 // What was read of a link or of what was kept, with the types that it must have.

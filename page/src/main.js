@@ -1,7 +1,7 @@
 // Puts the page together: it draws menu and source first, then compiles the program, and begins with a link, kept work or a story.
 
 import { canSuspend, Session as Engine } from "./engine.js";
-import { fromHash, inflated } from "./linking.js";
+import { fromHash, inflated, LINK } from "./linking.js";
 import { kept, keep, keepSettings, settings } from "./keeping.js";
 import { legend } from "./legend.js";
 import { act, listenToActions, openStory } from "./actions.js";
@@ -50,26 +50,41 @@ function fillHelp({ given: { commands, licence } }) {
   find("legend").innerHTML = legend();
 }
 
-// What the page begins with: the text of a link, the work that was kept, or the first story.
+// What the address holds, or nothing.
 /** @param {Page} page */
-async function beginning(page) {
+async function linked(page) {
   try {
-    const linked = await fromHash(location.hash);
-    if (linked) return linked;
+    return await fromHash(location.hash);
   } catch (fault) {
     page.say(`The link is damaged: ${fault instanceof Error ? fault.message : fault}.`, "bad");
+    return null;
   }
-  return kept();
 }
 
+// What the page begins with: the text of a link, the work that was kept, or the first story. Undoing in the editor brings kept work
+// back that a link replaced.
 /** @param {Page} page */
 async function begin(page) {
-  const shared = await beginning(page);
   const { editor, stories } = page.views;
+  const [link, work] = [await linked(page), kept()];
+  const shared = link || work;
   const source = stories.choose(shared ? shared.name || "" : FIRST);
-  editor.begin(shared ? shared.source : source);
-  if (shared?.theme) setTheme(shared.theme);
+  editor.begin(work ? work.source : link ? "" : source);
+  if (link) editor.text = link.source;
+  if (link?.theme) setTheme(link.theme);
   return shared;
+}
+
+// A link that is put into the address of the open page.
+/** @param {Page} page */
+function listenToLinks(page) {
+  window.addEventListener("hashchange", async () => {
+    const link = await linked(page);
+    if (!link) return;
+    page.views.stories.choose(link.name || "");
+    page.views.editor.text = link.source;
+    await openBeginning(page, link);
+  });
 }
 
 // Opens what the page began with, and does its commands again.
@@ -102,13 +117,14 @@ function takeSettings() {
   find("letters").onchange = () => keepSettings({ letters: field("letters").checked });
 }
 
-// Keeps the work after each change.
+// Keeps the work after each change. A link in the address is left then, so that a reload brings the work and not the link.
 /** @param {Page} page */
 function keepWork(page) {
   let timer = 0;
   const now = () => keep(page.work);
   page.listeners.push(() => {
     clearTimeout(timer);
+    if (location.hash.startsWith(LINK)) history.replaceState(null, "", location.href.split("#")[0]);
     timer = window.setTimeout(now, 200);
     page.views.controls.show(page);
   });
@@ -139,6 +155,7 @@ async function start() {
   window.rewind = { page, program: page.machine.program, Session: Engine, act, openStory, savePicture, asPng };
   await openBeginning(page, shared);
   keepWork(page);
+  listenToLinks(page);
   return true;
 }
 

@@ -30,7 +30,7 @@ async function standing(session, name) {
 async function stepUntil(page, isThere) {
   const { session, chosen } = page;
   if (!session || page.hindrance) return page.say(page.hindrance, "bad");
-  await page.doing(async () => {
+  await page.moving(async () => {
     try {
       const end = await stepping(page, session, isThere);
       if (session === page.session) await page.refresh();
@@ -52,6 +52,8 @@ async function stepUntil(page, isThere) {
 async function stepping(page, session, isThere) {
   const { chosen, views } = page;
   for (let count = 1; count <= MOST; count++) {
+    if (!page.isMoving) return `Stopped by you after ${count - 1} steps.`;
+    views.status.progress(count, MOST);
     const reply = await session.perform(`step ${chosen}`);
     views.transcript.add(`step ${chosen}`, reply);
     if (!reply.isOk) return page.words.reply(`step ${chosen}`, reply);
@@ -85,8 +87,9 @@ export async function stepOver(page) {
  * @param {Page} page
  * @param {import("./session.js").Session} session
  */
-async function helpOn(page, session) {
-  for (let count = 0; count < MOST; count++) {
+const helpOn = (page, session) => page.moving(async () => {
+  for (let count = 0; count < MOST && page.isMoving; count++) {
+    page.views.status.progress(count, MOST);
     const reply = await session.perform("run 1");
     if (!reply.isOk || reply.words[1] === "0") break;
     page.views.transcript.add("run 1", reply);
@@ -94,8 +97,8 @@ async function helpOn(page, session) {
   }
   await page.refresh();
   const { state, line } = await standing(session, page.chosen);
-  page.say(state === "waiting" ? `${page.chosen} still waits, and nobody can help it on.` : `${page.chosen} goes on at line ${line}: the others ran until then.`);
-}
+  page.say(state === "waiting" ? `${page.chosen} still waits, and nobody helped it on.` : `${page.chosen} goes on at line ${line}: the others ran until then.`);
+});
 
 // Steps the chosen goroutine until it waits or is done.
 /** @param {Page} page */

@@ -34,7 +34,7 @@ export class Page {
     this.chosen = "g0";
     this.openings = 0;
     this.busy = 0; // how many things are being done
-    this.progress = 0;
+    this.isMoving = false;
     this.stamp = 0; // of the state that is shown
     /** @type {string[]} */
     this.cycle = [];
@@ -135,7 +135,7 @@ export class Page {
   get hindrance() {
     if (!this.session) return "There is no session yet: start one.";
     if (this.session.gone) return `The session is gone: ${this.session.gone}. Start it anew, or bring its steps back.`;
-    return this.session.isRunning ? "A run is going on: stop it first." : "";
+    return this.session.isRunning || this.isMoving ? "A run is going on: stop it first." : "";
   }
 
   // Performs one line of a command, as typed, and shows what came of it. Gives nothing where it was not performed.
@@ -235,7 +235,22 @@ export class Page {
   }
 
   stop() {
+    this.isMoving = false;
     if (this.session) this.session.isRunning = false;
+  }
+
+  // Does a move of many steps, which can be stopped; no other command is taken meanwhile.
+  /**
+   * @template T
+   * @param {() => Promise<T>} act
+   * @returns {Promise<T>}
+   */
+  moving(act) {
+    this.isMoving = true;
+    return this.doing(act).finally(() => {
+      this.isMoving = false;
+      this.views.status.progress(0, 0);
+    });
   }
 
   // Reads the session anew, and shows it.

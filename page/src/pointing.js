@@ -59,11 +59,12 @@ export class Pointing {
 
   // Keeps a step chosen, or lets it go.
   /** @param {string} id */
-  choose(id, isKept = false) {
+  async choose(id, isKept = false) {
     this.pinned = this.pinned === id && !isKept ? "" : id;
     this.pointed = id;
     this.forbids = [];
-    return this.color();
+    await this.color();
+    this.page.tell();
   }
 
   // Chooses a step that was looked for, and brings it into view.

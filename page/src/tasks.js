@@ -5,17 +5,13 @@ import { isReached } from "./exercises.js";
 
 /** @typedef {import("./page.js").Page} Page */
 
-let before = 0; // how many commands prepared the exercise
-
 // Brings the session of an exercise to where its task begins.
 /** @param {Page} page */
 export async function openTask(page) {
   const { exercise } = page.views.stories;
-  before = 0;
   if (!exercise) return showTask(page);
   await page.replay(exercise.before);
-  before = page.session?.commands.length || 0;
-  page.say(exercise.task);
+  page.say("");
   showTask(page);
 }
 
@@ -26,7 +22,8 @@ function showTask(page) {
   find("task").hidden = !exercise || !views.stories.isOf(session?.source || "");
   if (!exercise || !session) return;
   const { log, scene } = session;
-  const isDone = isReached(exercise.goal, { log, scene, cycle, pinned: pointing.pinned, commands: session.commands.slice(before) });
+  const prepared = exercise.before.every((line, at) => session.commands[at] === line) ? exercise.before.length : 0;
+  const isDone = isReached(exercise.goal, { log, scene, cycle, pinned: pointing.pinned, commands: session.commands.slice(prepared) });
   find("task-text").textContent = exercise.task;
   find("task-hint").textContent = exercise.hint;
   const verdict = isDone ? "Solved." : "Not yet.";

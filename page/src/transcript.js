@@ -44,7 +44,7 @@ export class Transcript {
     const left = reply.lines.length - shown.length;
     if (left) shown.push(make("div", { class: "meaning" }, `.. and ${left.toLocaleString("en")} lines more`));
     shown.push(make("div", { class: reply.isOk ? "" : "refused" }, ...folded(reply.last)));
-    const means = reply.isOk ? "" : reply.last === "? bad command" ? "This line is no command: Keys and help lists them." : this.meaning(reply.words[1]);
+    const means = reply.isOk ? "" : reply.last === "? bad command" ? "This line is no command: Help lists them." : this.meaning(reply.words[1]);
     if (means) shown.push(make("div", { class: "meaning" }, means));
     return shown;
   }

@@ -24,18 +24,20 @@ async function links(hands) {
   await hands.story("deadlock");
   await hands.key("r");
   await browser.run("rewind.page.pointing.show('g0.2#1')");
+  await browser.run("navigator.clipboard.writeText = () => Promise.reject(new Error('not allowed'))");
   await hands.act("copy-link");
   await hands.until("location.hash.startsWith('#s=')");
   const hash = await browser.run("location.hash");
   await hands.source(CALLS);
+  equal("after a change the address is no link any more", await browser.run("location.hash"), "");
   await new Promise((go) => setTimeout(go, 300));
-  await browser.call("Page.reload");
-  await hands.until("window.started");
-  await browser.run("window.started");
+  await browser.run(`location.hash = ${JSON.stringify(hash)}`);
+  await hands.until("rewind.page.pointing.pinned");
   await hands.idle();
   holds("a link is short", hash.length < 1500);
   equal("a link opens its source, steps and chosen step", [(await hands.ids()).length, await browser.run("rewind.page.pointing.pinned"), await hands.text("#state")].map((it) => (typeof it === "string" ? it.slice(0, 9) : it)), [16, "g0.2#1", "Deadlock:"]);
-  await browser.run("history.replaceState(null, '', location.href.split('#')[0])");
+  await browser.run("rewind.page.views.editor.editor.undo()");
+  equal("undoing in the editor brings back the text that a link replaced", await browser.run("rewind.page.views.editor.text"), CALLS);
 }
 
 async function files(hands) {
@@ -68,6 +70,32 @@ async function moves(hands) {
   await hands.act("to-line");
   equal("a run to a line stops there", (await hands.text("#status")).replace(/^\d+ steps/, "N steps").replace(/ [\d.]+ s\.$/, ""), "N steps taken: stopped at the breakpoint in line 15.");
   equal("and leaves no breakpoint", await hands.browser.run("rewind.page.session.breakpoints.size"), 0);
+}
+
+async function usualKeys(hands) {
+  await hands.source(CALLS);
+  await hands.key("F10");
+  equal("F10 steps over", await hands.text("#status"), "g0 stands at line 8.");
+  await hands.act("undo");
+  await hands.key("F11");
+  equal("F11 steps", (await hands.lastReply())[0], "> step g0");
+  await hands.browser.run("rewind.page.views.editor.editor.setCursor({ line: 8, ch: 0 })");
+  await hands.key("F9");
+  await hands.key("F5");
+  equal("F9 sets a breakpoint, at which F5 stops", await hands.text("#status"), "1 step taken: stopped at the breakpoint in line 9.");
+  await hands.key("F9");
+  await hands.type("show g0");
+  await hands.browser.run("document.getElementById('line').focus()");
+  await hands.browser.key("ArrowUp");
+  equal("arrows bring typed lines back", await hands.browser.run("document.getElementById('line').value"), "show g0");
+  await hands.browser.run("document.getElementById('line').value = '', document.activeElement.blur()");
+  await hands.source("package main\nfunc main() {\n\tfor { }\n}\n");
+  await hands.browser.run("rewind.act(rewind.page, 'alone'), 0");
+  await hands.until("rewind.page.session.log.length > 20");
+  holds("a move shows how far it is", await hands.browser.run("!document.getElementById('stop').hidden"));
+  await hands.browser.run("rewind.page.stop()");
+  await hands.idle();
+  holds("and can be stopped", /^Stopped by you after \d+ steps\.$/.test(await hands.text("#status")));
 }
 
 async function pasts(hands) {
@@ -135,7 +163,7 @@ async function exercises(hands) {
     equal(`exercise ${name} is not solved at its start`, await hands.text("#task-verdict"), "Not yet.");
     const commands = typeof solution === "string" ? readFileSync(TOP + solution, "utf8").split("\n").filter((line) => line.trim()) : solution;
     for (const line of commands) await hands.browser.run(`rewind.page.perform(${JSON.stringify(line)}).then(() => 1)`);
-    if (choose) await hands.browser.run(`rewind.page.pointing.show(${JSON.stringify(choose)}).then(() => rewind.page.tell())`);
+    if (choose) await hands.browser.run(`rewind.page.pointing.show(${JSON.stringify(choose)})`);
     await hands.idle();
     equal(`exercise ${name} is solved by its solution`, await hands.text("#task-verdict"), "Solved.");
   }
@@ -213,7 +241,7 @@ async function presentation(hands) {
   await browser.size(1280, 800);
 }
 
-const LESSONS = [links, files, moves, pasts, clicks, previews, stories, pictures, messages, comparisons, presentation, exercises];
+const LESSONS = [links, files, moves, usualKeys, pasts, clicks, previews, stories, pictures, messages, comparisons, presentation, exercises];
 
 export async function lessons(browser) {
   for (const lesson of LESSONS) await lesson(new Hands(browser));
