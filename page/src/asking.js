@@ -1,6 +1,7 @@
 // What a click on a value, a name, a printed line or a line of the source asks for: the step behind it.
 
 import { giverOf, lastOf, printerOf, senderOf, starterOf, stepsOfLine, stepsWith } from "./finding.js";
+import { courseOf, courseRow } from "./course.js";
 import { find, inSteps } from "./element.js";
 import { SessionGone, Unanswered } from "./remote.js";
 
@@ -45,9 +46,22 @@ async function findStep(page, what) {
     if (!id) return page.say("No kept step gave this: it is a parameter, or its step is not found yet.", "bad");
     page.say(`${id} is the step behind it: see what rests on it, or take it back.`);
     await page.pointing.show(id);
+    if (what.variable) await showCourse(page, session, what.variable);
   } catch (fault) {
     if (!(fault instanceof SessionGone || fault instanceof Unanswered)) throw fault;
   }
+}
+
+// The values that a variable had.
+/**
+ * @param {Page} page
+ * @param {import("./session.js").Session} session
+ * @param {[string, string]} variable
+ */
+async function showCourse(page, session, [goroutine, name]) {
+  const values = await courseOf(session, goroutine, name);
+  if (session !== page.session || !page.pointing.pinned) return;
+  find("course").replaceChildren(courseRow(goroutine, name, values, (id) => void page.pointing.choose(id, true).then(() => page.views.picture.reveal(id))));
 }
 
 // Marks the steps of a line of the source, and chooses the last of them.

@@ -37,6 +37,7 @@ export function showChosen(page) {
   for (const id of ["back", "earlier", "later"]) enable(id, Boolean(about) && !page.past.isOn);
   const back = /** @type {ChildNode} */ (find("back").firstChild);
   back.textContent = about ? `Take back ${about.consequences + 1}` : "Take back";
+  if (!pinned) find("course").replaceChildren();
   if (!about || !session) {
     find("chosen-text").replaceChildren(hint(page));
     find("preview").replaceChildren();

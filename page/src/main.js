@@ -8,7 +8,9 @@ import { act, listenToActions, openStory } from "./actions.js";
 import { listenInPicture, listenToKeys } from "./shortcuts.js";
 import { makeToolbar } from "./toolbars.js";
 import { makeViews } from "./views.js";
+import { explain } from "./refusals.js";
 import { Page } from "./page.js";
+import { parseFault } from "./protocol.js";
 import { asPng } from "./saved.js";
 import { savePicture } from "./saving.js";
 import { paletteRules } from "./palette.js";
@@ -152,7 +154,7 @@ async function start() {
     return page.say("The program cannot run in this browser."), false;
   }
   // The tests and the pictures of the documents reach the page by this name.
-  window.rewind = { page, program: page.machine.program, Session: Engine, act, openStory, savePicture, asPng };
+  window.rewind = { page, program: page.machine.program, Session: Engine, act, openStory, savePicture, asPng, explain, parseFault };
   await openBeginning(page, shared);
   keepWork(page);
   listenToLinks(page);

@@ -4,6 +4,7 @@
 // line, for P1 to P4 the tokens with one space between two. The groups of both are fields that the sentence may name.
 
 import { decoder, encoder } from "./protocol.js";
+import { checkedForm } from "./checker.js";
 import { Statements, tokensOf } from "./statements.js";
 
 const AROUND = 120; // tokens before and after the place
@@ -154,38 +155,40 @@ function wordsOf(form, pieces, number, fields) {
   return [Math.max(0, at), Math.max(0, at) + 1];
 }
 
-// A refusal of the checker stands at the beginning of a statement, and is about all of it.
+// A refusal of the checker stands at the beginning of a statement, and is about all of it, or about a word in it.
 /**
+ * @param {RefusalForm[]} forms
  * @param {string} source
  * @param {Refusal} refusal
  * @param {string} meaning
  * @returns {Explained}
  */
-function inStatement(source, { code, line, column }, meaning) {
-  const statement = new Statements(source).all.find((it) => it.line === line && it.column >= column);
-  const text = statement?.text || "";
-  const unknown = code === "C1" && statement ? undeclared(source, statement) : "";
-  const sentence = unknown ? `the name ${unknown} is not declared` : meaning;
-  if (!unknown || !statement) return { code, line, column, length: text.split("\n")[0].length || 1, sentence, instead: "" };
-  const at = statement.start + text.search(new RegExp(`\\b${unknown}\\b`));
+function inStatement(forms, source, { code, line, column }, meaning) {
+  const statements = new Statements(source).all;
+  const statement = statements.find((it) => it.line === line && it.column >= column) || headingAt(source, line);
+  const name = statements.filter((it) => it.line <= line).pop()?.func || "";
+  const found = checkedForm(source, code, statement, name);
+  const form = found && forms.find((it) => it.form === found.form);
+  const sentence = (found && filled(form?.sentence, found.fields)) || meaning;
+  const instead = sentence === meaning ? "" : filled(form?.instead, found?.fields || {});
+  const at = statement && found?.word ? statement.start + statement.text.search(new RegExp(`(?<!\\w)${found.word}(?!\\w)`)) : -1;
+  if (!statement || at < statement.start) return { code, line, column, length: (statement?.text || "").split("\n")[0].length || 1, sentence, instead };
   const before = source.slice(0, at).split("\n");
-  return { code, line: before.length, column: columnOf(before[before.length - 1]), length: unknown.length, sentence, instead: "" };
+  return { code, line: before.length, column: columnOf(before[before.length - 1]), length: String(found?.word).length, sentence, instead };
 }
 
-const KNOWN = new Set(["int", "bool", "true", "false", "nil", "len", "cap", "make", "close", "println", "struct", "chan"]);
-
-// A name in a statement that stands nowhere as a function, a parameter or on the left of a definition, or "".
+// The heading of a function, as a statement.
 /**
  * @param {string} source
- * @param {Statement} statement
+ * @param {number} line
+ * @returns {Statement | undefined}
  */
-function undeclared(source, statement) {
-  const bare = source.replace(/\/\/[^\n]*|"(?:[^"\\\n]|\\.)*"/g, "");
-  const isDeclared = (/** @type {string} */ name) =>
-    new RegExp(`func\\s+${name}\\b|\\b${name}\\b[\\w\\s,]*:=|\\bvar\\b[\\w\\s,]*\\b${name}\\b|func[^{]*[(,]\\s*(?:\\w+\\s*,\\s*)*${name}\\b|\\b${name}\\s*:`).test(bare);
-  const names = statement.text.replace(/"(?:[^"\\\n]|\\.)*"/g, "").match(/[A-Za-z_]\w*/g) || [];
-  const keywords = /^(?:break|case|continue|default|else|for|func|go|if|package|range|return|select|var)$/;
-  return names.find((name) => !KNOWN.has(name) && !keywords.test(name) && !isDeclared(name)) || "";
+function headingAt(source, line) {
+  const lines = source.split("\n");
+  const text = (lines[line - 1] || "").split("{")[0].trimEnd();
+  if (!text.startsWith("func")) return undefined;
+  const start = lines.slice(0, line - 1).join("\n").length + (line > 1 ? 1 : 0);
+  return { line, column: 1, start, end: start + text.length, text, expandedLine: 0, clauses: [], func: "" };
 }
 
 // Explains a refusal by the table.
@@ -200,7 +203,7 @@ export function explain(table, source, refusal) {
   const { meaning, forms } = table[code] || { meaning: refusal.text, forms: [] };
   const plain = { code, line, column, length: 1, sentence: line ? meaning : forms[0]?.sentence || meaning, instead: "" };
   if (!line) return plain;
-  if (code.startsWith("C")) return inStatement(source, refusal, meaning);
+  if (code.startsWith("C")) return inStatement(forms, source, refusal, meaning);
   const found = code.startsWith("S") ? inText(forms, source, refusal) : inTokens(forms, source, refusal);
   const sentence = found && filled(found.form.sentence, found.fields);
   if (!found || !sentence) return plain;

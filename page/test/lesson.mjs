@@ -142,6 +142,10 @@ async function clicks(hands) {
   equal("a printed line finds its step", await hands.browser.run(`rewind.page.session.log.kindOf(${JSON.stringify(await ask("#console .asked-value", "balance 20"))})`), "pure");
   const variable = await ask('[data-goroutine="g0.1"] .asked-value', "balance = 20");
   equal("a variable finds the step that gave it its value", variable.split("#")[0], "g0.1");
+  await hands.until("document.querySelector('#course p')");
+  const course = await hands.text("#course");
+  holds("and its values over time", /^g0\.1 balance over time: 0 \(g0\.1#1\) → .*20 \(g0\.1#\d+\)$/s.test(course.replace(/\s+/g, " ")));
+  equal("which changes nothing", (await hands.ids()).length, 36);
 }
 
 async function previews(hands) {

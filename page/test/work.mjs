@@ -1,5 +1,6 @@
 // Work is not lost: over a reload, a change of story, a refused text, a busy page. And what a refusal says.
 
+import { readFileSync, readdirSync } from "node:fs";
 import { Hands } from "./hands.mjs";
 import { equal, holds } from "./checks.mjs";
 
@@ -40,7 +41,7 @@ async function refusedTexts(hands) {
   await hands.source(OWN.replace("println(7)", "println(seven)"));
   equal("a refused text leaves the session as it is", await hands.ids(), ["g0#1"]);
   holds("the page says so", /The session is still that of the text before/.test(await hands.text("#status")));
-  holds("and names what is not declared", /the name seven is not declared/.test(await hands.text(".refusal-note")));
+  holds("and names what is not declared", /undeclared name: seven/.test(await hands.text(".refusal-note")));
   equal("and marks it", await hands.texts(".refused-word"), ["seven"]);
   equal("lines of another text are not marked", await hands.texts("#editor .at-line"), []);
   await hands.source(`package main\nimport "fmt"\nfunc main() {}\n`);
@@ -78,6 +79,33 @@ async function storyOfAnother(hands) {
   holds("a program of one's own has none", await hands.browser.run("document.getElementById('next').hidden"));
 }
 
+const REFUSED = new URL("../../clients/tests/refused/", import.meta.url).pathname;
+
+// Runs in the page: what it says of a refused source.
+async function saidInPage(source) {
+  const { Session, program, explain, parseFault, page } = window.rewind;
+  const session = await Session.open(program, new TextEncoder().encode(source));
+  const refusal = parseFault(session.errors);
+  const { line, column, sentence } = explain(page.given.refusals, source, refusal);
+  return { code: refusal.code, said: line ? `${line}:${column}: ${sentence}` : sentence };
+}
+
+// Refusals come out as the clients have them, but for those of the checker that its own reader finds.
+async function refusalsAsTold(hands) {
+  const same = { S: 0, P: 0, C: 0 };
+  const other = { S: 0, P: 0, C: 0 };
+  for (const file of readdirSync(REFUSED).filter((name) => name.endsWith(".go"))) {
+    const source = readFileSync(REFUSED + file, "utf8");
+    if (source.includes("\ufffd")) continue; // it is no text
+    const { code, said } = await hands.browser.run(`(${saidInPage})(${JSON.stringify(source)})`);
+    const told = readFileSync(REFUSED + file.replace(/go$/, "expect"), "utf8").split("\n")[0].replace(/^[^:]*: ?/, "");
+    (told === said ? same : other)[code[0]]++;
+  }
+  console.log(`of refused sources, ${same.S + same.P} of the scanner and the parser and ${same.C} of the checker are told as the clients tell them`);
+  holds("nearly all refusals of the scanner and the parser are told as the clients tell them", other.S + other.P <= 6 && same.S + same.P > 200);
+  holds("and the usual ones of the checker", same.C >= 25);
+}
+
 // A browser that cannot compile the program.
 async function otherBrowsers(hands) {
   const { browser } = hands;
@@ -93,7 +121,7 @@ async function otherBrowsers(hands) {
   holds("another one goes on", (await hands.ids()).length >= 0);
 }
 
-const WORKS = [overAReload, overAChangeOfStory, refusedTexts, keptLines, numbersOfRuns, storyOfAnother, otherBrowsers];
+const WORKS = [overAReload, overAChangeOfStory, refusedTexts, keptLines, numbersOfRuns, storyOfAnother, refusalsAsTold, otherBrowsers];
 
 export async function works(browser) {
   for (const work of WORKS) await work(new Hands(browser));
