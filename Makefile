@@ -95,7 +95,7 @@ dap-test: $(REWIND) ## the adapter for editors (1 minute)
 
 IS_QUICK = $(filter rewind-quick,$(notdir $(REWIND)))
 
-page-test: browser-needs $(if $(IS_QUICK),quick-page,page) ## the page in headless Chromium (3 minutes)
+page-test: browser-needs $(if $(IS_QUICK),quick-page,page) ## the page: types, style, modules, and all of it in headless Chromium (4 minutes)
 	page/test.sh bin/rewind$(if $(IS_QUICK),-quick).html
 
 hostile: $(REWIND) bin/racing ## hostile sources and commands, failing devices, refused memory, races (6 processor minutes)

@@ -222,8 +222,7 @@ export class Page {
         if (session !== this.session) return null;
         const told = reply || { lines: [], last: `ok ${taken} ${reason}`, words: ["ok", String(taken), ...reason.split(" ")], isOk: true };
         this.views.transcript.add(asked, told);
-        await this.refresh();
-        this.say(`${reply ? this.words.reply(asked, reply) : endOfRun(taken, reason)} ${((performance.now() - began) / 1000).toFixed(1)} s.`);
+        if (await this.refresh()) this.say(`${reply ? this.words.reply(asked, reply) : endOfRun(taken, reason)} ${((performance.now() - began) / 1000).toFixed(1)} s.`);
         return told;
       } catch (fault) {
         lost(this, session, fault);
@@ -253,25 +252,28 @@ export class Page {
     });
   }
 
-  // Reads the session anew, and shows it.
+  // Reads the session anew, and shows it. Says whether that was possible.
   async refresh() {
     const { session } = this;
-    if (!session) return;
+    if (!session) return false;
     const stamp = ++this.stamp;
+    let isShown = false;
     this.cycle = [];
     try {
       await session.look();
-      if (stamp !== this.stamp) return;
+      if (stamp !== this.stamp) return true;
       if (!session.log.names.includes(this.chosen)) this.chosen = "g0";
       this.pointing.keepKnown();
       this.showScene(session.scene);
       this.showPicture();
       await this.pointing.color();
       this.tell();
+      isShown = true;
     } catch (fault) {
       if (stamp === this.stamp) blinded(this, session, fault);
     }
     this.annotating.begin(stamp);
+    return isShown;
   }
 
   tell() {

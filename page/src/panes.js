@@ -148,12 +148,13 @@ export function showChannels(host, scene, on) {
  * @param {Tail} tail
  * @param {PaneEvents} on
  */
-export function showConsole(host, { count, lines }, on) {
+export function showConsole(host, { isOk, count, lines }, on) {
   const shown = lines.slice(-LINES);
   const before = count - shown.length;
   const line = (/** @type {string} */ text, /** @type {number} */ at) =>
     make("li", {}, asked("Find the step that printed it", text || " ", () => on.findStep({ line: before + at })));
   host.replaceChildren(...(before ? [make("li", { class: "none" }, `${before.toLocaleString("en")} lines before`)] : []), ...shown.map(line));
-  if (!count) host.append(make("li", { class: "none" }, "Nothing was printed yet."));
+  const none = isOk ? "Nothing was printed yet." : "More was printed than there is memory to show. Take steps back to see it.";
+  if (!count) host.append(make("li", { class: "none" }, none));
   host.scrollTop = host.scrollHeight;
 }

@@ -98,7 +98,7 @@ export class Words {
 
   /** @param {Scene} scene */
   ended(scene) {
-    const left = scene.goroutines.filter(({ name, state }) => state !== "done" && name !== "g0").map(({ name, state, line }) => `${name} (${state}${line ? ` at line ${line}` : ""})`);
+    const left = scene.goroutines.filter(({ name, state }) => state !== "done" && name !== "g0").map(({ name, state, line }) => `${name} (${state === "ready" ? "stopped" : state}${line ? ` at line ${line}` : ""})`);
     const said = left.length ? ` Left behind: ${listed(left, ", ")}.` : " Every goroutine is done.";
     return { tone: left.length ? "warn" : "good", text: `The program has ended.${said}` };
   }

@@ -155,6 +155,10 @@ async function deaths(hands) {
   await hands.perform("run 400");
   equal("a long print is in the console", await hands.browser.run("rewind.page.session.scene.console.lines[0].length"), 10000);
   holds("and does not widen the picture", (await hands.browser.run("document.getElementById('picture').scrollWidth")) < 900);
+  await hands.browser.run("rewind.page.perform('run 100000'), 0");
+  await hands.idle();
+  equal("where more was printed than there is memory to show, the page says so", await hands.texts("#console li"), ["More was printed than there is memory to show. Take steps back to see it."]);
+  equal("and the session goes on", [await hands.browser.run("rewind.page.session.gone"), await hands.browser.run("rewind.page.session.log.length")], ["", 100400]);
 }
 
 async function journals(hands) {
