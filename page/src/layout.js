@@ -2,7 +2,9 @@
 
 import { printedText, shortened } from "./labels.js";
 
-export const HEAD = 34; // height of the row of names
+// The height of the row of names, which has two lines.
+/** @param {number} letter */
+export const headOf = (letter) => Math.round(letter * 4.8);
 const AFTER_GUTTER = 22; // from the row numbers to the first column
 const MOST_STATEMENT = 30; // letters
 const MOST_HEAD = 14; // letters of the name of a function
@@ -22,6 +24,7 @@ export const BESIDE = 15; // from the middle of a mark to its label, past the ti
  * @property {number} most
  * @property {number} gutter
  * @property {number} headLetters
+ * @property {number} head
  * @property {Map<string, number>} lefts
  * @property {(place: number) => number} y
  * @property {number} width
@@ -103,7 +106,8 @@ export function layOut(shown, { rowHeight, letter = 7, room = Infinity, first = 
     const step = log.step(rows.at(place));
     width = Math.max(width, Number(lefts.get(step.goroutine)) + BESIDE + 11 + labelWidth(step, notes(step.id), { labels: shown.labels, letter, most }));
   }
-  const y = (/** @type {number} */ place) => HEAD + (place - top + 0.5) * rowHeight;
-  return { ...shown, names, rowHeight, letter, most, gutter, headLetters: Math.min(MOST_HEAD, Math.floor(pitch / letter)), lefts, y, width: Math.ceil(width), height: y(Math.min(rows.length, last)) + 6, first: top };
+  const head = headOf(letter);
+  const y = (/** @type {number} */ place) => head + (place - top + 0.5) * rowHeight;
+  return { ...shown, names, head, rowHeight, letter, most, gutter, headLetters: Math.min(MOST_HEAD, Math.floor(pitch / letter)), lefts, y, width: Math.ceil(width), height: y(Math.min(rows.length, last)) + 6, first: top };
 }
 

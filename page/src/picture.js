@@ -62,11 +62,12 @@ export const DEFINITIONS = `<defs>${markers.join("")}</defs>`;
 
 // The names above the columns, with the function that each goroutine runs, but for those that are scrolled under the margin.
 /** @param {Place} place */
-export function drawNames({ names, lefts, functions, gutter, headLetters }, left = 0) {
+export function drawNames({ names, lefts, functions, gutter, head, headLetters }, left = 0) {
   const shown = names.filter((it) => !left || Number(lefts.get(it)) > left + gutter);
   const name = (/** @type {string} */ it) => {
     const of = shortened(functions.get(it) || "", headLetters);
-    return `<text class="name halo" x="${lefts.get(it)}" y="15">${it}</text><text class="of halo" x="${lefts.get(it)}" y="28">${escaped(of)}</text>`;
+    const [above, below] = [Math.round(head * 0.43), Math.round(head * 0.83)];
+    return `<text class="name halo" x="${lefts.get(it)}" y="${above}">${it}</text><text class="of halo" x="${lefts.get(it)}" y="${below}">${escaped(of)}</text>`;
   };
   return shown.map(name).join("");
 }

@@ -1,6 +1,6 @@
 // The space-time picture in the page: only the rows in view are drawn. It tells of pointing, choosing and dragging.
 
-import { HEAD, labelWidth, layOut } from "./layout.js";
+import { headOf, labelWidth, layOut } from "./layout.js";
 import { DEFINITIONS, NOTHING_POINTED, cycleHeight, cycleWidth, drawNames, drawRows } from "./picture.js";
 import { Rows } from "./rows.js";
 
@@ -66,7 +66,6 @@ export class PictureView {
     this.body.innerHTML = `${DEFINITIONS}<g class="drawn" role="none"></g><g class="above" aria-hidden="true"></g>`;
     this.drawn = /** @type {Element} */ (this.body.querySelector(".drawn"));
     this.above = /** @type {Element} */ (this.body.querySelector(".above"));
-    this.body.style.marginTop = `${-HEAD - 1}px`;
     this.listen();
   }
 
@@ -91,18 +90,22 @@ export class PictureView {
     return Math.round(SIZES[this.size][1] * 0.605 * 10) / 10;
   }
 
-  // Makes rows and letters smaller or larger, and keeps the row that is on top.
+  get headHeight() {
+    return headOf(this.letter);
+  }
+
+  // Makes rows and letters smaller or larger, and keeps the row that is on top, or the end in view.
   /** @param {number} by */
   zoom(by) {
-    const row = this.rowAt(this.host.scrollTop);
+    const [row, wasAtEnd] = [this.rowAt(this.host.scrollTop), this.isAtEnd];
     this.size = Math.max(0, Math.min(SIZES.length - 1, this.size + by));
     this.place();
-    this.host.scrollTop = (row - this.top) * this.rowHeight;
+    this.host.scrollTop = wasAtEnd ? this.host.scrollHeight : (row - this.top) * this.rowHeight;
   }
 
   // The largest size at which all rows are in view, or else the smallest.
   fit() {
-    const room = this.host.clientHeight - HEAD - 6;
+    const room = this.host.clientHeight - this.headHeight - 6;
     const fitting = SIZES.map(([height]) => height * (this.rows?.length || 1) <= room).lastIndexOf(true);
     this.zoom(Math.max(0, fitting) - this.size);
   }
@@ -163,7 +166,8 @@ export class PictureView {
     const height = this.layout.y(this.rows.length) + 6 + cycleHeight(this.view.cycle);
     const width = Math.max(this.layout.width, room, cycleWidth(this.layout, this.view.cycle));
     this.head.setAttribute("width", String(width));
-    this.head.setAttribute("height", String(HEAD));
+    this.head.setAttribute("height", String(this.headHeight));
+    this.body.style.marginTop = `${-this.headHeight - 1}px`;
     this.body.setAttribute("width", String(width));
     this.body.setAttribute("height", String(height));
   }
@@ -324,7 +328,7 @@ export class PictureView {
     const row = this.row(id);
     if (row === null || !this.layout) return;
     const top = (row - this.top) * this.rowHeight;
-    const room = this.host.clientHeight - HEAD;
+    const room = this.host.clientHeight - this.headHeight;
     if (top < this.host.scrollTop) this.host.scrollTop = top - this.rowHeight;
     else if (top + this.rowHeight > this.host.scrollTop + room) this.host.scrollTop = top - room + 2 * this.rowHeight;
     const left = Number(this.layout.lefts.get(id.slice(0, id.lastIndexOf("#"))));
