@@ -26,7 +26,7 @@ export function describeStep({ id, kind, row }, note, count) {
 /** @param {Page} page */
 function hint({ session }) {
   if (!session) return "There is no session.";
-  if (!session.log.length) return "No step was taken yet: press Step, Run, or Next of the story.";
+  if (!session.log.length) return "No step was taken yet: press Step, Run, or Next in story.";
   return "Point at a step: its causes and its consequences get a colour. Click it to keep it chosen.";
 }
 

@@ -36,6 +36,8 @@ export async function toHash(shared) {
 
 /** @param {unknown} it */
 const isText = (it) => typeof it === "string";
+/** @param {unknown} it */
+const isLine = (it) => typeof it === "string" && /^[^\n\r]*\S[^\n\r]*$/.test(it);
 
 // The bytes of a text in base 64 that were deflated.
 /** @param {string} text */
@@ -58,7 +60,7 @@ export async function fromHash(hash) {
  */
 export function checked(read) {
   if (!isText(read?.source)) throw new Error("it has no source");
-  const commands = Array.isArray(read.commands) ? read.commands.filter(isText) : [];
+  const commands = Array.isArray(read.commands) ? read.commands.filter(isLine) : [];
   const breaks = Array.isArray(read.breaks) ? read.breaks.filter((/** @type {unknown} */ it) => Number.isInteger(it)) : [];
   const [chosen, theme, name] = [read.chosen, read.theme, read.name].map((it) => (isText(it) ? it : ""));
   return { source: read.source, commands, breaks, chosen, theme, name };

@@ -98,6 +98,7 @@ async function openBeginning(page, shared) {
   page.views.editor.markBreaks(shared?.breaks || []);
   if (!(await page.open()) || !shared?.commands.length) return;
   await page.replay(shared.commands);
+  page.views.stories.catchUp(shared.commands);
   page.say(`${shared.commands.length} commands were done again.`);
   if (shared.chosen && page.session && page.session.log.row(shared.chosen) >= 0) await page.pointing.show(shared.chosen);
 }

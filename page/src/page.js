@@ -1,13 +1,12 @@
 // The page: it owns the present session and the views, and shows in them what each command came to. A session is swapped whole.
 
-import { CHANGES, wordsOf } from "./protocol.js";
+import { CHANGES, parseFault, wordsOf } from "./protocol.js";
 import { Annotating } from "./annotating.js";
 import { SessionGone } from "./remote.js";
 import { Refused, Session } from "./session.js";
 import { endOfRun } from "./words.js";
 import { explain } from "./refusals.js";
 import { blinded, lost } from "./losses.js";
-import { parseFault } from "./protocol.js";
 import { Past } from "./past.js";
 import { Pointing } from "./pointing.js";
 
@@ -114,6 +113,8 @@ export class Page {
     this.cycle = [];
     this.pointing.clear();
     this.past.leave();
+    this.views.picture.hidden.clear();
+    this.views.stories.restart();
     this.views.transcript.clear();
     this.views.transcript.remark("The source is checked, and its program stands before its first step.");
     this.say("The program stands before its first step.");
@@ -317,6 +318,13 @@ export class Page {
     if (!picture.hidden.delete(name)) picture.hidden.add(name);
     picture.place();
     overview.draw();
+  }
+
+  // Draws the arrows of the order of waiting, or leaves them out.
+  toggleOrder() {
+    const { picture } = this.views;
+    picture.hasOrder = !picture.hasOrder;
+    picture.drawSoon();
   }
 
   // Scrolls the source to where the chosen goroutine stands.

@@ -50,6 +50,7 @@ export class PictureView {
     /** @type {Set<string>} */
     this.hidden = new Set();
     this.labels = "statement";
+    this.hasOrder = true; // whether arrows of the order of waiting are drawn
     /** @type {{log: import("./log.js").Log, functions: Map<string, string>, notes: (id: string) => Note | undefined} | null} */
     this.shown = null;
     /** @type {{from: number, row: number} | null} */
@@ -220,7 +221,8 @@ export class PictureView {
     const [from, to] = this.inView();
     const left = this.host.scrollLeft;
     this.head.innerHTML = drawNames(this.layout, left);
-    this.drawn.innerHTML = drawRows(this.layout, this.edges, { view: this.view, describe: this.describe, wide: this.host.clientWidth, left }, from, to);
+    const edges = this.hasOrder ? this.edges : this.edges.filter(({ kind }) => kind !== "order");
+    this.drawn.innerHTML = drawRows(this.layout, edges, { view: this.view, describe: this.describe, wide: this.host.clientWidth, left }, from, to);
     this.above.innerHTML = this.drawTakeBack() + this.drawDrop();
     const row = this.row(this.view.pointed);
     const isDrawn = row !== null && row >= from && row <= to;

@@ -67,6 +67,18 @@ export class Stories {
     this.show();
   }
 
+  // Goes to where these commands that changed a session have led.
+  /** @param {string[]} done */
+  catchUp(done) {
+    let matched = 0;
+    this.commands.forEach(({ command }, at) => {
+      if (command !== done[matched]) return;
+      matched++;
+      this.at = at + 1;
+    });
+    this.show();
+  }
+
   show() {
     const told = this.commands[this.at]?.text || (this.at && this.at >= this.commands.length ? "That was the story. Go on by yourself: point at steps, take them back." : "");
     const shows = this.story?.shows || "";

@@ -107,7 +107,8 @@ const columns = {
     if (columns.shown === shown) return;
     columns.shown = shown;
     const box = (/** @type {string} */ name) => make("label", {}, make("input", { type: "checkbox", checked: !picture.hidden.has(name), onchange: () => page.toggleColumn(name) }), ` ${name} ${page.annotating.functionOf.get(name) || ""}`);
-    find("columns-list").replaceChildren(...names.map(box));
+    const order = make("input", { type: "checkbox", checked: picture.hasOrder, onchange: () => page.toggleOrder() });
+    find("columns-list").replaceChildren(...names.map(box), make("label", {}, order, " order of waiting"));
   },
 };
 

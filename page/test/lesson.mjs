@@ -206,6 +206,12 @@ async function pictures(hands) {
   await hands.idle();
   equal("a goroutine can be hidden", [...new Set((await hands.drawn()).map((id) => id.split("#")[0]))], ["g0"]);
   await browser.run("rewind.page.toggleColumn('g0.1')");
+  await hands.story("deadlock");
+  await hands.key("r");
+  await browser.run("rewind.page.toggleOrder()");
+  await hands.idle();
+  equal("the arrows of the order of waiting can be left out", await browser.run("[...document.querySelectorAll('#picture .drawn .edge')].map((it) => it.getAttribute('class'))"), ["edge start", "edge start"]);
+  await browser.run("rewind.page.toggleOrder()");
   const png = await browser.run("rewind.savePicture(rewind.page).then((text) => rewind.asPng(text)).then((it) => [it.type, it.size > 10000])");
   equal("a picture can be saved as PNG", png, ["image/png", true]);
   holds("a saved picture has a legend", (await browser.run("rewind.savePicture(rewind.page)")).includes("order of waiting"));

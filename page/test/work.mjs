@@ -28,6 +28,17 @@ async function overAReload(hands) {
   await hands.idle();
 }
 
+async function storiesOverAReload(hands) {
+  const { browser } = hands;
+  await hands.story("deadlock");
+  for (let count = 0; count < 3; count++) await hands.act("next");
+  await new Promise((go) => setTimeout(go, 400));
+  await reload(browser, hands);
+  equal("a story goes on after a reload", await browser.run("[rewind.page.views.stories.name, rewind.page.views.stories.at > 0, rewind.page.session.log.length]"), ["deadlock", true, 16]);
+  await hands.act("start");
+  equal("and begins anew with a new start", await browser.run("[rewind.page.views.stories.at, rewind.page.session.log.length]"), [0, 0]);
+}
+
 async function overAChangeOfStory(hands) {
   await hands.source(OWN);
   await hands.story("deadlock");
@@ -121,7 +132,7 @@ async function otherBrowsers(hands) {
   holds("another one goes on", (await hands.ids()).length >= 0);
 }
 
-const WORKS = [overAReload, overAChangeOfStory, refusedTexts, keptLines, numbersOfRuns, storyOfAnother, refusalsAsTold, otherBrowsers];
+const WORKS = [overAReload, storiesOverAReload, overAChangeOfStory, refusedTexts, keptLines, numbersOfRuns, storyOfAnother, refusalsAsTold, otherBrowsers];
 
 export async function works(browser) {
   for (const work of WORKS) await work(new Hands(browser));

@@ -45,7 +45,7 @@ async function links() {
   let fault = "";
   await fromHash("#s=AAAA").catch((it) => (fault = String(it)));
   holds("a damaged link is an error", fault);
-  equal("what is read has the types that it must have", checked({ source: "x", commands: ["a", 7], breaks: [1, "2"], theme: 5 }), { source: "x", commands: ["a"], breaks: [1], chosen: "", theme: "", name: "" });
+  equal("what is read has the types that it must have", checked({ source: "x", commands: ["a", 7, "", "step g0\nstep g0"], breaks: [1, "2"], theme: 5 }), { source: "x", commands: ["a"], breaks: [1], chosen: "", theme: "", name: "" });
   const file = { name: "a.go", text: toFile(shared) };
   equal("one file holds source and commands", fromFiles([file]), { source: shared.source, commands: shared.commands, name: "a" });
   equal("so do two", fromFiles([{ name: "a.go", text: "package main\n" }, { name: "a.script", text: "step g0\n\nrun 3\n" }]), { source: "package main\n", commands: ["step g0", "run 3"], name: "a" });
