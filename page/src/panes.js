@@ -6,6 +6,7 @@ import { parseWaiter } from "./protocol.js";
 import { waitText, waitsOf } from "./waits.js";
 
 const FRAMES = 8; // of more frames the innermost are shown until the others are unfolded
+const MANY = 8; // cards: above more of them stand the channels
 const LINES = 1000; // of more lines of the console the last are shown
 
 /**
@@ -105,6 +106,7 @@ export function showGoroutines(host, scene, { chosen, isOver, canStep }, on) {
   const how = (/** @type {string} */ name) => ({ clauses: scene.clauses.get(name) || [], isChosen: name === chosen, isOver, canStep, wait: waits.get(name) || "" });
   host.replaceChildren(...cards.map((it) => goroutineCard(it, how(it.name), on)));
   if (done.length) host.append(make("p", { class: "done" }, "done: ", ...done.map(({ name, steps }) => button({ "data-goroutine": name, onclick: () => on.choose(name) }, `${name}, ${inSteps(steps)}`))));
+  document.body.classList.toggle("many-cards", cards.length > MANY);
   if (!scene.goroutines.length) host.append(make("p", { class: "none" }, "There is no session."));
   if (scene.hidden) host.append(make("p", { class: "none" }, `${scene.hidden} goroutines and channels more: ask for them by name.`));
   if (!label) return;

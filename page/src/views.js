@@ -69,6 +69,9 @@ const controls = {
     find("next").hidden = !stories.commands.length || !isOfStory;
     enable("next", lives && stories.next !== undefined);
     find("next").title = stories.next ? `The story goes on with: ${stories.next.slice(0, 80)}` : "The story gives no more commands";
+    const isText = stories.isOf(views.editor.text);
+    find("about-story").hidden = !isText;
+    stories.menu.value = isText ? stories.name : "";
     for (const id of ["save", "save-png"]) enable(id, Boolean(session?.log.length));
     find("stale").hidden = !session || session.source === views.editor.text;
     find("gone").hidden = !session?.gone;

@@ -15,9 +15,9 @@ func main() {
 `;
 const LONG_PRINTS = PRINTS.replace("println(n)", `println("${"x".repeat(10000)}", n)`);
 // Milliseconds on a machine that has other work; a processor of one's own takes half of it.
-const CLICK = 300;
-const POINTING = 600;
-const LOOKING = 600;
+const CLICK = 500;
+const POINTING = 900;
+const LOOKING = 900;
 
 // Runs in the page: the milliseconds of an act until the next frame is drawn.
 const untilShown = (act) => `(async () => { const began = performance.now(); await ${act}; await new Promise((go) => requestAnimationFrame(() => setTimeout(go, 0))); return performance.now() - began; })()`;

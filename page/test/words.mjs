@@ -21,6 +21,13 @@ async function states(hands) {
   holds("what is left at the end is told", /^The program has ended\. Left behind: g0\.2 \(waiting at line 4\), g0\.4/.test(await hands.text("#state")));
 }
 
+async function manyGoroutines(hands) {
+  await hands.source("package main\nfunc wait(c chan int) { <-c }\nfunc main() {\n\tc := make(chan int)\n\tfor i := 0; i < 40; i++ { go wait(c) }\n\tc <- 1\n}\n");
+  await hands.perform("run 400");
+  const tops = await hands.browser.run("['console', 'channels', 'goroutines'].map((id) => document.getElementById(id).getBoundingClientRect().top)");
+  equal("of many goroutines, console and channels stand above the cards", [...tops].sort((one, other) => one - other), tops);
+}
+
 async function ends(hands) {
   await hands.perform("run 5");
   equal("an ended program is told to have ended before", await hands.text("#status"), "The program has ended before: there is no step to take.");
@@ -99,7 +106,7 @@ async function arrows(hands) {
   await hands.browser.size(1280, 800);
 }
 
-const WORDS = [states, ends, places, byMouse, longTexts, arrows];
+const WORDS = [states, ends, manyGoroutines, places, byMouse, longTexts, arrows];
 
 export async function saidWords(browser) {
   for (const words of WORDS) await words(new Hands(browser));

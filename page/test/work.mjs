@@ -88,6 +88,7 @@ async function storyOfAnother(hands) {
   holds("a story has a next command", await hands.browser.run("!document.getElementById('next').hidden"));
   await hands.source(OWN);
   holds("a program of one's own has none", await hands.browser.run("document.getElementById('next').hidden"));
+  equal("nor is a story told of it", await hands.browser.run("[document.getElementById('about-story').hidden, document.getElementById('story').selectedOptions[0].textContent]"), [true, "your own program"]);
 }
 
 const REFUSED = new URL("../../clients/tests/refused/", import.meta.url).pathname;
