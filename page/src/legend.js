@@ -11,7 +11,8 @@ const MARK_NAMES = [
 ];
 const EDGE_NAMES = [["message", "message"], ["start", "start"], ["close", "close"], ["order", "order of waiting"]];
 const SIDE_NAMES = [["cause", "↑", "cause"], ["consequence", "↓", "consequence"]];
-export const LEGEND_HEIGHT = 54;
+const ROWS = 3;
+export const LEGEND_HEIGHT = 6 + 24 * ROWS;
 
 /** @param {string} kind */
 const arrow = (kind) => `<path class="edge ${kind}" marker-end="url(#tip-${kind})" d="M1 8L22 8"/>`;
@@ -32,12 +33,12 @@ export function legend() {
   return [...shown, "<span>#5 its number</span><span>:6 its line</span>"].join("");
 }
 
-// The same within an SVG, in two rows.
+// The same within an SVG, in rows.
 export function legendDrawing() {
-  const half = Math.ceil(ENTRIES.length / 2);
-  const lefts = [0, 0];
+  const each = Math.ceil(ENTRIES.length / ROWS);
+  const lefts = Array(ROWS).fill(0);
   return ENTRIES.map(({ name, drawing, text, width }, at) => {
-    const row = at < half ? 0 : 1;
+    const row = Math.floor(at / each);
     const x = lefts[row];
     lefts[row] += width + 20 + text.length * 7.3;
     return `<g class="${name}" transform="translate(${x} ${24 * row})">${drawing}</g><text class="muted" x="${x + width + 5}" y="${24 * row + 12}">${text}</text>`;

@@ -215,6 +215,10 @@ async function pictures(hands) {
   const png = await browser.run("rewind.savePicture(rewind.page).then((text) => rewind.asPng(text)).then((it) => [it.type, it.size > 10000])");
   equal("a picture can be saved as PNG", png, ["image/png", true]);
   holds("a saved picture has a legend", (await browser.run("rewind.savePicture(rewind.page)")).includes("order of waiting"));
+  const cut = `rewind.savePicture(rewind.page).then((text) => { const host = document.createElement("div"); host.innerHTML = text; document.body.append(host);
+    const svg = host.querySelector("svg"); const { right } = svg.getBoundingClientRect();
+    const found = [...svg.querySelectorAll("text")].filter((it) => it.getBoundingClientRect().right > right).map((it) => it.textContent); host.remove(); return found; })`;
+  equal("no word of a saved picture is cut", await browser.run(cut), []);
 }
 
 async function messages(hands) {
