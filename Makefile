@@ -53,13 +53,17 @@ browser-needs:
 
 PAGE_COMPILER := page/module/build.py page/module/retarget.py $(wildcard page/module/*.c) tools/kit.py
 
-page/out/rewind-quick.wasm: bin/quick/rewind.bc $(PAGE_COMPILER)
+page/out/rewind-quick.wide.wasm: bin/quick/rewind.bc $(PAGE_COMPILER)
 	$(NEEDS_RT)
 	page/module/build.py $< $@
 
-page/out/rewind.wasm: page/out/rewind.bc $(PAGE_COMPILER)
+page/out/rewind.wide.wasm: page/out/rewind.bc $(PAGE_COMPILER)
 	$(NEEDS_RT)
 	page/module/build.py $< $@
+
+# The wide module has 64-bit memories, which not every browser knows. The page holds the other.
+page/out/rewind.wasm page/out/rewind-quick.wasm: page/out/%.wasm: page/out/%.wide.wasm page/module/lower.py tools/kit.py
+	page/module/lower.py $< $@
 
 page/out/rewind.bc: bin/rewind page/module/proved_module.py page/module/keep_module
 	$(NEEDS_RT)

@@ -25,7 +25,7 @@ function statusOf(thrown) {
 
 export const canSuspend = () => "Suspending" in WebAssembly && "promising" in WebAssembly;
 
-// A count as the program takes it: its numbers are wide where its memory has 64 bits.
+// A count as the program takes it: wide where it asked for a wide one, as a program of 64 bits does.
 /**
  * @param {number} count
  * @param {number | bigint} like

@@ -22,7 +22,7 @@ import { paneEvents, showStepsOf } from "./asking.js";
 import { watchExercise } from "./tasks.js";
 
 const FIRST = "deadlock";
-const BROWSERS = "Rewind needs a browser with WebAssembly and its 64-bit memories: Chrome or Edge 133, Firefox 134, or newer ones.";
+const BROWSERS = "Rewind needs a browser with WebAssembly: Chrome or Edge 103, Firefox 113, Safari 16.4, or newer ones.";
 
 /** @returns {Given} */
 const given = () => JSON.parse(find("given").textContent || "");

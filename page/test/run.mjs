@@ -14,6 +14,7 @@ import { saidWords } from "./words.mjs";
 import { monkey } from "./monkey.mjs";
 import { speed } from "./speed.mjs";
 import { truths } from "./truths.mjs";
+import { wideModule } from "./wide.mjs";
 import { works } from "./work.mjs";
 
 const [page, folder, form, only] = process.argv.slice(2);
@@ -51,6 +52,7 @@ function ofTool(what, ...words) {
 const ALL = [
   { name: "kind of build", part: build },
   { name: "sessions", part: sessions },
+  { name: "the module with 64-bit addresses", part: (browser) => wideModule(browser, `${HERE}../out/${basename(page, ".html")}.wide.wasm`) },
   { name: "stories in one run that waits", part: stories },
   { name: "stories run anew for each exchange", part: stories, hash: "#repeat" },
   { name: "true in every state", part: truths },
@@ -63,7 +65,7 @@ const ALL = [
   { name: "a monkey without suspension", part: (browser) => monkey(browser, page.replace(/\.html$/, ""), Number(process.env.ROUNDS) || 10, 1000), hash: "#repeat" },
   { name: "looks", part: (browser) => looks(browser, folder) },
 ];
-const SHORT = [ALL[0], ALL[1], { name: "a story", part: firstStory }];
+const SHORT = [...ALL.slice(0, 3), { name: "a story", part: firstStory }];
 
 // Runs a part in a browser of its own.
 async function run({ name, part, hash }) {
@@ -82,8 +84,9 @@ async function run({ name, part, hash }) {
 
 ofTool("types", "tsc", "-p", `${HERE}..`);
 ofTool("style", "eslint", "-f", "compact", "--ext", ".js,.mjs", `${HERE}../src`, `${HERE}../test`);
-// How the program's module becomes one for WebAssembly, and what is refused.
+// How the program's module becomes one for WebAssembly, and that one with 32-bit addresses, and what is refused.
 ofCommand("module", `${HERE}module.py`);
+ofCommand("narrow module", `${HERE}lower.py`);
 ofCommand("modules of the page", process.execPath, `${HERE}unit.mjs`);
 const PARTS = { "--short": SHORT, "--only": ALL.filter(({ name }) => name === only) };
 for (const it of PARTS[form] || ALL) {

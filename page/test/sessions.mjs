@@ -4,7 +4,7 @@ import { existsSync, readFileSync, readdirSync } from "node:fs";
 import { counts, equal, failed, holds } from "./checks.mjs";
 
 const FOLDER = new URL("../../crates/sessions/data", import.meta.url).pathname;
-const base64 = (file) => (existsSync(file) ? readFileSync(file).toString("base64") : "");
+export const base64 = (file) => (existsSync(file) ? readFileSync(file).toString("base64") : "");
 
 // Runs in the page: one session. What it wrote as base64, whether its source was refused, and its exit status.
 async function sessionInPage(source, script, suspends) {
@@ -41,6 +41,6 @@ async function allOf(browser, suspends) {
   console.log(`${names.length - counts.failed + before} of ${names.length} sessions are as expected, ${how}`);
 }
 
-export async function sessions(browser) {
-  for (const suspends of [true, false]) await allOf(browser, suspends);
+export async function sessions(browser, ways = [true, false]) {
+  for (const suspends of ways) await allOf(browser, suspends);
 }
