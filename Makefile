@@ -44,12 +44,17 @@ page: page-needs page/out/rewind.wasm ## the debugger in a web page of the prove
 	page/inline.py page/out/rewind.wasm bin/rewind.html
 
 # What is missing of Debian's packages is installed before anything is built.
-.PHONY: page-needs browser-needs
+.PHONY: page-needs browser-needs other-browsers
 page-needs:
 	@page/needs.sh libjs-codemirror
 
 browser-needs:
 	@page/needs.sh chromium nodejs node-typescript eslint
+
+# A test in a browser that cannot be had is skipped.
+other-browsers:
+	@page/needs.sh firefox-esr || :
+	@page/needs.sh webkit2gtk-driver xvfb || :
 
 PAGE_COMPILER := page/module/build.py page/module/retarget.py $(wildcard page/module/*.c) tools/kit.py
 
@@ -99,7 +104,7 @@ dap-test: $(REWIND) ## the adapter for editors (1 minute)
 
 IS_QUICK = $(filter rewind-quick,$(notdir $(REWIND)))
 
-page-test: browser-needs $(if $(IS_QUICK),quick-page,page) ## the page: types, style, modules, and all of it in headless Chromium (4 minutes)
+page-test: browser-needs other-browsers $(if $(IS_QUICK),quick-page,page) ## the page: types, style, modules, all of it in Chromium, and sessions in Firefox and WebKitGTK (5 minutes)
 	page/test.sh bin/rewind$(if $(IS_QUICK),-quick).html
 
 hostile: $(REWIND) bin/racing ## hostile sources and commands, failing devices, refused memory, races (6 processor minutes)

@@ -1,6 +1,7 @@
 #!/bin/sh
 # test.sh PAGE.html [--short]: tests a page: its types and style, its modules alone, and in headless Chromium the example sessions byte
-# for byte, stories by clicks and keys, and pictures to look at (page/out/looks). The short form has the sessions and one story.
+# for byte, stories by clicks and keys, and pictures to look at (page/out/looks); in Firefox and WebKitGTK, where they are there, the
+# sessions and a story. The short form has the sessions and one story in Chromium.
 here=$(cd "$(dirname "$0")" && pwd)
 
 stop() {

@@ -4,8 +4,9 @@
 import { spawnSync } from "node:child_process";
 import { basename } from "node:path";
 import { Browser, DidNotStart } from "./browser.mjs";
-import { counts, equal, failed, noFaults } from "./checks.mjs";
+import { counts, equal, failed, noFaults, skipped } from "./checks.mjs";
 import { looks } from "./looks.mjs";
+import { others } from "./others.mjs";
 import { sessions } from "./sessions.mjs";
 import { firstStory, stories } from "./story.mjs";
 import { access } from "./access.mjs";
@@ -64,12 +65,14 @@ const ALL = [
   { name: "a monkey", part: (browser) => monkey(browser, page.replace(/\.html$/, ""), Number(process.env.ROUNDS) || 25, Number(process.env.SEED) || 1) },
   { name: "a monkey without suspension", part: (browser) => monkey(browser, page.replace(/\.html$/, ""), Number(process.env.ROUNDS) || 10, 1000), hash: "#repeat" },
   { name: "looks", part: (browser) => looks(browser, folder) },
+  ...others,
 ];
 const SHORT = [...ALL.slice(0, 3), { name: "a story", part: firstStory }];
 
 // Runs a part in a browser of its own.
-async function run({ name, part, hash }) {
-  const browser = await Browser.open();
+async function run({ name, part, hash, missing = () => "", open = Browser.open }) {
+  if (missing()) return skipped(`${name}: there is no '${missing()}'`);
+  const browser = await open();
   const [passed, began] = [counts.passed, performance.now()];
   try {
     await browser.size(1280, 800);
@@ -94,8 +97,8 @@ for (const it of PARTS[form] || ALL) {
     await run(it);
   } catch (fault) {
     failed(`${it.name}: ${fault.message}`);
-    if (fault instanceof DidNotStart) break;
+    if (fault instanceof DidNotStart && !it.open) break;
   }
 }
-console.log(`${counts.passed} passed, ${counts.failed} failed`);
+console.log(`${counts.passed} passed, ${counts.failed} failed${counts.skipped ? `, ${counts.skipped} skipped` : ""}`);
 process.exit(counts.failed ? 1 : 0);
