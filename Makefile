@@ -44,22 +44,31 @@ page: page-needs page/out/rewind.wasm ## the debugger in a web page of the prove
 	page/inline.py page/out/rewind.wasm bin/rewind.html
 
 # What is missing of Debian's packages is installed before anything is built.
-.PHONY: page-needs browser-needs
+.PHONY: page-needs browser-needs other-browsers
 page-needs:
 	@page/needs.sh libjs-codemirror
 
 browser-needs:
-	@page/needs.sh chromium nodejs
+	@page/needs.sh chromium nodejs node-typescript eslint
+
+# A test in a browser that cannot be had is skipped.
+other-browsers:
+	@page/needs.sh firefox-esr || :
+	@page/needs.sh webkit2gtk-driver xvfb || :
 
 PAGE_COMPILER := page/module/build.py page/module/retarget.py $(wildcard page/module/*.c) tools/kit.py
 
-page/out/rewind-quick.wasm: bin/quick/rewind.bc $(PAGE_COMPILER)
+page/out/rewind-quick.wide.wasm: bin/quick/rewind.bc $(PAGE_COMPILER)
 	$(NEEDS_RT)
 	page/module/build.py $< $@
 
-page/out/rewind.wasm: page/out/rewind.bc $(PAGE_COMPILER)
+page/out/rewind.wide.wasm: page/out/rewind.bc $(PAGE_COMPILER)
 	$(NEEDS_RT)
 	page/module/build.py $< $@
+
+# The wide module has 64-bit memories, which not every browser knows. The page holds the other.
+page/out/rewind.wasm page/out/rewind-quick.wasm: page/out/%.wasm: page/out/%.wide.wasm page/module/lower.py tools/kit.py
+	page/module/lower.py $< $@
 
 page/out/rewind.bc: bin/rewind page/module/proved_module.py page/module/keep_module
 	$(NEEDS_RT)
@@ -98,7 +107,7 @@ dap-test: $(REWIND) ## the adapter for editors (1 minute)
 
 IS_QUICK = $(filter rewind-quick,$(notdir $(REWIND)))
 
-page-test: browser-needs $(if $(IS_QUICK),quick-page,page) ## the page in headless Chromium (3 minutes)
+page-test: browser-needs other-browsers $(if $(IS_QUICK),quick-page,page) ## the page: types, style, modules, all of it in Chromium, and sessions in Firefox and WebKitGTK (5 minutes)
 	page/test.sh bin/rewind$(if $(IS_QUICK),-quick).html
 
 hostile: $(REWIND) bin/racing ## hostile sources and commands, failing devices, refused memory, races (6 processor minutes)

@@ -3,14 +3,15 @@
 
     page/inline.py MODULE.wasm OUT.html [--unproved]
 
-With --unproved the page says that its program is not proved. The meanings of codes, kinds and commands come from docs/, and the
-examples from crates/sessions/data, so that nothing is said twice.
+With --unproved the page says that its program is not proved. The meanings of codes, kinds and commands and the tales of the stories
+come from docs/, the refusals of sources from clients/, so that nothing is said twice.
 """
 import base64
 import json
 import os
 import re
 import sys
+import zlib
 
 HERE = os.path.dirname(os.path.realpath(__file__))
 ROOT = os.path.dirname(HERE)
@@ -20,6 +21,9 @@ import kit  # noqa: E402
 MIRROR = "/usr/share/javascript/codemirror"
 LICENCE = "/usr/share/doc/libjs-codemirror/copyright"
 IMPORT = re.compile(r'^import \{[^}]*\} from "\./(\w+\.js)";\n', re.M)
+IMPORT_OF = re.compile(r'^import \{([^}]*)\} from "\./(\w+\.js)";\n', re.M)
+EXPORT = re.compile(r"^export (?:async )?(?:function|class|const) (\w+)", re.M)
+COMMENTS = re.compile(r"^ */\*\*(?:(?!\*/).)*\*/\n", re.M | re.S)
 # What page.html says of a program that is not proved.
 OF_UNPROVED = re.compile(r"<!--unproved:(.*?)-->")
 
@@ -43,13 +47,21 @@ def modules(name, done):
     return list(done)
 
 
-def one_script():
-    """Joins the modules to one. Two with the same name at their top would be refused by the browser."""
+def one_script(entry):
+    """Joins a module and those that it needs to one script. Each becomes a function that gives what it exports."""
     parts = []
-    for name in modules("main.js", {}):
-        text = IMPORT.sub("", read(f"{HERE}/src/{name}"))
-        parts.append(f"// {name}\n" + re.sub(r"^export ", "", text, flags=re.M))
+    for name in modules(entry, {}):
+        text = read(f"{HERE}/src/{name}")
+        text = IMPORT_OF.sub(lambda it: f"const {{{it[1].replace(' as ', ': ')}}} = {variable(it[2])};\n", text)
+        exported = EXPORT.findall(text)
+        body = COMMENTS.sub("", re.sub(r"^export ", "", text, flags=re.M))
+        parts.append(f"// {name}\nconst {variable(name)} = (() => {{\n{body}return {{ {', '.join(exported)} }};\n}})();")
     return "\n".join(parts)
+
+
+def variable(name):
+    """The name of what a module exports."""
+    return f"module_{name.removesuffix('.js')}"
 
 
 def plain(cell):
@@ -84,33 +96,92 @@ def commands():
     return [row[:2] for row in rows("COMMANDS.md", "Commands") if row[0] != "Command"]
 
 
+def faults():
+    return {row[0]: row[1] for row in rows("COMMANDS.md", "Faults") if row[0] != "Fault"}
+
+
+def narrations():
+    """What docs/SESSIONS.md tells of each story: before each command the text that leads to it."""
+    told = {}
+    for section in re.split(r"^## ", read(f"{ROOT}/docs/SESSIONS.md"), flags=re.M)[1:]:
+        name = re.search(r"^!\[.*\]\(pictures/(\w+)\.svg\)$", section, re.M)
+        if name:
+            told[name[1]] = (section.split("\n")[0], narration(section.split("\n", 1)[1]))
+    return told
+
+
+def narration(section):
+    """The commands of a section, each with the paragraphs before it. What stands before the source tells of the picture there."""
+    found, said = [], []
+    for at, part in enumerate(section.split("```")):
+        if at % 2 == 0 and at:
+            paragraphs = [it for it in part.strip().split("\n\n") if it and not it.startswith("!")]
+            said += [re.sub(r"\*([^*]+)\*", r"\1", it.replace("`", "").replace("\n", " ")) for it in paragraphs[-2:]]
+        for command in re.findall(r"^> (.*)$", part, re.M) if at % 2 else []:
+            found.append({"text": " ".join(said), "command": command})
+            said = []
+    return found
+
+
+def story(entry, level, shows, told):
+    """A story of the menu: its source, and its commands with what is told before each."""
+    entry = {"name": entry} if isinstance(entry, str) else entry
+    name = entry["name"]
+    folders = [f"{ROOT}/crates/sessions/data/{name}", f"{ROOT}/clients/examples/{name}"]
+    path = f"{ROOT}/{entry['file']}" if "file" in entry else next(it for it in folders if os.path.exists(f"{it}.go"))
+    title, narrated = told.get(name, ("", []))
+    script = entry.get("script") or (read(f"{path}.script") if os.path.exists(f"{path}.script") else "run 1000")
+    commands = [{"text": "", "command": it} for it in script.splitlines() if it.strip()]
+    return {
+        "name": name,
+        "title": entry.get("title") or title or name.replace("_", " "),
+        "source": read(f"{path}.go"),
+        "shows": (entry.get("shows") or shows.get(name, "")).replace("`", ""),
+        "level": level,
+        "told": with_texts(commands, narrated),
+    }
+
+
+def with_texts(commands, narrated):
+    """The commands of a script, with the texts that lead to the same commands, in their order."""
+    at = 0
+    for it in narrated:
+        later = next((place for place in range(at, len(commands)) if commands[place]["command"] == it["command"]), None)
+        if later is not None:
+            commands[later]["text"] = it["text"]
+            at = later + 1
+    return commands
+
+
 def stories():
-    """Returns the example sessions in the order of docs/SESSIONS.md, which says what each shows."""
-    told = {it["story"] for it in json.loads(read(f"{HERE}/pictures.json"))}
+    """Returns the stories of the menu, in its order."""
     shows = {name: row[1] for row in rows("SESSIONS.md") for name in row[0].split(", ") if len(row) == 2}
-    folder, found = f"{ROOT}/crates/sessions/data", []
-    names = sorted(it[:-3] for it in os.listdir(folder) if it.endswith(".go"))
-    for name in sorted(names, key=lambda it: list(shows).index(it) if it in shows else len(shows)):
-        script = f"{folder}/{name}.script"
-        found.append({
-            "name": name,
-            "source": read(f"{folder}/{name}.go"),
-            "script": read(script) if os.path.exists(script) else "",
-            "shows": shows.get(name, ""),
-            "isTold": name in told,
-        })
+    told = narrations()
+    return [story(it, group["level"], shows, told) for group in json.loads(read(f"{HERE}/menu.json")) for it in group["stories"]]
+
+
+def exercises():
+    found = []
+    for it in json.loads(read(f"{HERE}/exercises.json")):
+        kept = {name: it.get(name) for name in ("name", "title", "level", "task", "hint", "goal")}
+        found.append({**kept, "source": read(f"{ROOT}/{it['source']}"), "before": it.get("before", [])})
     return found
 
 
 def given():
-    return {"codes": codes(), "kinds": kinds(), "commands": commands(), "stories": stories(), "licence": read(LICENCE)}
+    """All that the page shows and does not compute."""
+    refusals = json.loads(read(f"{ROOT}/clients/rewind_client/refusals.json"))
+    told = {"stories": stories(), "exercises": exercises(), "refusals": refusals}
+    return {"codes": codes(), "kinds": kinds(), "faults": faults(), "commands": commands(), "licence": read(LICENCE), **told}
 
 
 def program(wasm):
+    """The module, deflated, in base 64."""
     if not os.path.isfile(wasm):
         kit.stop(f"there is no module {wasm}")
     with open(wasm, "rb") as it:
-        return base64.b64encode(it.read()).decode()
+        deflater = zlib.compressobj(9, zlib.DEFLATED, -15)
+        return base64.b64encode(deflater.compress(it.read()) + deflater.flush()).decode()
 
 
 def page(wasm, is_proved):
@@ -120,8 +191,9 @@ def page(wasm, is_proved):
     safe = json.dumps(given()).replace("</", "<\\/")
     parts = [f'<script id="program" type="application/octet-stream">{program(wasm)}</script>']
     parts += [f'<script id="given" type="application/json">{safe}</script>']
+    parts += [f'<script id="worker" type="text/plain">\n{one_script("worker.js")}</script>']
     parts += ["<script>" + it.replace("</script", "<\\/script") + "</script>" for it in scripts]
-    parts += [f'<script type="module">\n{one_script()}</script>']
+    parts += [f'<script type="module">\n{one_script("main.js")}</script>']
     text = OF_UNPROVED.sub("" if is_proved else r"\1", read(f"{HERE}/src/page.html"))
     text = text.replace("<!--STYLES-->", "".join(f"<style>{read(it)}</style>\n" for it in styles))
     return text.replace("<!--SCRIPTS-->", "\n".join(parts))

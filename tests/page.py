@@ -3,15 +3,15 @@
 
     tests/page.py PROGRAM      (bin/rewind-quick or bin/rewind)
 
-Makes the page where it is missing or, of the quick build, out of date. Installs Debian's chromium, nodejs and libjs-codemirror where
-they are missing. Where that cannot be done, the test is skipped; it fails if the variable CI is set.
+Makes the page where it is missing or, of the quick build, out of date. Installs what it needs of Debian where that is
+missing. Where that cannot be done, the test is skipped; it fails if the variable CI is set.
 """
 import os
 import subprocess
 import sys
 
 TOP = os.path.dirname(os.path.dirname(os.path.abspath(__file__)))
-PACKAGES = ["chromium", "nodejs", "libjs-codemirror"]
+PACKAGES = ["chromium", "nodejs", "libjs-codemirror", "node-typescript", "eslint"]
 
 
 def stop(sentence):

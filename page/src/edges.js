@@ -2,29 +2,40 @@
 
 const LOCAL = new Set(["pure", "call", "return", "go", "make"]);
 const WAITS = new Set(["send-wait", "recv-wait", "select-wait"]);
+const WAKES = new Set(["hand", "meet", "take", "pick", "close"]);
 
+/** @param {string} kind */
 export const word = (kind) => kind.split(" ")[0];
+/** @param {string} kind */
 export const isWait = (kind) => WAITS.has(word(kind));
+/** @param {string} kind */
+export const mayWake = (kind) => WAKES.has(word(kind));
 
 // The end of the program rests on every step before it. It gets no edges for that alone.
+/** @param {string} kind */
 export const endsAll = (kind) => ["exit", "fault"].includes(word(kind));
 
 // A step that touches its own goroutine alone rests on others only where the goroutine was started, or woken, just before.
-export function restsOnOthers(step, before) {
-  return !LOCAL.has(step.kind) || !before || isWait(before.kind);
-}
-
-const WAKES = new Set(["hand", "meet", "take", "pick", "close"]);
-export const mayWake = (kind) => WAKES.has(word(kind));
+/**
+ * @param {string} kind
+ * @param {string} kindBefore
+ */
+export const restsOnOthers = (kind, kindBefore) => !LOCAL.has(kind) || !kindBefore || isWait(kindBefore);
 
 // Whether a step took its value from a sender that it woke. Of two selects it is not known which of them sent.
-export function takesFrom(kind, wait) {
-  return word(kind) === "meet" || (word(kind) === "pick" && wait === "send-wait");
-}
+/**
+ * @param {string} kind
+ * @param {string} wait
+ */
+export const takesFrom = (kind, wait) => word(kind) === "meet" || (word(kind) === "pick" && wait === "send-wait");
 
 // An edge is the start of a goroutine, a close, a message, or else mere order: who was first in a queue, who made room, who let go
 // on. `isMet`: the first step offered what the second took. `wait`: how the goroutine of the second step had waited, if the first
 // step woke it.
+/**
+ * @param {string} from
+ * @param {string} to
+ */
 export function edgeKind(from, to, { isMet = false, wait = "" } = {}) {
   const [source, target] = [word(from), word(to)];
   if (source === "go") return "start";

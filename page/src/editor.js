@@ -1,16 +1,23 @@
 // The source: an editor with the lines at which goroutines stand, breakpoints, and a refusal at its place.
 
 import { decoder, encoder } from "./protocol.js";
+import { make } from "./element.js";
 
-function element(name, className, text) {
-  const made = document.createElement(name);
-  made.className = className;
-  made.textContent = text;
-  return made;
-}
+const SHOWN = 2; // names beside a line; of more the first, and how many more
+
+/**
+ * @typedef {object} EditorEvents
+ * @property {() => void} open
+ * @property {() => void} change
+ * @property {(line: number) => void} toggleBreak
+ * @property {(line: number) => void} stepsOf
+ */
 
 export class Editor {
-  // `on` has open(), change() and toggleBreak(line).
+  /**
+   * @param {HTMLElement} host
+   * @param {EditorEvents} on
+   */
   constructor(host, on) {
     this.editor = window.CodeMirror(host, {
       mode: "text/x-go",
@@ -24,15 +31,26 @@ export class Editor {
       // The tab key leaves the editor, so that nobody is caught in it.
       extraKeys: { Tab: false, "Shift-Tab": false, "Ctrl-Enter": () => on.open(), "Cmd-Enter": () => on.open() },
     });
+    /** @type {any[]} */
     this.marks = [];
+    /** @type {any} */
     this.chosen = null;
+    /** @type {any[]} */
+    this.refusal = [];
     this.editor.on("change", () => on.change());
-    this.editor.on("renderLine", (_, line, shown) => this.indentRest(line, shown));
+    this.editor.on("renderLine", (/** @type {any} */ _, /** @type {any} */ line, /** @type {HTMLElement} */ shown) => this.indentRest(line, shown));
+    this.editor.on("gutterClick", (/** @type {any} */ _, /** @type {number} */ line, /** @type {string} */ gutter) => {
+      if (gutter === "where") on.stepsOf(line + 1);
+      else on.toggleBreak(line + 1);
+    });
     this.editor.refresh();
-    this.editor.on("gutterClick", (_, line) => on.toggleBreak(line + 1));
   }
 
   // Where a line takes several, the others begin a little further in than the first.
+  /**
+   * @param {any} line
+   * @param {HTMLElement} shown
+   */
   indentRest(line, shown) {
     const columns = window.CodeMirror.countColumn(line.text, null, this.editor.getOption("tabSize")) + 2;
     const inset = columns * this.editor.defaultCharWidth();
@@ -44,65 +62,123 @@ export class Editor {
     return this.editor.getValue();
   }
 
+  // Another text, which undoing takes back. It has no breakpoints.
   set text(text) {
     this.clearRefusal();
+    if (text === this.text) return;
+    this.markBreaks([]);
+    const last = this.editor.lastLine();
+    this.editor.replaceRange(text, { line: 0, ch: 0 }, { line: last, ch: this.editor.getLine(last).length });
+    this.editor.setCursor({ line: 0, ch: 0 });
+  }
+
+  // Begins with a text, before which there is none.
+  /** @param {string} text */
+  begin(text) {
     this.editor.setValue(text);
     this.editor.clearHistory();
   }
 
-  // Marks the lines at which goroutines stand: pairs of a line and the names of those there.
-  markLines(places) {
-    this.editor.clearGutter("where");
-    for (const line of this.marks) this.editor.removeLineClass(line, "background", "stands");
-    this.marks = [];
+  get line() {
+    return this.editor.getCursor().line + 1;
+  }
+
+  focus() {
+    this.editor.focus();
+  }
+
+  refresh() {
+    this.editor.refresh();
+  }
+
+  // Marks the statements at which goroutines stand: the names at each.
+  /** @param {Goroutine[]} goroutines */
+  markPlaces(goroutines) {
+    this.clearPlaces();
+    /** @type {Map<number, string[]>} */
+    const places = new Map();
+    for (const { name, line } of goroutines) if (line) places.set(line, [...(places.get(line) || []), name]);
     for (const [line, names] of places) {
-      const label = element("div", "at-line", "");
-      label.append(element("b", "", names.length > 2 ? `${names[0]} +${names.length - 1}` : names.join(" ")));
-      label.title = `here: ${names.join(", ")}`;
+      const short = names.length > SHOWN ? `${names[0]} +${names.length - 1}` : names.join(" ");
+      const label = make("div", { class: "at-line", title: `here: ${names.join(", ")}` }, make("b", {}, short));
       this.editor.setGutterMarker(line - 1, "where", label);
       const handle = this.editor.addLineClass(line - 1, "background", "stands");
       if (handle) this.marks.push(handle);
     }
   }
 
+  clearPlaces() {
+    this.editor.clearGutter("where");
+    for (const line of this.marks.splice(0)) this.editor.removeLineClass(line, "background", "stands");
+  }
+
+  // The lines of the breakpoints, where they are now in the text.
+  /** @returns {number[]} */
+  get breaks() {
+    /** @type {number[]} */
+    const lines = [];
+    this.editor.eachLine((/** @type {any} */ line) => line.gutterMarkers?.breaks && lines.push(this.editor.getLineNumber(line) + 1));
+    return lines;
+  }
+
+  /** @param {Iterable<number>} lines */
   markBreaks(lines) {
     this.editor.clearGutter("breaks");
     for (const line of lines) {
-      const mark = element("div", "break-mark", "●");
-      mark.title = `breakpoint at line ${line}`;
-      this.editor.setGutterMarker(line - 1, "breaks", mark);
+      this.editor.setGutterMarker(line - 1, "breaks", make("div", { class: "break-mark", title: `breakpoint at line ${line}` }, "●"));
     }
   }
 
-  // Marks the line of the step that is pointed at.
-  markChosen(line) {
-    if (this.chosen) this.editor.removeLineClass(this.chosen, "background", "of-chosen");
-    this.chosen = line ? this.editor.addLineClass(line - 1, "background", "of-chosen") : null;
+  // Marks the statement of the step that is pointed at, or only its line.
+  /** @param {Note | undefined} note */
+  markChosen(note, isFollowed = false) {
+    if (this.chosen) this.chosen.forEach((/** @type {() => void} */ undo) => undo());
+    this.chosen = null;
+    if (!note?.line || note.line > this.editor.lineCount()) return;
+    const handle = this.editor.addLineClass(note.line - 1, "background", "of-chosen");
+    this.chosen = [() => this.editor.removeLineClass(handle, "background", "of-chosen")];
+    if (note.statement) {
+      const mark = this.mark(note.statement.start, note.statement.end, "chosen-statement");
+      this.chosen.push(() => mark.clear());
+    }
+    if (isFollowed) this.reveal(note.line);
   }
 
+  /**
+   * @param {number} from
+   * @param {number} to
+   * @param {string} className
+   */
+  mark(from, to, className) {
+    return this.editor.markText(this.editor.posFromIndex(from), this.editor.posFromIndex(to), { className });
+  }
+
+  /** @param {number} line */
   reveal(line) {
     this.editor.scrollIntoView({ line: line - 1, ch: 0 }, 60);
   }
 
-  // Shows a refusal below its line, and underlines from its column on. Columns count bytes. Returns whether there is such a line.
-  refuse({ line, column }, message) {
+  // Shows a refusal below its line, and underlines what it is about: `length` letters from its column on, which counts bytes.
+  // Returns whether there is such a line.
+  /**
+   * @param {{line: number, column: number, length: number}} place
+   * @param {string} message
+   */
+  refuse({ line, column, length }, message) {
     this.clearRefusal();
     if (!line || line > this.editor.lineCount()) return false;
     const text = this.editor.getLine(line - 1);
-    const at = decoder.decode(encoder.encode(text).subarray(0, column - 1)).length;
-    const end = at + (/^(\w+|.)?/.exec(text.slice(at))[0].length || 1);
-    const options = { className: "refused-word" };
-    this.refused = this.editor.markText({ line: line - 1, ch: Math.min(at, text.length - 1) }, { line: line - 1, ch: end }, options);
-    this.refusedLine = this.editor.addLineClass(line - 1, "background", "refused-line");
-    this.widget = this.editor.addLineWidget(line - 1, element("div", "refusal-note", message), { noHScroll: true });
+    const at = Math.min(decoder.decode(encoder.encode(text).subarray(0, column - 1)).length, Math.max(0, text.length - 1));
+    const start = this.editor.indexFromPos({ line: line - 1, ch: at });
+    const mark = this.mark(start, start + Math.max(1, length), "refused-word");
+    const handle = this.editor.addLineClass(line - 1, "background", "refused-line");
+    const widget = this.editor.addLineWidget(line - 1, make("div", { class: "refusal-note" }, message), { noHScroll: true });
+    this.refusal = [() => mark.clear(), () => this.editor.removeLineClass(handle, "background", "refused-line"), () => widget.clear()];
     this.reveal(line);
     return true;
   }
 
   clearRefusal() {
-    this.refused?.clear();
-    this.widget?.clear();
-    if (this.refusedLine) this.editor.removeLineClass(this.refusedLine, "background", "refused-line");
-    this.refused = this.widget = this.refusedLine = null;
+    for (const undo of this.refusal.splice(0)) undo();
   }
 }

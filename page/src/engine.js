@@ -3,17 +3,21 @@
 // Where the browser can suspend WebAssembly (JSPI), one run of the program lives as long as its session: its read waits for the
 // next command. Elsewhere each exchange runs the program from its start over the commands that changed the session before.
 
+import { QUESTIONS, decoder, encoder } from "./protocol.js";
+
 const SOURCE = 3; // the descriptor of the source file; 0, 1 and 2 are the standard streams
-const QUESTIONS = new Set(["deps", "causes", "show", "chan", "text", "console", "log"]);
+const ERRORS = 2;
 
 // What the program's `_exit` throws: the run is over, with this status.
 class Exit {
+  /** @param {number} status */
   constructor(status) {
     this.status = status;
   }
 }
 
 // The status of a run that was ended by what was thrown. A fault of the program is thrown on.
+/** @param {unknown} thrown */
 function statusOf(thrown) {
   if (thrown instanceof Exit) return thrown.status;
   throw thrown;
@@ -21,64 +25,104 @@ function statusOf(thrown) {
 
 export const canSuspend = () => "Suspending" in WebAssembly && "promising" in WebAssembly;
 
-export function compileProgram(base64) {
-  return WebAssembly.compile(Uint8Array.from(atob(base64), (letter) => letter.charCodeAt(0)));
+// A count as the program takes it: wide where it asked for a wide one, as a program of 64 bits does.
+/**
+ * @param {number} count
+ * @param {number | bigint} like
+ */
+const asWide = (count, like) => (typeof like === "bigint" ? BigInt(count) : count);
+
+/** @param {Uint8Array[]} pieces */
+function joined(pieces) {
+  const all = new Uint8Array(pieces.reduce((sum, piece) => sum + piece.length, 0));
+  let at = 0;
+  for (const piece of pieces) {
+    all.set(piece, at);
+    at += piece.length;
+  }
+  return all;
 }
 
 // The bytes that go into the program and come out of it: what one run reads and writes.
 class Streams {
+  /** @param {Uint8Array} source */
   constructor(source) {
     this.source = source;
+    /** @type {Uint8Array[]} */
     this.input = [];
+    /** @type {Uint8Array[]} */
     this.output = [];
     this.written = 0;
+    this.errors = "";
+    /** @type {any} */
     this.memory = null;
   }
 
-  // Moves bytes to the program's memory; the piece shrinks by as many.
-  static move(memory, piece, to, most) {
+  // Moves bytes to the program's memory; gives how many.
+  /**
+   * @param {Uint8Array} piece
+   * @param {number | bigint} to
+   * @param {number | bigint} most
+   */
+  move(piece, to, most) {
     const count = Math.min(Number(most), piece.length);
-    new Uint8Array(memory.buffer, Number(to), count).set(piece.subarray(0, count));
+    new Uint8Array(this.memory.buffer, Number(to), count).set(piece.subarray(0, count));
     return count;
   }
 
+  /**
+   * @param {number | bigint} to
+   * @param {number | bigint} most
+   */
   readSource(to, most) {
-    const count = Streams.move(this.memory, this.source, to, most);
+    const count = this.move(this.source, to, most);
     this.source = this.source.subarray(count);
-    return BigInt(count);
+    return asWide(count, most);
   }
 
   // Reads of the first piece of input that is left. There is one.
+  /**
+   * @param {number | bigint} to
+   * @param {number | bigint} most
+   */
   readInput(to, most) {
-    const count = Streams.move(this.memory, this.input[0], to, most);
+    const count = this.move(this.input[0], to, most);
     this.input[0] = this.input[0].subarray(count);
     if (!this.input[0].length) this.input.shift();
-    return BigInt(count);
+    return asWide(count, most);
   }
 
-  write(from, count) {
-    this.output.push(new Uint8Array(this.memory.buffer, Number(from), Number(count)).slice());
-    this.written += Number(count);
+  /**
+   * @param {number} descriptor
+   * @param {number | bigint} from
+   * @param {number | bigint} count
+   */
+  write(descriptor, from, count) {
+    const piece = new Uint8Array(this.memory.buffer, Number(from), Number(count)).slice();
+    if (descriptor === ERRORS) {
+      this.errors += decoder.decode(piece);
+    } else {
+      this.output.push(piece);
+      this.written += piece.length;
+    }
     return count;
   }
 
   // Takes what was written since the last time.
   takeOutput() {
-    const all = new Uint8Array(this.output.reduce((sum, piece) => sum + piece.length, 0));
-    let at = 0;
-    for (const piece of this.output.splice(0)) {
-      all.set(piece, at);
-      at += piece.length;
-    }
-    return all;
+    return joined(this.output.splice(0));
   }
 
+  /**
+   * @param {WebAssembly.Module} program
+   * @param {any} read
+   */
   async instance(program, read) {
-    const write = (_, from, count) => this.write(from, count);
-    const exit = (status) => {
+    const write = /** @type {Streams["write"]} */ ((descriptor, from, count) => this.write(descriptor, from, count));
+    const exit = /** @param {number} status */ (status) => {
       throw new Exit(status);
     };
-    const { exports } = await WebAssembly.instantiate(program, { host: { read, write, exit } });
+    const { exports } = /** @type {any} */ (await WebAssembly.instantiate(program, { host: { read, write, exit } }));
     this.memory = exports.memory;
     return exports.program_main;
   }
@@ -86,43 +130,62 @@ class Streams {
 
 // A session whose run waits between commands.
 class WaitingRun {
+  /**
+   * @param {WebAssembly.Module} program
+   * @param {Uint8Array} source
+   */
   constructor(program, source) {
     this.program = program;
     this.streams = new Streams(source);
-    this.wake = null;
-    this.settle = null;
+    this.wake = () => {};
+    this.settle = () => {};
+    /** @type {number | null} */
     this.status = null;
+    this.fault = "";
     this.isClosed = false;
   }
 
+  get errors() {
+    return this.streams.errors;
+  }
+
   async start() {
-    const read = new WebAssembly.Suspending((descriptor, to, most) => this.read(descriptor, to, most));
-    const main = WebAssembly.promising(await this.streams.instance(this.program, read));
+    const api = /** @type {any} */ (WebAssembly);
+    const read = new api.Suspending((/** @type {any[]} */ ...words) => this.read(words[0], words[1], words[2]));
+    const main = api.promising(await this.streams.instance(this.program, read));
     const settled = this.nextSettling();
-    main().catch(statusOf).then((status) => this.end(status), (fault) => this.end(fault));
+    main().catch(statusOf).then((/** @type {number} */ status) => this.end(status), (/** @type {unknown} */ fault) => this.end(-1, String(fault)));
     await settled;
     return this.streams.takeOutput();
   }
 
   nextSettling() {
-    return new Promise((settle) => (this.settle = settle));
+    return new Promise((settle) => (this.settle = /** @type {() => void} */ (settle)));
   }
 
-  end(status) {
+  /** @param {number} status */
+  end(status, fault = "") {
     this.status = status;
+    this.fault = fault;
     this.settle();
   }
 
+  /**
+   * @param {number} descriptor
+   * @param {number | bigint} to
+   * @param {number | bigint} most
+   */
   async read(descriptor, to, most) {
     if (descriptor === SOURCE) return this.streams.readSource(to, most);
     if (!this.streams.input.length && !this.isClosed) {
-      const woken = new Promise((wake) => (this.wake = wake));
+      const woken = new Promise((wake) => (this.wake = /** @type {() => void} */ (wake)));
       this.settle();
       await woken;
     }
-    return this.isClosed ? 0n : this.streams.readInput(to, most);
+    return this.isClosed ? asWide(0, most) : this.streams.readInput(to, most);
   }
 
+  /** @param {Uint8Array} bytes */
   async exchange(bytes) {
     const settled = this.nextSettling();
     this.streams.input.push(bytes);
@@ -143,42 +206,54 @@ class WaitingRun {
 
 // A session that is run anew for each exchange.
 class RepeatedRun {
+  /**
+   * @param {WebAssembly.Module} program
+   * @param {Uint8Array} source
+   */
   constructor(program, source) {
     this.program = program;
     this.source = source;
+    /** @type {Uint8Array[]} */
     this.kept = [];
+    /** @type {number | null} */
     this.status = null;
+    this.fault = "";
+    this.errors = "";
   }
 
   start() {
     return this.exchange(new Uint8Array(0));
   }
 
+  /** @param {Uint8Array} bytes */
   async exchange(bytes) {
     const streams = new Streams(this.source);
     const pieces = [...this.kept, bytes].filter((piece) => piece.length);
-    let before = bytes.length ? null : 0;
+    let before = bytes.length ? Infinity : 0;
     let waits = false;
-    const read = (descriptor, to, most) => {
+    const read = (/** @type {number} */ descriptor, /** @type {number | bigint} */ to, /** @type {number | bigint} */ most) => {
       if (descriptor === SOURCE) return streams.readSource(to, most);
       if (!streams.input.length && !pieces.length) waits = true;
-      if (waits) return 0n;
-      if (!streams.input.length) streams.input.push(pieces.shift());
-      if (!pieces.length && before === null) before = streams.written;
+      if (waits) return asWide(0, most);
+      if (!streams.input.length) streams.input.push(/** @type {Uint8Array} */ (pieces.shift()));
+      if (!pieces.length && before === Infinity) before = streams.written;
       return streams.readInput(to, most);
     };
-    const main = await streams.instance(this.program, read);
-    const status = RepeatedRun.statusAtEnd(main);
+    const status = this.statusAtEnd(await streams.instance(this.program, read));
     if (!waits) this.status = status;
+    this.errors = streams.errors;
     this.keep(bytes);
-    return streams.takeOutput().subarray(bytes.length ? before : 0);
+    return streams.takeOutput().subarray(before);
   }
 
-  static statusAtEnd(main) {
+  /** @param {() => number} main */
+  statusAtEnd(main) {
     try {
       return main();
     } catch (thrown) {
-      return statusOf(thrown);
+      if (thrown instanceof Exit) return thrown.status;
+      this.fault = String(thrown);
+      return -1;
     }
   }
 
@@ -189,29 +264,57 @@ class RepeatedRun {
   }
 
   // Keeps the commands that change a session; a question changes nothing.
+  /** @param {Uint8Array} bytes */
   keep(bytes) {
-    const lines = new TextDecoder().decode(bytes).split("\n");
+    const lines = decoder.decode(bytes).split("\n");
     const changing = lines.filter((line) => line.trim() && !QUESTIONS.has(line.trim().split(/[ \t]/)[0]));
-    if (changing.length) this.kept.push(new TextEncoder().encode(changing.join("\n") + "\n"));
+    if (changing.length) this.kept.push(encoder.encode(changing.join("\n") + "\n"));
   }
 }
 
 // A session of the program on a source. `said` is what it wrote before it read a command: nothing, or why the source is refused.
 export class Session {
+  /**
+   * @param {WebAssembly.Module} program
+   * @param {Uint8Array} source
+   * @param {boolean} suspends
+   */
+  constructor(program, source, suspends) {
+    this.run = new (suspends ? WaitingRun : RepeatedRun)(program, source);
+    this.turn = /** @type {Promise<unknown>} */ (Promise.resolve());
+    this.said = "";
+  }
+
+  /**
+   * @param {WebAssembly.Module} program
+   * @param {Uint8Array} source
+   */
   static async open(program, source, suspends = canSuspend()) {
-    const session = new Session();
-    session.run = new (suspends ? WaitingRun : RepeatedRun)(program, source);
-    session.said = await session.run.start();
-    session.turn = Promise.resolve();
+    const session = new Session(program, source, suspends);
+    session.said = decoder.decode(await session.run.start());
     return session;
   }
 
-  // The exit status of the program where it has ended, else null.
+  // The exit status of the program where it has ended, -1 where a fault of the module ended it, else null.
   get status() {
     return this.run.status;
   }
 
+  // Why the program's code could not go on, in the words of the browser.
+  get fault() {
+    return this.run.fault;
+  }
+
+  // What was written to standard error.
+  get errors() {
+    return this.run.errors;
+  }
+
   // Gives whole lines of commands, and returns what is written in answer. Calls are served one after another.
+  /**
+   * @param {Uint8Array} bytes
+   * @returns {Promise<Uint8Array>}
+   */
   exchange(bytes) {
     const answer = this.turn.then(() => (this.status === null ? this.run.exchange(bytes) : new Uint8Array(0)));
     this.turn = answer.catch(() => {});
@@ -219,7 +322,9 @@ export class Session {
   }
 
   // Ends the input, and returns what is still written: the reply to a last line without a newline.
-  close() {
-    return this.turn.then(() => (this.status === null ? this.run.close() : new Uint8Array(0)));
+  /** @returns {Promise<Uint8Array>} */
+  async close() {
+    await this.turn;
+    return this.status === null ? this.run.close() : new Uint8Array(0);
   }
 }

@@ -7,24 +7,40 @@ const MARK_NAMES = [
   ["", '<path class="mark" d="M8 2l6 6l-6 6l-6 -6z"/>', "starts, makes"],
   ["", '<path class="mark" d="M2 4h12v8h-12z"/>', "closes"],
   ["fault", '<path class="mark" d="M3 3l10 10m0 -10l-10 10"/>', "fault"],
+  ["", '<line class="asleep" x1="8" y1="0" x2="8" y2="16"/>', "waits"],
 ];
-const WAITING = '<line class="asleep" x1="8" y1="0" x2="8" y2="16"/>';
 const EDGE_NAMES = [["message", "message"], ["start", "start"], ["close", "close"], ["order", "order of waiting"]];
 const SIDE_NAMES = [["cause", "↑", "cause"], ["consequence", "↓", "consequence"]];
+const ROWS = 3;
+export const LEGEND_HEIGHT = 6 + 24 * ROWS;
 
-const drawing = (className, content, width = 16) => `<svg class="picture" width="${width}" height="16"><g class="${className}">${content}</g></svg>`;
+/** @param {string} kind */
+const arrow = (kind) => `<path class="edge ${kind}" marker-end="url(#tip-${kind})" d="M1 8L22 8"/>`;
+/** @param {string[]} side */
+const washed = ([, sign]) => `<rect class="wash" width="16" height="16"/><text class="side" x="8" y="12">${sign}</text>`;
+
+// Each as its class, its drawing, its words and the width of the drawing.
+const ENTRIES = [
+  ...MARK_NAMES.map(([name, mark, text]) => ({ name, drawing: mark, text, width: 16 })),
+  ...EDGE_NAMES.map(([kind, text]) => ({ name: "", drawing: arrow(kind), text, width: 26 })),
+  ...SIDE_NAMES.map((side) => ({ name: side[0], drawing: washed(side), text: side[2], width: 16 })),
+];
 
 export function legend() {
-  const marks = MARK_NAMES.map(([name, mark, text]) => `<span>${drawing(name, mark)}${text}</span>`);
-  const edges = EDGE_NAMES.map(([kind, text]) => {
-    const line = `<path class="edge ${kind}" marker-end="url(#tip-${kind})" d="M1 8L22 8"/>`;
-    return `<span>${drawing("", line, 26)}${text}</span>`;
-  });
-  const side = ([name, arrow, text]) => {
-    const shown = `<rect class="wash" width="16" height="16"/><text class="side" x="8" y="12">${arrow}</text>`;
-    return `<span>${drawing(name, shown)}${text}</span>`;
-  };
-  const numbers = "<span>#5 its number</span><span>:6 its line</span>";
-  const waiting = `<span>${drawing("", WAITING)}waits</span>`;
-  return [...marks, waiting, ...edges, ...SIDE_NAMES.map(side), numbers].join("");
+  const shown = ENTRIES.map(
+    ({ name, drawing, text, width }) => `<span><svg class="picture" width="${width}" height="16"><g class="${name}">${drawing}</g></svg>${text}</span>`,
+  );
+  return [...shown, "<span>#5 its number</span><span>:6 its line</span>"].join("");
+}
+
+// The same within an SVG, in rows.
+export function legendDrawing() {
+  const each = Math.ceil(ENTRIES.length / ROWS);
+  const lefts = Array(ROWS).fill(0);
+  return ENTRIES.map(({ name, drawing, text, width }, at) => {
+    const row = Math.floor(at / each);
+    const x = lefts[row];
+    lefts[row] += width + 20 + text.length * 7.3;
+    return `<g class="${name}" transform="translate(${x} ${24 * row})">${drawing}</g><text class="muted" x="${x + width + 5}" y="${24 * row + 12}">${text}</text>`;
+  }).join("");
 }

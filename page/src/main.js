@@ -1,145 +1,164 @@
-// Puts the page together.
+// Puts the page together: it draws menu and source first, then compiles the program, and begins with a link, kept work or a story.
 
-import { compileProgram, Session } from "./engine.js";
-import { App } from "./app.js";
-import { Editor } from "./editor.js";
-import { Keys } from "./keys.js";
-import { PictureView } from "./pictureview.js";
-import { Stories } from "./stories.js";
-import { Transcript } from "./transcript.js";
+import { canSuspend, Session as Engine } from "./engine.js";
+import { fromHash, inflated, LINK } from "./linking.js";
+import { kept, keep, keepSettings, settings } from "./keeping.js";
+import { legend } from "./legend.js";
+import { act, listenToActions, openStory } from "./actions.js";
+import { listenInPicture, listenToKeys } from "./shortcuts.js";
+import { makeToolbar } from "./toolbars.js";
+import { makeViews } from "./views.js";
+import { explain } from "./refusals.js";
+import { Page } from "./page.js";
+import { parseFault } from "./protocol.js";
+import { asPng } from "./saved.js";
+import { savePicture } from "./saving.js";
 import { paletteRules } from "./palette.js";
 import { PICTURE_RULES } from "./picture.js";
-import { legend } from "./legend.js";
-import { describeStep, showButtons, showChosen } from "./show.js";
-import { showChannels, showConsole, showGoroutines } from "./panes.js";
-import { find, make, tableRow } from "./element.js";
+import { Words } from "./words.js";
+import { field, find, make, tableRow } from "./element.js";
+import { makePanes } from "./splitters.js";
+import { paneEvents, showStepsOf } from "./asking.js";
+import { watchExercise } from "./tasks.js";
 
-const read = (id) => JSON.parse(find(id).textContent);
+const FIRST = "deadlock";
+const BROWSERS = "Rewind needs a browser with WebAssembly: Chrome or Edge 103, Firefox 113, Safari 16.4, or newer ones.";
 
-function views(given, later) {
-  const on = { step: (name, clause) => later().step(name, clause), choose: (name) => later().chooseGoroutine(name) };
-  const pointing = {
-    point: (id) => later().point(id), choose: (id) => later().choose(id), takeBack: (id) => later().takeBack(id),
-    move: (id, row) => later().move(id, row), scrolled: () => later()?.scrolled(),
-  };
-  const describe = (step, row) => describeStep(step, row, later().annotator.note(step.id), later().model.steps.length);
-  const changed = () => (find("stale").hidden = !later()?.source || later().source === later().editor.text);
-  return {
-    editor: new Editor(find("editor"), { open: () => later().open(), change: changed, toggleBreak: (line) => later().toggleBreak(line) }),
-    picture: new PictureView(find("picture"), pointing, describe),
-    transcript: new Transcript(find("transcript"), given.codes),
-    stories: new Stories(find("story"), find("about-story"), given.stories),
-    panes: {
-      goroutines: (model, clauses, chosen) => showGoroutines(find("goroutines"), model, clauses, chosen, on),
-      channels: (model) => showChannels(find("channels"), model),
-      console: (lines) => showConsole(find("console"), lines),
-    },
-  };
+/** @returns {Given} */
+const given = () => JSON.parse(find("given").textContent || "");
+
+function makePage() {
+  const told = given();
+  const words = new Words(told);
+  /** @type {{page?: Page}} */
+  const made = {};
+  const later = () => /** @type {Page} */ (made.page);
+  made.page = new Page(told, makeViews(told, later, words, paneEvents(later), (line) => showStepsOf(later(), line)), words);
+  return later();
 }
 
-async function openStory(app, name) {
-  app.stories.choose(name);
-  app.editor.text = app.stories.story.source;
-  await app.open();
+// The program, compiled, and the script of the workers in which its sessions run.
+/** @returns {Promise<Machine>} */
+async function makeMachine() {
+  const program = await WebAssembly.compile(await inflated(find("program").textContent || ""));
+  const script = URL.createObjectURL(new Blob([find("worker").textContent || ""], { type: "text/javascript" }));
+  return { program, script, suspends: canSuspend() && location.hash !== "#repeat" };
 }
 
-function listenToButtons(app) {
-  const run = () => app.perform(`run ${find("count").value || 1}`);
-  const clicks = {
-    open: () => app.open(), next: () => app.nextOfStory(), run, undo: () => app.perform("undo"), redo: () => app.perform("redo"),
-    stop: () => app.stop(),
-    back: () => app.takeBack(), earlier: () => app.moveBy(-1), later: () => app.moveBy(1), smaller: () => app.picture.zoom(-1),
-    larger: () => app.picture.zoom(1), save: () => save(app), help: () => find("help-dialog").showModal(),
-  };
-  for (const [id, act] of Object.entries(clicks)) find(id).onclick = act;
-  find("story").onchange = () => openStory(app, find("story").value);
-  find("theme").onchange = () => (document.documentElement.dataset.theme = find("theme").value);
-  find("ask").onsubmit = (event) => {
-    event.preventDefault();
-    const line = find("line").value;
-    find("line").value = "";
-    app.perform(line);
-  };
+/** @param {Page} page */
+function fillHelp({ given: { commands, licence } }) {
+  find("commands").append(...commands.map(([command, says]) => tableRow("code", command, says)));
+  find("licence").textContent = licence;
+  find("legend").innerHTML = legend();
 }
 
-function save(app) {
-  const url = URL.createObjectURL(new Blob([app.savedPicture()], { type: "image/svg+xml" }));
-  make("a", { href: url, download: `${app.stories.story.name}.svg` }).click();
-  setTimeout(() => URL.revokeObjectURL(url), 10000);
+// What the address holds, or nothing.
+/** @param {Page} page */
+async function linked(page) {
+  try {
+    return await fromHash(location.hash);
+  } catch (fault) {
+    page.say(`The link is damaged: ${fault instanceof Error ? fault.message : fault}.`, "bad");
+    return null;
+  }
 }
 
-function listenToKeys(app) {
-  const focus = (id) => find(id).focus();
-  const table = [
-    { keys: ["s"], says: "a step of the chosen goroutine", act: () => app.step(app.chosen) },
-    { keys: [..."123456789"], shown: "1 to 9", says: "the clause of its select with this number", act: (key) => app.stepClause(Number(key)) },
-    { keys: ["]"], says: "choose the next goroutine", act: () => app.nextGoroutine(1) },
-    { keys: ["["], says: "choose the goroutine before", act: () => app.nextGoroutine(-1) },
-    { keys: ["r"], says: "run", act: () => find("run").click() },
-    { keys: ["x"], says: "stop a long run", act: () => app.stop() },
-    { keys: ["u"], says: "undo the last step", act: () => app.perform("undo") },
-    { keys: ["b"], says: "take the chosen step back, with all that rests on it", act: () => app.takeBack() },
-    { keys: ["y"], says: "take again what was taken back", act: () => app.perform("redo") },
-    { keys: ["n"], says: "the next command of the example", act: () => app.nextOfStory() },
-    { keys: ["p"], says: "to the picture", act: () => focus("picture") },
-    { keys: ["/"], says: "to the field of commands", act: () => focus("line") },
-    { keys: ["e"], says: "to the source (Ctrl+Enter opens it, Tab leaves it)", act: () => app.editor.editor.focus() },
-    { keys: ["?"], says: "this page of keys", act: () => find("help").click() },
-  ];
-  const keys = new Keys(table, () => find("letters").checked);
-  keys.show(find("keys"));
-  find("keys").append(...IN_PICTURE.map(([key, says]) => tableRow("kbd", key, `in the picture: ${says}`)));
+// What the page begins with: the text of a link, the work that was kept, or the first story. Undoing in the editor brings kept work
+// back that a link replaced.
+/** @param {Page} page */
+async function begin(page) {
+  const { editor, stories } = page.views;
+  const [link, work] = [await linked(page), kept()];
+  const shared = link || work;
+  const source = stories.choose(shared ? shared.name || "" : FIRST);
+  editor.begin(work ? work.source : link ? "" : source);
+  if (link) editor.text = link.source;
+  if (link?.theme) setTheme(link.theme);
+  return shared;
 }
 
-const IN_PICTURE = [
-  ["Arrows", "go along the steps"],
-  ["Enter", "keep a step chosen, or let it go"],
-  ["Alt+Up, Alt+Down", "exchange it with its neighbour"],
-  ["Escape", "choose none"],
-];
-
-function listenInPicture(app) {
-  const go = async (by, columns) => {
-    app.pinned = null;
-    const id = app.picture.neighbour(app.atHand, by, columns);
-    if (!id) return;
-    app.pointed = id;
-    app.picture.reveal(id);
-    await app.color();
-  };
-  const keep = () => app.atHand && app.choose(app.atHand);
-  const acts = { ArrowUp: () => go(-1), ArrowDown: () => go(1), ArrowLeft: () => go(0, -1), ArrowRight: () => go(0, 1), Enter: keep };
-  find("picture").addEventListener("keydown", (event) => {
-    const moves = { ArrowUp: -1, ArrowDown: 1 };
-    const act = event.altKey ? moves[event.key] && (() => app.moveBy(moves[event.key])) : acts[event.key];
-    if (event.key === "Escape") app.pinned && app.choose(app.pinned);
-    if (!act) return;
-    event.preventDefault();
-    act();
+// A link that is put into the address of the open page.
+/** @param {Page} page */
+function listenToLinks(page) {
+  window.addEventListener("hashchange", async () => {
+    const link = await linked(page);
+    if (!link) return;
+    page.views.stories.choose(link.name || "");
+    page.views.editor.text = link.source;
+    await openBeginning(page, link);
   });
 }
 
-function fillHelp(given) {
-  find("commands").append(...given.commands.map(([command, says]) => tableRow("code", command, says)));
-  find("licence").textContent = given.licence;
-  find("legend").innerHTML = legend();
+// Opens what the page began with, and does its commands again.
+/**
+ * @param {Page} page
+ * @param {import("./linking.js").Shared | null} shared
+ */
+async function openBeginning(page, shared) {
+  page.views.editor.markBreaks(shared?.breaks || []);
+  if (!(await page.open()) || !shared?.commands.length) return;
+  await page.replay(shared.commands);
+  page.views.stories.catchUp(shared.commands);
+  page.say(`${shared.commands.length} commands were done again.`);
+  if (shared.chosen && page.session && page.session.log.row(shared.chosen) >= 0) await page.pointing.show(shared.chosen);
+}
+
+/** @param {string} theme */
+function setTheme(theme) {
+  document.documentElement.dataset.theme = theme;
+  field("theme").value = theme;
+}
+
+function takeSettings() {
+  const { theme = "", letters = true } = settings();
+  setTheme(theme);
+  field("letters").checked = letters;
+  find("theme").onchange = () => {
+    setTheme(field("theme").value);
+    keepSettings({ theme: field("theme").value });
+  };
+  find("letters").onchange = () => keepSettings({ letters: field("letters").checked });
+}
+
+// Keeps the work after each change. A link in the address is left then, so that a reload brings the work and not the link.
+/** @param {Page} page */
+function keepWork(page) {
+  let timer = 0;
+  const now = () => keep(page.work);
+  page.listeners.push(() => {
+    clearTimeout(timer);
+    if (location.hash.startsWith(LINK)) history.replaceState(null, "", location.href.split("#")[0]);
+    timer = window.setTimeout(now, 200);
+    page.views.controls.show(page);
+  });
+  window.addEventListener("pagehide", now);
 }
 
 async function start() {
   document.head.append(make("style", {}, paletteRules(":root") + PICTURE_RULES));
-  const given = read("given");
-  const program = await compileProgram(find("program").textContent.trim());
-  let app = null;
-  app = new App(program, given, views(given, () => app));
-  app.showButtons = () => showButtons(app);
-  app.showChosen = () => showChosen(app);
-  listenToButtons(app);
-  listenToKeys(app);
-  listenInPicture(app);
-  fillHelp(given);
+  takeSettings();
+  const page = makePage();
+  listenToActions(page);
+  listenToKeys(page);
+  listenInPicture(page);
+  makeToolbar(find("controls"));
+  makePanes(page);
+  fillHelp(page);
+  watchExercise(page);
+  const shared = await begin(page);
+  page.showControls();
+  try {
+    page.machine = await makeMachine();
+  } catch (fault) {
+    find("cannot").hidden = false;
+    find("cannot").textContent = `${BROWSERS} This one says: ${fault instanceof Error ? fault.message : fault}`;
+    return page.say("The program cannot run in this browser."), false;
+  }
   // The tests and the pictures of the documents reach the page by this name.
-  window.rewind = { app, program, Session, openStory: (name) => openStory(app, name) };
-  await openStory(app, "lost_update");
+  window.rewind = { page, program: page.machine.program, Session: Engine, act, openStory, savePicture, asPng, explain, parseFault };
+  await openBeginning(page, shared);
+  keepWork(page);
+  listenToLinks(page);
   return true;
 }
 

@@ -17,9 +17,11 @@ export const DARK = {
   literal: "#7fd6a4", comment: "#9aa4ae", name: "#9cc4fb",
 };
 
+/** @param {{[name: string]: string}} colours */
 const declared = (colours) => Object.entries(colours).map(([name, value]) => `--${name}:${value}`).join(";");
 
 // The rules that give an element these colours, by the system's wish unless its `data-theme` says otherwise.
+/** @param {string} element */
 export function paletteRules(element) {
   const dark = `${declared(DARK)};color-scheme:dark`;
   return `${element}{${declared(LIGHT)};color-scheme:light}

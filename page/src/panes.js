@@ -1,66 +1,162 @@
-// The panes: goroutines with their frames and buttons, channels with their queues, and the console.
+// The panes: goroutines with their frames and buttons, channels with their queues, and the console. Each variable, item, waiter and
+// line is a button that finds the step behind it.
 
-import { inSteps, make } from "./element.js";
+import { button, inSteps, make } from "./element.js";
+import { parseWaiter } from "./protocol.js";
+import { waitText, waitsOf } from "./waits.js";
 
-function frameRows({ name, variables }) {
-  const values = variables.length ? variables.map((it) => `${it.name} = ${it.value}`) : ["no variables"];
-  return [make("dt", {}, name), ...values.map((value) => make("dd", { class: variables.length ? "" : "none" }, value))];
+const FRAMES = 8; // of more frames the innermost are shown until the others are unfolded
+const MANY = 8; // cards: above more of them stand the channels
+const LINES = 1000; // of more lines of the console the last are shown
+
+/**
+ * @typedef {object} PaneEvents
+ * @property {(name: string, clause?: number) => void} step
+ * @property {(name: string) => void} choose
+ * @property {(what: {go?: string, variable?: [string, string], item?: [string, number], waiter?: string, line?: number}) => void} findStep
+ */
+
+/**
+ * @param {string} title
+ * @param {string} text
+ * @param {() => void} onclick
+ */
+const asked = (title, text, onclick) => button({ class: "asked-value", title, onclick }, text);
+
+/**
+ * @param {Goroutine} goroutine
+ * @param {Frame} frame
+ * @param {PaneEvents} on
+ */
+function frameRows({ name: goroutine }, { name, variables }, on) {
+  const value = (/** @type {Variable} */ it) =>
+    make("dd", {}, asked(`Find the step that gave ${it.name} its value`, `${it.name} = ${it.value}`, () => on.findStep({ variable: [goroutine, it.name] })));
+  return [make("dt", {}, name), ...(variables.length ? variables.map(value) : [make("dd", { class: "none" }, "no variables")])];
 }
 
-function stateText({ state, steps, line }) {
-  return line ? `${state} at line ${line}, ${inSteps(steps)}` : `${state}, ${inSteps(steps)}`;
+/**
+ * @param {Goroutine} goroutine
+ * @param {PaneEvents} on
+ */
+function framesOf(goroutine, on) {
+  const { frames } = goroutine;
+  if (!frames.length) return [];
+  const list = make("dl", {}, ...frames.slice(0, FRAMES).flatMap((it) => frameRows(goroutine, it, on)));
+  const rest = frames.slice(FRAMES);
+  if (!rest.length) return [list];
+  const more = make("details", {}, make("summary", {}, `${rest.length} frames more`));
+  more.addEventListener("toggle", () => more.childElementCount === 1 && more.append(make("dl", {}, ...rest.flatMap((it) => frameRows(goroutine, it, on)))));
+  return [list, more];
+}
+
+// Where a goroutine stands, in words; after the end of the program nobody is ready.
+/**
+ * @param {Goroutine} goroutine
+ * @param {boolean} isOver
+ */
+function stateText({ state, steps, line }, isOver) {
+  const word = isOver && state === "ready" ? "stopped" : state;
+  return line ? `${word} at line ${line}, ${inSteps(steps)}` : `${word}, ${inSteps(steps)}`;
 }
 
 // The buttons of a goroutine that is ready: one step, or one for each clause of a select that can be taken.
-function stepButtons(goroutine, clauses, on) {
-  const step = make("button", { type: "button", onclick: () => on.step(goroutine.name), "aria-label": `Step ${goroutine.name}` }, "Step");
-  const picks = (clauses || []).map(({ number, text }) =>
-    make("button", { type: "button", onclick: () => on.step(goroutine.name, number), "aria-label": `Clause ${number}: ${text}, of ${goroutine.name}` },
-      `${number}: `, make("code", {}, text)),
+/**
+ * @param {Goroutine} goroutine
+ * @param {Clause[]} clauses
+ * @param {PaneEvents} on
+ */
+function stepButtons({ name }, clauses, on) {
+  const step = button({ onclick: () => on.step(name), "aria-label": `Step ${name}` }, "Step");
+  const picks = clauses.map(({ number, text }) =>
+    button({ onclick: () => on.step(name, number), "aria-label": `Clause ${number}: ${text}, of ${name}` }, `${number}: `, make("code", {}, text)),
   );
   return make("div", { class: "buttons" }, step, ...picks);
 }
 
-function goroutineCard(goroutine, clauses, isChosen, isOver, on) {
-  const { name, state, frames } = goroutine;
-  const choose = make("button", { type: "button", "aria-pressed": String(isChosen), onclick: () => on.choose(name) }, name);
-  const shown = make("span", { class: state === "waiting" ? "state waiting" : "state" }, stateText(goroutine));
-  const card = make("div", { class: isChosen ? "card chosen" : "card", "data-goroutine": name }, make("div", { class: "top" }, choose, shown));
-  if (frames.length) card.append(make("dl", {}, ...frames.flatMap(frameRows)));
-  if (state === "ready" && !isOver) card.append(stepButtons(goroutine, clauses, on));
+/**
+ * @param {Goroutine} goroutine
+ * @param {{clauses: Clause[], isChosen: boolean, isOver: boolean, canStep: boolean, wait: string}} how
+ * @param {PaneEvents} on
+ */
+function goroutineCard(goroutine, { clauses, isChosen, isOver, canStep, wait }, on) {
+  const { name, state } = goroutine;
+  const choose = button({ "aria-pressed": String(isChosen), onclick: () => on.choose(name) }, name);
+  const shown = make("span", { class: state === "waiting" ? "state waiting" : "state" }, stateText(goroutine, isOver));
+  const start = name === "g0" ? [] : [asked(`Find the step that started ${name}`, "started by", () => on.findStep({ go: name }))];
+  const card = make("div", { class: isChosen ? "card chosen" : "card", "data-goroutine": name }, make("div", { class: "top" }, choose, shown, ...start));
+  if (wait) card.append(make("p", { class: "wait-text" }, wait));
+  card.append(...framesOf(goroutine, on));
+  if (state === "ready" && canStep) card.append(stepButtons(goroutine, clauses, on));
   return card;
 }
 
-// `clauses` gives for a goroutine the clauses that it could take now.
-export function showGoroutines(host, model, clauses, chosen, on) {
-  const focused = host.contains(document.activeElement) ? document.activeElement : null;
-  const place = focused && { label: focused.getAttribute("aria-label") || focused.textContent };
-  host.replaceChildren(...model.goroutines.map((it) => goroutineCard(it, clauses.get(it.name), it.name === chosen, model.isOver, on)));
-  if (!model.goroutines.length) host.append(make("p", { class: "none" }, "There is no session."));
-  if (model.hidden) host.append(make("p", { class: "none" }, `${model.hidden} goroutines and channels more: ask for them by name.`));
-  if (!place) return;
-  const same = [...host.querySelectorAll("button")].find((it) => (it.getAttribute("aria-label") || it.textContent) === place.label);
-  (same || host.querySelector(".chosen button"))?.focus();
+// The card of a goroutine, but for those that are done: these stand in one line.
+/**
+ * @param {HTMLElement} host
+ * @param {Scene} scene
+ * @param {{chosen: string, isOver: boolean, canStep: boolean}} how
+ * @param {PaneEvents} on
+ */
+export function showGoroutines(host, scene, { chosen, isOver, canStep }, on) {
+  const focused = /** @type {HTMLElement | null} */ (host.contains(document.activeElement) ? document.activeElement : null);
+  const label = focused && (focused.getAttribute("aria-label") || focused.textContent);
+  const waits = new Map(waitsOf(scene).map((it) => [it.name, waitText(it).replace(/^\S+ waits( at line \d+)? /, "waits ")]));
+  const done = scene.goroutines.filter(({ name, state }) => state === "done" && name !== chosen);
+  const cards = scene.goroutines.filter((it) => !done.includes(it));
+  const how = (/** @type {string} */ name) => ({ clauses: scene.clauses.get(name) || [], isChosen: name === chosen, isOver, canStep, wait: waits.get(name) || "" });
+  host.replaceChildren(...cards.map((it) => goroutineCard(it, how(it.name), on)));
+  if (done.length) host.append(make("p", { class: "done" }, "done: ", ...done.map(({ name, steps }) => button({ "data-goroutine": name, onclick: () => on.choose(name) }, `${name}, ${inSteps(steps)}`))));
+  document.body.classList.toggle("many-cards", cards.length > MANY);
+  if (!scene.goroutines.length) host.append(make("p", { class: "none" }, "There is no session."));
+  if (scene.hidden) host.append(make("p", { class: "none" }, `${scene.hidden} goroutines and channels more: ask for them by name.`));
+  if (!label) return;
+  const same = [...host.querySelectorAll("button")].find((it) => (it.getAttribute("aria-label") || it.textContent) === label);
+  /** @type {HTMLElement | null} */ (same || host.querySelector(".chosen button"))?.focus();
 }
 
+/**
+ * @param {string} title
+ * @param {HTMLElement[]} values
+ */
 function listed(title, values) {
-  return make("div", {}, make("dt", {}, title), make("dd", { class: values.length ? "" : "none" }, values.length ? values.join("  ") : "none"));
+  return make("div", {}, make("dt", {}, title), make("dd", { class: values.length ? "" : "none" }, ...(values.length ? values : ["none"])));
 }
 
-function channelCard(channel) {
-  const state = `${channel.isClosed ? "closed" : "open"}, room for ${channel.capacity}`;
-  const top = make("div", { class: "top" }, make("strong", {}, channel.name), make("span", { class: "state" }, state));
-  const rows = [listed("items", channel.items), listed("senders", channel.senders), listed("receivers", channel.receivers)];
-  return make("div", { class: "card", "data-channel": channel.name }, top, make("dl", { class: "queues" }, ...rows));
+/**
+ * @param {Channel} channel
+ * @param {PaneEvents} on
+ */
+function channelCard({ name, capacity, isClosed, items, senders, receivers }, on) {
+  const top = make("div", { class: "top" }, make("strong", {}, name), make("span", { class: "state" }, `${isClosed ? "closed" : "open"}, room for ${capacity}`));
+  const sending = senders.filter((it) => !parseWaiter(it).clause).length; // their sends come after those of the items
+  const item = (/** @type {string} */ it, /** @type {number} */ at) => asked("Find the step that sent it", it, () => on.findStep({ item: [name, items.length - at + sending] }));
+  const waiter = (/** @type {string} */ it) => asked("Find the step in which it began to wait", it, () => on.findStep({ waiter: parseWaiter(it).goroutine }));
+  const rows = [listed("items", items.slice(0, 60).map(item)), listed("senders", senders.map(waiter)), listed("receivers", receivers.map(waiter))];
+  return make("div", { class: "card", "data-channel": name }, top, make("dl", { class: "queues" }, ...rows));
 }
 
-export function showChannels(host, model) {
-  host.replaceChildren(...model.channels.map(channelCard));
-  if (!model.channels.length) host.append(make("p", { class: "none" }, "No channel was made yet."));
+/**
+ * @param {HTMLElement} host
+ * @param {Scene} scene
+ * @param {PaneEvents} on
+ */
+export function showChannels(host, scene, on) {
+  host.replaceChildren(...scene.channels.map((it) => channelCard(it, on)));
+  if (!scene.channels.length) host.append(make("p", { class: "none" }, "No channel was made yet."));
 }
 
-export function showConsole(host, lines) {
-  const shown = lines.slice(-1000).map((line) => make("li", {}, line));
-  host.replaceChildren(...shown);
-  if (!lines.length) host.append(make("li", { class: "none" }, "Nothing was printed yet."));
+/**
+ * @param {HTMLElement} host
+ * @param {Tail} tail
+ * @param {PaneEvents} on
+ */
+export function showConsole(host, { isOk, count, lines }, on) {
+  const shown = lines.slice(-LINES);
+  const before = count - shown.length;
+  const line = (/** @type {string} */ text, /** @type {number} */ at) =>
+    make("li", {}, asked("Find the step that printed it", text || " ", () => on.findStep({ line: before + at })));
+  host.replaceChildren(...(before ? [make("li", { class: "none" }, `${before.toLocaleString("en")} lines before`)] : []), ...shown.map(line));
+  const none = isOk ? "Nothing was printed yet." : "More was printed than there is memory to show. Take steps back to see it.";
+  if (!count) host.append(make("li", { class: "none" }, none));
+  host.scrollTop = host.scrollHeight;
 }

@@ -1,177 +1,323 @@
-// The space-time picture in the page: only the rows in view are drawn. It tells of pointing, choosing, dragging and keys.
+// The space-time picture in the page: only the rows in view are drawn. It tells of pointing, choosing and dragging.
 
-import { HEAD, NOTHING_POINTED, drawNames, drawRows, labelWidth, layOut, pictureDefinitions, savedPicture } from "./picture.js";
+import { headOf, labelWidth, layOut } from "./layout.js";
+import { DEFINITIONS, NOTHING_POINTED, cycleHeight, cycleWidth, drawNames, drawRows } from "./picture.js";
+import { Rows } from "./rows.js";
 
-const HEIGHTS = [14, 18, 22, 28, 36];
+const SIZES = [[14, 10], [18, 11], [22, 12], [28, 14], [36, 18], [44, 22]]; // heights of rows, and of their letters
+const MEASURED = 300; // rows: of more, the labels in view are measured
 const AROUND = 8; // rows drawn beyond those in view
-const SHOWN = 50000; // of a longer log the last steps are shown
+const TALLEST = 15000000; // pixels: browsers show no taller element
+const BUTTON = 24; // its least height
 const NAMESPACE = "http://www.w3.org/2000/svg";
 
-function svg(name, className, parent) {
-  const made = document.createElementNS(NAMESPACE, name);
+/**
+ * @param {string} className
+ * @param {Element} parent
+ */
+function svg(className, parent) {
+  const made = document.createElementNS(NAMESPACE, "svg");
   made.setAttribute("class", className);
+  made.setAttribute("role", "none");
   parent.append(made);
   return made;
 }
 
+/**
+ * @typedef {object} PictureEvents
+ * @property {(id: string | null) => void} point
+ * @property {(id: string) => void} choose
+ * @property {(id: string) => void} takeBack
+ * @property {(id: string, row: number) => void} move
+ * @property {() => void} scrolled
+ */
+
 export class PictureView {
-  // `on` has point(id), choose(id), takeBack(id), move(id, row) and scrolled().
+  /**
+   * @param {HTMLElement} host
+   * @param {PictureEvents} on
+   * @param {(step: Step, row: number) => string} describe
+   */
   constructor(host, on, describe) {
-    Object.assign(this, { host, on, describe, height: 2, steps: [], rows: new Map(), edges: [], view: NOTHING_POINTED });
-    this.head = svg("svg", "picture names", host);
-    this.body = svg("svg", "picture body", host);
-    this.body.innerHTML = `${pictureDefinitions}<g class="drawn"></g><g class="above"></g>`;
-    this.drawn = this.body.querySelector(".drawn");
-    this.above = this.body.querySelector(".above");
-    this.body.style.marginTop = `${-HEAD - 1}px`;
-    host.addEventListener("scroll", () => {
-      this.drawSoon();
-      on.scrolled();
-    });
-    new ResizeObserver(() => this.place()).observe(host);
+    this.host = host;
+    this.on = on;
+    this.describe = describe;
+    this.size = 2;
+    this.view = NOTHING_POINTED;
+    /** @type {Edge[]} */
+    this.edges = [];
+    this.isFolded = false;
+    /** @type {Set<string>} */
+    this.hidden = new Set();
+    this.labels = "statement";
+    this.hasOrder = true; // whether arrows of the order of waiting are drawn
+    /** @type {{log: import("./log.js").Log, functions: Map<string, string>, notes: (id: string) => Note | undefined} | null} */
+    this.shown = null;
+    /** @type {{from: number, row: number} | null} */
+    this.drag = null;
+    /** @type {number | null} */
+    this.pressedRow = null;
+    this.frame = 0;
+    this.isToMeasure = false;
+    this.version = -1; // of the log that is laid out
+    this.length = 0;
+    this.head = svg("picture names", host);
+    this.head.setAttribute("aria-hidden", "true");
+    this.body = svg("picture body", host);
+    this.body.innerHTML = `${DEFINITIONS}<g class="drawn" role="none"></g><g class="above" aria-hidden="true"></g>`;
+    this.drawn = /** @type {Element} */ (this.body.querySelector(".drawn"));
+    this.above = /** @type {Element} */ (this.body.querySelector(".above"));
     this.listen();
   }
 
   listen() {
-    this.host.addEventListener("pointermove", (event) => this.moved(event));
-    this.host.addEventListener("pointerleave", () => this.drag || this.on.point(null));
-    this.host.addEventListener("pointerdown", (event) => this.pressed(event));
-    this.host.addEventListener("pointerup", (event) => this.released(event));
-    this.host.addEventListener("pointercancel", () => this.endDrag());
+    const { host } = this;
+    host.addEventListener("scroll", () => {
+      this.drawSoon();
+      this.on.scrolled();
+    });
+    new ResizeObserver(() => this.place()).observe(host);
+    host.addEventListener("pointermove", (event) => this.moved(event));
+    host.addEventListener("pointerdown", (event) => this.pressed(event));
+    host.addEventListener("pointerup", (event) => this.released(event));
+    host.addEventListener("pointercancel", () => this.endDrag());
   }
 
   get rowHeight() {
-    return HEIGHTS[this.height];
+    return SIZES[this.size][0];
   }
 
+  get letter() {
+    return Math.round(SIZES[this.size][1] * 0.605 * 10) / 10;
+  }
+
+  get headHeight() {
+    return headOf(this.letter);
+  }
+
+  // Makes rows and letters smaller or larger, and keeps the row that is on top, or the end in view.
+  /** @param {number} by */
   zoom(by) {
-    const row = this.rowAt(this.host.scrollTop);
-    this.height = Math.max(0, Math.min(HEIGHTS.length - 1, this.height + by));
+    const [row, wasAtEnd] = [this.rowAt(this.host.scrollTop), this.isAtEnd];
+    this.size = Math.max(0, Math.min(SIZES.length - 1, this.size + by));
     this.place();
-    this.host.scrollTop = (row - this.first) * this.rowHeight;
+    this.host.scrollTop = wasAtEnd ? this.host.scrollHeight : (row - this.top) * this.rowHeight;
   }
 
-  // Shows these steps; `notes` gives a step's note or nothing.
-  show(steps, names, notes, edges) {
-    const atEnd = this.host.scrollTop + this.host.clientHeight >= this.host.scrollHeight - 2 * this.rowHeight;
-    const grown = steps.length > this.steps.length;
-    Object.assign(this, { steps, names, notes, edges, first: Math.max(0, steps.length - SHOWN) });
-    this.rows = new Map(steps.map(({ id }, row) => [id, row]));
+  // The largest size at which all rows are in view, or else the smallest.
+  fit() {
+    const room = this.host.clientHeight - this.headHeight - 6;
+    const fitting = SIZES.map(([height]) => height * (this.rows?.length || 1) <= room).lastIndexOf(true);
+    this.zoom(Math.max(0, fitting) - this.size);
+  }
+
+  // Shows a log; `notes` gives a step's note or nothing.
+  /**
+   * @param {import("./log.js").Log} log
+   * @param {Map<string, string>} functions
+   * @param {(id: string) => Note | undefined} notes
+   * @param {Edge[]} edges
+   */
+  show(log, functions, notes, edges) {
+    const atEnd = this.isAtEnd;
+    const grown = log.length > this.length;
+    this.length = log.length;
+    this.shown = { log, functions, notes };
+    this.edges = edges;
     this.place();
     if (atEnd && grown) this.host.scrollTop = this.host.scrollHeight;
   }
 
-  place() {
-    if (!this.names) return;
-    this.layout = layOut(this.steps, this.names, this.notes, this.rowHeight, this.first, this.host.clientWidth);
-    const { height } = this.layout;
-    const width = Math.max(this.layout.width, this.host.clientWidth);
-    for (const [it, tall] of [[this.head, HEAD], [this.body, height]]) {
-      it.setAttribute("width", width);
-      it.setAttribute("height", tall);
-    }
-    this.draw();
+  get isAtEnd() {
+    return this.host.scrollTop + this.host.clientHeight >= this.host.scrollHeight - 2 * this.rowHeight;
   }
 
-  // Shows the edges that were found since.
+  // The first row that can be scrolled to: of a log that is too tall for a browser, the last rows are shown.
+  get top() {
+    return Math.max(0, (this.rows?.length || 0) - Math.floor(TALLEST / this.rowHeight));
+  }
+
+  place() {
+    if (!this.shown) return;
+    this.rows = this.rowsOf(this.shown);
+    this.measure();
+    this.host.style.setProperty("--picture-size", `${SIZES[this.size][1]}px`);
+    this.drawSoon();
+  }
+
+  // The rows of a log: what printed and what is pointed at is not folded.
+  /** @param {{log: import("./log.js").Log, notes: (id: string) => Note | undefined}} shown */
+  rowsOf({ log, notes }) {
+    const isKept = (/** @type {number} */ row) => {
+      const id = log.id(row);
+      return id === this.view.pointed || Boolean(notes(id)?.printed.length);
+    };
+    return new Rows(log, { isFolded: this.isFolded, hidden: this.hidden, isKept });
+  }
+
+  // Lays out the rows around the view; of a log that has changed, these are other ones.
+  measure() {
+    if (!this.shown || !this.rows) return;
+    this.rows = this.rowsOf(this.shown);
+    this.version = this.shown.log.version;
+    const [from, to] = this.inView();
+    const { clientWidth: room } = this.host;
+    const how = { rowHeight: this.rowHeight, letter: this.letter, room, first: from, last: this.rows.length > MEASURED ? to : Infinity, top: this.top };
+    this.layout = layOut({ ...this.shown, rows: this.rows, labels: this.labels }, how);
+    const height = this.layout.y(this.rows.length) + 6 + cycleHeight(this.view.cycle);
+    const width = Math.max(this.layout.width, room, cycleWidth(this.layout, this.view.cycle));
+    this.head.setAttribute("width", String(width));
+    this.head.setAttribute("height", String(this.headHeight));
+    this.body.style.marginTop = `${-this.headHeight - 1}px`;
+    this.body.setAttribute("width", String(width));
+    this.body.setAttribute("height", String(height));
+  }
+
+  // Shows the edges and notes that were found since.
+  /** @param {Edge[]} edges */
   update(edges) {
     this.edges = edges;
-    this.place();
+    this.drawSoon(true);
   }
 
+  /** @param {PointedView} view */
   mark(view) {
+    const isTaller = view.cycle.length > this.view.cycle.length;
+    const atEnd = this.isAtEnd;
+    const isOther = view.cycle.length !== this.view.cycle.length;
     this.view = view;
-    this.draw();
+    if (isOther) this.measure();
+    if (isTaller && atEnd) this.host.scrollTop = this.host.scrollHeight;
+    this.drawSoon();
   }
 
-  drawSoon() {
+  // Draws before the next frame, once; what was found since may need more room.
+  drawSoon(isMeasured = false) {
+    this.isToMeasure ||= isMeasured || Boolean(this.rows && this.rows.length > MEASURED);
     cancelAnimationFrame(this.frame);
-    this.frame = requestAnimationFrame(() => this.draw());
+    this.frame = requestAnimationFrame(() => {
+      if (this.isToMeasure) this.measure();
+      this.isToMeasure = false;
+      this.draw();
+    });
   }
 
+  // The rows of the picture that are in view, and some around them.
   inView() {
     const from = this.rowAt(this.host.scrollTop) - AROUND;
-    return [Math.max(this.first || 0, from), this.rowAt(this.host.scrollTop + this.host.clientHeight) + AROUND];
+    return [Math.max(this.top, from), this.rowAt(this.host.scrollTop + this.host.clientHeight) + AROUND];
+  }
+
+  // The steps of the log that are in view.
+  stepsInView() {
+    if (!this.rows || !this.rows.length) return [0, 0];
+    const [from, to] = this.inView();
+    return [this.rows.at(from), this.rows.at(Math.min(to, this.rows.length - 1)) + 1];
   }
 
   draw() {
-    if (!this.layout) return;
+    if (!this.layout || !this.shown) return;
+    if (this.version !== this.shown.log.version) this.measure();
     const [from, to] = this.inView();
     const left = this.host.scrollLeft;
-    const view = { ...this.view, describe: this.describe, wide: this.host.clientWidth, left };
     this.head.innerHTML = drawNames(this.layout, left);
-    this.drawn.innerHTML = drawRows(this.layout, this.rows, this.edges, view, from, to);
+    const edges = this.hasOrder ? this.edges : this.edges.filter(({ kind }) => kind !== "order");
+    this.drawn.innerHTML = drawRows(this.layout, edges, { view: this.view, describe: this.describe, wide: this.host.clientWidth, left }, from, to);
     this.above.innerHTML = this.drawTakeBack() + this.drawDrop();
-    const row = this.rows.get(this.view.pointed);
-    if (row === undefined) this.host.removeAttribute("aria-activedescendant");
-    else this.host.setAttribute("aria-activedescendant", `row-${row}`);
+    const row = this.row(this.view.pointed);
+    const isDrawn = row !== null && row >= from && row <= to;
+    if (isDrawn) this.host.setAttribute("aria-activedescendant", `row-${this.shown?.log.row(this.view.pointed)}`);
+    else this.host.removeAttribute("aria-activedescendant");
+  }
+
+  // The row of the picture of a step, or null.
+  /** @param {string | null} id */
+  row(id) {
+    const row = this.shown?.log.row(id) ?? -1;
+    return row < 0 || !this.rows ? null : this.rows.place(row);
   }
 
   // The button beside the step that is pointed at.
   drawTakeBack() {
-    const row = this.rows.get(this.view.pointed);
-    if (row === undefined || this.drag || !this.view.count) return "";
+    const row = this.row(this.view.pointed);
+    if (row === null || this.drag || !this.view.count || !this.layout) return "";
     const text = `take back ${this.view.count}`;
-    const width = text.length * 7.4 + 14;
+    const width = text.length * (this.letter + 0.4) + 14;
     const x = this.besideStep(row, width);
-    const y = this.layout.y(row) - 10;
-    return `<g class="take-back"><rect x="${x}" y="${y}" width="${width}" height="20"/><text x="${x + width / 2}" y="${y + 14}">${text}</text></g>`;
+    const y = this.layout.y(row) - BUTTON / 2;
+    return `<g class="take-back"><rect x="${x}" y="${y}" width="${width}" height="${BUTTON}"/><text x="${x + width / 2}" y="${y + 16}">${text}</text></g>`;
   }
 
   // Where a button of this width leaves the step of the row and its label free: right of them, or else left.
+  /**
+   * @param {number} row
+   * @param {number} width
+   */
   besideStep(row, width) {
-    const step = this.steps[row];
+    const layout = /** @type {import("./layout.js").Place} */ (this.layout);
+    const step = layout.log.step(layout.rows.at(row));
     const { scrollLeft, clientWidth } = this.host;
-    const x = this.layout.lefts.get(step.goroutine);
-    const right = x + 24 + labelWidth(step, this.notes(step.id));
-    return right + width + 8 <= scrollLeft + clientWidth ? right : Math.max(scrollLeft + 48, x - width - 20);
+    const x = Number(layout.lefts.get(step.goroutine));
+    const right = x + 24 + labelWidth(step, layout.notes(step.id), layout);
+    return right + width + 8 <= scrollLeft + clientWidth ? right : Math.max(scrollLeft + 64, x - width - 20);
   }
 
   drawDrop() {
-    if (!this.drag || this.drag.row === this.drag.from) return "";
-    const below = this.drag.row > this.drag.from ? 0.5 : -0.5;
-    const y = this.layout.y(this.drag.row + below);
+    if (!this.drag || this.drag.row === this.drag.from || !this.layout) return "";
+    const y = this.layout.y(this.drag.row + (this.drag.row > this.drag.from ? 0.5 : -0.5));
     return `<line class="drop" x1="0" y1="${y}" x2="${this.layout.width}" y2="${y}"/>`;
   }
 
+  /** @param {number} y */
   rowAt(y) {
-    return (this.first || 0) + Math.floor(y / this.rowHeight);
+    return this.top + Math.floor(y / this.rowHeight);
   }
 
-  // The row under the pointer, or nothing.
+  // The row under the pointer, or null.
+  /** @param {MouseEvent} event */
   rowOf(event) {
     const row = this.rowAt(event.clientY - this.host.getBoundingClientRect().top - this.head.clientHeight - 2 + this.host.scrollTop);
-    return this.steps[row] ? row : null;
+    return this.rows && row >= 0 && row < this.rows.length ? row : null;
   }
 
+  /** @param {number} row */
+  idAt(row) {
+    return this.shown && this.rows ? this.shown.log.id(this.rows.at(row)) : "";
+  }
+
+  /** @param {PointerEvent} event */
   moved(event) {
     const row = this.rowOf(event);
     if (this.drag) return this.dragTo(row);
-    this.on.point(row === null ? null : this.steps[row].id);
+    if (row !== null) this.on.point(this.idAt(row));
   }
 
+  /** @param {PointerEvent} event */
   pressed(event) {
     const row = this.rowOf(event);
-    if (row === null || event.button || event.target.closest(".take-back")) return;
+    const target = /** @type {Element} */ (event.target);
+    if (row === null || event.button || target.closest(".take-back")) return;
     this.pressedRow = row;
-    if (event.pointerType === "touch" || !event.target.closest("[data-step]")) return;
+    if (event.pointerType === "touch" || !target.closest("[data-step]")) return;
     this.host.setPointerCapture(event.pointerId);
     this.drag = { from: row, row };
   }
 
+  /** @param {number | null} row */
   dragTo(row) {
-    if (row === null) return;
+    if (row === null || !this.drag) return;
     this.drag.row = row;
     this.draw();
   }
 
+  /** @param {PointerEvent} event */
   released(event) {
-    const drag = this.drag;
+    const { drag } = this;
     this.endDrag();
-    if (event.target.closest(".take-back")) return this.on.takeBack(this.view.pointed);
-    if (drag && drag.row !== drag.from) return this.on.move(this.steps[drag.from].id, drag.row);
+    if (/** @type {Element} */ (event.target).closest(".take-back")) return this.on.takeBack(this.view.pointed);
+    if (drag && drag.row !== drag.from) return this.on.move(this.idAt(drag.from), this.rows?.at(drag.row) || 0);
     const row = this.rowOf(event);
-    if (row !== null && row === this.pressedRow) this.on.choose(this.steps[row].id);
+    if (row !== null && row === this.pressedRow) this.on.choose(this.idAt(row));
   }
 
   endDrag() {
@@ -179,32 +325,36 @@ export class PictureView {
     this.draw();
   }
 
+  /** @param {string} id */
   reveal(id) {
-    const row = this.rows.get(id);
-    if (row === undefined) return;
-    const top = (row - this.first) * this.rowHeight;
-    const room = this.host.clientHeight - HEAD;
+    const row = this.row(id);
+    if (row === null || !this.layout) return;
+    const top = (row - this.top) * this.rowHeight;
+    const room = this.host.clientHeight - this.headHeight;
     if (top < this.host.scrollTop) this.host.scrollTop = top - this.rowHeight;
     else if (top + this.rowHeight > this.host.scrollTop + room) this.host.scrollTop = top - room + 2 * this.rowHeight;
-    const left = this.layout.lefts.get(this.steps[row].goroutine);
+    const left = Number(this.layout.lefts.get(id.slice(0, id.lastIndexOf("#"))));
     const { scrollLeft, clientWidth } = this.host;
     if (left < scrollLeft + 60 || left > scrollLeft + clientWidth - 120) this.host.scrollLeft = left - clientWidth / 2;
     this.draw();
   }
 
-  // The next step upward or downward (`by` -1 or 1) of another goroutine that is that many columns away, or the next row.
-  neighbour(id, by, columns) {
-    const row = this.rows.get(id);
-    if (row === undefined) return this.steps[by > 0 ? this.first : this.steps.length - 1]?.id;
-    if (!columns) return (this.steps[row + by] || this.steps[row]).id;
-    const name = this.names[this.names.indexOf(this.steps[row].goroutine) + columns];
-    const rows = this.layout.spans.get(name) || [];
-    const nearest = rows.reduce((best, it) => (Math.abs(it - row) < Math.abs(best - row) ? it : best), rows[0]);
-    return nearest === undefined ? id : this.steps[nearest].id;
-  }
-
-  saved(title) {
-    const layout = layOut(this.steps, this.names, this.notes, this.rowHeight, this.first);
-    return savedPicture(layout, this.rows, this.edges, this.view, title);
+  // The next step upward or downward (`by` -1 or 1), or the nearest of the goroutine that is that many columns away.
+  /**
+   * @param {string | null} id
+   * @param {number} by
+   */
+  neighbour(id, by, columns = 0) {
+    const { rows, shown } = this;
+    if (!rows?.length || !shown) return "";
+    const row = this.row(id);
+    if (row === null) return this.idAt(by > 0 ? this.top : rows.length - 1);
+    if (!columns) return this.idAt(Math.max(0, Math.min(rows.length - 1, row + by)));
+    const names = this.layout?.names || [];
+    const name = names[names.indexOf(String(id).slice(0, String(id).lastIndexOf("#"))) + columns];
+    const own = shown.log.byName.get(name)?.rows || [];
+    const here = rows.at(row);
+    const nearest = own.reduce((best, it) => (Math.abs(it - here) < Math.abs(best - here) ? it : best), own[0]);
+    return nearest === undefined ? String(id) : shown.log.id(nearest);
   }
 }

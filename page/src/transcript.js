@@ -3,51 +3,66 @@
 import { make } from "./element.js";
 
 const LINES = 300; // of a longer reply the first are shown
+const LETTERS = 400; // of a longer line the first are shown until it is unfolded
 const ENTRIES = 400; // of more entries the last are shown
 
+// A text that is folded where it is long.
+/** @param {string} text */
+function folded(text) {
+  if (text.length <= LETTERS) return [text];
+  const left = (text.length - LETTERS).toLocaleString("en");
+  return [text.slice(0, LETTERS), make("details", {}, make("summary", {}, `.. and ${left} letters more`), text.slice(LETTERS))];
+}
+
 export class Transcript {
-  constructor(host, meanings) {
+  /**
+   * @param {HTMLElement} host
+   * @param {(code: string) => string} meaning
+   */
+  constructor(host, meaning) {
     this.host = host;
-    this.meanings = meanings;
+    this.meaning = meaning;
   }
 
   clear() {
     this.host.replaceChildren();
   }
 
-  // What a code means, in words, or nothing.
-  meaning(code) {
-    const said = this.meanings[code];
-    return said ? `${code}: ${said}` : "";
-  }
-
+  /**
+   * @param {string} command
+   * @param {Reply | null} reply
+   */
   add(command, reply) {
-    const entry = make("div", {}, make("div", { class: "asked" }, `> ${command}`));
+    const entry = make("div", {}, make("div", { class: "asked" }, ...folded(`> ${command}`)));
     if (reply) entry.append(...this.lines(reply));
     this.put(entry);
   }
 
+  /** @param {Reply} reply */
   lines(reply) {
-    const shown = reply.lines.slice(0, LINES).map((line) => make("div", {}, line ? `| ${line}` : "| "));
+    const shown = reply.lines.slice(0, LINES).map((line) => make("div", {}, ...folded(`| ${line}`)));
     const left = reply.lines.length - shown.length;
-    if (left) shown.push(make("div", { class: "meaning" }, `.. and ${left} lines more`));
-    shown.push(make("div", { class: reply.isOk ? "" : "refused" }, reply.last));
-    const means = reply.isOk ? "" : reply.last === "? bad command" ? "This line is no command." : this.meaning(reply.words[1]);
+    if (left) shown.push(make("div", { class: "meaning" }, `.. and ${left.toLocaleString("en")} lines more`));
+    shown.push(make("div", { class: reply.isOk ? "" : "refused" }, ...folded(reply.last)));
+    const means = reply.isOk ? "" : reply.last === "? bad command" ? "This line is no command: Help lists them." : this.meaning(reply.words[1]);
     if (means) shown.push(make("div", { class: "meaning" }, means));
     return shown;
   }
 
+  /** @param {string} text */
   remark(text) {
     this.put(make("div", { class: "meaning" }, text));
   }
 
+  /** @param {string} text */
   fault(text) {
     this.put(make("div", { class: "refused" }, text));
   }
 
+  /** @param {HTMLElement} entry */
   put(entry) {
     this.host.append(entry);
-    while (this.host.childElementCount > ENTRIES) this.host.firstElementChild.remove();
+    while (this.host.childElementCount > ENTRIES) this.host.firstElementChild?.remove();
     this.host.scrollTop = this.host.scrollHeight;
   }
 }

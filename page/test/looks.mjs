@@ -61,22 +61,65 @@ async function look(browser, folder, width, scheme) {
   const height = width > 1000 ? 800 : 2300;
   await browser.size(width, height, scheme);
   await hands.story("lost_update");
-  for (let count = 0; count < 19; count++) await browser.run("rewind.app.nextOfStory()");
-  await hands.settled();
-  await browser.run("rewind.app.choose('g0.3#3').then(() => rewind.app.picture.reveal('g0.2#2'))");
+  for (let count = 0; count < 19; count++) await hands.act("next");
+  await browser.run("rewind.page.pointing.choose('g0.3#3').then(() => rewind.page.views.picture.reveal('g0.2#2'))");
+  await hands.idle();
   equal(`faint texts at ${width}, ${scheme}`, await browser.run(`(${faintTexts})(${ENOUGH})`), []);
   equal(`controls without a name at ${width}`, await browser.run(`(${unnamed})()`), []);
   equal(`width of the page at ${width}`, await browser.run("document.documentElement.scrollWidth"), width);
   equal(`clipped labels at ${width}`, await browser.run(`(${clippedLabels})()`), []);
   await browser.run("document.getElementById('picture').focus()");
   await browser.shot(`${folder}/page-${width}-${scheme}.png`);
-  await hands.story("number_too_large");
+  await hands.program("number_too_large");
   equal(`faint texts of a refusal at ${width}, ${scheme}`, await browser.run(`(${faintTexts})(${ENOUGH})`), []);
   holds(`the note of a refusal takes the width at ${width}`, (await browser.run(`(${besideNote})()`)) < 12);
   await browser.shot(`${folder}/refused-${width}-${scheme}.png`);
   await lookAtHelp(browser, folder, `${width}-${scheme}`);
 }
 
+// What a class looks at: a deadlock, a fault, what a rollback would take, an exercise, a past state, and a deadlock in presentation.
+const SCENES = {
+  async deadlock(hands) {
+    await hands.story("deadlock");
+    await hands.perform("run 100");
+  },
+  async fault(hands) {
+    await hands.story("send_on_closed");
+    await hands.perform("run 100");
+  },
+  async preview(hands) {
+    await hands.story("lost_update");
+    await hands.perform("run 100");
+    await hands.browser.run("rewind.page.pointing.show('g0.1#5')");
+    await hands.until("document.querySelector('#preview s')");
+  },
+  async exercise(hands) {
+    await hands.story("untie_the_deadlock");
+  },
+  async past(hands) {
+    await SCENES.deadlock(hands);
+    await hands.browser.run("rewind.page.past.lookAt(9)");
+  },
+  async presentation(hands) {
+    await SCENES.deadlock(hands);
+    await hands.act("present");
+  },
+};
+
+async function lookAtScenes(browser, folder, width, scheme) {
+  const hands = new Hands(browser);
+  await browser.size(width, width > 1500 ? 1080 : 800, scheme);
+  for (const [name, show] of Object.entries(SCENES)) {
+    await show(hands);
+    await hands.idle();
+    if (name !== "past") equal(`faint texts of ${name} at ${width}, ${scheme}`, await browser.run(`(${faintTexts})(${ENOUGH})`), []);
+    equal(`width of ${name} at ${width}`, await browser.run("document.documentElement.scrollWidth"), width);
+    await browser.shot(`${folder}/${name}-${width}-${scheme}.png`);
+    if (name === "presentation") await hands.act("present");
+  }
+}
+
 export async function looks(browser, folder) {
   for (const width of [1280, 400]) for (const scheme of ["light", "dark"]) await look(browser, folder, width, scheme);
+  for (const width of [1920, 1280, 400]) for (const scheme of ["light", "dark"]) await lookAtScenes(browser, folder, width, scheme);
 }

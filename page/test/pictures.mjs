@@ -3,23 +3,26 @@
 import { readFileSync, writeFileSync } from "node:fs";
 import { Browser } from "./browser.mjs";
 
-const [page, list, folder] = process.argv.slice(2);
+const [file, list, folder] = process.argv.slice(2);
 
 // Runs in the page: plays a story to just before the first command of this word, and points at a step.
 async function pictureInPage({ story, until, point, title }) {
-  const { app, openStory } = window.rewind;
-  await openStory(story);
-  while (app.stories.next && app.stories.next.split(" ")[0] !== until) await app.nextOfStory();
-  await app.settled();
-  await app.choose(point);
-  return app.savedPicture(title);
+  const { page, openStory, savePicture } = window.rewind;
+  await openStory(page, story);
+  for (const { command } of page.views.stories.commands) {
+    if (command.split(" ")[0] === until) break;
+    await page.perform(command);
+  }
+  await page.settled();
+  await page.pointing.show(point);
+  return savePicture(page, { title, labels: "kind", hasLegend: false });
 }
 
 const browser = await Browser.open();
 let status = 1;
 try {
   await browser.size(1280, 800);
-  await browser.load(page);
+  await browser.load(file);
   for (const picture of JSON.parse(readFileSync(list, "utf8"))) {
     const svg = await browser.run(`(${pictureInPage})(${JSON.stringify(picture)})`);
     if (!svg.includes(`data-step="${picture.point}"`)) throw new Error(`${picture.story} has no step ${picture.point}`);

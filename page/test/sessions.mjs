@@ -4,17 +4,18 @@ import { existsSync, readFileSync, readdirSync } from "node:fs";
 import { counts, equal, failed, holds } from "./checks.mjs";
 
 const FOLDER = new URL("../../crates/sessions/data", import.meta.url).pathname;
-const base64 = (file) => (existsSync(file) ? readFileSync(file).toString("base64") : "");
+export const base64 = (file) => (existsSync(file) ? readFileSync(file).toString("base64") : "");
 
 // Runs in the page: one session. What it wrote as base64, whether its source was refused, and its exit status.
 async function sessionInPage(source, script, suspends) {
   const bytes = (text) => Uint8Array.from(atob(text), (letter) => letter.charCodeAt(0));
   const session = await window.rewind.Session.open(window.rewind.program, bytes(source), suspends);
-  const said = [session.said];
+  const said = [];
   if (script && session.status === null) said.push(await session.exchange(bytes(script)));
   said.push(await session.close());
+  said.push(new TextEncoder().encode(session.errors));
   const text = btoa(said.map((piece) => Array.from(piece, (byte) => String.fromCharCode(byte)).join("")).join(""));
-  return { text, isRefused: session.said.length > 0, status: String(session.status) };
+  return { text, isRefused: session.errors.length > 0, status: String(session.status) };
 }
 
 // The first line that differs, in words.
@@ -40,6 +41,8 @@ async function allOf(browser, suspends) {
   console.log(`${names.length - counts.failed + before} of ${names.length} sessions are as expected, ${how}`);
 }
 
-export async function sessions(browser) {
-  for (const suspends of [true, false]) await allOf(browser, suspends);
+// In one run that waits, where the browser can suspend WebAssembly, and run anew for each exchange.
+export async function sessions(browser, ways = [true, false]) {
+  const canSuspend = await browser.run("'Suspending' in WebAssembly");
+  for (const suspends of ways.filter((it) => canSuspend || !it)) await allOf(browser, suspends);
 }

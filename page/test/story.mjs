@@ -18,7 +18,7 @@ async function takeBackAndDoAgain(hands) {
   equal("the console", await hands.texts("#console li"), ["0"]);
   await hands.point("g0#6");
   equal("consequences of the close", await hands.drawn(".consequence[data-step]"), ["g0#7", "g0.1#6"]);
-  const causes = (await hands.browser.run("rewind.app.question('causes g0#6')")).words.slice(2);
+  const causes = (await hands.browser.run("rewind.page.session.user.ask('causes g0#6')")).words.slice(2);
   equal("causes of the close", await hands.drawn(".cause[data-step]"), causes.filter((id) => id !== "g0#6"));
   await hands.click("#picture .take-back");
   equal("one click takes the close back", await hands.lastReply(), ["> back g0#6", "ok 3 g0#6 g0#7 g0.1#6"]);
@@ -39,7 +39,7 @@ async function messages(hands) {
   const starts = ["g0#4 start g0.1#1", "g0#5 start g0.2#1", "g0#12 start g0.3#1", "g0#13 start g0.4#1"];
   equal("starts and messages", edges.sort(), [...starts, "g0.1#1 message g0#6", "g0.3#1 message g0#14"].sort());
   equal("what is printed", await hands.texts("#console li"), ["100", "100"]);
-  equal("the one that leaks", await hands.goroutine("g0.2"), "g0.2 waiting at line 4, 1 step ask server = 2 answers = g0/c1");
+  equal("the one that leaks", await hands.goroutine("g0.2"), "g0.2 waiting at line 4, 1 step started by waits to send 200 to g0/c1 ask server = 2 answers = g0/c1");
 }
 
 // A race in a select: the steps of goroutines and clauses by their buttons.
@@ -53,7 +53,7 @@ async function pickClauses(hands) {
   await hands.clickLabel("Clause 2: v := <-right, of g0");
   equal("the second clause", await hands.lastReply(), ["> step g0 2", "ok g0#6 pick 2"]);
   await hands.key("u");
-  await hands.browser.run("rewind.app.chooseGoroutine('g0')");
+  await hands.browser.run("rewind.page.chooseGoroutine('g0')");
   await hands.key("1");
   equal("the first clause by its key", await hands.lastReply(), ["> step g0 1", "ok g0#6 pick 1"]);
   equal("the lines at which they stand", await hands.texts("#editor .at-line"), ["g0.2", "g0.1", "g0"]);
@@ -63,15 +63,15 @@ async function pickClauses(hands) {
 async function exchangeNeighbours(hands) {
   await hands.story("lost_update");
   for (let count = 0; count < 18; count++) await hands.key("n");
-  const before = await hands.browser.run("rewind.app.model.steps.map(({ id }) => id)");
+  const before = await hands.ids();
   equal("the last three", before.slice(-3), ["g0.1#5", "g0.2#2", "g0.3#2"]);
-  await hands.browser.run("rewind.app.picture.reveal('g0.3#2')");
+  await hands.browser.run("rewind.page.views.picture.reveal('g0.3#2')");
   await hands.drag("g0.3#2", "g0.2#2");
-  equal("a drag exchanges them", (await hands.browser.run("rewind.app.model.steps.map(({ id }) => id)")).slice(-3), ["g0.1#5", "g0.3#2", "g0.2#2"]);
+  equal("a drag exchanges them", (await hands.ids()).slice(-3), ["g0.1#5", "g0.3#2", "g0.2#2"]);
   await hands.browser.run("document.getElementById('picture').focus()");
   await hands.key("ArrowDown", ALT);
-  equal("and keys put them back", await hands.browser.run("rewind.app.model.steps.map(({ id }) => id)"), before);
-  await hands.browser.run("rewind.app.picture.reveal('g0.2#1')");
+  equal("and keys put them back", await hands.ids(), before);
+  await hands.browser.run("rewind.page.views.picture.reveal('g0.2#1')");
   await hands.drag("g0.3#1", "g0.2#1");
   equal("the refusal names the pair", await hands.text("#status"), "Not possible: g0.3#1 rests on g0.2#1, so it cannot come before it.");
   equal("and the picture rings it", await hands.drawn(".forbids[data-step]"), ["g0.2#1", "g0.3#1"]);
@@ -81,10 +81,10 @@ async function exchangeNeighbours(hands) {
 }
 
 async function refusals(hands) {
-  await hands.story("number_too_large");
-  holds("a refusal stands at its line", (await hands.text(".refusal-note")).startsWith("C7: a constant out of range"));
-  equal("and in words", (await hands.text("#refusal")).slice(0, 21), "Refused at line 2: C7");
-  await hands.story("bad_commands");
+  await hands.program("number_too_large");
+  holds("a refusal stands at its line", (await hands.text(".refusal-note")).includes("(rewind: C7 at 2:"));
+  equal("and in words", (await hands.text("#refusal")).slice(0, 19), "Refused at line 2: ");
+  await hands.program("bad_commands");
   await hands.type("step g0.9");
   equal("the meaning of a code", (await hands.lastReply()).slice(1), ["no N2", "N2: there is no such goroutine or channel"]);
 }
@@ -104,7 +104,7 @@ function timeOfDrawing() {
   const began = performance.now();
   for (let at = 0; at < 50; at++) {
     document.getElementById("picture").scrollTop = 500 * at;
-    window.rewind.app.picture.draw();
+    window.rewind.page.views.picture.draw();
   }
   return (performance.now() - began) / 50;
 }
@@ -113,7 +113,7 @@ function timeOfDrawing() {
 async function longRuns(hands) {
   await hands.source(LOOP);
   await hands.type("run 5000");
-  equal("five thousand steps", await hands.browser.run("rewind.app.model.steps.length"), 5000);
+  equal("five thousand steps", await hands.browser.run("rewind.page.session.log.length"), 5000);
   holds("few of them are drawn", (await hands.drawn()).length < 80);
   await hands.browser.run("document.getElementById('picture').scrollTop = 40000");
   await hands.until(`document.querySelector('#picture [data-step]') && Number(document.querySelector('#picture [data-step] .number').textContent) > 1500`);
@@ -121,12 +121,12 @@ async function longRuns(hands) {
   console.log(`a picture of 5,000 steps is drawn anew in ${scrolled.toFixed(1)} ms`);
   await hands.story("lost_update");
   await hands.source(LOOP);
-  await hands.browser.run("rewind.app.perform('run 1000000'), 0");
+  await hands.browser.run("rewind.page.perform('run 1000000'), 0");
   await hands.until("Number(document.getElementById('progress').value) > 0.004");
   holds("a run shows how far it is", await hands.browser.run("!document.getElementById('stop').hidden"));
   await hands.browser.key("x");
-  await hands.until("!rewind.app.isBusy");
-  const steps = await hands.browser.run("rewind.app.model.steps.length");
+  await hands.until("!rewind.page.busy");
+  const steps = await hands.browser.run("rewind.page.session.log.length");
   holds("and is stopped by a key", steps >= 2000 && steps < 1000000);
   await hands.source("package main\nfunc main() {}\n");
 }

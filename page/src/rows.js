@@ -1,0 +1,73 @@
+// Which steps of the log have a row of the picture: all, or those of the goroutines that are shown, with runs of own statements folded
+// to one row.
+
+import { word } from "./edges.js";
+
+const FOLDED = new Set(["pure", "call", "return", "make"]);
+const LEAST = 3; // steps that are worth a fold
+
+export class Rows {
+  /**
+   * @param {import("./log.js").Log} log
+   * @param {{isFolded?: boolean, hidden?: Set<string>, isKept?: (row: number) => boolean}} how
+   */
+  constructor(log, { isFolded = false, hidden = new Set(), isKept = () => false } = {}) {
+    this.log = log;
+    this.hidden = hidden;
+    /** @type {number[] | null} */
+    this.starts = null; // of each row of the picture, the first step of the log in it
+    /** @type {Map<number, number>} */
+    this.counts = new Map(); // of each fold, how many steps it has
+    if (isFolded || hidden.size) this.starts = this.chosen(isFolded, isKept);
+  }
+
+  /**
+   * @param {boolean} isFolded
+   * @param {(row: number) => boolean} isKept
+   */
+  chosen(isFolded, isKept) {
+    const { log } = this;
+    const starts = [];
+    const isOwn = (/** @type {number} */ row) => FOLDED.has(word(log.kinds[row])) && !isKept(row);
+    for (let row = 0; row < log.length; row++) {
+      if (this.hidden.has(log.columns[row].name)) continue;
+      let end = row + 1;
+      while (isFolded && isOwn(row) && end < log.length && log.columns[end] === log.columns[row] && isOwn(end)) end++;
+      starts.push(row);
+      if (end - row < LEAST) continue;
+      this.counts.set(starts.length - 1, end - row);
+      row = end - 1;
+    }
+    return starts;
+  }
+
+  get length() {
+    return this.starts ? this.starts.length : this.log.length;
+  }
+
+  // The step of the log at the beginning of a row of the picture.
+  /** @param {number} place */
+  at(place) {
+    return this.starts ? this.starts[place] : place;
+  }
+
+  // How many steps a row stands for.
+  /** @param {number} place */
+  count(place) {
+    return this.counts.get(place) || 1;
+  }
+
+  // The row of the picture for a step of the log: its own, or the one it is folded into.
+  /** @param {number} row */
+  place(row) {
+    const { starts } = this;
+    if (!starts) return row;
+    let [low, high] = [0, starts.length];
+    while (high - low > 1) {
+      const middle = (low + high) >> 1;
+      if (starts[middle] <= row) low = middle;
+      else high = middle;
+    }
+    return low;
+  }
+}

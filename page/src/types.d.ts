@@ -1,0 +1,49 @@
+// The shapes of what the modules hand to each other, for the check of types.
+
+interface Reply { lines: string[]; last: string; words: string[]; isOk: boolean }
+interface Refusal { code: string; line: number; column: number; text: string }
+interface Variable { name: string; value: string }
+interface Frame { name: string; variables: Variable[] }
+interface Goroutine { name: string; state: string; steps: number; line: number | null; frames: Frame[]; statement?: Statement | null; doing?: string }
+interface Channel { name: string; capacity: number; isClosed: boolean; items: string[]; senders: string[]; receivers: string[] }
+interface Tail { isOk: boolean; count: number; lines: string[]; last?: string }
+interface Listed { isOk: boolean; count: number; spans: Map<string, number[]>; last: string }
+interface LogColumns { isOk: boolean; names: string[]; kinds: string[]; of: Int32Array; kindOf: Int32Array }
+
+interface Step { id: string; goroutine: string; number: number; kind: string; row: number }
+interface Edge { from: string; to: string; kind: string }
+interface Note {
+  line: number; statement: Statement | null; printed: string[]; woke: string[];
+  causes: Map<string, number> | null; edges: Edge[] | null; sent: string; received: string;
+}
+
+interface Token { text: string; at: number; line: number; column: number }
+interface Statement { line: number; column: number; start: number; end: number; text: string; expandedLine: number; clauses: string[]; func: string }
+
+// What the panes show: the session at one moment.
+interface Scene { goroutines: Goroutine[]; channels: Channel[]; console: Tail; hidden: number; clauses: Map<string, Clause[]> }
+interface Clause { number: number; text: string }
+
+interface Story { name: string; title: string; source: string; script: string; shows: string; level?: string; told: Told[] }
+interface Told { text: string; command: string }
+interface Exercise { name: string; title: string; level: number; source: string; task: string; hint: string; goal: Goal; before: string[] }
+interface Goal { printed?: string; end?: string; most?: number; only?: string; kept?: string[]; without?: string[]; chosen?: string }
+interface Given {
+  codes: {[code: string]: string}; kinds: {[kind: string]: string}; faults: {[fault: string]: string}; commands: string[][];
+  stories: Story[]; exercises: Exercise[]; refusals: {[code: string]: RefusalTable}; licence: string;
+}
+interface RefusalTable { meaning: string; forms: RefusalForm[] }
+interface RefusalForm {
+  form: string; sentence: string; instead?: string; at?: string; before?: string; inside?: string; column?: number;
+  words?: number[]; back_to?: string;
+}
+
+interface PointedView {
+  pointed: string; causes: Map<string, number[]>; consequences: Map<string, number[]>; forbids: string[]; count: number;
+  cycle: string[]; fault: string; found: Set<string> | null; last: number; direct: boolean;
+}
+
+interface Machine { program: WebAssembly.Module; script: string; suspends: boolean }
+interface Window { CodeMirror: any; rewind: any; started: Promise<boolean> }
+declare var CompressionStream: any;
+declare var DecompressionStream: any;

@@ -1,0 +1,31 @@
+// A worker that holds one session of the program: it opens it, and answers commands in the shape that is asked for.
+
+import { Session } from "./engine.js";
+import { decoder, encoder } from "./protocol.js";
+import { shaped } from "./shapes.js";
+
+/** @type {Session} */
+let session;
+
+/** @param {{program: WebAssembly.Module, source: Uint8Array, suspends: boolean}} given */
+async function open({ program, source, suspends }) {
+  session = await Session.open(program, source, suspends);
+}
+
+/** @param {{commands: string[], shape: string}} asked */
+async function answer({ commands, shape }) {
+  const text = decoder.decode(await session.exchange(encoder.encode(commands.join("\n") + "\n")));
+  return shaped(text, shape);
+}
+
+self.addEventListener("message", async ({ data }) => {
+  const reply = { id: data.id, answers: /** @type {any[]} */ ([]), fault: "" };
+  try {
+    if (data.program) await open(data);
+    else reply.answers = await answer(data);
+  } catch (fault) {
+    reply.fault = String(fault);
+  }
+  const { status = -1, errors = "", fault = "" } = session || {};
+  self.postMessage({ ...reply, status, errors, fault: reply.fault || fault });
+});

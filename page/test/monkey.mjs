@@ -1,0 +1,144 @@
+// A monkey: random commands, clicks and looks in the page, with a native program beside it that gets the same commands. After each round
+// what the page shows is what the program answers.
+
+import { existsSync } from "node:fs";
+import { spawn } from "node:child_process";
+import { createInterface } from "node:readline";
+import { Hands } from "./hands.mjs";
+import { counts, equal, failed } from "./checks.mjs";
+
+const SESSIONS = new URL("../../crates/sessions/data/", import.meta.url).pathname;
+const STORIES = ["lost_update", "deadlock", "send_on_closed", "leaked_goroutine", "race_in_select", "buffered_channel", "prime_sieve",
+  "fibonacci_select", "default_selection", "replayed_workers_1", "replayed_workers_2", "replayed_race_in_select"];
+const MOVES = 12; // a round
+
+// Numbers that look random, the same for each seed.
+function dice(seed) {
+  let state = seed >>> 0 || 1;
+  return (most) => {
+    state ^= state << 13;
+    state ^= state >>> 17;
+    state ^= state << 5;
+    return (state >>> 0) % most;
+  };
+}
+
+// A native session.
+class Native {
+  constructor(program, source) {
+    this.child = spawn(program, [source]);
+    this.lines = createInterface({ input: this.child.stdout })[Symbol.asyncIterator]();
+  }
+
+  async ask(line) {
+    this.child.stdin.write(`${line}\n`);
+    const lines = [];
+    for (;;) {
+      const { value } = await this.lines.next();
+      if (!value.startsWith("|")) return { lines, last: value };
+      lines.push(value.slice(2));
+    }
+  }
+
+  close() {
+    this.child.stdin.end();
+  }
+}
+
+// A command that may fit the session, or not.
+function commandFor(roll, ids, names) {
+  const [id, name] = [ids[roll(ids.length || 1)] || "g0#1", names[roll(names.length)]];
+  const order = [...ids];
+  if (order.length > 1) {
+    const at = roll(order.length - 1);
+    [order[at], order[at + 1]] = [order[at + 1], order[at]];
+  }
+  const lines = [`step ${name}`, `step ${name}`, `step ${name} ${1 + roll(3)}`, "undo", `back ${id}`, "redo", `run ${1 + roll(9)}`, `run ${1 + roll(60)}`,
+    `order ${order.join(" ")}`, `break ${3 + roll(12)}`, `clear ${3 + roll(12)}`, `causes ${id}`, `back send g0/c1 ${1 + roll(3)}`, `show ${name}`];
+  return lines[roll(lines.length)];
+}
+
+// Runs in the page: what it shows.
+function shownInPage() {
+  const { page } = window.rewind;
+  const { log, scene, breakpoints, follower } = page.session;
+  return {
+    log: log.steps(0, log.length).map(({ id, kind }) => `${id} ${kind}`),
+    console: scene.console.lines,
+    goroutines: scene.goroutines.map(({ name, state, steps, line }) => [name, state, steps, line]),
+    channels: scene.channels.map((it) => [it.name, it.items.join(" "), it.senders.join(" "), it.receivers.join(" ")]),
+    clauses: [...scene.clauses].map(([name, ready]) => [name, ready.map(({ number }) => number)]),
+    undone: log.gone.size, printed: log.steps(0, log.length).flatMap(({ id }) => page.note(id)?.printed || []),
+    breaks: [...breakpoints].sort(), noted: log.steps(0, log.length).filter(({ id }) => page.note(id)?.edges).length, lost: follower.lost,
+  };
+}
+
+// What the native session says of the same.
+async function toldNatively(native, names, channels) {
+  const goroutines = [];
+  for (const name of names) {
+    const [first] = (await native.ask(`show ${name}`)).lines;
+    const [, state, steps, , line] = first.split(" ");
+    goroutines.push([name, state, Number(steps), line ? Number(line) : null]);
+  }
+  const rows = [];
+  for (const name of channels) {
+    const [, items, senders, receivers] = (await native.ask(`chan ${name}`)).lines;
+    rows.push([name, ...[items, senders, receivers].map((row) => row.split(" ").slice(1).join(" "))]);
+  }
+  const printed = (await native.ask("console")).lines;
+  return { log: (await native.ask("log")).lines, console: printed, goroutines, channels: rows, printed };
+}
+
+async function round(hands, program, seed) {
+  const roll = dice(seed * 7919 + 13);
+  const name = STORIES[roll(STORIES.length)];
+  await hands.browser.run("rewind.page.views.editor.markBreaks([])"); // breakpoints of the round before would stay with their text
+  await hands.program(name);
+  const native = new Native(program, `${SESSIONS}${name}.go`);
+  try {
+    const done = [];
+    for (let move = 0; move < MOVES; move++) {
+      const [ids, names] = [await hands.ids(), await hands.browser.run("rewind.page.session.log.names")];
+      if (ids.length > 400) break;
+      if (!roll(5)) await hands.browser.run(`rewind.page.past.lookAt(${roll(ids.length + 1)}), 0`);
+      if (!roll(5)) await hands.browser.run(`rewind.page.pointing.choose(${JSON.stringify(ids[roll(ids.length || 1)] || "")}), 0`);
+      const line = commandFor(roll, ids, names);
+      done.push(line);
+      await hands.browser.run(`rewind.page.perform(${JSON.stringify(line)})${roll(2) ? ".then(() => 1)" : ", 0"}`);
+      await native.ask(line);
+    }
+    await hands.idle();
+    const shown = await hands.browser.run(`(${shownInPage})()`);
+    const told = await toldNatively(native, shown.goroutines.map(([it]) => it), shown.channels.map(([it]) => it));
+    const same = Object.fromEntries(Object.keys(told).map((key) => [key, shown[key]]));
+    const before = counts.failed;
+    equal(`round ${seed}, ${name}: what is shown`, same, told);
+    equal(`round ${seed}, ${name}: every step has its edges`, [shown.noted, shown.lost], [shown.log.length, ""]);
+    await clausesAgree(native, shown, `round ${seed}, ${name}`);
+    if (counts.failed > before) console.log(done.map((it) => it.slice(0, 60)).join(" | "));
+  } finally {
+    native.close();
+  }
+}
+
+// The clauses that the page offers are those that the program takes.
+async function clausesAgree(native, { clauses, log }, what) {
+  if (/exit|fault/.test(log.at(-1) || "")) return;
+  for (const [name, offered] of clauses) {
+    const ready = [];
+    for (let number = 1; number <= 4; number++) {
+      if (!(await native.ask(`step ${name} ${number}`)).last.startsWith("ok")) continue;
+      await native.ask("undo");
+      ready.push(number);
+    }
+    equal(`${what}: ready clauses of ${name}`, offered, ready);
+  }
+}
+
+// Rounds of a monkey with this program, from a seed on.
+export async function monkey(browser, program, rounds, seed) {
+  if (!existsSync(program)) return failed(`there is no program ${program} to compare the page with`);
+  const hands = new Hands(browser);
+  for (let at = 0; at < rounds; at++) await round(hands, program, seed + at);
+}

@@ -1,0 +1,22 @@
+// The example sessions and a story in the browsers beside Chromium: Firefox, and WebKitGTK, whose engine is Safari's.
+
+import { spawnSync } from "node:child_process";
+import { sessions } from "./sessions.mjs";
+import { firstStory } from "./story.mjs";
+import { BROWSERS, DrivenBrowser } from "./webdriver.mjs";
+
+const isThere = (program) => spawnSync("sh", ["-c", 'command -v "$0"', program]).status === 0;
+
+async function sessionsAndStory(browser) {
+  await sessions(browser);
+  await firstStory(browser);
+  await browser.takeFaults();
+}
+
+// Parts of the test. What is missing is the first program that is not there.
+export const others = Object.entries(BROWSERS).map(([name, { programs }]) => ({
+  name: `sessions and a story in ${name}`,
+  part: sessionsAndStory,
+  open: () => DrivenBrowser.open(name),
+  missing: () => programs.find((program) => !isThere(program)) || "",
+}));

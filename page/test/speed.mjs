@@ -1,0 +1,86 @@
+// Long logs: nothing costs the square of the prints, a click shows soon, and the page goes on drawing meanwhile.
+
+import { Hands } from "./hands.mjs";
+import { equal, holds } from "./checks.mjs";
+import { LOOP } from "./truths.mjs";
+
+const PRINTS = `package main
+func main() {
+	n := 0
+	for {
+		println(n)
+		n++
+	}
+}
+`;
+const LONG_PRINTS = PRINTS.replace("println(n)", `println("${"x".repeat(10000)}", n)`);
+// Milliseconds on a machine that has other work; a processor of one's own takes half of it.
+const CLICK = 500;
+const POINTING = 900;
+const LOOKING = 900;
+
+// Runs in the page: the milliseconds of an act until the next frame is drawn.
+const untilShown = (act) => `(async () => { const began = performance.now(); await ${act}; await new Promise((go) => requestAnimationFrame(() => setTimeout(go, 0))); return performance.now() - began; })()`;
+
+const median = (times) => [...times].sort((one, other) => one - other)[times.length >> 1];
+
+async function timesOf(hands, act, count = 7) {
+  const times = [];
+  for (let at = 0; at < count; at++) times.push(await hands.browser.run(untilShown(act(at))));
+  return median(times);
+}
+
+// Seconds until a run is found and shown.
+async function secondsOf(hands, source, steps) {
+  await hands.source(source);
+  const began = performance.now();
+  await hands.perform(`run ${steps}`);
+  return (performance.now() - began) / 1000;
+}
+
+// Four times the steps take some four times as long: a cost that is the square of the prints would take sixteen times.
+async function prints(hands, source, steps) {
+  const [few, all] = [await secondsOf(hands, source, steps / 4), await secondsOf(hands, source, steps)];
+  console.log(`${steps} steps, a third of which print, are found and shown in ${all.toFixed(1)} s, a quarter of them in ${few.toFixed(1)} s`);
+  holds(`${steps} steps with prints cost no square of the prints`, all < 10 * Math.max(few, 0.5));
+  const printed = await hands.browser.run("rewind.page.session.scene.console.count");
+  const found = await hands.browser.run("rewind.page.session.log.steps(0, Infinity).filter(({ id }) => rewind.page.note(id)?.printed.length).length");
+  equal("each printed line stands at its step", found, printed);
+}
+
+async function clicksAtLength(hands) {
+  await hands.source(LOOP);
+  await hands.browser.run("rewind.page.perform('run 100000'), 0");
+  await hands.idle();
+  const step = await timesOf(hands, () => "rewind.page.step('g0')");
+  const undo = await timesOf(hands, () => "rewind.page.perform('undo')");
+  const pointed = await timesOf(hands, (at) => `(rewind.page.pointing.pointed = rewind.page.session.log.id(99990 - ${at}), rewind.page.pointing.color())`);
+  console.log(`at 100,000 steps: a step shows in ${step.toFixed(0)} ms, an undo in ${undo.toFixed(0)} ms, causes and consequences in ${pointed.toFixed(0)} ms`);
+  holds("a step shows soon at 100,000 steps", step < CLICK);
+  holds("an undo shows soon there", undo < CLICK);
+  holds("causes and consequences get their colours soon there", pointed < POINTING);
+  await hands.idle();
+  const past = await timesOf(hands, (at) => `rewind.page.past.lookAt(99900 - ${at})`, 3);
+  holds("a past state near the end shows soon there", past < LOOKING);
+  await hands.act("now");
+}
+
+// The page draws while a long run goes on.
+async function drawingMeanwhile(hands) {
+  await hands.source(LOOP);
+  const frames = await hands.browser.run(`(async () => { let longest = 0; let last = performance.now(); let isOver = false;
+    const run = rewind.page.perform("run 200000").then(() => (isOver = true));
+    while (!isOver) { await new Promise((go) => requestAnimationFrame(go)); const now = performance.now(); longest = Math.max(longest, now - last); last = now; }
+    await run; return longest; })()`);
+  console.log(`during a run of 200,000 steps the longest time between two frames is ${frames.toFixed(0)} ms`);
+  holds("the page goes on drawing during a long run", frames < 1500);
+  await hands.source("package main\nfunc main() {}\n");
+}
+
+export async function speed(browser) {
+  const hands = new Hands(browser);
+  await prints(hands, PRINTS, 20000);
+  await prints(hands, LONG_PRINTS, 2000);
+  await clicksAtLength(hands);
+  await drawingMeanwhile(hands);
+}

@@ -1,0 +1,185 @@
+// What the page says is true in every state: during runs, after faults, in long logs, over reloads and refused sources.
+
+import { Hands } from "./hands.mjs";
+import { equal, holds } from "./checks.mjs";
+
+export const LOOP = `package main
+func count(c chan int) { for { c <- 1 } }
+func main() {
+	c := make(chan int)
+	go count(c)
+	total := 0
+	for { total += <-c }
+}
+`;
+const PLAIN = "package main\nfunc main() {\n\tx := 1\n\n\tprintln(x)\n}\n";
+
+// A program with more goroutines than the panes show, one of which passes line 8.
+const many = (turns) => `package main
+func spin() { for { } }
+func odd() {
+	x := 0
+	for i := 0; i < ${turns}; i++ {
+		x += i
+	}
+	x = 8
+	for { }
+}
+func main() {
+	for i := 0; i < 230; i++ { go spin() }
+	go odd()
+	for { }
+}
+`;
+
+const SELECT = `package main
+func send(c chan int, v int) { c <- v }
+func main() {
+	a, b := make(chan int), make(chan int)
+	go send(a, 1)
+	go send(b, 2)
+	x := 0
+	for i := 0; i < 8000; i++ { x += i }
+	select {
+	case v := <-a: println(v)
+	case v := <-b: println(v)
+	}
+}
+`;
+
+const CLOSED = `package main
+func main() {
+	a, b := make(chan int), make(chan int, 1)
+	close(b)
+	x := 0
+	select {
+	case a <- 1: x = 1
+	case b <- 2: x = 2
+	}
+	println(x)
+}
+`;
+
+async function openingDuringARun(hands) {
+  await hands.source(LOOP);
+  await hands.browser.run("rewind.page.perform('run 300000'), 0");
+  await hands.until("rewind.page.session.isRunning");
+  await hands.source(PLAIN);
+  equal("a text that is started during a run has no steps", await hands.ids(), []);
+  holds("and nothing of the run is told of it", !/run 300000|has ended|steps taken/.test(await hands.text("#transcript") + (await hands.text("#status"))));
+}
+
+// How many edges a saved picture has, and what it says of its part.
+async function saved(hands) {
+  const text = await hands.browser.run("rewind.savePicture(rewind.page)");
+  return { edges: text.split('<path class="edge ').length - 1 - 4, part: /<title>(.*)<\/title>/.exec(text)[1], rows: text.split("data-step=").length - 1 };
+}
+
+async function savedPictures(hands) {
+  await hands.source(LOOP);
+  await hands.perform("run 2000");
+  const whole = await saved(hands);
+  equal("a saved picture of 2,000 steps has every step", whole.rows, 2000);
+  holds("and every edge", whole.edges > 700 && whole.edges === (await hands.edges()).length);
+  await hands.perform("run 10000");
+  const part = await saved(hands);
+  holds("one of 12,000 steps says which part it shows", /Steps [\d,]+ to [\d,]+ of 12,000/.test(part.part));
+  holds("and has the edges of that part", part.edges > 300);
+  holds("the page says that only the arrows in view are drawn", /in view/.test(await hands.text("#picture-note")));
+  holds("the arrows in view are there", (await hands.drawn()).length > 10 && (await hands.browser.run("document.querySelectorAll('#picture .edge').length")) > 5);
+}
+
+async function breakpointsOfManyGoroutines(hands) {
+  for (const turns of [2, 5]) {
+    await hands.source(many(turns));
+    await hands.perform("break 8");
+    await hands.perform("run 300000");
+    holds(`a breakpoint is met among 232 goroutines, after ${turns} turns`, /stopped at the breakpoint in line 8/.test(await hands.text("#status")));
+    const at = await hands.browser.run("rewind.page.session.mirror.session.ask('show g0.231').then(({ lines }) => rewind.page.session.statements.lineOf(Number(lines[0].split(' ')[4])))");
+    equal("and the goroutine stands there", at, 8);
+  }
+}
+
+const dots = "[...document.querySelectorAll('.break-mark')].map((it) => it.title)";
+
+async function breakpointsOfThePage(hands) {
+  await hands.source(PLAIN);
+  await hands.browser.run("rewind.page.toggleBreak(4)");
+  await hands.idle();
+  equal("a breakpoint on an empty line stands at the next statement", await hands.browser.run(dots), ["breakpoint at line 5"]);
+  await hands.act("start");
+  equal("a breakpoint is there after a new start", await hands.browser.run(dots), ["breakpoint at line 5"]);
+  await hands.act("run");
+  equal("and stops a run", await hands.text("#status"), "1 step taken: stopped at the breakpoint in line 5.");
+  await hands.browser.run("rewind.page.views.editor.editor.replaceRange('\\t// one\\n', { line: 2, ch: 0 })");
+  await hands.act("start");
+  equal("it moves with its text", await hands.browser.run(dots), ["breakpoint at line 6"]);
+  await hands.act("run");
+  equal("and stops a run there", await hands.text("#status"), "1 step taken: stopped at the breakpoint in line 6.");
+  await hands.perform("clear 6");
+}
+
+async function clausesAtAnyLength(hands) {
+  await hands.source(SELECT);
+  await hands.perform("break 9");
+  await hands.perform("run 100000");
+  holds("a long log", (await hands.browser.run("rewind.page.session.log.length")) > 20000);
+  equal("both clauses of a select are offered there", await hands.browser.run("rewind.page.session.scene.clauses.get('g0').map(({ number }) => number)"), [1, 2]);
+  await hands.key("2");
+  equal("and can be taken by a key", (await hands.lastReply()).slice(-1)[0].replace(/#\d+/, ""), "ok g0 pick 2");
+  await hands.perform("clear 9");
+}
+
+async function faultsInClauses(hands) {
+  await hands.source(CLOSED);
+  for (const line of ["run 5", "step g0 2"]) await hands.perform(line);
+  holds("a fault in a picked clause is one", /fault SendOnClosed/.test(await hands.text("#transcript")));
+  const last = await hands.browser.run("rewind.page.note(rewind.page.session.log.end.id).line");
+  equal("and has its line", last, 6);
+  equal("the page does not say that lines are missing", await hands.text("#picture-note"), "");
+}
+
+async function deaths(hands) {
+  await hands.source(PLAIN);
+  await hands.perform("step g0");
+  await hands.browser.run("rewind.page.session.user.worker.terminate(), rewind.page.session.user.end('RuntimeError: unreachable')");
+  await hands.perform("step g0");
+  holds("a session that died is said to be gone, and why", /The session is gone: .*unreachable/.test(await hands.text("#status")));
+  equal("its buttons are off", await hands.browser.run("document.getElementById('step').disabled"), true);
+  await hands.browser.run("document.getElementById('bring-back').click()");
+  await hands.until("rewind.page.session.user.status === null");
+  await hands.idle();
+  equal("its steps can be brought back", [await hands.ids(), await hands.text("#status")], [["g0#1"], "1 step taken again."]);
+  const long = `package main\nfunc main() {\n\tfor { println("${"x".repeat(10000)}") }\n}\n`;
+  await hands.source(long);
+  await hands.perform("run 400");
+  equal("a long print is in the console", await hands.browser.run("rewind.page.session.scene.console.lines[0].length"), 10000);
+  holds("and does not widen the picture", (await hands.browser.run("document.getElementById('picture').scrollWidth")) < 900);
+  await hands.browser.run("rewind.page.perform('run 100000'), 0");
+  await hands.idle();
+  equal("where more was printed than there is memory to show, the page says so", await hands.texts("#console li"), ["More was printed than there is memory to show. Take steps back to see it."]);
+  equal("and the session goes on", [await hands.browser.run("rewind.page.session.gone"), await hands.browser.run("rewind.page.session.log.length")], ["", 100400]);
+}
+
+async function journals(hands) {
+  await hands.source(LOOP);
+  const before = "rewind.page.session.mirror.session.askAll(Array(3).fill('show g0')).then((it) => it.length)";
+  await hands.perform("run 100");
+  equal("looking asks another session", await hands.browser.run(before), 3);
+  const asked = [];
+  await hands.browser.run("{ const ask = rewind.page.session.user.askAll; window.asked = []; rewind.page.session.user.askAll = function (commands, shape) { window.asked.push(...commands); return ask.call(this, commands, shape); }; }");
+  await hands.perform("step g0.1");
+  await hands.point("g0#3");
+  asked.push(...(await hands.browser.run("window.asked")));
+  equal("the journal has the user's commands alone", asked, ["step g0.1"]);
+  await hands.browser.run("rewind.page.session.mirror.remote.close()");
+  await hands.perform("undo");
+  equal("a mirror that is lost is made anew", await hands.browser.run("rewind.page.session.log.length"), 100);
+  holds("and answers", (await hands.goroutine("g0")).includes("total ="));
+}
+
+const TRUTHS = [openingDuringARun, savedPictures, breakpointsOfManyGoroutines, breakpointsOfThePage, clausesAtAnyLength, faultsInClauses, deaths, journals];
+
+export async function truths(browser) {
+  for (const truth of TRUTHS) await truth(new Hands(browser));
+}

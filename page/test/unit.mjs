@@ -1,0 +1,21 @@
+// unit.mjs: the modules that need no browser. The last line counts the checks.
+
+import { counts, failed } from "./checks.mjs";
+import { lesson } from "./unit/lesson.mjs";
+import { logs } from "./unit/log.mjs";
+import { picture } from "./unit/picture.mjs";
+import { replies } from "./unit/replies.mjs";
+import { runs } from "./unit/runs.mjs";
+import { statements } from "./unit/statements.mjs";
+
+const PARTS = { logs, statements, replies, runs, picture, lesson };
+
+for (const [name, part] of Object.entries(PARTS)) {
+  try {
+    await part();
+  } catch (fault) {
+    failed(`${name}: ${fault.stack}`);
+  }
+}
+console.log(`${counts.passed} passed, ${counts.failed} failed`);
+process.exit(counts.failed ? 1 : 0);

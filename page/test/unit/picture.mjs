@@ -1,0 +1,67 @@
+// The picture: rows and folds, edges that keep clear of the marks of others, and texts that XML can hold.
+
+import { Log } from "../../src/log.js";
+import { Rows } from "../../src/rows.js";
+import { edgePath } from "../../src/curves.js";
+import { escaped, shortened } from "../../src/labels.js";
+import { layOut } from "../../src/layout.js";
+import { drawRows, NOTHING_POINTED, sideOf } from "../../src/picture.js";
+import { equal, holds } from "../checks.mjs";
+
+function logOf(...steps) {
+  const log = new Log();
+  for (const [goroutine, kind] of steps) log.append(goroutine, kind);
+  return log;
+}
+
+// Points of a path, a straight line, a quadratic curve or a way around, every so often.
+function pointsOf(path) {
+  const found = [];
+  let here = null;
+  for (const [, letter, rest] of path.matchAll(/([MLQ])([^MLQ]*)/g)) {
+    const numbers = rest.trim().split(/[ ,]+/).map(Number);
+    const end = numbers.slice(-2);
+    const middle = letter === "Q" ? numbers.slice(0, 2) : null;
+    for (let at = 0; here && at <= 1; at += 0.02) {
+      const mix = (one, other) => [one[0] + (other[0] - one[0]) * at, one[1] + (other[1] - one[1]) * at];
+      found.push(middle ? mix(mix(here, middle), mix(middle, end)) : mix(here, end));
+    }
+    here = end;
+  }
+  return found;
+}
+
+function edges() {
+  const marks = [[200, 60], [200, 82], [200, 104], [200, 126]];
+  const near = (y) => marks.filter((it) => Math.abs(it[1] - y) < 30);
+  for (const to of [[300, 82], [300, 126], [300, 71], [100, 104]]) {
+    const clear = pointsOf(edgePath([100, 60], to, near, 22)).filter(([x, y]) => marks.every(([left, top]) => Math.hypot(left - x, top - y) >= 5));
+    equal(`an edge to ${to} keeps clear of the marks of others`, clear.length, pointsOf(edgePath([100, 60], to, near, 22)).length);
+  }
+  holds("an edge with nothing in its way is straight", !/Q/.test(edgePath([100, 60], [200, 200], () => [], 22)));
+}
+
+function folds() {
+  const log = logOf(["g0", "pure"], ["g0", "pure"], ["g0", "call"], ["g0.1", "pure"], ["g0", "pure"], ["g0", "send-wait"]);
+  const rows = new Rows(log, { isFolded: true });
+  equal("own statements fold to one row", [rows.length, rows.count(0), rows.at(1), rows.place(2), rows.place(5)], [4, 3, 3, 0, 3]);
+  const filtered = new Rows(log, { hidden: new Set(["g0"]) });
+  equal("a goroutine that is hidden has no rows", [filtered.length, filtered.at(0)], [1, 3]);
+}
+
+function sides() {
+  const view = { ...NOTHING_POINTED, pointed: "g0#2", causes: new Map([["g0", [1, 2]], ["g0.1", [1, 1]]]), consequences: new Map([["g0.1", [3, 5]]]) };
+  const side = (goroutine, number) => sideOf({ id: `${goroutine}#${number}`, goroutine, number, kind: "pure", row: 0 }, view);
+  equal("what steps are to the chosen one", [side("g0", 1), side("g0", 2), side("g0", 3), side("g0.1", 1), side("g0.1", 2), side("g0.1", 3)], ["cause", "", "", "cause", "", "consequence"]);
+}
+
+export function picture() {
+  edges();
+  folds();
+  sides();
+  equal("a text that XML cannot hold", escaped("a\ufffe<b>\u0001&\ud800"), "a\ufffd&#60;b&#62;\ufffd&#38;\ufffd");
+  equal("a long statement is cut", shortened("total := first + second", 12), "total := fi…");
+  const log = logOf(["g0", "pure"], ["g0", "fault DivideByZero"]);
+  const place = layOut({ log, rows: new Rows(log), functions: new Map(), notes: () => undefined, labels: "statement" }, { rowHeight: 22 });
+  holds("a fault is drawn as one", drawRows(place, [], { view: NOTHING_POINTED }, 0, 1).includes('class="step fault"'));
+}

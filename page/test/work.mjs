@@ -1,0 +1,140 @@
+// Work is not lost: over a reload, a change of story, a refused text, a busy page. And what a refusal says.
+
+import { readFileSync, readdirSync } from "node:fs";
+import { Hands } from "./hands.mjs";
+import { equal, holds } from "./checks.mjs";
+
+const OWN = "package main\nfunc main() {\n\tprintln(7)\n}\n";
+
+async function reload(browser, hands) {
+  await browser.call("Page.reload");
+  await hands.until("window.started");
+  await browser.run("window.started");
+  await hands.idle();
+}
+
+async function overAReload(hands) {
+  const { browser } = hands;
+  await hands.source(OWN);
+  await hands.browser.run("rewind.page.toggleBreak(3)");
+  await hands.perform("step g0");
+  await hands.browser.run("document.getElementById('theme').value = 'dark', document.getElementById('theme').onchange()");
+  await new Promise((go) => setTimeout(go, 400));
+  await reload(browser, hands);
+  equal("a reload keeps the source", await browser.run("rewind.page.views.editor.text"), OWN);
+  equal("and the session", [await hands.ids(), await hands.texts("#console li")], [["g0#1"], ["7"]]);
+  equal("and the breakpoint, and the colours", await browser.run("[[...rewind.page.session.breakpoints], document.documentElement.dataset.theme]"), [[3], "dark"]);
+  await hands.browser.run("rewind.page.toggleBreak(3), document.getElementById('theme').value = '', document.getElementById('theme').onchange()");
+  await hands.idle();
+}
+
+async function storiesOverAReload(hands) {
+  const { browser } = hands;
+  await hands.story("deadlock");
+  for (let count = 0; count < 3; count++) await hands.act("next");
+  await new Promise((go) => setTimeout(go, 400));
+  await reload(browser, hands);
+  equal("a story goes on after a reload", await browser.run("[rewind.page.views.stories.name, rewind.page.views.stories.at > 0, rewind.page.session.log.length]"), ["deadlock", true, 16]);
+  await hands.act("start");
+  equal("and begins anew with a new start", await browser.run("[rewind.page.views.stories.at, rewind.page.session.log.length]"), [0, 0]);
+}
+
+async function overAChangeOfStory(hands) {
+  await hands.source(OWN);
+  await hands.story("deadlock");
+  await hands.browser.run("rewind.page.views.editor.editor.undo()");
+  equal("undoing in the editor brings the text before a story back", await hands.browser.run("rewind.page.views.editor.text"), OWN);
+}
+
+async function refusedTexts(hands) {
+  await hands.source(OWN);
+  await hands.perform("step g0");
+  await hands.source(OWN.replace("println(7)", "println(seven)"));
+  equal("a refused text leaves the session as it is", await hands.ids(), ["g0#1"]);
+  holds("the page says so", /The session is still that of the text before/.test(await hands.text("#status")));
+  holds("and names what is not declared", /undeclared name: seven/.test(await hands.text(".refusal-note")));
+  equal("and marks it", await hands.texts(".refused-word"), ["seven"]);
+  equal("lines of another text are not marked", await hands.texts("#editor .at-line"), []);
+  await hands.source(`package main\nimport "fmt"\nfunc main() {}\n`);
+  holds("an import is refused in words for students", /import/.test(await hands.text(".refusal-note")) && !/no file has these tokens/.test(await hands.text(".refusal-note")));
+  await hands.source("package main\nfunc main() {\n\tx := 1\n\tx = x + true\n}\n");
+  equal("the whole statement is marked", (await hands.texts(".refused-word")).join("").replace(/\s/g, ""), "x=x+true");
+}
+
+async function keptLines(hands) {
+  await hands.source(OWN.replace("println(7)", "for { }"));
+  await hands.browser.run("rewind.page.perform('run 400000'), 0");
+  await hands.until("rewind.page.session.isRunning");
+  await hands.browser.run("document.getElementById('line').value = 'step g0', document.getElementById('ask').onsubmit(new Event('submit'))");
+  await hands.browser.run("rewind.page.stop()");
+  await hands.idle();
+  equal("a line that was typed during a run is kept", await hands.browser.run("document.getElementById('line').value"), "step g0");
+  await hands.browser.run("document.getElementById('line').value = ''");
+  holds("a stopped run says so", /stopped by you/.test(await hands.text("#status")));
+}
+
+async function numbersOfRuns(hands) {
+  await hands.source(OWN);
+  for (const count of ["0", "1.5", "2000000", "1e3", "ten"]) {
+    await hands.browser.run(`document.getElementById('count').value = ${JSON.stringify(count)}`);
+    await hands.act("run");
+    equal(`a run of ${count} steps is refused in words`, await hands.text("#status"), "Run takes a whole number of steps, from 1 to 1,000,000.");
+  }
+  await hands.browser.run("document.getElementById('count').value = '100'");
+}
+
+async function storyOfAnother(hands) {
+  await hands.story("send_on_closed");
+  holds("a story has a next command", await hands.browser.run("!document.getElementById('next').hidden"));
+  await hands.source(OWN);
+  holds("a program of one's own has none", await hands.browser.run("document.getElementById('next').hidden"));
+  equal("nor is a story told of it", await hands.browser.run("[document.getElementById('about-story').hidden, document.getElementById('story').selectedOptions[0].textContent]"), [true, "your own program"]);
+}
+
+const REFUSED = new URL("../../clients/tests/refused/", import.meta.url).pathname;
+
+// Runs in the page: what it says of a refused source.
+async function saidInPage(source) {
+  const { Session, program, explain, parseFault, page } = window.rewind;
+  const session = await Session.open(program, new TextEncoder().encode(source));
+  const refusal = parseFault(session.errors);
+  const { line, column, sentence } = explain(page.given.refusals, source, refusal);
+  return { code: refusal.code, said: line ? `${line}:${column}: ${sentence}` : sentence };
+}
+
+// Refusals come out as the clients have them, but for those of the checker that its own reader finds.
+async function refusalsAsTold(hands) {
+  const same = { S: 0, P: 0, C: 0 };
+  const other = { S: 0, P: 0, C: 0 };
+  for (const file of readdirSync(REFUSED).filter((name) => name.endsWith(".go"))) {
+    const source = readFileSync(REFUSED + file, "utf8");
+    if (source.includes("\ufffd")) continue; // it is no text
+    const { code, said } = await hands.browser.run(`(${saidInPage})(${JSON.stringify(source)})`);
+    const told = readFileSync(REFUSED + file.replace(/go$/, "expect"), "utf8").split("\n")[0].replace(/^[^:]*: ?/, "");
+    (told === said ? same : other)[code[0]]++;
+  }
+  console.log(`of refused sources, ${same.S + same.P} of the scanner and the parser and ${same.C} of the checker are told as the clients tell them`);
+  holds("nearly all refusals of the scanner and the parser are told as the clients tell them", other.S + other.P <= 6 && same.S + same.P > 200);
+  holds("and the usual ones of the checker", same.C >= 25);
+}
+
+// A browser that cannot compile the program.
+async function otherBrowsers(hands) {
+  const { browser } = hands;
+  const { identifier } = await browser.call("Page.addScriptToEvaluateOnNewDocument", { source: "WebAssembly.compile = () => Promise.reject(new WebAssembly.CompileError('no 64-bit memory'))" });
+  await browser.call("Page.reload");
+  await hands.until("window.started instanceof Promise");
+  equal("a browser that cannot run the program starts no session", await browser.run("window.started"), false);
+  holds("it has the menu and the source", (await hands.texts("#story option")).length > 20 && /package main/.test(await browser.run("document.querySelector('.CodeMirror').CodeMirror.getValue()")));
+  holds("and is told which browsers work", /Chrome .*Firefox .*no 64-bit memory/.test(await hands.text("#cannot")));
+  equal("its buttons are off", await browser.run("[...document.querySelectorAll('#step, #run, #undo')].every((it) => it.disabled)"), true);
+  await browser.call("Page.removeScriptToEvaluateOnNewDocument", { identifier });
+  await reload(browser, hands);
+  holds("another one goes on", (await hands.ids()).length >= 0);
+}
+
+const WORKS = [overAReload, storiesOverAReload, overAChangeOfStory, refusedTexts, keptLines, numbersOfRuns, storyOfAnother, refusalsAsTold, otherBrowsers];
+
+export async function works(browser) {
+  for (const work of WORKS) await work(new Hands(browser));
+}
