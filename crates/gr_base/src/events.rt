@@ -27,7 +27,7 @@ pub struct Event {
 }
 
 impl Event {
-    /// The same event once more.
+    /// A copy of the event, which shares its name.
     pub fn copy(&self, alloc: Global) -> Result<Event, NoMemory>
         ensures { IfOk result (λ event. event ≡ self.now) }
     {

@@ -80,7 +80,7 @@ impl GoName {
         GoName::from_counts(counts)
     }
 
-    /// The same name once more. It shares the counts, takes no memory, and is refused only where 2^63 - 1 names share them.
+    /// A copy of the name. It shares the counts, takes no memory, and is refused only where 2^63 - 1 names share them.
     pub fn copy(&self, _alloc: Global) -> Result<GoName, NoMemory>
         ensures { IfOk result (λ name. name ≡ self.now) }
     {
@@ -170,7 +170,7 @@ pub struct ChName {
 }
 
 impl ChName {
-    /// The same name once more.
+    /// A copy of the name, which shares its counts.
     pub fn copy(&self, alloc: Global) -> Result<ChName, NoMemory>
         ensures { IfOk result (λ name. name ≡ self.now) }
     {
@@ -188,7 +188,7 @@ pub struct StepId {
 }
 
 impl StepId {
-    /// The same name once more.
+    /// A copy of the name, which shares its counts.
     pub fn copy(&self, alloc: Global) -> Result<StepId, NoMemory>
         ensures { IfOk result (λ step. step ≡ self.now) }
     {

@@ -7,7 +7,7 @@ use crate::names::{ChName, GoName};
 use std::alloc::Global;
 
 /// A part of the state that steps read and write as a whole.
-#[derive(Debug, PartialEq, Eq, Drop)]
+#[derive(Debug, PartialEq, Eq, Hash, Drop)]
 pub enum Object {
     /// Whether the program runs, has ended, or has faulted.
     Run,
@@ -23,7 +23,7 @@ pub enum Object {
 }
 
 impl Object {
-    /// The same object once more.
+    /// A copy of the object, which shares its name.
     pub fn copy(&self, alloc: Global) -> Result<Object, NoMemory>
         ensures { IfOk result (λ object. object ≡ self.now) }
     {

@@ -66,7 +66,7 @@ pub fn print_step(text: &mut Vec<u8>, step: &StepId) -> Result<(), NoMemory>
     print_long_step(text, step)
 }
 
-/// The same of a goroutine with a short name: the text is put together before it is appended.
+/// Appends the name of a step whose goroutine has a short name. The text is put together before it is appended.
 fn print_short_step(text: &mut Vec<u8>, step: &StepId) -> Result<(), NoMemory>
     requires { length step.now.go ≤ SHORT_DEPTH }
     ensures ok { OnOk result (text.new.items ≡ text.old.items ++ step_text step.now) }
@@ -80,7 +80,7 @@ fn print_short_step(text: &mut Vec<u8>, step: &StepId) -> Result<(), NoMemory>
     append(text, &bytes[start..])
 }
 
-/// The same of any goroutine.
+/// Appends the name of a step of any goroutine.
 fn print_long_step(text: &mut Vec<u8>, step: &StepId) -> Result<(), NoMemory>
     ensures ok { OnOk result (text.new.items ≡ text.old.items ++ step_text step.now) }
     ensures err { OnErr result (text.new.items ≡ text.old.items) }
@@ -96,7 +96,8 @@ fn print_long_step(text: &mut Vec<u8>, step: &StepId) -> Result<(), NoMemory>
     Ok(())
 }
 
-/// Writes the mark and the number in decimal, which take at most 21 bytes, so that they end at a place. It answers where they start.
+/// Writes the mark and the number in decimal, which take at most 21 bytes, so that they end at a place. It answers where they
+/// start.
 #[inline]
 fn write_count(mark: u8, n: u64, bytes: &mut [u8], end: usize) -> usize
     requires room { 21 ≤ end }

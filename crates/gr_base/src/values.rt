@@ -20,7 +20,7 @@ pub enum Value {
 }
 
 impl Value {
-    /// The same value once more, which takes no memory. Only a channel's name can be refused.
+    /// A copy of the value. It takes no memory, and only the copy of a channel's name can be refused.
     pub fn copy(&self, alloc: Global) -> Result<Value, NoMemory>
         ensures ok { IfOk result (λ value. value ≡ self.now) }
         ensures needed { OnErr result (IsNamed self.now) }

@@ -7,7 +7,8 @@ ghost use Rattle.gr_causal.specs.Machine.{Laws, IsLog, conflict};
 ghost use Rattle.gr_causal.specs.OrderByNames.{ordered};
 ghost use Rattle.gr_causal.specs.OrderByNames.Ordered.{accepted, other_steps, broken};
 ghost use Rattle.gr_causal.specs.StepNames.{CountsSteps};
-ghost use Rattle.gr_causal.specs.Mailboxes.{mailboxes, MailStep, start, count, owner, ordinal, name, same_name, changes, noted, clash};
+ghost use Rattle.gr_causal.specs.Mailboxes.{mailboxes, MailStep, start, count, owner, ordinal, name, same_name, changes, noted};
+ghost use Rattle.gr_causal.specs.Mailboxes.{clash};
 ghost use Rattle.gr_causal.specs.WorkedLog.{worked_log, final, puts_five, looks, puts_seven, looks_too, takes_five};
 
 use std::alloc::{AllocError, Global};

@@ -1,9 +1,11 @@
 //! A channel, whose changes can be undone.
 
-ghost use Rattle.std.specs.Prelude.{◌≡◌, ◌+◌, ◌-◌, ◌^◌, ◌↔◌, ◌∷◌, ◌++◌, [], true, false, length, slice_get, option_copied, IsTrue, IfOk, IfErr, OnOk, OnErr, IsOk};
+ghost use Rattle.std.specs.Prelude.{◌≡◌, ◌+◌, ◌-◌, ◌^◌, ◌↔◌, ◌∷◌, ◌++◌, [], true, false, length, slice_get, option_copied};
+ghost use Rattle.std.specs.Prelude.{IsTrue, IfOk, IfErr, OnOk, OnErr, IsOk};
 ghost use Rattle.gr_channels.specs.Queues.{others};
 ghost use Rattle.gr_channels.specs.Channels.{IsChannel, CanEnter, tail_of, Within, plus, each};
-ghost use Rattle.gr_channels.specs.Changes.{OfferRule, OfferUndone, OfferNeedsMemory, TakeRule, TakeUndone, TakeNeedsMemory, WithdrawNeedsMemory, CloseNeedsMemory};
+ghost use Rattle.gr_channels.specs.Changes.{OfferRule, OfferUndone, OfferNeedsMemory, TakeRule, TakeUndone, TakeNeedsMemory};
+ghost use Rattle.gr_channels.specs.Changes.{WithdrawNeedsMemory, CloseNeedsMemory};
 ghost use Rattle.gr_channels.specs.Changes.{undone, need, entered, Fits, Undoes, IsWithdrawn, IsClosed};
 
 use crate::changes::{ChanUndo, Offered, Taken, need_of};
@@ -35,17 +37,42 @@ impl Model for Channel {
     ghost Value = { Seen };
 
     ghost view = { λ c. record {
-      content = record { capacity = c.capacity; closed = c.closed; senders = c.senders.items; receivers = c.receivers.items; head = c.head; items = c.items.items };
-      room = record { items = deque_capacity c.items - deque_len c.items; senders = deque_capacity c.senders - deque_len c.senders; receivers = deque_capacity c.receivers - deque_len c.receivers };
+      content = record {
+        capacity = c.capacity;
+        closed = c.closed;
+        senders = c.senders.items;
+        receivers = c.receivers.items;
+        head = c.head;
+        items = c.items.items;
+      };
+      room = record {
+        items = deque_capacity c.items - deque_len c.items;
+        senders = deque_capacity c.senders - deque_len c.senders;
+        receivers = deque_capacity c.receivers - deque_len c.receivers;
+      };
     } };
 
-    ghost invariant = { λ c. IsChannel (record { capacity = c.capacity; closed = c.closed; senders = c.senders.items; receivers = c.receivers.items; head = c.head; items = c.items.items }) };
+    ghost invariant = { λ c. IsChannel (record {
+      capacity = c.capacity;
+      closed = c.closed;
+      senders = c.senders.items;
+      receivers = c.receivers.items;
+      head = c.head;
+      items = c.items.items;
+    }) };
 }
 
 impl Channel {
     /// A new channel, open and empty, whose buffer holds `capacity` values. It takes no memory.
     pub fn new(alloc: Global, capacity: u32) -> Channel
-        ensures { result.content ≡ record { capacity = capacity; closed = false; senders = []; receivers = []; head = 0; items = [] } }
+        ensures { result.content ≡ record {
+          capacity = capacity;
+          closed = false;
+          senders = [];
+          receivers = [];
+          head = 0;
+          items = [];
+        } }
     {
         Channel {
             alloc,
@@ -191,7 +218,8 @@ impl Channel {
 
     /// Puts a sender at the end of its waiting list. Refused, nothing has changed.
     pub fn park_sender(&mut self, waiter: Waiter<Value>) -> Result<ChanUndo, NoMemory>
-        ensures ok { OnOk result (self.new.content ≡ record self.old.content { senders = self.old.content.senders ++ waiter ∷ [] }) }
+        ensures ok { OnOk result (self.new.content
+            ≡ record self.old.content { senders = self.old.content.senders ++ waiter ∷ [] }) }
         ensures undo_value { IfOk result (λ undo. undo ≡ ChanUndo.ParkedSender) }
         ensures undone { IfOk result (λ undo. Undoes undo self.old self.new) }
         ensures err { OnErr result (self.new.content ≡ self.old.content) }
@@ -203,7 +231,8 @@ impl Channel {
 
     /// Puts a receiver at the end of its waiting list. Refused, nothing has changed.
     pub fn park_receiver(&mut self, waiter: Waiter<()>) -> Result<ChanUndo, NoMemory>
-        ensures ok { OnOk result (self.new.content ≡ record self.old.content { receivers = self.old.content.receivers ++ waiter ∷ [] }) }
+        ensures ok { OnOk result (self.new.content
+            ≡ record self.old.content { receivers = self.old.content.receivers ++ waiter ∷ [] }) }
         ensures undo_value { IfOk result (λ undo. undo ≡ ChanUndo.ParkedReceiver) }
         ensures undone { IfOk result (λ undo. Undoes undo self.old self.new) }
         ensures err { OnErr result (self.new.content ≡ self.old.content) }
@@ -215,7 +244,10 @@ impl Channel {
 
     /// Takes a goroutine out of both waiting lists, with all its cases. Refused, nothing has changed.
     pub fn withdraw(&mut self, name: &GoName) -> Result<ChanUndo, NoMemory>
-        ensures ok { OnOk result (self.new.content ≡ record self.old.content { senders = others name.now self.old.content.senders; receivers = others name.now self.old.content.receivers }) }
+        ensures ok { OnOk result (self.new.content ≡ record self.old.content {
+          senders = others name.now self.old.content.senders;
+          receivers = others name.now self.old.content.receivers;
+        }) }
         ensures undo_value { IfOk result IsWithdrawn }
         ensures undone { IfOk result (λ undo. Undoes undo self.old self.new) }
         ensures err { OnErr result (self.new.content ≡ self.old.content) }
@@ -274,7 +306,8 @@ impl Channel {
     ) -> Result<(), NoMemory>
         ensures content { self.new.content ≡ self.old.content }
         ensures ok { OnOk result (Within (record { items = items; senders = senders; receivers = receivers }) self.new.room) }
-        ensures succeeds { Within (record { items = items; senders = senders; receivers = receivers }) self.old.room → IsOk result }
+        ensures succeeds { Within (record { items = items; senders = senders; receivers = receivers }) self.old.room
+            → IsOk result }
         ensures grows { Within self.old.room self.new.room }
     {
         self.items.reserve(items)?;

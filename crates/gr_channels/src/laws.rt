@@ -1,7 +1,8 @@
 //! Laws of a channel's objects, each the contract of a function that does nothing.
 
 ghost use Rattle.gr_channels.specs.Changes.{TakenBackInOrder};
-ghost use Rattle.gr_channels.specs.Objects.{SlotsHoldItems, ObjectsMakeTheContent, EmptySlotMeansRoom, EmptySlotMeansNoItem, OnlyWrittenChanges, WrittenChanges, TakenBackAnywhere};
+ghost use Rattle.gr_channels.specs.Objects.{SlotsHoldItems, ObjectsMakeTheContent, EmptySlotMeansRoom, EmptySlotMeansNoItem};
+ghost use Rattle.gr_channels.specs.Objects.{OnlyWrittenChanges, WrittenChanges, TakenBackAnywhere};
 
 /// Number k stands in slot k mod capacity, and a slot holds nothing else.
 pub fn law_of_slots()

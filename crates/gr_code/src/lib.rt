@@ -22,8 +22,10 @@ ghost use Rattle.gr_code.specs.Bounds.{AllBelow, RestBelow, NoneBelow};
 ghost use Rattle.gr_code.specs.Plugging.{plug_all, IsPlugged, IsCleared, IsBounded};
 ghost use Rattle.gr_code.specs.Passing.{parts_in, IsOneLess, passed_by_in, AllPassing, BeginsToPass, KeepsPassing};
 ghost use Rattle.gr_code.specs.Vectors.{spot_in, temporaries_in, TargetsBelow, assigned_in, assigned_at};
-ghost use Rattle.gr_code.specs.CodeFrames.{FunctionCode, ProgramCode, CodeFrame, instruction_at, task, after_in, resumed_in, past_in, entered};
-ghost use Rattle.gr_code.specs.Programs.{InBounds, FunctionFits, ProgramFits, IsClause, Stands, KeepsStanding, functions_in, variables_in, instructions_in, line_at, frame_of, frame_meant, deed_meant};
+ghost use Rattle.gr_code.specs.CodeFrames.{FunctionCode, ProgramCode, CodeFrame, instruction_at, task, after_in, resumed_in};
+ghost use Rattle.gr_code.specs.CodeFrames.{past_in, entered};
+ghost use Rattle.gr_code.specs.Programs.{InBounds, FunctionFits, ProgramFits, IsClause, Stands, KeepsStanding, functions_in};
+ghost use Rattle.gr_code.specs.Programs.{variables_in, instructions_in, line_at, frame_of, frame_meant, deed_meant};
 ghost use Rattle.gr_code.specs.Examples.{joining, joining_code, looping, looping_code, choosing, choosing_code};
 ghost use Rattle.gr_code.specs.ProgramExamples.{copying, main_code, program_of_two, code_of_two, meaning_of_two};
 

@@ -50,7 +50,7 @@ pub enum Command {
 impl Command {
     ghost use Rattle.gr_command.specs.Commands.{Names};
 
-    /// The same command once more. The one error is want of memory for a name.
+    /// A copy of the command. The one error is that there is no memory for a name.
     pub fn copy(&self, alloc: Global) -> Result<Command, NoMemory>
         ensures ok { IfOk result (λ command. command ≡ self.now) }
         ensures needed { OnErr result (Names self.now) }

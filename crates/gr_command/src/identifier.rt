@@ -4,7 +4,8 @@ ghost use Rattle.std.specs.Prelude.{◌≡◌, IfOk, IsTrue, nat_eq};
 ghost use Rattle.std.specs.Cmp.Lexicographic.{pointwise};
 ghost use Rattle.std.specs.List.{list_any, list_all};
 ghost use Rattle.gr_scan.specs.Pieces.{is_letter, is_word};
-ghost use Rattle.gr_command.specs.Arguments.{is_keyword as keyword, is_name as name, is_identifier as identifier, identifier_named};
+ghost use Rattle.gr_command.specs.Arguments.{is_keyword as keyword, is_name as name, is_identifier as identifier};
+ghost use Rattle.gr_command.specs.Arguments.{identifier_named};
 
 use gr_base::NoMemory;
 use std::alloc::Global;
@@ -75,7 +76,7 @@ impl Identifier {
         self.bytes.as_slice()
     }
 
-    /// The same identifier once more.
+    /// A copy of the identifier.
     pub fn copy(&self, alloc: Global) -> Result<Identifier, NoMemory>
         ensures { IfOk result (λ name. name ≡ self.now) }
     {

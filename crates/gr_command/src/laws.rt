@@ -2,7 +2,8 @@
 
 ghost use Rattle.gr_command.specs.Examples.{CommandsAreRead, WaysBackAreRead, OrdersAreRead};
 ghost use Rattle.gr_command.specs.Examples.{OthersAreRejected, OtherWaysAreRejected, OtherOrdersAreRejected, LinesAreBlank};
-ghost use Rattle.gr_command.specs.Examples.{LinesAreWritten, StepsAreWritten, GoroutinesAreShown, ChannelsAreShown, RowsAreWritten};
+ghost use Rattle.gr_command.specs.Examples.{LinesAreWritten, StepsAreWritten, GoroutinesAreShown, ChannelsAreShown};
+ghost use Rattle.gr_command.specs.Examples.{RowsAreWritten};
 ghost use Rattle.gr_command.specs.Laws.{TellsAll};
 
 /// What a reply holds of a goroutine is enough for the text of what the rules show of it.

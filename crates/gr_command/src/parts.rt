@@ -3,7 +3,8 @@
 ghost use Rattle.std.specs.Prelude.{◌≡◌, ◌++◌, map, OnOk, OnErr};
 ghost use Rattle.gr_base.specs.Names.{go_text};
 ghost use Rattle.gr_command.specs.Room.{Grows, IsFull};
-ghost use Rattle.gr_command.specs.Texts.{clause_text, each_spaced, line_text, standing_text, status_text, taken_text, variable_text};
+ghost use Rattle.gr_command.specs.Texts.{clause_text, each_spaced, line_text, standing_text, status_text, taken_text};
+ghost use Rattle.gr_command.specs.Texts.{variable_text};
 ghost use Rattle.gr_command.specs.Replies.{status_in, variable_in};
 
 use crate::pieces::{Written, put, put_number, put_spaced};

@@ -3,7 +3,8 @@
 ghost use Rattle.std.specs.Prelude.{◌≡◌, ◌∷◌, IfOk, OnErr};
 ghost use Rattle.std.specs.Io.BufRead.{strip_last};
 ghost use Rattle.gr_command.specs.Words.{words_of};
-ghost use Rattle.gr_command.specs.Commands.{alone as if_alone, about, step_asked, back_asked, order_asked, by_table, questions, commands, meaning, MayName};
+ghost use Rattle.gr_command.specs.Commands.{alone as if_alone, about, step_asked, back_asked, order_asked, by_table, questions};
+ghost use Rattle.gr_command.specs.Commands.{commands, meaning, MayName};
 ghost use Rattle.gr_command.specs.Arguments.{number_named, number_or_zero_named};
 ghost use Rattle.gr_command.specs.declared.command.Command.TheVariants.{Run, Free};
 

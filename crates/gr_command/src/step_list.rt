@@ -36,7 +36,7 @@ impl StepList {
         self.ids.as_slice()
     }
 
-    /// The same list once more.
+    /// A copy of the list.
     pub fn copy(&self, alloc: Global) -> Result<StepList, NoMemory>
         ensures { IfOk result (λ list. list ≡ self.now) }
     {

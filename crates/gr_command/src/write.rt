@@ -3,7 +3,8 @@
 ghost use Rattle.std.specs.Prelude.{◌≡◌, ◌++◌, ◌+◌, ◌<◌, ◌≤◌, length, map, codes, vec_capacity, OnOk, OnErr};
 ghost use Rattle.gr_command.specs.Room.{Grows, IsFull};
 ghost use Rattle.gr_command.specs.Replies.{frame_in, lines_in};
-ghost use Rattle.gr_command.specs.Texts.{refusal_text, end_text, frame_text, ids_text, pair_text, rows, total_text, said_text, reply_text};
+ghost use Rattle.gr_command.specs.Texts.{refusal_text, end_text, frame_text, ids_text, pair_text, rows, total_text, said_text};
+ghost use Rattle.gr_command.specs.Texts.{reply_text};
 ghost use Rattle.gr_command.specs.Replies as said;
 ghost use Rattle.gr_command.specs.declared.reply.RunEnd.TheVariants as ends;
 

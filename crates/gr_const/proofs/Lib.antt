@@ -1,4 +1,4 @@
-mod BitByBit
+pub mod BitByBit
 mod Bools
 mod Division
 mod Shifts

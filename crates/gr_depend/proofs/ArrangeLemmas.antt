@@ -1,5 +1,5 @@
 -- Steps that are taken out of a log and put back in another order.
-use Rattle.std.proofs.Common.{rules, ◌≡◌, ◌<◌, ◌≤◌, ◌+◌, ◌^◌, ◌||◌, ℕ, zero, suc, Bool, true, false, List, [], ◌∷◌, ◌++◌, length, map, reverse, slice_get, slice_index_or, take, drop, set, get_or, vec_capacity, Option, Some, None, refl, sym, ap, subst, ◌∙◌, append_assoc, append-nil, inl, inr, arith}
+use Rattle.std.proofs.Common.{rules, ◌≡◌, ◌<◌, ◌≤◌, ◌+◌, ◌^◌, ℕ, zero, suc, Bool, true, false, List, [], ◌∷◌, ◌++◌, length, map, reverse, slice_get, slice_index_or, take, drop, set, get_or, vec_capacity, Option, Some, None, refl, sym, ap, subst, ◌∙◌, append_assoc, append-nil, inl, inr, arith}
 use Rattle.std.specs.List.{list_all}
 use Rattle.std.proofs.lemmas.Bool.{cases_Bool, and_parts}
 use Rattle.std.proofs.Math.ListN.{drop_of_length-le}
@@ -20,7 +20,9 @@ use Rattle.gr_depend.specs.declared.log.Log.{Log}
 use Rattle.gr_depend.specs.Logs.{records_of}
 use Rattle.gr_depend.specs.Ordering.{elements_at, AreBelow}
 use Rattle.gr_depend.specs.Turned.{place_at}
-use Rattle.gr_touches.specs.Marks.{wanted}
+use Rattle.gr_touches.specs.declared.marks.Wanted.{Wanted}
+use Rattle.gr_touches.specs.declared.marks.Wanted.TheVariants as which_are
+use Rattle.gr_touches.specs.Marks.{takes, wanted}
 use Rattle.gr_touches.specs.Room.{Fits}
 use Rattle.gr_depend.specs.Room.{CanTake}
 use Rattle.gr_touches.specs.Touches.{is_among, touch_at, touches_in, none_twice}
@@ -55,48 +57,48 @@ pub all_taken : (old log : Log) (steps left : List (Option Record)) → AreTaken
 all_taken old log steps left taken empty is =
     is ∙ taken.taken ∙ ap (map Some) (ap (λ l. l ++ taken.gone) (sym empty) ∙ taken.split)
 
--- how many touches of an object the steps have, all or those that wrote
-abbrev weight : Bool → Object → Record → ℕ
-weight all o r = length (wanted all (touch_at o 0 r))
+-- how many touches of an object the steps have, those that are wanted
+abbrev weight : Wanted → Object → Record → ℕ
+weight which o r = length (wanted which (touch_at o 0 r))
 
-abbrev weights : Bool → Object → List Record → ℕ
-weights all o [] = 0
-weights all o (r ∷ rs) = weight all o r + weights all o rs
+abbrev weights : Wanted → Object → List Record → ℕ
+weights which o [] = 0
+weights which o (r ∷ rs) = weight which o r + weights which o rs
 
-wanted_first : (all : Bool) (t : Touch) (ts : List Touch) → length (wanted all (t ∷ ts)) ≡ length (wanted all (t ∷ [])) + length (wanted all ts)
-wanted_first all t ts = by (all || t.writes) refl
+wanted_first : (which : Wanted) (t : Touch) (ts : List Touch) → length (wanted which (t ∷ ts)) ≡ length (wanted which (t ∷ [])) + length (wanted which ts)
+wanted_first which t ts = by (takes which t.writes) refl
   where
-    by : (b : Bool) → (all || t.writes) ≡ b → length (wanted all (t ∷ ts)) ≡ length (wanted all (t ∷ [])) + length (wanted all ts)
-    by true e = rw e (let n : suc (length (wanted all ts)) ≡ 1 + length (wanted all ts) = omega arith in n)
-    by false e = rw e (let n : length (wanted all ts) ≡ 0 + length (wanted all ts) = omega arith in n)
+    by : (b : Bool) → (takes which t.writes) ≡ b → length (wanted which (t ∷ ts)) ≡ length (wanted which (t ∷ [])) + length (wanted which ts)
+    by true e = rw e (let n : suc (length (wanted which ts)) ≡ 1 + length (wanted which ts) = omega arith in n)
+    by false e = rw e (let n : length (wanted which ts) ≡ 0 + length (wanted which ts) = omega arith in n)
 
 -- whatever its place
-same_weight : (all : Bool) (s : ℕ) (w : Bool) → length (wanted all (record { place = s; writes = w } ∷ [])) ≡ length (wanted all (record { place = 0; writes = w } ∷ []))
-same_weight all s w = by (all || w) refl
+same_weight : (which : Wanted) (s : ℕ) (w : Bool) → length (wanted which (record { place = s; writes = w } ∷ [])) ≡ length (wanted which (record { place = 0; writes = w } ∷ []))
+same_weight which s w = by (takes which w) refl
   where
-    by : (b : Bool) → (all || w) ≡ b → length (wanted all (record { place = s; writes = w } ∷ [])) ≡ length (wanted all (record { place = 0; writes = w } ∷ []))
+    by : (b : Bool) → (takes which w) ≡ b → length (wanted which (record { place = s; writes = w } ∷ [])) ≡ length (wanted which (record { place = 0; writes = w } ∷ []))
     by true e = rw e refl
     by false e = rw e refl
 
-weigh_one : (all : Bool) (o : Object) (s : ℕ) (r : Record) (ts : List Touch) (n : ℕ) → length (wanted all ts) ≡ n
-    → length (wanted all (touch_at o s r ++ ts)) ≡ weight all o r + n
-weigh_one all o s r ts n is = by (is_among o (touched_by r)) refl
+weigh_one : (which : Wanted) (o : Object) (s : ℕ) (r : Record) (ts : List Touch) (n : ℕ) → length (wanted which ts) ≡ n
+    → length (wanted which (touch_at o s r ++ ts)) ≡ weight which o r + n
+weigh_one which o s r ts n is = by (is_among o (touched_by r)) refl
   where
-    by : (b : Bool) → is_among o (touched_by r) ≡ b → length (wanted all (touch_at o s r ++ ts)) ≡ weight all o r + n
-    by true e = rw e (wanted_first all (record { place = s; writes = is_among o (written_by r) }) ts ∙ (λ i. same_weight all s (is_among o (written_by r)) i + is i))
-    by false e = rw e (let k : length (wanted all ts) ≡ 0 + n = omega (arith, is) in k)
+    by : (b : Bool) → is_among o (touched_by r) ≡ b → length (wanted which (touch_at o s r ++ ts)) ≡ weight which o r + n
+    by true e = rw e (wanted_first which (record { place = s; writes = is_among o (written_by r) }) ts ∙ (λ i. same_weight which s (is_among o (written_by r)) i + is i))
+    by false e = rw e (let k : length (wanted which ts) ≡ 0 + n = omega (arith, is) in k)
 
-weigh : (all : Bool) (o : Object) (s : ℕ) (rs : List Record) → length (wanted all (touches_in o s rs)) ≡ weights all o rs
-weigh all o s [] = refl
-weigh all o s (r ∷ rs) = weigh_one all o s r (touches_in o (suc s) rs) (weights all o rs) (weigh all o (suc s) rs)
+weigh : (which : Wanted) (o : Object) (s : ℕ) (rs : List Record) → length (wanted which (touches_in o s rs)) ≡ weights which o rs
+weigh which o s [] = refl
+weigh which o s (r ∷ rs) = weigh_one which o s r (touches_in o (suc s) rs) (weights which o rs) (weigh which o (suc s) rs)
 
-module _ (all : Bool) (o : Object) (rest : List Record) where
-  same_weights : (L N : List Record) → Swaps conflict_of L N → weights all o (L ++ rest) ≡ weights all o (N ++ rest)
+module _ (which : Wanted) (o : Object) (rest : List Record) where
+  same_weights : (L N : List Record) → Swaps conflict_of L N → weights which o (L ++ rest) ≡ weights which o (N ++ rest)
   same_weights L N none = refl
   same_weights L N (here {a = a} {b = b} {L = K} f) =
-      let x = weight all o a in let y = weight all o b in let z = weights all o (K ++ rest) in
+      let x = weight which o a in let y = weight which o b in let z = weights which o (K ++ rest) in
       let e : x + (y + z) ≡ y + (x + z) = omega arith in e
-  same_weights L N (there {a = a} {L = K} {N = M} w) = ap (λ n. weight all o a + n) (same_weights K M w)
+  same_weights L N (there {a = a} {L = K} {N = M} w) = ap (λ n. weight which o a + n) (same_weights K M w)
   same_weights L N (and {L = K} {N = M} {P = P} v w) = same_weights K M v ∙ same_weights M P w
 
 -- what could be pushed can be pushed in another order that respects dependence
@@ -126,15 +128,15 @@ in_order_too log old new rest empty d order can = record {
     length_is L N (there {L = K} {N = M} w) = ap suc (length_is K M w)
     length_is L N (and {L = K} {N = M} {P = P} v w) = length_is K M v ∙ length_is M P w
 
-    as_long : (all : Bool) (o : Object) → length (wanted all (touches_in o 0 (old ++ rest))) ≡ length (wanted all (touches_in o 0 (new ++ rest)))
-    as_long all o = weigh all o 0 (old ++ rest) ∙ same_weights all o rest old new swaps ∙ sym (weigh all o 0 (new ++ rest))
+    as_long : (which : Wanted) (o : Object) → length (wanted which (touches_in o 0 (old ++ rest))) ≡ length (wanted which (touches_in o 0 (new ++ rest)))
+    as_long which o = weigh which o 0 (old ++ rest) ∙ same_weights which o rest old new swaps ∙ sym (weigh which o 0 (new ++ rest))
 
     moved : Fits log.lanes (λ o. touches_in o 0 (old ++ rest)) → Fits log.lanes (λ o. touches_in o 0 (new ++ rest))
     moved fits = record {
       each = λ o.
-          let e = ap length (sym (all_wanted (touches_in o 0 (old ++ rest)))) ∙ as_long true o ∙ ap length (all_wanted (touches_in o 0 (new ++ rest))) in
+          let e = ap length (sym (all_wanted (touches_in o 0 (old ++ rest)))) ∙ as_long which_are.All o ∙ ap length (all_wanted (touches_in o 0 (new ++ rest))) in
           let f = fits.each o in omega (arith, e, f);
-      stops = let e = as_long false objects.Run in let f = fits.stops in omega (arith, e, f);
+      stops = let e = as_long which_are.Writes objects.Run in let f = fits.stops in omega (arith, e, f);
     }
 
 -- objects of which none stands twice are distinct

@@ -20,12 +20,12 @@ use Rattle.gr_code.specs.Goroutines.{CodeGoroutine}
 use Rattle.gr_code.specs.Instructions.{Instruction}
 use Rattle.gr_code.specs.Programs.{ProgramFits, Stands}
 use Rattle.gr_code.proofs.Standing.{has}
-use Rattle.gr_contents.specs.Contents.{Contents, goroutine_of}
-use Rattle.gr_contents.specs.Attempting.{IsUp}
-use Rattle.gr_contents.specs.Looks.{actor_of}
-use Rattle.gr_contents.specs.Machines.{note_of}
-use Rattle.gr_contents.specs.Standing.{AllStand, ContentsStand}
-use Rattle.gr_contents.proofs.AttemptLemmas.{attempt_is_of_the_deed, step_is_of_the_machine}
+use Rattle.gr_refine.specs.Contents.{Contents, goroutine_of}
+use Rattle.gr_refine.specs.Attempting.{IsUp}
+use Rattle.gr_refine.specs.Looks.{actor_of}
+use Rattle.gr_refine.specs.Machines.{note_of}
+use Rattle.gr_refine.specs.Standing.{AllStand, ContentsStand}
+use Rattle.gr_refine.proofs.AttemptLemmas.{attempt_is_of_the_deed, step_is_of_the_machine}
 use Rattle.gr_lower.specs.Lowered.{lowered, meaning}
 use Rattle.gr_goros.specs.declared.undo.Spot.{Spot}
 use Rattle.gr_record.specs.declared.record.Record.{Record}

@@ -13,10 +13,12 @@ use Rattle.gr_touches.specs.declared.lanes.Lanes.{Lanes}
 use Rattle.gr_touches.specs.declared.marks.Origin.{Origin}
 use Rattle.gr_touches.specs.Touches.{is_among, touch_at, touches_in}
 use Rattle.gr_touches.specs.Lists.{list_of}
+use Rattle.gr_touches.specs.declared.marks.Wanted.{Wanted}
+use Rattle.gr_touches.specs.declared.marks.Wanted.TheVariants as which_are
 use Rattle.gr_touches.specs.Marks.{hits, is_beyond, IsAscending, InReach, has_mark, Marks}
 use Rattle.gr_touches.specs.Walks.{AreInReach, meets_step}
 use Rattle.gr_depend.specs.Marked.{conflict_at}
-use Rattle.gr_touches.proofs.KeyLemmas.{same_sym}
+use Rattle.gr_touches.proofs.SameLemmas.{same_sym}
 use Rattle.gr_touches.proofs.MarkLemmas.{hits_first, hits_not, none_below}
 use Rattle.gr_depend.proofs.SpreadLemmas.{there}
 use Rattle.std.proofs.lemmas.Option.{slice_get-get_or}
@@ -51,42 +53,46 @@ touches_in_reach origin count o s (r ∷ rs) h =
     by false rest here = rest
 
 -- whether the step has what is wanted of the object
-abbrev pub wants : Bool → Object → Record → Bool
-wants all o r = if all then is_among o (touched_by r) else is_among o (written_by r)
+abbrev wanted_of : Wanted → Bool → Bool → Bool
+wanted_of which_are.All touched writes = touched
+wanted_of which_are.Writes touched writes = writes
 
-hits_here : (all : Bool) (o : Object) (s : ℕ) (r : Record) (ts : List Touch) → IsAscending (suc s) ts → hits all (touch_at o s r ++ ts) s ≡ wants all o r
-hits_here all o s r ts up =
-    by all (is_among o (touched_by r)) (is_among o (read_by r)) (is_among o (written_by r)) (list_any-append (same o) (read_by r) (written_by r))
+abbrev pub wants : Wanted → Object → Record → Bool
+wants which o r = wanted_of which (is_among o (touched_by r)) (is_among o (written_by r))
+
+hits_here : (which : Wanted) (o : Object) (s : ℕ) (r : Record) (ts : List Touch) → IsAscending (suc s) ts → hits which (touch_at o s r ++ ts) s ≡ wants which o r
+hits_here which o s r ts up =
+    by which (is_among o (touched_by r)) (is_among o (read_by r)) (is_among o (written_by r)) (list_any-append (same o) (read_by r) (written_by r))
   where
     self : (s == s) ≡ true
     self = eq-eqb s s refl
 
-    by : (all touched reads writes : Bool) → touched ≡ (reads || writes)
-        → hits all ((if touched then record { place = s; writes = writes } ∷ [] else []) ++ ts) s ≡ (if all then touched else writes)
-    by true true reads writes e = hits_first true (record { place = s; writes = writes }) ts s ∙ ap (λ b. b || hits true ts s) self
-    by true false reads writes e = none_below true (suc s) ts s up (omega arith)
-    by false true reads true e = hits_first false (record { place = s; writes = true }) ts s ∙ ap (λ b. b || hits false ts s) self
-    by false true reads false e = hits_first false (record { place = s; writes = false }) ts s ∙ none_below false (suc s) ts s up (omega arith)
-    by false false true writes e = cc
-    by false false false true e = cc
-    by false false false false e = none_below false (suc s) ts s up (omega arith)
+    by : (which : Wanted) (touched reads writes : Bool) → touched ≡ (reads || writes)
+        → hits which ((if touched then record { place = s; writes = writes } ∷ [] else []) ++ ts) s ≡ wanted_of which touched writes
+    by which_are.All true reads writes e = hits_first which_are.All (record { place = s; writes = writes }) ts s ∙ ap (λ b. b || hits which_are.All ts s) self
+    by which_are.All false reads writes e = none_below which_are.All (suc s) ts s up (omega arith)
+    by which_are.Writes true reads true e = hits_first which_are.Writes (record { place = s; writes = true }) ts s ∙ ap (λ b. b || hits which_are.Writes ts s) self
+    by which_are.Writes true reads false e = hits_first which_are.Writes (record { place = s; writes = false }) ts s ∙ none_below which_are.Writes (suc s) ts s up (omega arith)
+    by which_are.Writes false true writes e = cc
+    by which_are.Writes false false true e = cc
+    by which_are.Writes false false false e = none_below which_are.Writes (suc s) ts s up (omega arith)
 
-hits_there : (all : Bool) (o : Object) (s : ℕ) (r : Record) (ts : List Touch) (p : ℕ) → s < p → hits all (touch_at o s r ++ ts) p ≡ hits all ts p
-hits_there all o s r ts p w = by (is_among o (touched_by r))
+hits_there : (which : Wanted) (o : Object) (s : ℕ) (r : Record) (ts : List Touch) (p : ℕ) → s < p → hits which (touch_at o s r ++ ts) p ≡ hits which ts p
+hits_there which o s r ts p w = by (is_among o (touched_by r))
   where
-    by : (b : Bool) → hits all ((if b then record { place = s; writes = is_among o (written_by r) } ∷ [] else []) ++ ts) p ≡ hits all ts p
-    by true = hits_not all (record { place = s; writes = is_among o (written_by r) }) ts p (λ e. omega arith)
+    by : (b : Bool) → hits which ((if b then record { place = s; writes = is_among o (written_by r) } ∷ [] else []) ++ ts) p ≡ hits which ts p
+    by true = hits_not which (record { place = s; writes = is_among o (written_by r) }) ts p (λ e. omega arith)
     by false = refl
 
-pub hits_touched : (all : Bool) (o : Object) (s : ℕ) (rs : List Record) (i : ℕ) (x : Record) → slice_get rs i ≡ Some x → hits all (touches_in o s rs) (s + i) ≡ wants all o x
-hits_touched all o s [] i x h = cc
-hits_touched all o s (r ∷ rs) zero x h =
+pub hits_touched : (which : Wanted) (o : Object) (s : ℕ) (rs : List Record) (i : ℕ) (x : Record) → slice_get rs i ≡ Some x → hits which (touches_in o s rs) (s + i) ≡ wants which o x
+hits_touched which o s [] i x h = cc
+hits_touched which o s (r ∷ rs) zero x h =
     let at : s + 0 ≡ s = omega arith in
     let is : r ≡ x = cc in
-    ap (hits all (touches_in o s (r ∷ rs))) at ∙ hits_here all o s r (touches_in o (suc s) rs) (touches_ascend o (suc s) rs) ∙ ap (wants all o) is
-hits_touched all o s (r ∷ rs) (suc i) x h =
+    ap (hits which (touches_in o s (r ∷ rs))) at ∙ hits_here which o s r (touches_in o (suc s) rs) (touches_ascend o (suc s) rs) ∙ ap (wants which o) is
+hits_touched which o s (r ∷ rs) (suc i) x h =
     let at : s + suc i ≡ suc s + i = omega arith in
-    hits_there all o s r (touches_in o (suc s) rs) (s + suc i) (omega arith) ∙ ap (hits all (touches_in o (suc s) rs)) at ∙ hits_touched all o (suc s) rs i x h
+    hits_there which o s r (touches_in o (suc s) rs) (s + suc i) (omega arith) ∙ ap (hits which (touches_in o (suc s) rs)) at ∙ hits_touched which o (suc s) rs i x h
 
 -- `meets` is symmetric
 any_none : (os : List Object) → list_any (λ o. false) os ≡ false
@@ -147,14 +153,14 @@ module _ (l : Lanes) (rs : List Record) (are : (o : Object) → list_of l o ≡ 
     reach = λ o. subst (InReach origin count) (sym (are o)) (touches_in_reach origin count o 0 rs (λ p w. h p (omega arith)));
   }
 
-  hits_is : (all : Bool) (p : ℕ) (x : Record) → slice_get rs p ≡ Some x → (o : Object) → hits all (list_of l o) p ≡ wants all o x
-  hits_is all p x at o =
+  hits_is : (which : Wanted) (p : ℕ) (x : Record) → slice_get rs p ≡ Some x → (o : Object) → hits which (list_of l o) p ≡ wants which o x
+  hits_is which p x at o =
       let zero_more : p ≡ 0 + p = omega arith in
-      ap (λ ts. hits all ts p) (are o) ∙ ap (hits all (touches_in o 0 rs)) zero_more ∙ hits_touched all o 0 rs p x at
+      ap (λ ts. hits which ts p) (are o) ∙ ap (hits which (touches_in o 0 rs)) zero_more ∙ hits_touched which o 0 rs p x at
 
   pub meets_is : (i p : ℕ) (r x : Record) → slice_get rs i ≡ Some r → slice_get rs p ≡ Some x → meets_step l r p ≡ conflict_at rs i p
   meets_is i p r x here there =
-      (λ k. list_any (λ o. hits_is false p x there o k) (read_by r) || list_any (λ o. hits_is true p x there o k) (written_by r))
+      (λ k. list_any (λ o. hits_is which_are.Writes p x there o k) (read_by r) || list_any (λ o. hits_is which_are.All p x there o k) (written_by r))
       ∙ sym (conflict_split r x) ∙ sym (or_no_more (conflict_of r x)) ∙ rw (here, there) refl
 
   pub step_marks : (origin : Origin) (r : Record) (a b : List Bool) → origin.place < length rs → r ≡ get_or rs origin.place r → origin.base + length a ≤ length rs

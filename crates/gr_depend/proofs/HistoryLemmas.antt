@@ -8,7 +8,7 @@ use Rattle.gr_base.specs.declared.names.StepId.{StepId}
 use Rattle.gr_base.specs.declared.kinds.Kind.{Kind}
 use Rattle.gr_base.specs.declared.kinds.Kind.TheVariants as kinds
 use Rattle.gr_base.specs.declared.objects.Object.TheVariants.{Go}
-use Rattle.gr_contents.specs.Contents.{Contents}
+use Rattle.gr_refine.specs.Contents.{Contents}
 use Rattle.gr_program.specs.Programs.{Program}
 use Rattle.gr_rules.specs.Attempts.{Operation, sends_on, receives_from, takes_len_of, takes_cap_of, closes, Report, kind_of}
 use Rattle.gr_rules.specs.History as rules

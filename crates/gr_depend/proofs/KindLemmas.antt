@@ -25,10 +25,10 @@ use Rattle.gr_code.specs.CodeFrames.{ProgramCode, CodeFrame, instruction_at}
 use Rattle.gr_code.specs.Goroutines.{CodeGoroutine}
 use Rattle.gr_code.specs.Instructions.{Instruction}
 use Rattle.gr_code.specs.Programs.{ProgramFits, Stands, frame_of}
-use Rattle.gr_contents.specs.Contents.{Contents, goroutine_of, state_of}
-use Rattle.gr_contents.specs.Attempting.{IsUp}
-use Rattle.gr_contents.specs.Leaves.{refused, performed, leaf}
-use Rattle.gr_contents.proofs.LookLemmas.{attempt_at_frames}
+use Rattle.gr_refine.specs.Contents.{Contents, goroutine_of, state_of}
+use Rattle.gr_refine.specs.Attempting.{IsUp}
+use Rattle.gr_refine.specs.Leaves.{refused, performed, leaf}
+use Rattle.gr_refine.proofs.LookLemmas.{attempt_at_frames}
 use Rattle.gr_depend.specs.Given.{given_at}
 use Rattle.gr_depend.specs.Histories.{is_fault}
 use Rattle.gr_depend.proofs.InstructionLemmas.{given_by_instruction}

@@ -12,6 +12,7 @@ use Rattle.gr_laws.proofs.CellLemmas.{same_self}
 use Rattle.gr_record.specs.declared.record.Record.{Record}
 use Rattle.gr_record.specs.Conflicts.{read_by, written_by, touched_by}
 use Rattle.gr_touches.specs.declared.touch.Touch.{Touch}
+use Rattle.gr_touches.specs.declared.marks.Wanted.TheVariants as which_are
 use Rattle.gr_touches.specs.Marks.{hits, IsAscending}
 use Rattle.gr_depend.specs.Named.{IsNamed, NoneFrom, IsLastOf}
 use Rattle.gr_touches.specs.Touches.{is_among, touches_in}
@@ -22,7 +23,7 @@ use Rattle.gr_depend.proofs.ConflictLemmas.{hits_touched, touches_ascend}
 abbrev pub is_at : ℕ → List Touch → Bool
 is_at p ts = list_any (λ t. t.place == p) ts
 
-hits_all : (ts : List Touch) (p : ℕ) → hits true ts p ≡ is_at p ts
+hits_all : (ts : List Touch) (p : ℕ) → hits which_are.All ts p ≡ is_at p ts
 hits_all ts p = ap (is_at p) (all_wanted ts)
 
 or_right : (a b : Bool) → b ≡ true → (a || b) ≡ true
@@ -38,7 +39,7 @@ own_among r =
 -- the list of its goroutine has the step
 pub own_there : (rs : List Record) (go : List ℕ) (i : ℕ) (r : Record) → slice_get rs i ≡ Some r → r.id.go ≡ go → is_at i (touches_in (Go go) 0 rs) ≡ true
 own_there rs go i r there own =
-    sym (hits_all (touches_in (Go go) 0 rs) i) ∙ ap (hits true (touches_in (Go go) 0 rs)) (sym (zero-add i)) ∙ hits_touched true (Go go) 0 rs i r there
+    sym (hits_all (touches_in (Go go) 0 rs) i) ∙ ap (hits which_are.All (touches_in (Go go) 0 rs)) (sym (zero-add i)) ∙ hits_touched which_are.All (Go go) 0 rs i r there
     ∙ subst (λ g. is_among (Go g) (touched_by r) ≡ true) own (own_among r)
 
 pub not_named : (rs : List Record) (id : StepId) (n : ℕ) (a b ts : List Touch) → ts ≡ touches_in (Go id.go) 0 rs → a ≡ take n ts → b ≡ drop n ts
@@ -82,7 +83,7 @@ module _ (rs : List Record) (go : List ℕ) (ts : List Touch) (is : ts ≡ touch
         let e : n + 1 ≡ suc n = omega arith in
         none i x
         (ap (λ m. is_at i (drop m ts)) e ∙ sym (hits_all (drop (suc n) ts) i)
-        ∙ cut_later true 0 ts n d (get_or ts n d).place i (subst (IsAscending 0) (sym is) (touches_ascend (Go go) 0 rs)) within (omega arith) (omega arith)
+        ∙ cut_later which_are.All 0 ts n d (get_or ts n d).place i (subst (IsAscending 0) (sym is) (touches_ascend (Go go) 0 rs)) within (omega arith) (omega arith)
         ∙ hits_all ts i ∙ ap (is_at i) is ∙ own_there rs go i x at its)
         at its;
   }

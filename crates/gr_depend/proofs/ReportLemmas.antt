@@ -14,7 +14,7 @@ use Rattle.gr_base.specs.declared.kinds.Kind.TheVariants as kinds
 use Rattle.gr_base.specs.declared.kinds.Kind.TheVariants.{Hand, Buffer, Take, Meet, SendWait, RecvWait, SelectWait}
 use Rattle.gr_channels.specs.declared.waiter.Waiter.{Waiter}
 use Rattle.gr_channels.specs.Objects.{GateContent, has_any}
-use Rattle.gr_contents.specs.Leaves.{refused, performed, leaf}
+use Rattle.gr_refine.specs.Leaves.{refused, performed, leaf}
 use Rattle.gr_program.specs.Programs.{Program}
 use Rattle.gr_rules.specs.Outcomes.{Outcome, gives, faults, wrong}
 use Rattle.gr_rules.specs.Frames.{Frame}

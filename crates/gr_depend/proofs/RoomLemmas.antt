@@ -1,5 +1,5 @@
 -- A log keeps its room.
-use Rattle.std.proofs.Common.{◌≡◌, ◌≤◌, ◌+◌, ◌^◌, ◌++◌, List, length, vec_capacity, sym, ap, subst, arith}
+use Rattle.std.proofs.Common.{◌≡◌, ◌≤◌, ◌^◌, ◌++◌, List, length, vec_capacity, sym, ap, subst, arith}
 use Rattle.gr_record.specs.declared.record.Record.{Record}
 use Rattle.gr_touches.specs.Touches.{touches_in}
 use Rattle.gr_touches.specs.Room.{Fits, KeepsRoom}

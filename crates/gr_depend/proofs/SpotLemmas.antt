@@ -10,7 +10,7 @@ use Rattle.gr_goros.specs.declared.undo.Spot.{Spot}
 use Rattle.gr_goros.specs.declared.undo.GoUndo.{GoUndo}
 use Rattle.gr_goros.specs.declared.undo.GoUndo.TheVariants as undos
 use Rattle.gr_goros.specs.Undoing.{at_spot, frame_in, on_innermost, undone}
-use Rattle.gr_tables.specs.Back.{back_at}
+use Rattle.gr_record.specs.TablesBack.{back_at}
 use Rattle.gr_depend.specs.Given.{spot_in, spot_before}
 
 -- a frame stands there

@@ -8,12 +8,13 @@ use Rattle.gr_causal.specs.Dependence.{hits}
 use Rattle.gr_record.specs.declared.record.Record.{Record}
 use Rattle.gr_record.specs.Conflicts.{conflict_of}
 use Rattle.gr_touches.specs.declared.lanes.Lanes.{Lanes}
-use Rattle.gr_touches.specs.declared.marks.Side.TheVariants.{Later}
+use Rattle.gr_touches.specs.declared.marks.Direction.TheVariants.{Later}
 use Rattle.gr_touches.specs.declared.marks.Origin.{Origin}
 use Rattle.gr_touches.specs.Lists.{list_numbered}
 use Rattle.gr_touches.specs.Marks as marks
 use Rattle.gr_touches.specs.Marks.{is_beyond, has_mark, Marks}
 use Rattle.gr_depend.specs.Marked.{marks_after, dependent_marks, hits_at, conflict_at, IsSpread}
+use Rattle.gr_touches.specs.declared.marks.Wanted.{Wanted}
 use Rattle.gr_touches.specs.Walks.{AreWalked, HasMarks}
 
 pub lt_true : (a b : ℕ) → a < b → nat_lt a b ≡ true
@@ -31,8 +32,8 @@ unmarked zero j = refl
 unmarked (suc n) zero = refl
 unmarked (suc n) (suc j) = unmarked n j
 
-pub none_walked : (l : Lanes) (o : Origin) (all : Bool) (walked marks : List Bool) (n : ℕ) → walked ≡ replicate n false → AreWalked l o all walked marks
-none_walked l o all walked marks n e k h = absurd (let no : false ≡ true = sym (ap (λ w. has_mark w k) e ∙ unmarked n k) ∙ h in cc)
+pub none_walked : (l : Lanes) (o : Origin) (which : Wanted) (walked marks : List Bool) (n : ℕ) → walked ≡ replicate n false → AreWalked l o which walked marks
+none_walked l o which walked marks n e k h = absurd (let no : false ≡ true = sym (ap (λ w. has_mark w k) e ∙ unmarked n k) ∙ h in cc)
 
 pub count_of : (m : List Bool) (n : ℕ) → m ≡ replicate n false → length m ≡ n
 count_of m n is = ap length is ∙ length-replicate n false
@@ -110,11 +111,11 @@ pub conflict_there : (rs : List Record) (k : ℕ) (r : Record) (p : ℕ) → sli
 conflict_there rs k r p h = ap (λ o. option_map_or (λ x. hits_at conflict_of (x ∷ []) rs p) o false) h
 
 -- from one place to a later one, less is beyond
-pub walked_on : (l : Lanes) (a b : Origin) (all : Bool) (w m : List Bool) → a.base ≡ b.base → ((p : ℕ) → is_beyond b p ≡ true → is_beyond a p ≡ true)
-    → AreWalked l a all w m → AreWalked l b all w m
-walked_on l a b all w m same less walked n e j h beyond hit =
+pub walked_on : (l : Lanes) (a b : Origin) (which : Wanted) (w m : List Bool) → a.base ≡ b.base → ((p : ℕ) → is_beyond b p ≡ true → is_beyond a p ≡ true)
+    → AreWalked l a which w m → AreWalked l b which w m
+walked_on l a b which w m same less walked n e j h beyond hit =
     let is = ap (λ x. x + j) same in
-    walked n e j h (ap (is_beyond a) is ∙ less (b.base + j) beyond) (ap (marks.hits all (list_numbered l n)) is ∙ hit)
+    walked n e j h (ap (is_beyond a) is ∙ less (b.base + j) beyond) (ap (marks.hits which (list_numbered l n)) is ∙ hit)
 
 dependent_at : (rs : List Record) (k : ℕ) (r : Record) → slice_get rs k ≡ Some r → dependent_marks conflict_of rs k ≡ true ∷ marks_after conflict_of (r ∷ []) (drop (k + 1) rs)
 dependent_at rs k r h = go rs k h ∙ (let e : suc k ≡ k + 1 = omega arith in ap (λ n. true ∷ marks_after conflict_of (r ∷ []) (drop n rs)) e)
@@ -126,7 +127,7 @@ dependent_at rs k r h = go rs k h ∙ (let e : suc k ≡ k + 1 = omega arith in 
 
 module _ (rs : List Record) (at : ℕ) where
   abbrev pub from : ℕ → Origin
-  from k = record { side = Later; place = k; base = at }
+  from k = record { direction = Later; place = k; base = at }
 
   -- the first step is marked, and all that conflict with it
   pub spread_start : (m n : List Bool) → at < length rs → length n ≡ length m → 0 < length m → has_mark m 0 ≡ true → ((j : ℕ) → (j ≡ 0 → ⊥) → has_mark m j ≡ false)
@@ -217,9 +218,9 @@ module _ (rs : List Record) (at : ℕ) where
       spread_start (list_set m 0 true) n within same (omega (arith, length-set m 0 true, count)) (set_here m (length rs - at) 0 is (omega arith))
       (λ j other. set_elsewhere m (length rs - at) 0 j is other) marks
 
-  pub later_walked : (l : Lanes) (all : Bool) (w m : List Bool) (a b : ℕ) → a ≤ b → AreWalked l (from a) all w m → AreWalked l (from b) all w m
-  later_walked l all w m a b le =
-      walked_on l (from a) (from b) all w m refl (λ p h. let lt = true_lt b p h in lt_true a p (omega arith))
+  pub later_walked : (l : Lanes) (which : Wanted) (w m : List Bool) (a b : ℕ) → a ≤ b → AreWalked l (from a) which w m → AreWalked l (from b) which w m
+  later_walked l which w m a b le =
+      walked_on l (from a) (from b) which w m refl (λ p h. let lt = true_lt b p h in lt_true a p (omega arith))
 
   pub has_later : (k count : ℕ) → at ≤ k → at + count ≡ length rs → HasMarks (from k) (length rs) count
   has_later k count le is p w h = let lt = true_lt k p h in (omega arith, omega arith)

@@ -4,9 +4,10 @@ use Rattle.std.proofs.lemmas.List.{drop_more, drop_all, length-set}
 use Rattle.gr_causal.specs.Dependence.{hits, causes}
 use Rattle.gr_record.specs.declared.record.Record.{Record}
 use Rattle.gr_record.specs.Conflicts.{conflict_of}
-use Rattle.gr_touches.specs.declared.marks.Side.TheVariants.{Earlier}
+use Rattle.gr_touches.specs.declared.marks.Direction.TheVariants.{Earlier}
 use Rattle.gr_touches.specs.declared.marks.Origin.{Origin}
 use Rattle.gr_touches.specs.declared.lanes.Lanes.{Lanes}
+use Rattle.gr_touches.specs.declared.marks.Wanted.{Wanted}
 use Rattle.gr_touches.specs.Walks.{AreWalked}
 use Rattle.gr_touches.specs.Marks.{has_mark, Marks}
 use Rattle.gr_depend.specs.Marked.{cause_marks, hits_at, conflict_at, IsTraced}
@@ -18,7 +19,7 @@ or_false false = refl
 
 module _ (rs : List Record) (end : ℕ) where
   abbrev pub until : ℕ → Origin
-  until k = record { side = Earlier; place = k; base = 0 }
+  until k = record { direction = Earlier; place = k; base = 0 }
 
   pub traced_start : (m n : List Bool) → end < length rs → length n ≡ length m → length m ≡ end + 1 → has_mark m end ≡ true
       → ((j : ℕ) → (j ≡ end → ⊥) → has_mark m j ≡ false) → Marks (until end) (conflict_at rs end) m n → IsTraced rs end end n
@@ -113,6 +114,6 @@ module _ (rs : List Record) (end : ℕ) where
       traced_start (list_set m end true) n within same (omega (arith, length-set m end true, count)) (set_here m (end + 1) end is (omega arith))
       (λ j other. set_elsewhere m (end + 1) end j is other) marks
 
-  pub earlier_walked : (l : Lanes) (all : Bool) (w m : List Bool) (a b : ℕ) → b ≤ a → AreWalked l (until a) all w m → AreWalked l (until b) all w m
-  earlier_walked l all w m a b le =
-      walked_on l (until a) (until b) all w m refl (λ p h. let lt = true_lt p b h in lt_true p a (omega arith))
+  pub earlier_walked : (l : Lanes) (which : Wanted) (w m : List Bool) (a b : ℕ) → b ≤ a → AreWalked l (until a) which w m → AreWalked l (until b) which w m
+  earlier_walked l which w m a b le =
+      walked_on l (until a) (until b) which w m refl (λ p h. let lt = true_lt p b h in lt_true p a (omega arith))

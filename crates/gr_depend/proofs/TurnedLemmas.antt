@@ -10,17 +10,14 @@ use Rattle.gr_causal.specs.Machine.{meets}
 use Rattle.gr_causal.specs.Sequences.{In, Before}
 use Rattle.gr_causal.proofs.ListLemmas.{or_true, or_left, or_right, some_is, none_not, In-append_right}
 use Rattle.gr_rules.specs.States.{same}
-use Rattle.gr_laws.proofs.CellLemmas.{same_self}
+use Rattle.gr_laws.proofs.CellLemmas.{same_is, same_self}
 use Rattle.gr_record.specs.declared.record.Record.{Record}
 use Rattle.gr_record.specs.Conflicts.{written_by, read_by, touched_by, conflict_of}
-use Rattle.gr_touches.specs.declared.key.Key.{Key}
 use Rattle.gr_touches.specs.declared.lanes.Lanes.{Lanes}
 use Rattle.gr_touches.specs.declared.touch.Touch.{Touch}
-use Rattle.gr_touches.specs.Keys.{key_of, object_of, same_key}
 use Rattle.gr_touches.specs.Lists.{list_of, list_numbered}
 use Rattle.gr_touches.specs.Touches.{is_among, touch_at, touches_in}
 use Rattle.gr_depend.specs.Turned.{place_at, AreTurned, TouchesTurnedFrom}
-use Rattle.gr_touches.proofs.KeyLemmas.{key_is, key_back}
 use Rattle.gr_touches.proofs.LaneLemmas.{list_by_number, run_at, within_keys}
 
 -- an object that the two steps touched, and that one of them wrote
@@ -77,10 +74,10 @@ touches_there o p q s (suc i) (suc j) (r ∷ rs) x y h k t u at_p at_q l =
     Before-append_right (touch_of o p x) (touch_of o q y) (touch_at o s r) (touches_in o (suc s) rs)
     (touches_there o p q (suc s) i j rs x y h k t u (omega (arith, at_p)) (omega (arith, at_q)) (omega (arith, l)))
 
-key_there : {X : Type 0} (es : List (Key × X)) (k : Key) → (lookup (same_key k) es ≡ None) ⊎ ((i : ℕ) × (slice_get (map (λ e. e.0) es) i ≡ Some k))
+key_there : {X : Type 0} (es : List (Object × X)) (k : Object) → (lookup (same k) es ≡ None) ⊎ ((i : ℕ) × (slice_get (map (λ e. e.0) es) i ≡ Some k))
 key_there [] k = inl refl
-key_there (e ∷ es) k = elim (cases_Bool (same_key k e.0)) [
-  | inl t ↦ inr (0, ap Some (sym (key_is k (object_of e.0) t ∙ key_back e.0)))
+key_there (e ∷ es) k = elim (cases_Bool (same k e.0)) [
+  | inl t ↦ inr (0, ap Some (sym (same_is k e.0 t)))
   | inr f ↦ elim (key_there es k) [ inl none ↦ inl (rw f none) | inr w ↦ inr (suc w.0, w.1) ]
 ]
 
@@ -88,9 +85,9 @@ key_there (e ∷ es) k = elim (cases_Bool (same_key k e.0)) [
 number_of : (l : Lanes) (o : Object) (t : Touch) → In t (list_of l o) → (n : ℕ) × (n < length (keys l.map) + 1) × (list_numbered l n ≡ list_of l o)
 number_of l o t h = elim (cases_Bool (same objects.Run o)) [
   | inl run ↦ let last = run_at l (length l.map.entries) refl in (length l.map.entries, last.0, rw run last.1)
-  | inr other ↦ elim (key_there l.map.entries (key_of o)) [
+  | inr other ↦ elim (key_there l.map.entries o) [
     | inl none ↦ absurd (rw (other, none) at h)
-    | inr w ↦ let below = within_keys (keys l.map) w.0 (key_of o) w.1 in (w.0, omega (arith, below), list_by_number l o other w.0 w.1)
+    | inr w ↦ let below = within_keys (keys l.map) w.0 o w.1 in (w.0, omega (arith, below), list_by_number l o other w.0 w.1)
   ]
 ]
 

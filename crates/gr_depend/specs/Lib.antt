@@ -8,3 +8,8 @@ pub mod Histories
 pub mod Given
 pub mod Turned
 pub mod Ordering
+pub use Rattle.gr_touches.specs.Marks
+pub use Rattle.gr_touches.specs.declared.touch.Touch
+pub use Rattle.gr_touches.specs.Touches
+pub use Rattle.gr_touches.specs.Room as TouchesRoom
+pub use Rattle.gr_touches.specs.declared.marks.Wanted

@@ -10,7 +10,7 @@ ghost use Rattle.gr_rules.specs.Tells.{function_of};
 ghost use Rattle.gr_laws.specs.Reached.{Logged};
 ghost use Rattle.gr_code.specs.CodeViews.{action_of, instruction_of, program_code_of};
 ghost use Rattle.gr_lower.specs.Lowered.{lowered};
-ghost use Rattle.gr_contents.specs.Contents.{Contents};
+ghost use Rattle.gr_refine.specs.Contents.{Contents};
 ghost use Rattle.gr_record.specs.declared.record.Record as steps;
 ghost use Rattle.gr_record.specs.Kept.{Kept};
 ghost use Rattle.gr_record.specs.Listings.{state_in};
@@ -18,7 +18,8 @@ ghost use Rattle.gr_record.specs.Running.{Running};
 ghost use Rattle.gr_record.specs.Records.{event_of};
 ghost use Rattle.gr_record.specs.Taking.{IsRecord};
 ghost use Rattle.gr_record.specs.Pairs.{id_of};
-ghost use Rattle.gr_depend.specs.Given.{GivenByInstruction, is_called, any_called, parameters_named, assigned_by, given_at, given_there, spot_in, spot_before};
+ghost use Rattle.gr_depend.specs.Given.{GivenByInstruction, is_called, any_called, parameters_named, assigned_by, given_at};
+ghost use Rattle.gr_depend.specs.Given.{given_there, spot_in, spot_before};
 ghost use Rattle.gr_depend.specs.Given.{stood, gave, last_given};
 
 use crate::history::has_faulted;
@@ -126,7 +127,8 @@ fn names_one(function: &Function, variables: &[Option<usize>], name: &[u8]) -> b
 
 /// Whether a parameter of a function is called so.
 fn names_parameter(function: &Function, name: &[u8]) -> bool
-    ensures { result ≡ list_any (λ p. is_called name.now (declared_of function.now.variables.items) p.variable) function.now.parameters.items }
+    ensures { result ≡ list_any (λ p. is_called name.now
+        (declared_of function.now.variables.items) p.variable) function.now.parameters.items }
 {
     function
         .parameters
@@ -250,7 +252,8 @@ impl Log {
         go: &GoName,
         name: &[u8],
     ) -> Option<&StepId>
-        ensures { option_copied result ≡ last_given (program_of program.now) (program_code_of code.now) go.now name.now (records_of self.now) }
+        ensures { option_copied result ≡ last_given (program_of program.now) (program_code_of code.now) go.now name.now
+            (records_of self.now) }
     {
         let step = self.records.iter().rev().find(|step| go == &step.id.go
             && has_given(program, code, step, name))?;
@@ -268,5 +271,6 @@ pub fn law_of_assignments()
     ensures last { (p : programs.Program) (s t : Contents) (records : List steps.Record) (log : List (Logged p)) (g x : List ℕ)
         → Running p s → Kept p s records log t
         → last_given p (lowered p) g x records
-        ≡ option_and_then (λ i. option_map (id_of p) (slice_get log i)) (last_assignment p (state_in p s) g x (map (λ l. l.event) log)) }
+        ≡ option_and_then (λ i. option_map (id_of p) (slice_get log i))
+        (last_assignment p (state_in p s) g x (map (λ l. l.event) log)) }
 {}

@@ -3,17 +3,17 @@
 ghost use Rattle.std.specs.Prelude.{◌≡◌, ◌<◌, length, slice_get, Some};
 ghost use Rattle.std.specs.List.{list_any};
 ghost use Rattle.gr_record.specs.Conflicts.{written_by, read_by, touched_by, conflict_of};
-ghost use Rattle.gr_touches.specs.Keys.{seen};
+ghost use Rattle.gr_touches.specs.ObjectRefs.{seen};
 ghost use Rattle.gr_touches.specs.Told.{seen_in};
 ghost use Rattle.gr_touches.specs.Touches.{is_among};
 
 use crate::log::Log;
 use gr_base::Object;
 use gr_record::Record;
-use gr_touches::{ObjectRef, Objects, reads, writes};
+use gr_touches::{ObjectRef, TouchedObjects, reads, writes};
 
 /// Whether the object is one of these.
-fn is_one_of(object: &ObjectRef<'_>, objects: Objects<'_>) -> bool
+fn is_one_of(object: &ObjectRef<'_>, objects: TouchedObjects<'_>) -> bool
     ensures { result ≡ is_among (seen object.now) (seen_in objects.entry) }
 {
     let Some((first, rest)) = objects.split_first() else {
@@ -22,7 +22,7 @@ fn is_one_of(object: &ObjectRef<'_>, objects: Objects<'_>) -> bool
     object.is(&first) || is_one_of(object, rest)
 }
 
-/// The same for a slice.
+/// Whether the object is one of a slice.
 fn is_in(object: &ObjectRef<'_>, objects: &[Object]) -> bool
     ensures { result ≡ is_among (seen object.now) objects.now }
 {
@@ -44,7 +44,7 @@ fn has_touched(step: &Record, object: &ObjectRef<'_>) -> bool
 }
 
 /// Whether a step wrote one of these objects.
-fn any_written(step: &Record, objects: Objects<'_>) -> bool
+fn any_written(step: &Record, objects: TouchedObjects<'_>) -> bool
     ensures { result ≡ list_any (λ o. is_among o (written_by step.now)) (seen_in objects.entry) }
 {
     let Some((first, rest)) = objects.split_first() else {
@@ -53,7 +53,7 @@ fn any_written(step: &Record, objects: Objects<'_>) -> bool
     has_written(step, &first) || any_written(step, rest)
 }
 
-/// The same for a slice.
+/// Whether a step wrote one of a slice of objects.
 fn any_written_in(step: &Record, objects: &[Object]) -> bool
     ensures { result ≡ list_any (λ o. is_among o (written_by step.now)) objects.now }
 {
@@ -63,7 +63,7 @@ fn any_written_in(step: &Record, objects: &[Object]) -> bool
 }
 
 /// Whether a step touched one of these objects.
-fn any_touched(step: &Record, objects: Objects<'_>) -> bool
+fn any_touched(step: &Record, objects: TouchedObjects<'_>) -> bool
     ensures { result ≡ list_any (λ o. is_among o (touched_by step.now)) (seen_in objects.entry) }
 {
     let Some((first, rest)) = objects.split_first() else {
@@ -72,7 +72,7 @@ fn any_touched(step: &Record, objects: Objects<'_>) -> bool
     has_touched(step, &first) || any_touched(step, rest)
 }
 
-/// The same for a slice.
+/// Whether a step touched one of a slice of objects.
 fn any_touched_in(step: &Record, objects: &[Object]) -> bool
     ensures { result ≡ list_any (λ o. is_among o (touched_by step.now)) objects.now }
 {
@@ -110,7 +110,8 @@ impl Log {
     pub fn conflicts(&self, first: usize, second: usize) -> bool
         requires first { first < length (records_of self.now) }
         requires second { second < length (records_of self.now) }
-        ensures { (a b : Record) → slice_get (records_of self.now) first ≡ Some a → slice_get (records_of self.now) second ≡ Some b → result ≡ conflict_of a b }
+        ensures { (a b : Record) → slice_get (records_of self.now) first ≡ Some a
+            → slice_get (records_of self.now) second ≡ Some b → result ≡ conflict_of a b }
     {
         conflict(self.record(first), self.record(second))
     }

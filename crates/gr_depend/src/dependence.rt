@@ -11,7 +11,7 @@ ghost use Rattle.gr_touches.specs.Walks.{AreWalked, HasMarks};
 
 use crate::log::Log;
 use gr_base::NoMemory;
-use gr_touches::{Origin, Side};
+use gr_touches::{Direction, Origin, Wanted};
 use std::alloc::Global;
 
 /// As many marks, none of which is set.
@@ -29,8 +29,10 @@ impl Log {
     pub fn dependents(&self, alloc: Global, at: usize) -> Result<Vec<bool>, NoMemory>
         requires { at < length (records_of self.now) }
         ensures count { IfOk result (λ marks. length marks.items ≡ length (records_of self.now) - at) }
-        ensures members { IfOk result (λ marks. marked marks.items (drop at (records_of self.now)) ≡ dependents conflict_of (records_of self.now) at) }
-        ensures others { IfOk result (λ marks. unmarked marks.items (drop at (records_of self.now)) ≡ drop at (kept conflict_of (records_of self.now) at)) }
+        ensures members { IfOk result (λ marks. marked marks.items (drop at (records_of self.now))
+            ≡ dependents conflict_of (records_of self.now) at) }
+        ensures others { IfOk result (λ marks. unmarked marks.items (drop at (records_of self.now))
+            ≡ drop at (kept conflict_of (records_of self.now) at)) }
     {
         let mut marks = no_marks(alloc, self.records.len() - at)?;
         let mut read = no_marks(alloc, self.lanes.count())?;
@@ -44,7 +46,8 @@ impl Log {
     pub fn causes(&self, alloc: Global, at: usize) -> Result<Vec<bool>, NoMemory>
         requires { at < length (records_of self.now) }
         ensures count { IfOk result (λ marks. length marks.items ≡ at + 1) }
-        ensures members { IfOk result (λ marks. marked marks.items (records_of self.now) ≡ causes conflict_of (records_of self.now) at) }
+        ensures members { IfOk result (λ marks. marked marks.items (records_of self.now)
+            ≡ causes conflict_of (records_of self.now) at) }
     {
         let mut marks = no_marks(alloc, at + 1)?;
         let mut read = no_marks(alloc, self.lanes.count())?;
@@ -68,7 +71,7 @@ impl Log {
     {
         marks[0] = true;
         let first = Origin {
-            side: Side::Later,
+            direction: Direction::Later,
             place: at,
             base: at,
         };
@@ -78,7 +81,7 @@ impl Log {
                 continue;
             }
             let origin = Origin {
-                side: Side::Later,
+                direction: Direction::Later,
                 place,
                 base: at,
             };
@@ -95,7 +98,7 @@ impl Log {
     {
         marks[at] = true;
         let first = Origin {
-            side: Side::Earlier,
+            direction: Direction::Earlier,
             place: at,
             base: 0,
         };
@@ -107,7 +110,7 @@ impl Log {
                 continue;
             }
             let origin = Origin {
-                side: Side::Earlier,
+                direction: Direction::Earlier,
                 place: left,
                 base: 0,
             };
@@ -121,12 +124,12 @@ impl Log {
         requires marks { HasMarks origin (length (records_of self.now)) (length marks.old) }
         requires no_more { origin.base + length marks.old ≤ length (records_of self.now) }
         requires read_count { length read.old ≡ length (keys self.now.lanes.map) + 1 }
-        requires read_walked { AreWalked self.now.lanes origin false read.old marks.old }
+        requires read_walked { AreWalked self.now.lanes origin Wanted.Writes read.old marks.old }
         requires written_count { length written.old ≡ length (keys self.now.lanes.map) + 1 }
-        requires written_walked { AreWalked self.now.lanes origin true written.old marks.old }
+        requires written_walked { AreWalked self.now.lanes origin Wanted.All written.old marks.old }
         ensures marks { Marks origin (conflict_at (records_of self.now) origin.place) marks.old marks.new }
-        ensures read_walked { AreWalked self.now.lanes origin false read.new marks.new }
-        ensures written_walked { AreWalked self.now.lanes origin true written.new marks.new }
+        ensures read_walked { AreWalked self.now.lanes origin Wanted.Writes read.new marks.new }
+        ensures written_walked { AreWalked self.now.lanes origin Wanted.All written.new marks.new }
     {
         let step = &self.records[origin.place];
         self.lanes.mark_step(origin, step, read, written, marks);

@@ -1,7 +1,7 @@
 //! Steps of the log that commands ask for.
 
 ghost use Rattle.std.specs.Prelude.{◌≡◌, ℕ, List, option_copied, option_map};
-ghost use Rattle.gr_contents.specs.Contents.{Contents};
+ghost use Rattle.gr_refine.specs.Contents.{Contents};
 ghost use Rattle.gr_program.specs.Programs.{Program};
 ghost use Rattle.gr_rules.specs.History as rules;
 ghost use Rattle.gr_laws.specs.Reached.{Logged};

@@ -1,6 +1,8 @@
 //! The log of the steps that were taken.
 
-ghost use Rattle.std.specs.Prelude.{◌≡◌, ◌<◌, ◌≤◌, ◌^◌, ◌++◌, vec_len, vec_capacity, ◌∷◌, [], ℕ, List, length, true, slice_index_or, slice_get, option_copied, IfErr, OnOk, OnErr, IfSome, IfNone, IsOk, IsTrue, MatchOption, All, ◌↔◌, ◌-◌};
+ghost use Rattle.std.specs.Prelude.{◌≡◌, ◌<◌, ◌≤◌, ◌^◌, ◌++◌, vec_len, vec_capacity, ◌∷◌, [], ℕ, List, length, true};
+ghost use Rattle.std.specs.Prelude.{slice_index_or, slice_get, option_copied, IfErr, OnOk, OnErr, IfSome, IfNone, IsOk, IsTrue};
+ghost use Rattle.std.specs.Prelude.{MatchOption, All, ◌↔◌, ◌-◌};
 ghost use Rattle.std.specs.List.{list_all};
 ghost use Rattle.std.proofs.Props.{props};
 ghost use Rattle.gr_base.specs.declared.objects.Object.{Object};
@@ -76,8 +78,8 @@ impl Log {
         self.records.last()
     }
 
-    /// Adds a step at the end. Refused, the log is as before, and the record is handed back. It is not refused where there is room,
-    /// which a log of 2^32 steps never has.
+    /// Adds a step at the end. Refused, the log is as before, and the record is handed back. It is not refused where there is
+    /// room, which a log of 2^32 steps never has.
     #[inline(always)]
     pub fn push(&mut self, step: Record) -> Result<(), (Record, NoMemory)>
         requires { Distinct (touched_by step) }
@@ -103,8 +105,8 @@ impl Log {
         }
     }
 
-    /// Adds steps at the end that a goroutine took by itself and that reached no further. Refused, the log is as before; it has no
-    /// room where it would come to 2^32 steps.
+    /// Adds steps at the end that a goroutine took by itself and that reached no further. Refused, the log is as before; it has
+    /// no room where it would come to 2^32 steps.
     pub fn append(&mut self, go: &GoName, steps: Vec<Record>) -> Result<(), NoMemory>
         requires { All (IsAlone go.now) steps.items }
         ensures ok { OnOk result (records_of self.new ≡ records_of self.old ++ steps.items) }
@@ -126,7 +128,8 @@ impl Log {
     /// Takes the last step out, if there is one. It takes no memory.
     #[inline]
     pub fn pop(&mut self) -> Option<Record>
-        ensures taken { MatchOption result (records_of self.old ≡ []) (λ step. records_of self.old ≡ records_of self.new ++ step ∷ []) }
+        ensures taken { MatchOption result (records_of self.old ≡ []) (λ step. records_of self.old ≡ records_of self.new ++ step
+            ∷ []) }
         ensures none { IfNone result (records_of self.new ≡ []) }
         ensures room { (rest : List Record) → CanTake self.old rest → IfSome result (λ step. CanTake self.new (step ∷ rest)) }
         ensures room_none { (rest : List Record) → CanTake self.old rest → IfNone result (CanTake self.new rest) }
@@ -163,7 +166,8 @@ impl Log {
         ensures { CanTake log.now [] }
     {}
 
-    /// The touches of an object, by the places of the steps, if there are any.
+    /// The touches of an object, by the places of the steps, if there are any. The crates above do not call it: it is for
+    /// users of the library.
     pub fn touched(&self, object: &Object) -> Option<&[Touch]>
         ensures { option_copied result ≡ if_any (touches_in object.now 0 (records_of self.now)) }
     {

@@ -40,7 +40,8 @@ impl Log {
         None
     }
 
-    /// How many steps of the goroutine are left from the one at a place to that of the name; 1 where the place has none before it.
+    /// How many steps of the goroutine are left from the one at a place to that of the name; 1 where the place has none before
+    /// it.
     fn steps_left(&self, place: usize, id: &StepId) -> u64 {
         match self.records.get(place) {
             Some(step) if step.id.go == id.go => id.n.saturating_sub(step.id.n).max(1),
@@ -51,7 +52,8 @@ impl Log {
     /// The place of the first of these touches whose step has the name.
     fn find_named(&self, touches: &[Touch], id: &StepId) -> Option<usize>
         ensures found { IfSome result (λ place. IsNamed (records_of self.now) place id.now) }
-        ensures missing { IfNone result ((place : ℕ) → list_any (λ t. t.place == place) touches.now ≡ true → IsNamed (records_of self.now) place id.now → ⊥) }
+        ensures missing { IfNone result ((place : ℕ) → list_any (λ t. t.place == place) touches.now ≡ true
+            → IsNamed (records_of self.now) place id.now → ⊥) }
     {
         for i in 0..touches.len() {
             let place = touches[i].place as usize;
@@ -72,7 +74,7 @@ impl Log {
         }
     }
 
-    /// The name of the last step of a goroutine.
+    /// The name of the last step of a goroutine. The crates above do not call it: it is for users of the library.
     pub fn last_of(&self, go: &GoName) -> Option<&StepId>
         ensures found { IfSome result (λ id. IsLastOf (records_of self.now) go.now id.now) }
         ensures missing { IfNone result (NoneFrom (records_of self.now) 0 go.now) }

@@ -1,6 +1,7 @@
 //! Another order of the steps of a log, given by their names.
 
-ghost use Rattle.std.specs.Prelude.{◌≡◌, ◌<◌, ◌≤◌, ℕ, List, [], ◌++◌, ◌↔◌, IfOk, IfErr, IfNone, IfSome, OnOk, OnErr, IsTrue, MatchOption, length, map, None, Some, replicate, reverse, vec_capacity};
+ghost use Rattle.std.specs.Prelude.{◌≡◌, ◌<◌, ◌≤◌, ℕ, List, [], ◌++◌, ◌↔◌, IfOk, IfErr, IfNone, IfSome, OnOk, OnErr, IsTrue};
+ghost use Rattle.std.specs.Prelude.{MatchOption, length, map, None, Some, replicate, reverse, vec_capacity};
 ghost use Rattle.gr_causal.specs.Orders.{IsOrder};
 ghost use Rattle.gr_causal.specs.OrderByNames.{NamesEach};
 ghost use Rattle.gr_causal.specs.Sequences.{Distinct};
@@ -135,7 +136,8 @@ impl Log {
     fn first_to_change(&self, from: &[usize], to: &[usize]) -> Option<(usize, usize)>
         requires places { length to.now ≡ length (records_of self.now) }
         requires inverse { AreInverse from.now to.now }
-        ensures { MatchOption result ((p q : ℕ) → AreTurned (records_of self.now) to.now p q → ⊥) (λ places. AreFirstTurned (records_of self.now) to.now places.0 places.1) }
+        ensures { MatchOption result ((p q : ℕ) → AreTurned (records_of self.now) to.now p q
+            → ⊥) (λ places. AreFirstTurned (records_of self.now) to.now places.0 places.1) }
     {
         for place in self.first_turned(to, from.len())..from.len() {
             let later = from[place];
@@ -150,7 +152,9 @@ impl Log {
     fn turned_with(&self, later: usize, to: &[usize]) -> Option<usize>
         requires within { later < length (records_of self.now) }
         requires places { length to.now ≡ length (records_of self.now) }
-        ensures { MatchOption result ((p : ℕ) → AreTurned (records_of self.now) to.now p later → ⊥) (λ earlier. AreTurned (records_of self.now) to.now earlier later × ((p : ℕ) → AreTurned (records_of self.now) to.now p later → earlier ≤ p)) }
+        ensures { MatchOption result ((p : ℕ) → AreTurned (records_of self.now) to.now p later
+            → ⊥) (λ earlier. AreTurned (records_of self.now) to.now earlier later
+            × ((p : ℕ) → AreTurned (records_of self.now) to.now p later → earlier ≤ p)) }
     {
         for earlier in 0..later {
             if to[later] < to[earlier] && self.conflicts(earlier, later) {

@@ -24,7 +24,10 @@ impl Latest {
 
     /// The last places with one more touch.
     fn with(self, touch: Touch, place: usize) -> Latest
-        ensures { result ≡ record { touch = max self.touch place; write = (if touch.writes then max self.write place else self.write) } }
+        ensures { result ≡ record {
+          touch = max self.touch place;
+          write = (if touch.writes then max self.write place else self.write);
+        } }
     {
         let write = if touch.writes {
             self.write.max(place)

@@ -1,4 +1,3 @@
-pub mod Digits
 pub mod Wrapping
 pub mod Words
 pub mod Shifts

@@ -7,7 +7,7 @@ use Rattle.std.specs.Int.Bits.{and_lt, or_lt, xor_lt}
 use Rattle.std.proofs.lemmas.Int.{to_z-of_z}
 use Rattle.std.proofs.lemmas.Nat.Bits.{bit_at_and, bit_at_or, bit_at_xor, bit_at_not, same_from_bits_below}
 use Rattle.gr_const.specs.Bits.{without, both, either, differing}
-use Rattle.gr_eval.proofs.Digits.{digit, digit_both, digit_either, digit_differing}
+use Rattle.gr_const.proofs.BitByBit.{digit, digit_both, digit_either, digit_differing}
 use Rattle.gr_rules.specs.Operators.{wrapped}
 use Rattle.gr_eval.proofs.Wrapping.{fitting_is}
 

@@ -110,7 +110,8 @@ fn of_nested(
     right: &Operand,
 ) -> Option<Result<Scalar, Fault>>
     requires { rules.evaluate cells.now (operands.Binary op (operand_of left.now) (operand_of right.now)) ≢ wrong }
-    ensures { IfSome result (λ r. rules.evaluate cells.now (operands.Binary op (operand_of left.now) (operand_of right.now)) ≡ scalar_outcome r) }
+    ensures { IfSome result (λ r. rules.evaluate cells.now (operands.Binary op (operand_of left.now) (operand_of right.now))
+        ≡ scalar_outcome r) }
 {
     let x = number_from(cells, left)?;
     let y = number_from(cells, right)?;

@@ -17,7 +17,7 @@ pub enum Scalar {
 }
 
 impl Scalar {
-    /// The same as a value.
+    /// The scalar as a value.
     #[inline]
     pub fn to_value(self) -> Value
         ensures { result ≡ scalar_value self }
@@ -28,7 +28,7 @@ impl Scalar {
         }
     }
 
-    /// The same as a value that is looked at.
+    /// The scalar as a value that is looked at.
     #[inline]
     pub fn to_seen<'a>(self) -> Seen<'a>
         ensures { value_of result ≡ scalar_value self }

@@ -21,8 +21,8 @@ use Rattle.gr_typing.specs.Scopes.{Scope, variable_named, Signature, Sign, funct
 use Rattle.gr_typing.specs.Values.{Value}
 use Rattle.gr_exprs.specs.Finding.{◌>>=◌, has_text, measure, call_of, call_value, call_in, called, given, value_in, arguments_in, only_in}
 use Rattle.gr_exprs.specs.Calling.{values_in, given_all, only_of, measure_named, callee_in, called_as, call_named}
-use Rattle.gr_exprs.specs.declared.fault.Fault.{Fault}
-use Rattle.gr_exprs.specs.declared.fault.Fault.TheVariants as faults
+use Rattle.gr_exprs.specs.declared.refusal.RuleError.{RuleError}
+use Rattle.gr_exprs.specs.declared.refusal.RuleError.TheVariants as faults
 use Rattle.gr_exprs.specs.Checking.{meaning_of, meanings_of, Rejects, Agrees}
 use Rattle.gr_exprs.proofs.Basics.{then_none}
 use Rattle.gr_exprs.proofs.Trees.{tree_call}
@@ -193,11 +193,11 @@ call_values : (fs : List Signature) (s : Scope) (e : code_expr.Expr) (x : Box (V
 call_values fs s e x all y c es is same listed found =
     ap (λ e. value_in fs s (tree_of e)) is ∙ call_view fs s x all ∙ ap (λ o. o >>= λ c. values_in fs s (trees_of all.items) >>= called_as fs c) (ap (callee_in fs s) (sym same) ∙ found) ∙ ap (λ l. values_in fs s (trees_of l) >>= called_as fs c) (sym listed)
 
-pub call_rejected : (fs : List Signature) (s : Scope) (e : code_expr.Expr) (x : Box (Vec ℕ Global) Global) (all : Vec code_expr.Expr Global) (y : List ℕ) (c : Callee) (es : List code_expr.Expr) (f : Fault) → e ≡ exprs.Call x all → y ≡ x.value.items → es ≡ all.items → callee_in fs s y ≡ Some c → Rejects f (values_in fs s (trees_of es)) → Rejects f (value_in fs s (tree_of e))
+pub call_rejected : (fs : List Signature) (s : Scope) (e : code_expr.Expr) (x : Box (Vec ℕ Global) Global) (all : Vec code_expr.Expr Global) (y : List ℕ) (c : Callee) (es : List code_expr.Expr) (f : RuleError) → e ≡ exprs.Call x all → y ≡ x.value.items → es ≡ all.items → callee_in fs s y ≡ Some c → Rejects f (values_in fs s (trees_of es)) → Rejects f (value_in fs s (tree_of e))
 call_rejected fs s e x all y c es (faults.Broken code) is same listed found a = call_values fs s e x all y c es is same listed found ∙ ap (λ o. o >>= called_as fs c) a
 call_rejected fs s e x all y c es faults.Memory is same listed found a = tt
 
-pub call_agrees : (fs : List Signature) (s : Scope) (e : code_expr.Expr) (x : Box (Vec ℕ Global) Global) (all : Vec code_expr.Expr Global) (y : List ℕ) (c : Callee) (es : List code_expr.Expr) (vs : List code_operand.Operand) (r : Result code_operand.Operand Fault) → e ≡ exprs.Call x all → y ≡ x.value.items → es ≡ all.items → callee_in fs s y ≡ Some c → values_in fs s (trees_of es) ≡ Some (meanings_of vs) → Agrees meaning_of r (called_as fs c (meanings_of vs)) → Agrees meaning_of r (value_in fs s (tree_of e))
+pub call_agrees : (fs : List Signature) (s : Scope) (e : code_expr.Expr) (x : Box (Vec ℕ Global) Global) (all : Vec code_expr.Expr Global) (y : List ℕ) (c : Callee) (es : List code_expr.Expr) (vs : List code_operand.Operand) (r : Result code_operand.Operand RuleError) → e ≡ exprs.Call x all → y ≡ x.value.items → es ≡ all.items → callee_in fs s y ≡ Some c → values_in fs s (trees_of es) ≡ Some (meanings_of vs) → Agrees meaning_of r (called_as fs c (meanings_of vs)) → Agrees meaning_of r (value_in fs s (tree_of e))
 call_agrees fs s e x all y c es vs r is same listed found a h =
     subst (λ o. Agrees meaning_of r o) (sym (call_values fs s e x all y c es is same listed found ∙ ap (λ o. o >>= called_as fs c) a)) h
 

@@ -7,8 +7,8 @@ use Rattle.gr_exprs.specs.declared.operands.Operand as code_operand
 use Rattle.gr_exprs.specs.declared.operands.Operand.TheVariants as code
 use Rattle.gr_exprs.specs.declared.operands.Channel as code_channel
 use Rattle.gr_exprs.specs.declared.calls.Called as code_called
-use Rattle.gr_exprs.specs.declared.fault.Fault.{Fault}
-use Rattle.gr_exprs.specs.declared.fault.Fault.TheVariants as faults
+use Rattle.gr_exprs.specs.declared.refusal.RuleError.{RuleError}
+use Rattle.gr_exprs.specs.declared.refusal.RuleError.TheVariants as faults
 use Rattle.gr_program.specs.Types.{Ty}
 use Rattle.gr_program.specs.Programs.{Expr, Call}
 use Rattle.gr_typing.specs.Values.{Value, Known, NilValue, Made}
@@ -36,11 +36,11 @@ abbrev pub called_of : code_called.Called → Option Ty × Expr
 called_of c = (optional ty_of c.result, Call c.function (exprs_of c.arguments.items))
 
 -- a fault says that there is nothing; want of memory says nothing
-abbrev pub Rejects : {B : Type 0} → Fault → Option B → Type 0
+abbrev pub Rejects : {B : Type 0} → RuleError → Option B → Type 0
 Rejects (faults.Broken code) o = o ≡ None
 Rejects faults.Memory o = Unit {0}
 
 -- a result beside what it should be
-abbrev pub Agrees : {A B : Type 0} → (A → B) → Result A Fault → Option B → Type 0
+abbrev pub Agrees : {A B : Type 0} → (A → B) → Result A RuleError → Option B → Type 0
 Agrees view (Ok a) o = o ≡ Some (view a)
 Agrees view (Err fault) o = Rejects fault o

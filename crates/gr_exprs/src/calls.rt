@@ -12,12 +12,12 @@ ghost use Rattle.gr_exprs.specs.Finding as spec;
 ghost use Rattle.gr_exprs.specs.Calling as calling;
 ghost use Rattle.gr_exprs.specs.Checking.{Agrees, meaning_of, meanings_of, called_of};
 ghost use Rattle.gr_exprs.specs.Codes.{Tells, name_code, callee_code};
-ghost use Rattle.gr_exprs.specs.declared.fault.Code.TheVariants as codes;
+ghost use Rattle.gr_exprs.specs.declared.refusal.RefusalCode.TheVariants as codes;
 
-use crate::fault::{Code, Fault};
 use crate::functions::Functions;
 use crate::names::is_predeclared;
 use crate::operands::{Operand, as_channel, as_type};
+use crate::refusal::{RefusalCode, RuleError};
 use crate::scope::Scope;
 use crate::types::Signature;
 use gr_program as checked;
@@ -47,26 +47,26 @@ pub struct Called {
 }
 
 /// The rule that a name breaks which is no type, or no function that may be called.
-pub fn unusable(functions: &Functions, scope: &Scope, name: &[u8]) -> Code
+pub fn unusable(functions: &Functions, scope: &Scope, name: &[u8]) -> RefusalCode
     ensures { result ≡ name_code (functions_of functions.now) (scope_of scope.now) name.now }
 {
     if is_predeclared(name)
         || scope.variable_named(name).is_some()
         || functions.number(name).is_some()
     {
-        Code::WrongForm
+        RefusalCode::WrongForm
     } else {
-        Code::UnknownName
+        RefusalCode::UnknownName
     }
 }
 
 // The rule that a name breaks as the callee of a call that has a value.
-fn no_callee(functions: &Functions, scope: &Scope, name: &[u8]) -> Code
+fn no_callee(functions: &Functions, scope: &Scope, name: &[u8]) -> RefusalCode
     ensures { result ≡ callee_code (functions_of functions.now) (scope_of scope.now) name.now }
 {
     let has_no_value = name == b"close".as_slice() || name == b"println".as_slice();
     if has_no_value && scope.variable_named(name).is_none() {
-        Code::WrongCount
+        RefusalCode::WrongCount
     } else {
         unusable(functions, scope, name)
     }
@@ -97,13 +97,13 @@ fn callee_in(functions: &Functions, scope: &Scope, name: &[u8]) -> Option<Callee
 }
 
 /// What a name stands for in a call that has a value.
-pub fn resolve(functions: &Functions, scope: &Scope, name: &[u8]) -> Result<Callee, Fault>
+pub fn resolve(functions: &Functions, scope: &Scope, name: &[u8]) -> Result<Callee, RuleError>
     ensures value { Agrees (λ c. c) result (calling.callee_in (functions_of functions.now) (scope_of scope.now) name.now) }
     ensures code { Tells result (callee_code (functions_of functions.now) (scope_of scope.now) name.now) }
 {
     match callee_in(functions, scope, name) {
         Some(callee) => Ok(callee),
-        None => Err(Fault::Broken(no_callee(functions, scope, name))),
+        None => Err(RuleError::Broken(no_callee(functions, scope, name))),
     }
 }
 
@@ -112,19 +112,19 @@ fn given_all(
     alloc: Global,
     parameters: &[Type],
     mut values: VecDeque<Operand>,
-) -> Result<Vec<checked::Expr>, Fault>
+) -> Result<Vec<checked::Expr>, RuleError>
     ensures { Agrees (λ v. exprs_of v.items) result (calling.given_all (meanings_of values.items) (types_of parameters.now)) }
 {
     let mut terms = Vec::with_capacity(alloc, parameters.len())?;
     for parameter in parameters {
         let Some(value) = values.pop_front() else {
-            return Err(Fault::Broken(Code::WrongCount));
+            return Err(RuleError::Broken(RefusalCode::WrongCount));
         };
         let term = as_type(parameter, value)?;
         terms.push(term)?;
     }
     if !values.is_empty() {
-        return Err(Fault::Broken(Code::WrongCount));
+        return Err(RuleError::Broken(RefusalCode::WrongCount));
     }
     Ok(terms)
 }
@@ -134,11 +134,12 @@ fn call_of(
     function: usize,
     signature: &Signature,
     values: VecDeque<Operand>,
-) -> Result<Called, Fault>
-    ensures { Agrees called_of result (spec.call_of (calling.given_all (meanings_of values.items)) function (Some (sign_of signature.now))) }
+) -> Result<Called, RuleError>
+    ensures { Agrees called_of result
+        (spec.call_of (calling.given_all (meanings_of values.items)) function (Some (sign_of signature.now))) }
 {
     if values.len() != signature.parameters.len() {
-        return Err(Fault::Broken(Code::WrongCount));
+        return Err(RuleError::Broken(RefusalCode::WrongCount));
     }
     let arguments = given_all(alloc, &signature.parameters, values)?;
     let result = copy_optional(alloc, &signature.result)?;
@@ -155,16 +156,18 @@ pub fn call_function(
     functions: &Functions,
     function: usize,
     values: VecDeque<Operand>,
-) -> Result<Called, Fault>
-    ensures { Agrees called_of result (spec.call_of (calling.given_all (meanings_of values.items)) function (scopes.signature (functions_of functions.now) function)) }
+) -> Result<Called, RuleError>
+    ensures { Agrees called_of result
+        (spec.call_of (calling.given_all (meanings_of values.items)) function
+        (scopes.signature (functions_of functions.now) function)) }
 {
     match functions.signature(function) {
         Some(signature) => call_of(alloc, function, signature, values),
-        None => Err(Fault::Broken(Code::UnknownName)),
+        None => Err(RuleError::Broken(RefusalCode::UnknownName)),
     }
 }
 
-fn with_value(called: Called) -> Result<Operand, Fault>
+fn with_value(called: Called) -> Result<Operand, RuleError>
     ensures value { Agrees meaning_of result (spec.call_value (called_of called)) }
     ensures code { Tells result codes.WrongCount }
 {
@@ -175,24 +178,24 @@ fn with_value(called: Called) -> Result<Operand, Fault>
     } = called;
     match own {
         Some(own) => Ok(Operand::Made(own, checked::forms::call(function, arguments))),
-        None => Err(Fault::Broken(Code::WrongCount)),
+        None => Err(RuleError::Broken(RefusalCode::WrongCount)),
     }
 }
 
 // The one value among these.
-fn only(mut values: VecDeque<Operand>) -> Result<Operand, Fault>
+fn only(mut values: VecDeque<Operand>) -> Result<Operand, RuleError>
     ensures { Agrees meaning_of result (calling.only_of (meanings_of values.items)) }
 {
     if values.len() != 1 {
-        return Err(Fault::Broken(Code::WrongCount));
+        return Err(RuleError::Broken(RefusalCode::WrongCount));
     }
     match values.pop_front() {
         Some(value) => Ok(value),
-        None => Err(Fault::Broken(Code::WrongCount)),
+        None => Err(RuleError::Broken(RefusalCode::WrongCount)),
     }
 }
 
-fn length_of(alloc: Global, value: Operand) -> Result<Operand, Fault>
+fn length_of(alloc: Global, value: Operand) -> Result<Operand, RuleError>
     ensures { Agrees meaning_of result (spec.measured pure.Len (meaning_of value)) }
 {
     let channel = as_channel(value)?;
@@ -202,7 +205,7 @@ fn length_of(alloc: Global, value: Operand) -> Result<Operand, Fault>
     ))
 }
 
-fn capacity_of(alloc: Global, value: Operand) -> Result<Operand, Fault>
+fn capacity_of(alloc: Global, value: Operand) -> Result<Operand, RuleError>
     ensures { Agrees meaning_of result (spec.measured pure.Cap (meaning_of value)) }
 {
     let channel = as_channel(value)?;
@@ -218,7 +221,7 @@ pub fn call(
     functions: &Functions,
     callee: Callee,
     values: VecDeque<Operand>,
-) -> Result<Operand, Fault>
+) -> Result<Operand, RuleError>
     ensures { Agrees meaning_of result (calling.called_as (functions_of functions.now) callee (meanings_of values.items)) }
 {
     match callee {

@@ -13,13 +13,13 @@ ghost use Rattle.gr_exprs.specs.Finding as spec;
 ghost use Rattle.gr_exprs.specs.Calling as calling;
 ghost use Rattle.gr_exprs.specs.Checking.{Agrees, meaning_of, meanings_of, called_of};
 ghost use Rattle.gr_exprs.specs.Codes.{Tells, name_code, type_code};
-ghost use Rattle.gr_exprs.specs.declared.fault.Code.TheVariants as codes;
+ghost use Rattle.gr_exprs.specs.declared.refusal.RefusalCode.TheVariants as codes;
 
 use crate::calls::{Called, call, call_function, resolve, unusable};
-use crate::fault::{Code, Fault, code_of};
 use crate::functions::Functions;
 use crate::operands::{Operand, size};
 use crate::operators::{binary, unary};
+use crate::refusal::{RefusalCode, RuleError, code_of};
 use crate::scope::Scope;
 use crate::types::written;
 use gr_const::{Constant, number};
@@ -30,12 +30,12 @@ use gr_tree::{Expr, TypeTree};
 use std::alloc::Global;
 use std::collections::VecDeque;
 
-fn variable(alloc: Global, scope: &Scope, number: usize) -> Result<Operand, Fault>
+fn variable(alloc: Global, scope: &Scope, number: usize) -> Result<Operand, RuleError>
     ensures { Agrees meaning_of result (spec.variable_value (scope_of scope.now) number) }
 {
     match scope.type_of(number) {
         Some(own) => Ok(Operand::Made(copy(alloc, own)?, checked::Expr::Variable(number))),
-        None => Err(Fault::Broken(Code::UnknownName)),
+        None => Err(RuleError::Broken(RefusalCode::UnknownName)),
     }
 }
 
@@ -54,21 +54,27 @@ fn constant_named(name: &[u8]) -> Option<Operand>
 }
 
 // A name that stands for no variable.
-fn predeclared(functions: &Functions, scope: &Scope, name: &[u8]) -> Result<Operand, Fault>
-    ensures value { Agrees meaning_of result (spec.if_unknown (scopes.function_in (functions_of functions.now) name.now) (spec.named_constant name.now)) }
+fn predeclared(functions: &Functions, scope: &Scope, name: &[u8]) -> Result<Operand, RuleError>
+    ensures value { Agrees meaning_of result
+        (spec.if_unknown (scopes.function_in (functions_of functions.now) name.now) (spec.named_constant name.now)) }
     ensures code { Tells result (name_code (functions_of functions.now) (scope_of scope.now) name.now) }
 {
     if functions.number(name).is_some() {
-        return Err(Fault::Broken(Code::WrongForm));
+        return Err(RuleError::Broken(RefusalCode::WrongForm));
     }
     match constant_named(name) {
         Some(value) => Ok(value),
-        None => Err(Fault::Broken(unusable(functions, scope, name))),
+        None => Err(RuleError::Broken(unusable(functions, scope, name))),
     }
 }
 
 #[tactic(auto, unfolding(crate::specs::Finding::name_value))]
-fn named(alloc: Global, functions: &Functions, scope: &Scope, name: &[u8]) -> Result<Operand, Fault>
+fn named(
+    alloc: Global,
+    functions: &Functions,
+    scope: &Scope,
+    name: &[u8],
+) -> Result<Operand, RuleError>
     ensures { Agrees meaning_of result (spec.name_value (functions_of functions.now) (scope_of scope.now) name.now) }
 {
     match scope.variable_named(name) {
@@ -77,23 +83,23 @@ fn named(alloc: Global, functions: &Functions, scope: &Scope, name: &[u8]) -> Re
     }
 }
 
-fn literal(n: u64) -> Result<Operand, Fault>
+fn literal(n: u64) -> Result<Operand, RuleError>
     ensures value { Agrees meaning_of result (calling.number_value n) }
     ensures code { Tells result codes.Constant }
 {
     match number(n) {
         Ok(constant) => Ok(Operand::Constant(constant)),
-        Err(error) => Err(Fault::Broken(code_of(error))),
+        Err(error) => Err(RuleError::Broken(code_of(error))),
     }
 }
 
 // The rule that a written type breaks which is none.
-fn no_type(functions: &Functions, scope: &Scope, tree: &TypeTree) -> Code
+fn no_type(functions: &Functions, scope: &Scope, tree: &TypeTree) -> RefusalCode
     ensures { result ≡ type_code (functions_of functions.now) (scope_of scope.now) (trees.type_of tree.now) }
 {
     match tree {
         TypeTree::Name(name) => unusable(functions, scope, name),
-        TypeTree::Unit => Code::WrongForm,
+        TypeTree::Unit => RefusalCode::WrongForm,
         TypeTree::Chan(_, inner) => no_type(functions, scope, inner),
         TypeTree::Paren(inner) => no_type(functions, scope, inner),
     }
@@ -105,23 +111,23 @@ pub fn written_type(
     functions: &Functions,
     scope: &Scope,
     tree: &TypeTree,
-) -> Result<Type, Fault>
+) -> Result<Type, RuleError>
     ensures value { Agrees ty_of result (types.type_written (trees.type_of tree.now)) }
     ensures code { Tells result (type_code (functions_of functions.now) (scope_of scope.now) (trees.type_of tree.now)) }
 {
     match written(alloc, tree)? {
         Some(own) => Ok(own),
-        None => Err(Fault::Broken(no_type(functions, scope, tree))),
+        None => Err(RuleError::Broken(no_type(functions, scope, tree))),
     }
 }
 
-fn made_channel(own: Type, term: checked::Expr) -> Result<Operand, Fault>
+fn made_channel(own: Type, term: checked::Expr) -> Result<Operand, RuleError>
     ensures value { Agrees meaning_of result (spec.made_channel (Some (ty_of own)) (expr_of term)) }
     ensures code { Tells result codes.WrongForm }
 {
     match own {
         Type::Chan(direction, element) => Ok(Operand::Made(Type::Chan(direction, element), term)),
-        _ => Err(Fault::Broken(Code::WrongForm)),
+        _ => Err(RuleError::Broken(RefusalCode::WrongForm)),
     }
 }
 
@@ -131,7 +137,7 @@ fn make(
     scope: &Scope,
     tree: &TypeTree,
     term: checked::Expr,
-) -> Result<Operand, Fault>
+) -> Result<Operand, RuleError>
     ensures { Agrees meaning_of result (spec.made_channel (types.type_written (trees.type_of tree.now)) (expr_of term)) }
 {
     made_channel(written_type(alloc, functions, scope, tree)?, term)
@@ -143,7 +149,7 @@ fn make_sized(
     scope: &Scope,
     tree: &TypeTree,
     value: Operand,
-) -> Result<Operand, Fault>
+) -> Result<Operand, RuleError>
     ensures { Agrees meaning_of result (calling.sized_channel (types.type_written (trees.type_of tree.now)) (meaning_of value)) }
 {
     let size = Box::new(alloc, size(value)?)?;
@@ -164,12 +170,12 @@ pub fn find(
     functions: &Functions,
     scope: &Scope,
     expr: &Expr,
-) -> Result<Operand, Fault>
+) -> Result<Operand, RuleError>
     ensures { Agrees meaning_of result (spec.value_in (functions_of functions.now) (scope_of scope.now) (tree_of expr.now)) }
 {
     match expr {
         Expr::Number(n) => literal(*n),
-        Expr::Text(_) => Err(Fault::Broken(Code::WrongForm)),
+        Expr::Text(_) => Err(RuleError::Broken(RefusalCode::WrongForm)),
         Expr::Name(name) => named(alloc, functions, scope, name),
         Expr::Unit => Ok(Operand::Made(Type::Unit, checked::Expr::Literal(Literal::Empty))),
         Expr::Paren(inner) => find(alloc, functions, scope, inner),
@@ -199,8 +205,9 @@ pub fn find_all(
     functions: &Functions,
     scope: &Scope,
     exprs: &[Expr],
-) -> Result<VecDeque<Operand>, Fault>
-    ensures { Agrees (λ v. meanings_of v.items) result (calling.values_in (functions_of functions.now) (scope_of scope.now) (trees_of exprs.now)) }
+) -> Result<VecDeque<Operand>, RuleError>
+    ensures { Agrees (λ v. meanings_of v.items) result
+        (calling.values_in (functions_of functions.now) (scope_of scope.now) (trees_of exprs.now)) }
 {
     let mut values = VecDeque::new(alloc);
     for expr in exprs {
@@ -210,16 +217,16 @@ pub fn find_all(
     Ok(values)
 }
 
-fn function_named(functions: &Functions, scope: &Scope, name: &[u8]) -> Result<usize, Fault>
+fn function_named(functions: &Functions, scope: &Scope, name: &[u8]) -> Result<usize, RuleError>
     ensures value { Agrees (λ k. k) result (calling.function_named (functions_of functions.now) (scope_of scope.now) name.now) }
     ensures code { Tells result (name_code (functions_of functions.now) (scope_of scope.now) name.now) }
 {
     if scope.variable_named(name).is_some() {
-        return Err(Fault::Broken(Code::WrongForm));
+        return Err(RuleError::Broken(RefusalCode::WrongForm));
     }
     match functions.number(name) {
         Some(function) => Ok(function),
-        None => Err(Fault::Broken(unusable(functions, scope, name))),
+        None => Err(RuleError::Broken(unusable(functions, scope, name))),
     }
 }
 
@@ -229,8 +236,9 @@ fn call_named(
     scope: &Scope,
     name: &[u8],
     arguments: &[Expr],
-) -> Result<Called, Fault>
-    ensures { Agrees called_of result (calling.call_named (functions_of functions.now) (scope_of scope.now) name.now (trees_of arguments.now)) }
+) -> Result<Called, RuleError>
+    ensures { Agrees called_of result
+        (calling.call_named (functions_of functions.now) (scope_of scope.now) name.now (trees_of arguments.now)) }
 {
     let function = function_named(functions, scope, name)?;
     let values = find_all(alloc, functions, scope, arguments)?;
@@ -244,8 +252,10 @@ pub fn call_in(
     scope: &Scope,
     name: &[u8],
     arguments: &[Expr],
-) -> Result<Called, Fault>
-    ensures { Agrees called_of result (spec.call_in (functions_of functions.now) (scope_of scope.now) name.now (spec.arguments_in (functions_of functions.now) (scope_of scope.now) (trees_of arguments.now))) }
+) -> Result<Called, RuleError>
+    ensures { Agrees called_of result
+        (spec.call_in (functions_of functions.now) (scope_of scope.now) name.now
+        (spec.arguments_in (functions_of functions.now) (scope_of scope.now) (trees_of arguments.now))) }
 {
     call_named(alloc, functions, scope, name, arguments)
 }

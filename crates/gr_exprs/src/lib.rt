@@ -3,10 +3,10 @@
 
 pub mod calls;
 pub mod expressions;
-pub mod fault;
 pub mod functions;
 pub mod names;
 pub mod operands;
 pub mod operators;
+pub mod refusal;
 pub mod scope;
 pub mod types;

@@ -6,9 +6,9 @@ ghost use Rattle.gr_exprs.specs.Finding as spec;
 ghost use Rattle.gr_typing.specs.Values.{may_be_size, Made};
 ghost use Rattle.gr_exprs.specs.Checking.{Agrees, meaning_of, typed_of, channel_of};
 ghost use Rattle.gr_exprs.specs.Codes.{Tells, value_code};
-ghost use Rattle.gr_exprs.specs.declared.fault.Code.TheVariants as codes;
+ghost use Rattle.gr_exprs.specs.declared.refusal.RefusalCode.TheVariants as codes;
 
-use crate::fault::{Code, Fault};
+use crate::refusal::{RefusalCode, RuleError};
 use crate::types::is_assignable;
 use gr_const::{Constant, whole};
 use gr_program as checked;
@@ -34,14 +34,14 @@ pub struct Channel {
     pub term: checked::Expr,
 }
 
-fn typed_constant(constant: Constant) -> Result<(Type, checked::Expr), Fault>
+fn typed_constant(constant: Constant) -> Result<(Type, checked::Expr), RuleError>
     ensures value { Agrees typed_of result (spec.typed_constant constant) }
     ensures code { Tells result codes.Constant }
 {
     match constant {
         Constant::Whole(_) => match whole(constant) {
             Some(n) => Ok((Type::Int, checked::Expr::Literal(Literal::Number(n)))),
-            None => Err(Fault::Broken(Code::Constant)),
+            None => Err(RuleError::Broken(RefusalCode::Constant)),
         },
         Constant::Truth(b) => Ok((Type::Bool, checked::Expr::Literal(Literal::Truth(b)))),
     }
@@ -49,41 +49,41 @@ fn typed_constant(constant: Constant) -> Result<(Type, checked::Expr), Fault>
 
 /// A value with its own type; a whole constant fits `int`, and `nil` has no type.
 #[tactic(auto, unfolding(crate::specs::Finding::typed))]
-pub fn with_type(value: Operand) -> Result<(Type, checked::Expr), Fault>
+pub fn with_type(value: Operand) -> Result<(Type, checked::Expr), RuleError>
     ensures value { Agrees typed_of result (spec.typed (meaning_of value)) }
     ensures code { Tells result (value_code (meaning_of value) (spec.typed (meaning_of value))) }
 {
     match value {
         Operand::Constant(constant) => typed_constant(constant),
-        Operand::Nil => Err(Fault::Broken(Code::WrongForm)),
+        Operand::Nil => Err(RuleError::Broken(RefusalCode::WrongForm)),
         Operand::Made(value_type, term) => Ok((value_type, term)),
     }
 }
 
-fn given_nil(target: &Type) -> Result<checked::Expr, Fault>
+fn given_nil(target: &Type) -> Result<checked::Expr, RuleError>
     ensures value { Agrees expr_of result (spec.given_nil (ty_of target.now)) }
     ensures code { Tells result codes.WrongForm }
 {
     match target {
         Type::Chan(_, _) => Ok(checked::Expr::Literal(Literal::Nil)),
-        _ => Err(Fault::Broken(Code::WrongForm)),
+        _ => Err(RuleError::Broken(RefusalCode::WrongForm)),
     }
 }
 
-fn given_typed(target: &Type, own: &Type, term: checked::Expr) -> Result<checked::Expr, Fault>
+fn given_typed(target: &Type, own: &Type, term: checked::Expr) -> Result<checked::Expr, RuleError>
     ensures value { Agrees expr_of result (spec.given_typed (ty_of target.now) (ty_of own.now, expr_of term)) }
     ensures code { Tells result codes.WrongForm }
 {
     if is_assignable(own, target) {
         Ok(term)
     } else {
-        Err(Fault::Broken(Code::WrongForm))
+        Err(RuleError::Broken(RefusalCode::WrongForm))
     }
 }
 
 /// A value that is given to a place of a type.
 #[tactic(auto, unfolding(crate::specs::Finding::given))]
-pub fn as_type(target: &Type, value: Operand) -> Result<checked::Expr, Fault>
+pub fn as_type(target: &Type, value: Operand) -> Result<checked::Expr, RuleError>
     ensures value { Agrees expr_of result (spec.given (ty_of target.now) (meaning_of value)) }
     ensures code { Tells result (value_code (meaning_of value) (spec.typed (meaning_of value))) }
 {
@@ -97,14 +97,14 @@ pub fn as_type(target: &Type, value: Operand) -> Result<checked::Expr, Fault>
 }
 
 /// A value whose own type is this one, `int` or `bool`.
-pub fn of_kind(kind: &Type, value: Operand) -> Result<checked::Expr, Fault>
+pub fn of_kind(kind: &Type, value: Operand) -> Result<checked::Expr, RuleError>
     ensures value { Agrees expr_of result (spec.of_kind (ty_of kind.now) (meaning_of value)) }
     ensures code { Tells result (value_code (meaning_of value) (spec.typed (meaning_of value))) }
 {
     let (own, term) = with_type(value)?;
     match (kind, &own) {
         (Type::Int, Type::Int) | (Type::Bool, Type::Bool) => Ok(term),
-        _ => Err(Fault::Broken(Code::WrongForm)),
+        _ => Err(RuleError::Broken(RefusalCode::WrongForm)),
     }
 }
 
@@ -119,16 +119,16 @@ fn may_be_size(value: &Operand) -> bool
 }
 
 /// A value as the size of a channel's buffer.
-pub fn size(value: Operand) -> Result<checked::Expr, Fault>
+pub fn size(value: Operand) -> Result<checked::Expr, RuleError>
     ensures { Agrees expr_of result (spec.size_of (meaning_of value)) }
 {
     if !may_be_size(&value) {
-        return Err(Fault::Broken(Code::Constant));
+        return Err(RuleError::Broken(RefusalCode::Constant));
     }
     of_kind(&Type::Int, value)
 }
 
-fn made_channel(value_type: Type, term: checked::Expr) -> Result<Channel, Fault>
+fn made_channel(value_type: Type, term: checked::Expr) -> Result<Channel, RuleError>
     ensures value { Agrees channel_of result (spec.as_channel (Made (ty_of value_type) (expr_of term))) }
     ensures code { Tells result codes.WrongForm }
 {
@@ -138,17 +138,17 @@ fn made_channel(value_type: Type, term: checked::Expr) -> Result<Channel, Fault>
             element: Box::into_inner(element),
             term,
         }),
-        _ => Err(Fault::Broken(Code::WrongForm)),
+        _ => Err(RuleError::Broken(RefusalCode::WrongForm)),
     }
 }
 
 /// A value as a channel.
-pub fn as_channel(value: Operand) -> Result<Channel, Fault>
+pub fn as_channel(value: Operand) -> Result<Channel, RuleError>
     ensures value { Agrees channel_of result (spec.as_channel (meaning_of value)) }
     ensures code { Tells result codes.WrongForm }
 {
     match value {
         Operand::Made(value_type, term) => made_channel(value_type, term),
-        Operand::Constant(_) | Operand::Nil => Err(Fault::Broken(Code::WrongForm)),
+        Operand::Constant(_) | Operand::Nil => Err(RuleError::Broken(RefusalCode::WrongForm)),
     }
 }

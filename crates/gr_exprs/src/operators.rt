@@ -8,10 +8,10 @@ ghost use Rattle.gr_typing.specs.Values as rules;
 ghost use Rattle.gr_exprs.specs.Finding as spec;
 ghost use Rattle.gr_exprs.specs.Checking.{Agrees, meaning_of, channel_of};
 ghost use Rattle.gr_exprs.specs.Codes.{Tells};
-ghost use Rattle.gr_exprs.specs.declared.fault.Code.TheVariants as codes;
+ghost use Rattle.gr_exprs.specs.declared.refusal.RefusalCode.TheVariants as codes;
 
-use crate::fault::{Code, Fault, code_of};
 use crate::operands::{Channel, Operand, as_channel, with_type};
+use crate::refusal::{RefusalCode, RuleError, code_of};
 use crate::types::{is_assignable, may_receive, zero};
 use gr_const::Constant;
 use gr_program as checked;
@@ -34,36 +34,36 @@ fn unary_made(
     op: UnaryOp,
     operand: Type,
     term: checked::Expr,
-) -> Result<Operand, Fault>
+) -> Result<Operand, RuleError>
     ensures value { Agrees meaning_of result (spec.unary_made op (ty_of operand) (expr_of term)) }
     ensures code { Tells result codes.WrongForm }
 {
     match unary_type(op, &operand) {
         Some(own) => Ok(Operand::Made(own, checked::Expr::Unary(op, Box::new(alloc, term)?))),
-        None => Err(Fault::Broken(Code::WrongForm)),
+        None => Err(RuleError::Broken(RefusalCode::WrongForm)),
     }
 }
 
 #[tactic(auto, unfolding(crate::specs::Finding::unary_value))]
-fn unary_value(alloc: Global, op: UnaryOp, operand: Operand) -> Result<Operand, Fault>
+fn unary_value(alloc: Global, op: UnaryOp, operand: Operand) -> Result<Operand, RuleError>
     ensures { Agrees meaning_of result (spec.unary_value op (meaning_of operand)) }
 {
     match operand {
         Operand::Constant(constant) => match gr_const::unary(op, constant) {
             Ok(constant) => Ok(Operand::Constant(constant)),
-            Err(error) => Err(Fault::Broken(code_of(error))),
+            Err(error) => Err(RuleError::Broken(code_of(error))),
         },
-        Operand::Nil => Err(Fault::Broken(Code::WrongForm)),
+        Operand::Nil => Err(RuleError::Broken(RefusalCode::WrongForm)),
         Operand::Made(own, term) => unary_made(alloc, op, own, term),
     }
 }
 
-fn receive_of(alloc: Global, channel: Channel) -> Result<Operand, Fault>
+fn receive_of(alloc: Global, channel: Channel) -> Result<Operand, RuleError>
     ensures value { Agrees meaning_of result (spec.received (channel_of channel)) }
     ensures code { Tells result codes.WrongDirection }
 {
     if !may_receive(channel.direction) {
-        return Err(Fault::Broken(Code::WrongDirection));
+        return Err(RuleError::Broken(RefusalCode::WrongDirection));
     }
     let nothing = zero(&channel.element);
     let term = checked::Expr::Receive(Box::new(alloc, channel.term)?, nothing);
@@ -71,14 +71,14 @@ fn receive_of(alloc: Global, channel: Channel) -> Result<Operand, Fault>
 }
 
 #[tactic(auto, unfolding(crate::specs::Finding::receive_value))]
-fn receive(alloc: Global, operand: Operand) -> Result<Operand, Fault>
+fn receive(alloc: Global, operand: Operand) -> Result<Operand, RuleError>
     ensures { Agrees meaning_of result (spec.receive_value (meaning_of operand)) }
 {
     receive_of(alloc, as_channel(operand)?)
 }
 
 /// A unary operator on a value.
-pub fn unary(alloc: Global, op: UnaryOp, operand: Operand) -> Result<Operand, Fault>
+pub fn unary(alloc: Global, op: UnaryOp, operand: Operand) -> Result<Operand, RuleError>
     ensures { Agrees meaning_of result (spec.on_operand op (meaning_of operand)) }
 {
     match op {
@@ -155,7 +155,7 @@ fn joined(
     op: BinaryOp,
     left: checked::Expr,
     right: checked::Expr,
-) -> Result<Operand, Fault>
+) -> Result<Operand, RuleError>
     ensures { Agrees meaning_of result (Some (rules.Made (ty_of own) (terms.Binary op (expr_of left) (expr_of right)))) }
 {
     let left = Box::new(alloc, left)?;
@@ -163,27 +163,33 @@ fn joined(
     Ok(Operand::Made(own, checked::Expr::Binary(op, left, right)))
 }
 
-fn binary_made(alloc: Global, op: BinaryOp, left: Operand, right: Operand) -> Result<Operand, Fault>
+fn binary_made(
+    alloc: Global,
+    op: BinaryOp,
+    left: Operand,
+    right: Operand,
+) -> Result<Operand, RuleError>
     ensures { Agrees meaning_of result (spec.binary_made op (meaning_of left) (meaning_of right)) }
 {
     let may_stand = may_stand_right(op, &right);
     let (left_type, left) = with_type(left)?;
     let (right_type, right) = with_type(right)?;
     let Some(own) = binary_type(op, &left_type, &right_type) else {
-        return Err(Fault::Broken(Code::WrongForm));
+        return Err(RuleError::Broken(RefusalCode::WrongForm));
     };
     if !may_stand {
-        return Err(Fault::Broken(Code::Constant));
+        return Err(RuleError::Broken(RefusalCode::Constant));
     }
     joined(alloc, own, op, left, right)
 }
 
-fn nil_left(alloc: Global, op: BinaryOp, right: Operand) -> Result<Operand, Fault>
-    ensures { Agrees meaning_of result (spec.nil_compared op (spec.as_channel (meaning_of right)) (λ q. terms.Binary op (terms.Literally terms.Nil) q)) }
+fn nil_left(alloc: Global, op: BinaryOp, right: Operand) -> Result<Operand, RuleError>
+    ensures { Agrees meaning_of result
+        (spec.nil_compared op (spec.as_channel (meaning_of right)) (λ q. terms.Binary op (terms.Literally terms.Nil) q)) }
 {
     let channel = as_channel(right)?;
     if !is_comparison(op) {
-        return Err(Fault::Broken(Code::WrongForm));
+        return Err(RuleError::Broken(RefusalCode::WrongForm));
     }
     joined(
         alloc,
@@ -194,12 +200,13 @@ fn nil_left(alloc: Global, op: BinaryOp, right: Operand) -> Result<Operand, Faul
     )
 }
 
-fn nil_right(alloc: Global, op: BinaryOp, left: Operand) -> Result<Operand, Fault>
-    ensures { Agrees meaning_of result (spec.nil_compared op (spec.as_channel (meaning_of left)) (λ q. terms.Binary op q (terms.Literally terms.Nil))) }
+fn nil_right(alloc: Global, op: BinaryOp, left: Operand) -> Result<Operand, RuleError>
+    ensures { Agrees meaning_of result
+        (spec.nil_compared op (spec.as_channel (meaning_of left)) (λ q. terms.Binary op q (terms.Literally terms.Nil))) }
 {
     let channel = as_channel(left)?;
     if !is_comparison(op) {
-        return Err(Fault::Broken(Code::WrongForm));
+        return Err(RuleError::Broken(RefusalCode::WrongForm));
     }
     joined(
         alloc,
@@ -212,13 +219,18 @@ fn nil_right(alloc: Global, op: BinaryOp, left: Operand) -> Result<Operand, Faul
 
 /// A binary operator on values.
 #[tactic(auto, unfolding(crate::specs::Finding::binary_value))]
-pub fn binary(alloc: Global, op: BinaryOp, left: Operand, right: Operand) -> Result<Operand, Fault>
+pub fn binary(
+    alloc: Global,
+    op: BinaryOp,
+    left: Operand,
+    right: Operand,
+) -> Result<Operand, RuleError>
     ensures { Agrees meaning_of result (spec.binary_value op (meaning_of left) (meaning_of right)) }
 {
     match (left, right) {
         (Operand::Constant(a), Operand::Constant(b)) => match gr_const::binary(op, a, b) {
             Ok(constant) => Ok(Operand::Constant(constant)),
-            Err(error) => Err(Fault::Broken(code_of(error))),
+            Err(error) => Err(RuleError::Broken(code_of(error))),
         },
         (Operand::Nil, right) => nil_left(alloc, op, right),
         (left, Operand::Nil) => nil_right(alloc, op, left),

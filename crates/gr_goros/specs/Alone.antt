@@ -4,6 +4,19 @@ use Rattle.gr_rules.specs.Outcomes.{Outcome, gives}
 use Rattle.gr_rules.specs.Deeds.{Moves, Prints, Enters, Leaves}
 use Rattle.gr_code.specs.CodeFrames.{ProgramCode, CodeFrame, Task, Steps, Wants}
 use Rattle.gr_code.specs.Goroutines.{CodeGoroutine, has_caller, is_deepest, task_of}
+use Rattle.gr_goros.specs.declared.alone.Depth.{Depth}
+use Rattle.gr_goros.specs.declared.alone.Depth.TheVariants.{Outermost, Inner, Deepest}
+
+-- whether a frame has a caller, and whether its goroutine can have no more frames
+abbrev pub has_caller_at : Depth → Bool
+has_caller_at Outermost = false
+has_caller_at Inner = true
+has_caller_at Deepest = true
+
+abbrev pub is_deepest_at : Depth → Bool
+is_deepest_at Outermost = false
+is_deepest_at Inner = false
+is_deepest_at Deepest = true
 
 -- whether a task is such a step: of a frame that has a caller or not, in a goroutine that can have more frames or not
 abbrev pub stays : Bool → Bool → Outcome Task → Bool

@@ -21,7 +21,7 @@ use Rattle.gr_goros.specs.Undoing.{Undoes, frame_before}
 use Rattle.gr_goros.specs.Views.{Seen}
 use Rattle.gr_goros.specs.declared.undo.FrameUndo.{FrameUndo}
 use Rattle.gr_goros.specs.declared.undo.Former.TheVariants as former
-use Rattle.gr_goros.specs.declared.counting.Counted.{Counted}
+use Rattle.gr_goros.specs.declared.fast.IntChange.{IntChange}
 use Rattle.gr_goros.specs.declared.undo.GoUndo.{GoUndo}
 use Rattle.gr_goros.specs.declared.tasks.Task.{Task}
 use Rattle.gr_goros.specs.declared.tasks.Task.TheVariants as tasks
@@ -68,13 +68,13 @@ Does (Ok t) o old new = TaskIs t o old new
 Does (Err s) o old new = Stops s o × (new ≡ old)
 
 -- what a step over whole numbers replaced, as it is kept
-abbrev pub kept_of : Counted → FrameUndo
-kept_of c = record { number = c.number; cells = if c.writes then former.Int c.slot c.former else former.Same }
+abbrev pub kept_of : IntChange → FrameUndo
+kept_of c = record { number = c.pc; cells = if c.writes then former.Int c.slot c.former else former.Same }
 
 -- the frame went on and can go back, or it is as it was
-abbrev pub Counts : Option Counted → Outcome frames.Task → CodeFrame → CodeFrame → Type 0
-Counts (Some c) o old new = (o ≡ gives (Steps new)) × (frame_before (kept_of c) new ≡ old)
-Counts None o old new = new ≡ old
+abbrev pub ChangesInts : Option IntChange → Outcome frames.Task → CodeFrame → CodeFrame → Type 0
+ChangesInts (Some c) o old new = (o ≡ gives (Steps new)) × (frame_before (kept_of c) new ≡ old)
+ChangesInts None o old new = new ≡ old
 
 -- the step of a goroutine is of this kind, and its change is undone
 pub record IsStep (r : Kind × GoUndo) (o : Outcome (Kind × CodeGoroutine)) (old new : Seen) : Type 0 where

@@ -4,7 +4,7 @@ ghost use Rattle.std.specs.Prelude.{◌≡◌, ◌+◌, ◌<◌, ◌^◌, ◌∷
 ghost use Rattle.gr_rules.specs.Outcomes.{gives, wrong};
 ghost use Rattle.gr_rules.specs.Goroutines.{ready, ToSend, ToReceive};
 ghost use Rattle.gr_code.specs.CodeViews.{program_code_of};
-ghost use Rattle.gr_code.specs.Goroutines.{arrived, parked, retried, CanCount};
+ghost use Rattle.gr_code.specs.Goroutines.{arrived, parked, retried, CanCount, IsMet};
 ghost use Rattle.gr_goros.specs.Undoing.{IsLive, Undoes};
 ghost use Rattle.gr_goros.specs.Views.{arrival_of, waits_of, CanHalt, halted};
 
@@ -60,7 +60,8 @@ impl Goroutine {
     ) -> Result<GoUndo, NoMemory>
         requires right { ¬ (arrived (program_code_of code.now) (arrival_of arrival) self.old.content ≡ wrong) }
         requires counted { CanCount (arrival_of arrival) self.old.content }
-        ensures after { IfOk result (λ _. arrived (program_code_of code.now) (arrival_of arrival) self.old.content ≡ gives self.new.content) }
+        ensures after { IfOk result (λ _. arrived (program_code_of code.now) (arrival_of arrival) self.old.content
+            ≡ gives self.new.content) }
         ensures undone { IfOk result (λ undo. Undoes undo self.old self.new) }
         ensures err { OnErr result (self.new ≡ self.old) }
     {
@@ -97,23 +98,40 @@ impl Goroutine {
                 self.steps += 1;
                 Ok(GoUndo::Went(self.top.kept_function(), undo))
             }
-            Arrival::IsMet { clause, got } => {
-                let mut met = Box::new(
-                    alloc,
-                    Met {
-                        status: Status::Ready,
-                        function: self.top.kept_function(),
-                        frame: FrameUndo {
-                            number: self.top.number(),
-                            cells: Former::Same,
-                        },
-                    },
-                )?;
-                met.frame = self.top.pass(alloc, instruction, clause, got)?;
-                met.status = mem::replace(&mut self.status, Status::Ready);
-                Ok(GoUndo::Met(met))
-            }
+            Arrival::IsMet { clause, got } => self.be_met(alloc, code, clause, got),
         }
+    }
+
+    /// Goes on past its communication by a step of its partner. Refused, nothing has changed.
+    fn be_met(
+        &mut self,
+        alloc: Global,
+        code: &Code,
+        clause: Option<u32>,
+        got: Option<(Value, bool)>,
+    ) -> Result<GoUndo, NoMemory>
+        requires right { ¬ (arrived (program_code_of code.now) (IsMet clause got) self.old.content ≡ wrong) }
+        requires counted { CanCount (IsMet clause got) self.old.content }
+        ensures after { IfOk result (λ _. arrived (program_code_of code.now) (IsMet clause got) self.old.content
+            ≡ gives self.new.content) }
+        ensures undone { IfOk result (λ undo. Undoes undo self.old self.new) }
+        ensures err { OnErr result (self.new ≡ self.old) }
+    {
+        let instruction = self.top.instruction(code);
+        let mut met = Box::new(
+            alloc,
+            Met {
+                status: Status::Ready,
+                function: self.top.kept_function(),
+                frame: FrameUndo {
+                    number: self.top.pc(),
+                    cells: Former::Same,
+                },
+            },
+        )?;
+        met.frame = self.top.pass(alloc, instruction, clause, got)?;
+        met.status = mem::replace(&mut self.status, Status::Ready);
+        Ok(GoUndo::Met(met))
     }
 
     /// Begins to wait, for one of these.

@@ -27,7 +27,8 @@ pub(crate) const MOST_FRAMES: usize = 1000;
 /// The number of the function that an instruction calls, and the arguments, if it is a call.
 #[inline]
 pub(crate) fn call_in(instruction: &Instruction) -> Option<(usize, &[Operand])>
-    ensures { MatchOption result (is_calling (instruction_of instruction.now) ≡ false) (λ c. CallsWith (instruction_of instruction.now) c.0 (operands_of c.1.now)) }
+    ensures { MatchOption result (is_calling (instruction_of instruction.now) ≡ false)
+        (λ c. CallsWith (instruction_of instruction.now) c.0 (operands_of c.1.now)) }
 {
     match instruction {
         Instruction::Part {
@@ -63,7 +64,8 @@ fn pass(
     cells: &mut Vec<Option<Value>>,
 ) -> Result<(), Stop>
     requires { ¬ (passed own.now (operands_of operands.now) parameters.now cells.old.items ≡ wrong) }
-    ensures ok { IfOk result (λ _. passed own.now (operands_of operands.now) parameters.now cells.old.items ≡ gives cells.new.items) }
+    ensures ok { IfOk result (λ _. passed own.now (operands_of operands.now) parameters.now cells.old.items
+        ≡ gives cells.new.items) }
     ensures stop { IfErr result (λ e. Stops e (rules.evaluate_all own.now (operands_of operands.now))) }
 {
     for (number, operand) in operands.iter().enumerate() {
@@ -74,8 +76,8 @@ fn pass(
 }
 
 impl Frame {
-    /// The frame of the function with a number, whose parameters have the values of operands in this one. Errors: the fault of the
-    /// first that has one, and want of memory.
+    /// The frame of the function with a number, whose parameters have the values of operands in this one. Errors: the fault of
+    /// the first that has one, and want of memory.
     #[tactic(auto, using(crate::proofs::CodeLemmas::found_function, crate::proofs::CodeLemmas::no_function, crate::proofs::CallLemmas::operands_right, crate::proofs::CallLemmas::none_called))]
     fn call(
         &self,
@@ -85,7 +87,8 @@ impl Frame {
         operands: &[Operand],
     ) -> Result<Frame, Stop>
         requires { ¬ (called (program_code_of code.now) function self.now.cells (operands_of operands.now) ≡ wrong) }
-        ensures ok { IfOk result (λ f. called (program_code_of code.now) function self.now.cells (operands_of operands.now) ≡ gives f) }
+        ensures ok { IfOk result (λ f. called (program_code_of code.now) function self.now.cells (operands_of operands.now)
+            ≡ gives f) }
         ensures stop { IfErr result (λ e. Stops e (rules.evaluate_all self.now.cells (operands_of operands.now))) }
     {
         let Ok(number) = u32::try_from(function) else {
@@ -128,11 +131,13 @@ impl Goroutine {
         function: usize,
         operands: &[Operand],
     ) -> Result<(Kind, GoUndo), NoMemory>
-        requires right { ¬ (calls (program_code_of code.now) self.old.content function (operands_of operands.now) self.old.content.frames ≡ wrong) }
+        requires right { ¬ (calls (program_code_of code.now) self.old.content function
+            (operands_of operands.now) self.old.content.frames ≡ wrong) }
         requires live { IsLive self.old.content }
         requires counted { self.old.content.steps + 1 < 2 ^ 64 }
         ensures step { IfOk result (λ r.
-            IsStep r (calls (program_code_of code.now) self.old.content function (operands_of operands.now) self.old.content.frames) self.old self.new) }
+            IsStep r (calls (program_code_of code.now) self.old.content function
+            (operands_of operands.now) self.old.content.frames) self.old self.new) }
         ensures err { OnErr result (self.new.content ≡ self.old.content) }
         ensures err_room { OnErr result (self.old.room ≤ self.new.room) }
     {
@@ -155,12 +160,14 @@ impl Goroutine {
         function: usize,
         operands: &[Operand],
     ) -> Result<(Kind, GoUndo), NoMemory>
-        requires right { ¬ (calls (program_code_of code.now) self.old.content function (operands_of operands.now) self.old.content.frames ≡ wrong) }
+        requires right { ¬ (calls (program_code_of code.now) self.old.content function
+            (operands_of operands.now) self.old.content.frames ≡ wrong) }
         requires live { IsLive self.old.content }
         requires deepest { is_deepest_of self.old.content.frames ≡ true }
         requires counted { self.old.content.steps + 1 < 2 ^ 64 }
         ensures step { IfOk result (λ r.
-            IsStep r (calls (program_code_of code.now) self.old.content function (operands_of operands.now) self.old.content.frames) self.old self.new) }
+            IsStep r (calls (program_code_of code.now) self.old.content function
+            (operands_of operands.now) self.old.content.frames) self.old self.new) }
         ensures err { OnErr result (self.new ≡ self.old) }
     {
         match evaluate_all(alloc, self.top.cells(), operands) {

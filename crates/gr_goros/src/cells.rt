@@ -1,6 +1,7 @@
 //! The cells of a frame: how they are written to, and put back.
 
-ghost use Rattle.std.specs.Prelude.{◌≡◌, ◌+◌, ◌<◌, ◌≤◌, IfOk, IfSome, OnErr, replicate, slice_get, slice_set, vec_len, vec_capacity};
+ghost use Rattle.std.specs.Prelude.{◌≡◌, ◌+◌, ◌<◌, ◌≤◌, IfOk, IfSome, OnErr, replicate, slice_get, slice_set, vec_len};
+ghost use Rattle.std.specs.Prelude.{vec_capacity};
 ghost use Rattle.gr_base.specs.declared.values.Value.TheVariants.{Int, Bool};
 ghost use Rattle.gr_rules.specs.Outcomes.{gives, wrong};
 ghost use Rattle.gr_rules.specs.Evaluation.{Variables, held};
@@ -165,7 +166,8 @@ pub(crate) fn write_two(
     first: (usize, Value),
     second: (usize, Value),
 ) -> Result<Former, NoMemory>
-    ensures after { IfOk result (λ _. cells.new.items ≡ slice_set (slice_set cells.old.items first.0 (Some first.1)) second.0 (Some second.1)) }
+    ensures after { IfOk result (λ _. cells.new.items
+        ≡ slice_set (slice_set cells.old.items first.0 (Some first.1)) second.0 (Some second.1)) }
     ensures back { IfOk result (λ former. restored former cells.new.items ≡ cells.old.items) }
     ensures err { OnErr result (cells.new.items ≡ cells.old.items) }
 {

@@ -40,7 +40,7 @@ impl Alike for Option<Value> {
 
 impl Alike for Frame {
     fn is_like(&self, other: &Frame) -> bool {
-        self.number() == other.number()
+        self.pc() == other.pc()
             && self.function() == other.function()
             && all_alike(self.cells(), other.cells())
     }

@@ -3,7 +3,8 @@
 ghost use Rattle.std.specs.Prelude.{◌≡◌, IfOk, OnErr};
 ghost use Rattle.gr_rules.specs.Outcomes.{gives, wrong};
 ghost use Rattle.gr_rules.specs.Frames.{assigned};
-ghost use Rattle.gr_code.specs.CodeFrames.{Steps, acted, at_number, with_cell, with_part, with_received, entered, after_in, resumed_in};
+ghost use Rattle.gr_code.specs.CodeFrames.{Steps, acted, at_number, with_cell, with_part, with_received, entered, after_in};
+ghost use Rattle.gr_code.specs.CodeFrames.{resumed_in};
 ghost use Rattle.gr_code.specs.Instructions.{Assigns};
 ghost use Rattle.gr_code.specs.CodeViews.{instruction_of, program_code_of};
 ghost use Rattle.gr_code.specs.Goroutines.{instruction_in, line_of};
@@ -24,7 +25,8 @@ use std::mem;
 #[derive(Debug, Drop)]
 pub struct Frame {
     function: u32,
-    pub(crate) number: usize,
+    /// The number of the next instruction.
+    pub(crate) pc: usize,
     pub(crate) cells: Vec<Option<Value>>,
 }
 
@@ -33,7 +35,7 @@ impl Model for Frame {
 
     ghost Value = { CodeFrame };
 
-    ghost view = { λ f. record { function = f.function; number = f.number; cells = f.cells.items } };
+    ghost view = { λ f. record { function = f.function; number = f.pc; cells = f.cells.items } };
 }
 
 impl Frame {
@@ -41,7 +43,7 @@ impl Frame {
     pub(crate) fn unseen(alloc: Global) -> Frame {
         Frame {
             function: 0,
-            number: 0,
+            pc: 0,
             cells: Vec::new(alloc),
         }
     }
@@ -53,7 +55,7 @@ impl Frame {
     {
         Frame {
             function,
-            number: 0,
+            pc: 0,
             cells,
         }
     }
@@ -81,16 +83,16 @@ impl Frame {
     pub(crate) fn into_parts(self) -> (u32, usize, Vec<Option<Value>>)
         ensures { self ≡ record { function = result.0; number = result.1; cells = result.2.items } }
     {
-        (self.function, self.number, self.cells)
+        (self.function, self.pc, self.cells)
     }
 
     /// The frame that has these.
-    pub(crate) fn of_parts(function: u32, number: usize, cells: Vec<Option<Value>>) -> Frame
-        ensures { result ≡ record { function = function; number = number; cells = cells.items } }
+    pub(crate) fn of_parts(function: u32, pc: usize, cells: Vec<Option<Value>>) -> Frame
+        ensures { result ≡ record { function = function; number = pc; cells = cells.items } }
     {
         Frame {
             function,
-            number,
+            pc,
             cells,
         }
     }
@@ -102,7 +104,7 @@ impl Frame {
         let cells = copy_all(alloc, &self.cells)?;
         Ok(Frame {
             function: self.function,
-            number: self.number,
+            pc: self.pc,
             cells,
         })
     }
@@ -125,10 +127,10 @@ impl Frame {
 
     /// The number of the next instruction.
     #[inline]
-    pub fn number(&self) -> usize
+    pub fn pc(&self) -> usize
         ensures { result ≡ self.now.number }
     {
-        self.number
+        self.pc
     }
 
     /// Where it stands.
@@ -138,7 +140,7 @@ impl Frame {
     {
         Spot {
             function: self.function,
-            number: self.number,
+            number: self.pc,
         }
     }
 
@@ -158,7 +160,7 @@ impl Frame {
         ensures { instruction_in (program_code_of code.now) self.now ≡ gives (instruction_of result.now) }
     {
         match function_at(code, self.function()) {
-            Some(function_code) => match instruction_at(function_code, self.number) {
+            Some(function_code) => match instruction_at(function_code, self.pc) {
                 Some(instruction) => instruction,
                 None => unreachable!(),
             },
@@ -173,7 +175,7 @@ impl Frame {
         ensures { line_of (program_code_of code.now) self.now ≡ Some result }
     {
         match function_at(code, self.function()) {
-            Some(function_code) => match line_at(function_code, self.number) {
+            Some(function_code) => match line_at(function_code, self.pc) {
                 Some(line) => *line,
                 None => unreachable!(),
             },
@@ -187,7 +189,7 @@ impl Frame {
         ensures after { self.new ≡ at_number self.old on }
         ensures back { frame_before result self.new ≡ self.old }
     {
-        let number = mem::replace(&mut self.number, on);
+        let number = mem::replace(&mut self.pc, on);
         FrameUndo {
             number,
             cells: Former::Same,
@@ -200,7 +202,7 @@ impl Frame {
         ensures after { self.new ≡ with_cell self.old slot value on }
         ensures back { frame_before result self.new ≡ self.old }
     {
-        let number = mem::replace(&mut self.number, on);
+        let number = mem::replace(&mut self.pc, on);
         let cells = cells::write(&mut self.cells, slot, value);
         FrameUndo { number, cells }
     }
@@ -231,7 +233,7 @@ impl Frame {
     {
         let mut kept = Box::new(alloc, Vec::new(alloc))?;
         *kept = cells::assign(alloc, &mut self.cells, targets, values)?;
-        let number = mem::replace(&mut self.number, on);
+        let number = mem::replace(&mut self.pc, on);
         Ok(FrameUndo {
             number,
             cells: Former::Each(kept),
@@ -260,7 +262,7 @@ impl Frame {
             (value_slot, value),
             (sent_slot, Value::Bool(sent)),
         )?;
-        let number = mem::replace(&mut self.number, on);
+        let number = mem::replace(&mut self.pc, on);
         Ok(FrameUndo { number, cells })
     }
 
@@ -275,7 +277,7 @@ impl Frame {
             Instruction::Perform {
                 action: Action::Print { on, .. } | Action::Close { on } | Action::Start { on, .. },
                 ..
-            } => self.number = *on,
+            } => self.pc = *on,
             _ => unreachable!(),
         }
         spot
@@ -313,7 +315,7 @@ impl Frame {
         ensures { self.new ≡ frame_before undo self.old }
     {
         let FrameUndo { number, cells } = undo;
-        self.number = number;
+        self.pc = number;
         cells::put_back(&mut self.cells, cells);
     }
 
@@ -332,6 +334,6 @@ impl Frame {
         ensures { self.new ≡ at_spot spot self.old }
     {
         self.function = spot.function;
-        self.number = spot.number;
+        self.pc = spot.number;
     }
 }

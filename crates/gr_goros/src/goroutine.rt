@@ -35,7 +35,14 @@ impl Model for Goroutine {
     ghost Value = { Seen };
 
     ghost view = { λ g. record {
-      content = record { status = status_of g.status; frames = frames_of (status_of g.status) g.top g.below.items; steps = g.steps; children = g.children; channels = g.channels; text = lines_of g.text.items };
+      content = record {
+        status = status_of g.status;
+        frames = frames_of (status_of g.status) g.top g.below.items;
+        steps = g.steps;
+        children = g.children;
+        channels = g.channels;
+        text = lines_of g.text.items;
+      };
       room = vec_capacity g.below - vec_len g.below;
     } };
 
@@ -102,16 +109,6 @@ impl Goroutine {
         ensures { lines_of result.now ≡ self.now.content.text }
     {
         self.text.as_slice()
-    }
-
-    /// How many frames it has.
-    pub fn depth(&self) -> usize
-        ensures { result ≡ length self.now.content.frames }
-    {
-        match self.status {
-            Status::Finished => 0,
-            _ => self.below.len() + 1,
-        }
     }
 
     /// The frame with a number, counted from 0 and from the innermost one.

@@ -7,10 +7,12 @@ ghost use Rattle.gr_rules.specs.Operands.{value_of};
 ghost use Rattle.gr_rules.specs.Evaluation as rules;
 ghost use Rattle.gr_code.specs.Instructions as instructions;
 ghost use Rattle.gr_code.specs.CodeFrames as frames;
-ghost use Rattle.gr_code.specs.CodeViews.{action_of, arm_of, arms_of, ask_of, instruction_of, operand_of, operands_of, program_code_of};
+ghost use Rattle.gr_code.specs.CodeViews.{action_of, arm_of, arms_of, ask_of, instruction_of, operand_of, operands_of};
+ghost use Rattle.gr_code.specs.CodeViews.{program_code_of};
 ghost use Rattle.gr_eval.specs.Stops.{Stops};
 ghost use Rattle.gr_code.specs.Goroutines.{task_of, is_call, is_local_action, is_local_instruction};
-ghost use Rattle.gr_goros.specs.Needs.{clause_by, one_channel, is_select_in, AllCanSend, CanSend, NeedIs, SelectsIn, SendsAt, SendsIn, Wanted};
+ghost use Rattle.gr_goros.specs.Needs.{clause_by, one_channel, is_select_in, AllCanSend, CanSend, NeedIs, SelectsIn, SendsAt};
+ghost use Rattle.gr_goros.specs.Needs.{SendsIn, Wanted};
 ghost use Rattle.gr_goros.specs.Tasks.{channel_of, performed};
 ghost use Rattle.gr_goros.specs.Views.{communication_of, communications_of, outcome_of};
 
@@ -99,7 +101,7 @@ pub(crate) fn asks_nothing(instruction: &Instruction, has_caller: bool) -> bool
 }
 
 /// The value of a literal.
-fn value_of_literal(literal: Literal) -> Value
+pub fn value_of_literal(literal: Literal) -> Value
     ensures { result ≡ value_of (literal_of literal) }
 {
     match literal {
@@ -334,7 +336,8 @@ impl Goroutine {
     #[inline]
     pub fn arms<'a>(&self, code: &'a Code) -> Option<&'a [Arm]>
         requires { ¬ (task_of (program_code_of code.now) self.now.content ≡ wrong) }
-        ensures { MatchOption result (is_select_in (program_code_of code.now) self.now.content.frames ≡ false) (λ arms. SelectsIn (program_code_of code.now) self.now.content.frames (arms_of arms.now)) }
+        ensures { MatchOption result (is_select_in (program_code_of code.now) self.now.content.frames ≡ false)
+            (λ arms. SelectsIn (program_code_of code.now) self.now.content.frames (arms_of arms.now)) }
     {
         match self.top.instruction(code) {
             Instruction::Choose { arms } => Some(arms.as_slice()),

@@ -41,7 +41,7 @@ impl Goroutine {
         ensures err { OnErr result (self.new.content ≡ self.old.content) }
         ensures err_room { OnErr result (self.old.room ≤ self.new.room) }
     {
-        if let Some(counted) = self.top.count(self.top.instruction(code)) {
+        if let Some(counted) = self.top.step_ints(self.top.instruction(code)) {
             self.steps += 1;
             let own = GoUndo::Went(self.top.kept_function(), counted.undo());
             return Ok((Kind::Pure, own));
@@ -115,7 +115,8 @@ impl Goroutine {
         requires right { ¬ (leaves (program_code_of code.now) self.old.content value (drop 1 self.old.content.frames) ≡ wrong) }
         requires counted { self.old.content.steps + 1 < 2 ^ 64 }
         ensures step { IfOk result (λ r.
-            IsStep r (leaves (program_code_of code.now) self.old.content value (drop 1 self.old.content.frames)) self.old self.new) }
+            IsStep r (leaves (program_code_of code.now) self.old.content value
+            (drop 1 self.old.content.frames)) self.old self.new) }
         ensures err { OnErr result (self.new ≡ self.old) }
     {
         let mut left = Box::new(
@@ -123,7 +124,7 @@ impl Goroutine {
             Left {
                 frame: Frame::unseen(alloc),
                 caller: FrameUndo {
-                    number: self.top.number(),
+                    number: self.top.pc(),
                     cells: Former::Same,
                 },
             },

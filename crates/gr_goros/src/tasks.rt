@@ -4,7 +4,7 @@ ghost use Rattle.std.specs.Prelude.{◌≡◌, true, false, IfOk, IfErr, slice_g
 ghost use Rattle.gr_rules.specs.Outcomes.{gives, wrong};
 ghost use Rattle.gr_rules.specs.Evaluation as rules;
 ghost use Rattle.gr_rules.specs.Deeds as deeds;
-ghost use Rattle.gr_code.specs.Instructions.{Assigns, Decide, GoesOn, Returns};
+ghost use Rattle.gr_code.specs.Instructions.{Assigns, GoesOn, Returns};
 ghost use Rattle.gr_code.specs.CodeFrames as frames;
 ghost use Rattle.gr_code.specs.CodeViews.{action_of, instruction_of, operand_of, operands_of, pieces_of};
 ghost use Rattle.gr_eval.specs.Stops.{Stops};
@@ -65,8 +65,8 @@ pub(crate) fn only(
 }
 
 impl Frame {
-    /// What its instruction comes to, which is no call and asks for nothing beyond the goroutine. Where that is a step of the frame, the
-    /// frame went on; else it is as it was. Errors: the fault of an operand, and want of memory.
+    /// What its instruction comes to, which is no call and asks for nothing beyond the goroutine. Where that is a step of the
+    /// frame, the frame went on; else it is as it was. Errors: the fault of an operand, and want of memory.
     #[inline]
     pub(crate) fn task(
         &mut self,
@@ -86,7 +86,10 @@ impl Frame {
                 slot,
                 settled,
                 right,
-            } => self.decide(alloc, *op, left, *slot, *settled, *right),
+            } => {
+                let value = evaluate(alloc, self.cells(), left)?;
+                Ok(Task::Steps(self.decide(*op, value, *slot, *settled, *right)))
+            }
             Instruction::Perform { action, operands } => {
                 self.perform(alloc, action, operands, has_caller)
             }
@@ -94,25 +97,23 @@ impl Frame {
         }
     }
 
-    /// .. of the left operand of `&&` or `||`.
+    /// Goes on with the value of the left operand of `&&` or `||`, where that leads.
     fn decide(
         &mut self,
-        alloc: Global,
         op: BinaryOp,
-        left: &Operand,
+        value: Value,
         slot: usize,
         settled: usize,
         right: usize,
-    ) -> Result<Task, Stop>
-        requires { ¬ (frames.task self.old (Decide op (operand_of left.now) slot settled right) ≡ wrong) }
-        ensures { Does result (frames.task self.old (Decide op (operand_of left.now) slot settled right)) self.old self.new }
+    ) -> FrameUndo
+        ensures after { self.new ≡ frames.past_decision self.old op slot settled right value }
+        ensures back { frame_before result self.new ≡ self.old }
     {
-        let value = evaluate(alloc, self.cells(), left)?;
         let on = if settles(op, &value) { settled } else { right };
-        Ok(Task::Steps(self.keep(slot, value, on)))
+        self.keep(slot, value, on)
     }
 
-    /// .. of a statement.
+    /// What a statement comes to, as `task` does.
     #[inline]
     #[tactic(auto, using(crate::proofs::TaskLemmas::updated_is))]
     fn perform(

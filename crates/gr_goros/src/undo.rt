@@ -25,8 +25,8 @@ pub enum Former {
     /// A channel, by its number, the number of the cell, and the goroutine that made it. The first number stands before the rest,
     /// where it takes no room.
     Channel(u32, usize, GoName),
-    /// Two cells, of which the first held a number and the second a truth value, as an earlier receive leaves them: the truth value
-    /// and the number of the first cell stand before the rest, where they take no room.
+    /// Two cells, of which the first held a number and the second a truth value, as an earlier receive leaves them: the truth
+    /// value and the number of the first cell stand before the rest, where they take no room.
     IntAndBool(bool, u32, i64, usize),
     /// Each cell that was written to, in the order of the writes, with what was in it before.
     Each(Box<Vec<(usize, Option<Value>)>>),
@@ -82,7 +82,8 @@ pub enum GoUndo {
     Met(Box<Met>),
     /// It began to wait.
     Parked(Spot),
-    /// It returned from its outermost frame, or ended the program: the numbers of the function and of the instruction, and the cells.
+    /// It returned from its outermost frame, or ended the program: the numbers of the function and of the instruction, and the
+    /// cells.
     Finished(u32, usize, Vec<Option<Value>>),
     /// It stopped the program.
     Faulted(Spot),
@@ -125,12 +126,12 @@ impl Goroutine {
                 return Err((undo, error));
             }
         }
-        self.take_back(undo);
+        self.undo_step(undo);
         Ok(())
     }
 
     /// Takes a change back, for which there is room.
-    fn take_back(&mut self, undo: GoUndo)
+    fn undo_step(&mut self, undo: GoUndo)
         requires fits { Fits undo self.old.content }
         requires room { need undo ≤ self.old.room }
         ensures content { self.new.content ≡ undone undo self.old.content }
@@ -146,18 +147,8 @@ impl Goroutine {
                 drop_line(&mut self.text);
                 self.steps -= 1;
             }
-            GoUndo::Entered(spot) => {
-                self.top = self.below.pop().unwrap();
-                self.top.stand_at(spot);
-                self.steps -= 1;
-            }
-            GoUndo::Left(left) => {
-                let Left { frame, caller } = Box::into_inner(left);
-                self.top.undo(caller);
-                let caller = mem::replace(&mut self.top, frame);
-                self.below.push_reserved(caller);
-                self.steps -= 1;
-            }
+            GoUndo::Entered(spot) => self.undo_call(spot),
+            GoUndo::Left(left) => self.undo_return(left),
             GoUndo::Made(function, undo) => {
                 self.top.undo_in(function, undo);
                 self.steps -= 1;
@@ -168,15 +159,7 @@ impl Goroutine {
                 self.steps -= 1;
                 self.children -= 1;
             }
-            GoUndo::Met(met) => {
-                let Met {
-                    status,
-                    function,
-                    frame,
-                } = Box::into_inner(met);
-                self.top.undo_in(function, frame);
-                self.status = status;
-            }
+            GoUndo::Met(met) => self.undo_meeting(met),
             GoUndo::Parked(spot) => {
                 self.top.stand_at(spot);
                 self.status = Status::Ready;
@@ -193,5 +176,45 @@ impl Goroutine {
             }
             GoUndo::Retried(status) => self.status = status,
         }
+    }
+
+    /// Takes back that it called a function.
+    fn undo_call(&mut self, spot: Spot)
+        requires { Fits (GoUndo.Entered spot) self.old.content }
+        ensures content { self.new.content ≡ undone (GoUndo.Entered spot) self.old.content }
+        ensures spends { self.old.room + 1 ≤ self.new.room }
+    {
+        self.top = self.below.pop().unwrap();
+        self.top.stand_at(spot);
+        self.steps -= 1;
+    }
+
+    /// Takes back that a function returned to its caller, for which there is room.
+    fn undo_return(&mut self, left: Box<Left>)
+        requires fits { Fits (GoUndo.Left left) self.old.content }
+        requires room { 1 ≤ self.old.room }
+        ensures content { self.new.content ≡ undone (GoUndo.Left left) self.old.content }
+        ensures spends { self.old.room ≤ self.new.room + 1 }
+    {
+        let Left { frame, caller } = Box::into_inner(left);
+        self.top.undo(caller);
+        let caller = mem::replace(&mut self.top, frame);
+        self.below.push_reserved(caller);
+        self.steps -= 1;
+    }
+
+    /// Takes back that a partner met it.
+    fn undo_meeting(&mut self, met: Box<Met>)
+        requires { Fits (GoUndo.Met met) self.old.content }
+        ensures content { self.new.content ≡ undone (GoUndo.Met met) self.old.content }
+        ensures spends { self.old.room ≤ self.new.room }
+    {
+        let Met {
+            status,
+            function,
+            frame,
+        } = Box::into_inner(met);
+        self.top.undo_in(function, frame);
+        self.status = status;
     }
 }

@@ -1,7 +1,8 @@
 //! What holds of the rules of steps: laws, each on a function that does nothing.
 #![tactic(auto)]
 
-ghost use Rattle.std.specs.Prelude.{◌≡◌, ◌↔◌, ℕ, ℤ, ◌<◌, ◌≤◌, List, [], ◌∷◌, ◌++◌, map, length, Bool, true, false, ◌||◌, ◌⊎◌, Some, None};
+ghost use Rattle.std.specs.Prelude.{◌≡◌, ◌↔◌, ℕ, ℤ, ◌<◌, ◌≤◌, List, [], ◌∷◌, ◌++◌, map, length, Bool, true, false, ◌||◌, ◌⊎◌};
+ghost use Rattle.std.specs.Prelude.{Some, None};
 ghost use Rattle.gr_tree.specs.declared.expr.UnaryOp.{UnaryOp};
 ghost use Rattle.gr_tree.specs.declared.expr.BinaryOp.{BinaryOp};
 ghost use Rattle.gr_base.specs.declared.events.Choice.TheVariants.{Plain};
@@ -21,7 +22,8 @@ ghost use Rattle.gr_const.specs.Parts.{is_int};
 ghost use Rattle.gr_program.specs.Programs.{Program};
 ghost use Rattle.gr_rules.specs.Outcomes.{gives};
 ghost use Rattle.gr_rules.specs.Operators.{wrapped, operate, apply};
-ghost use Rattle.gr_rules.specs.Attempts.{Refusal, program_is_over, no_such_goroutine, goroutine_is_done, goroutine_waits, no_such_choice, unsound};
+ghost use Rattle.gr_rules.specs.Attempts.{Refusal, program_is_over, no_such_goroutine, goroutine_is_done, goroutine_waits};
+ghost use Rattle.gr_rules.specs.Attempts.{no_such_choice, unsound};
 ghost use Rattle.gr_rules.specs.Frames.{Frame};
 ghost use Rattle.gr_rules.specs.Deeds.{Communication, Chooses, deed};
 ghost use Rattle.gr_rules.specs.Goroutines.{Wait, ready, waiting, finished};

@@ -53,14 +53,14 @@ fn pair(alloc: Global, first: Operand, second: Operand) -> Result<Vec<Operand>, 
     Ok(operands)
 }
 
-/// The same targets once more.
+/// A copy of the targets.
 pub fn copies(alloc: Global, targets: &[Option<usize>]) -> Result<Vec<Option<usize>>, NoMemory>
     ensures { IfOk result (λ xs. xs.items ≡ targets.now) }
 {
     Ok(targets.iter().copied().collect(alloc)?)
 }
 
-/// The parts of expressions, and then what is done with what is left of them.
+/// Writes the parts of expressions, and then what is done with what is left of them.
 fn perform_all(
     alloc: Global,
     out: &mut Vec<Instruction>,
@@ -69,14 +69,15 @@ fn perform_all(
     action: Action,
 ) -> Result<(), NoMemory>
     ensures code { OnOk result (instructions_of out.new.items
-        ≡ instructions_of out.old.items ++ performed (rules.operands_of (exprs_of exprs.now)) first (vec_len out.old) (action_of action)) }
+        ≡ instructions_of out.old.items
+        ++ performed (rules.operands_of (exprs_of exprs.now)) first (vec_len out.old) (action_of action)) }
     ensures grown { OnOk result (vec_len out.new ≡ vec_len out.old + (parts_in (rules.operands_of (exprs_of exprs.now)) + 1)) }
 {
     let operands = lower_exprs(alloc, out, exprs, first)?;
     perform(out, action, operands)
 }
 
-/// .. of one expression.
+/// Writes the parts of one expression, and then what is done with what is left of it.
 pub fn perform_one(
     alloc: Global,
     out: &mut Vec<Instruction>,
@@ -85,15 +86,17 @@ pub fn perform_one(
     action: Action,
 ) -> Result<(), NoMemory>
     ensures code { OnOk result (instructions_of out.new.items
-        ≡ instructions_of out.old.items ++ performed (rules.one (rules.operand_of (expr_of expr.now))) first (vec_len out.old) (action_of action)) }
-    ensures grown { OnOk result (vec_len out.new ≡ vec_len out.old + (parts_in (rules.one (rules.operand_of (expr_of expr.now))) + 1)) }
+        ≡ instructions_of out.old.items
+        ++ performed (rules.one (rules.operand_of (expr_of expr.now))) first (vec_len out.old) (action_of action)) }
+    ensures grown { OnOk result (vec_len out.new
+        ≡ vec_len out.old + (parts_in (rules.one (rules.operand_of (expr_of expr.now))) + 1)) }
 {
     let operand = lower_expr(alloc, out, expr, first)?;
     let operands = single(alloc, operand)?;
     perform(out, action, operands)
 }
 
-// .. of two.
+// Writes the parts of two expressions, and then what is done with what is left of them.
 fn perform_two(
     alloc: Global,
     out: &mut Vec<Instruction>,
@@ -103,7 +106,8 @@ fn perform_two(
     action: Action,
 ) -> Result<(), NoMemory>
     ensures code { OnOk result (instructions_of out.new.items ≡ instructions_of out.old.items
-        ++ performed (rules.two (rules.operand_of (expr_of channel.now)) (rules.operand_of (expr_of value.now))) first (vec_len out.old) (action_of action)) }
+        ++ performed (rules.two (rules.operand_of (expr_of channel.now)) (rules.operand_of (expr_of value.now))) first
+        (vec_len out.old) (action_of action)) }
     ensures grown { OnOk result (vec_len out.new ≡ vec_len out.old
         + (parts_in (rules.two (rules.operand_of (expr_of channel.now)) (rules.operand_of (expr_of value.now))) + 1)) }
 {
@@ -115,13 +119,14 @@ fn perform_two(
     perform(out, action, operands)
 }
 
-/// .. of none.
+/// Writes what is done with no operands.
 pub fn perform_none(
     alloc: Global,
     out: &mut Vec<Instruction>,
     action: Action,
 ) -> Result<(), NoMemory>
-    ensures code { OnOk result (instructions_of out.new.items ≡ instructions_of out.old.items ++ spec.Perform (action_of action) rules.nothing ∷ []) }
+    ensures code { OnOk result (instructions_of out.new.items ≡ instructions_of out.old.items
+        ++ spec.Perform (action_of action) rules.nothing ∷ []) }
     ensures grown { OnOk result (vec_len out.new ≡ vec_len out.old + 1) }
 {
     perform(out, action, Vec::new(alloc))
@@ -135,7 +140,8 @@ fn give_back(
     first: usize,
 ) -> Result<(), NoMemory>
     ensures code { OnOk result (instructions_of out.new.items
-        ≡ instructions_of out.old.items ++ performed (returned (optional expr_of value.now)) first (vec_len out.old) spec.Returns) }
+        ≡ instructions_of out.old.items
+        ++ performed (returned (optional expr_of value.now)) first (vec_len out.old) spec.Returns) }
     ensures grown { OnOk result (vec_len out.new ≡ vec_len out.old + (parts_in (returned (optional expr_of value.now)) + 1)) }
 {
     match value {
@@ -219,9 +225,11 @@ fn receive_two(
 ) -> Result<(), NoMemory>
     ensures code { OnOk result (instructions_of out.new.items ≡ instructions_of out.old.items
         ++ (performed (rules.one (rules.operand_of (expr_of channel.now))) first (vec_len out.old)
-        (spec.AssignsReceived (rules.value_of (literal_of zero)) first (first + 1) (vec_len out.old + parts_in (rules.one (rules.operand_of (expr_of channel.now))) + 1))
+        (spec.AssignsReceived (rules.value_of (literal_of zero)) first (first + 1)
+        (vec_len out.old + parts_in (rules.one (rules.operand_of (expr_of channel.now))) + 1))
         ++ spec.Perform (spec.Assigns targets.items on) (rules.two (rules.Variable first) (rules.Variable (first + 1))) ∷ [])) }
-    ensures grown { OnOk result (vec_len out.new ≡ vec_len out.old + (parts_in (rules.one (rules.operand_of (expr_of channel.now))) + 2)) }
+    ensures grown { OnOk result (vec_len out.new
+        ≡ vec_len out.old + (parts_in (rules.one (rules.operand_of (expr_of channel.now))) + 2)) }
 {
     let value = first;
     let ok = sum(first, 1)?;
@@ -289,8 +297,10 @@ fn print(
     on: usize,
 ) -> Result<(), NoMemory>
     ensures code { OnOk result (instructions_of out.new.items ≡ instructions_of out.old.items
-        ++ performed (points.printed_operands (prints_of values.now)) first (vec_len out.old) (spec.PrintsLine (points.pieces_of (prints_of values.now)) on)) }
-    ensures grown { OnOk result (vec_len out.new ≡ vec_len out.old + (parts_in (points.printed_operands (prints_of values.now)) + 1)) }
+        ++ performed (points.printed_operands (prints_of values.now)) first (vec_len out.old)
+        (spec.PrintsLine (points.pieces_of (prints_of values.now)) on)) }
+    ensures grown { OnOk result (vec_len out.new
+        ≡ vec_len out.old + (parts_in (points.printed_operands (prints_of values.now)) + 1)) }
 {
     let pieces = pieces(alloc, values)?;
     let operands = lower_printed(alloc, out, values, first)?;
@@ -378,7 +388,8 @@ pub fn lower_opening(
     ways: &Ways,
 ) -> Result<(), NoMemory>
     ensures code { OnOk result (instructions_of out.new.items
-        ≡ instructions_of out.old.items ++ opening_code (optional opening_of opening.now) first (vec_len out.old) on (ways_of ways.now)) }
+        ≡ instructions_of out.old.items
+        ++ opening_code (optional opening_of opening.now) first (vec_len out.old) on (ways_of ways.now)) }
     ensures grown { OnOk result (vec_len out.new ≡ vec_len out.old + opening_size (optional opening_of opening.now)) }
 {
     match opening {

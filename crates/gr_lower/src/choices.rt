@@ -46,12 +46,15 @@ fn lower_arm(
     to: usize,
 ) -> Result<Arm, NoMemory>
     ensures code { OnOk result ((others : Cases)
-        → instructions_of out.new.items ++ code_in (case_operands others) (next + (vec_len out.new - vec_len out.old)) (vec_len out.new)
+        → instructions_of out.new.items
+        ++ code_in (case_operands others) (next + (vec_len out.new - vec_len out.old)) (vec_len out.new)
         ≡ instructions_of out.old.items ++ code_in (case_operands (case_on case.now others)) next (vec_len out.old)) }
     ensures grown { OnOk result ((others : Cases)
-        → vec_len out.new + parts_in (case_operands others) ≡ vec_len out.old + parts_in (case_operands (case_on case.now others))) }
+        → vec_len out.new + parts_in (case_operands others)
+        ≡ vec_len out.old + parts_in (case_operands (case_on case.now others))) }
     ensures more { OnOk result (vec_len out.old ≤ vec_len out.new) }
-    ensures value { IfOk result (λ a. (others : Cases) (n begins on : ℕ) → clause_sizes (case_on case.now others) ≡ n ∷ clause_sizes others
+    ensures value { IfOk result (λ a. (others : Cases) (n begins on : ℕ)
+        → clause_sizes (case_on case.now others) ≡ n ∷ clause_sizes others
         → to ≡ spec_entry n begins on → arms (case_on case.now others) next first begins on
         ≡ arm_of a ∷ arms others (next + (vec_len out.new - vec_len out.old)) first (begins + n) on) }
 {
@@ -127,7 +130,8 @@ pub fn head_select(
     first: usize,
     on: usize,
 ) -> Result<(), NoMemory>
-    ensures code { OnOk result (Asking (λ rest. clause_sizes (cases_of cases.now) ++ rest) sizes.old sizes.new (instructions_of out.new.items
+    ensures code { OnOk result (Asking (λ rest. clause_sizes (cases_of cases.now) ++ rest) sizes.old sizes.new
+        (instructions_of out.new.items
         ≡ instructions_of out.old.items ++ select_heading (cases_of cases.now) first (vec_len out.old) on)) }
     ensures grown { OnOk result (vec_len out.new ≡ vec_len out.old + (parts_in (case_operands (cases_of cases.now)) + 1)) }
 {

@@ -16,7 +16,8 @@ use std::alloc::Global;
 
 /// One more instruction.
 pub fn put(out: &mut Vec<Instruction>, instruction: Instruction) -> Result<(), NoMemory>
-    ensures code { OnOk result (instructions_of out.new.items ≡ instructions_of out.old.items ++ instruction_of instruction ∷ []) }
+    ensures code { OnOk result (instructions_of out.new.items ≡ instructions_of out.old.items ++ instruction_of instruction
+        ∷ []) }
     ensures grown { OnOk result (vec_len out.new ≡ vec_len out.old + 1) }
 {
     Ok(out.push(instruction)?)
@@ -49,7 +50,8 @@ fn part(
 ) -> Result<Operand, NoMemory>
     requires { begins ≤ vec_len out.old }
     ensures code { OnOk result (instructions_of out.new.items
-        ≡ instructions_of out.old.items ++ spec.Part (ask_of ask) (Some (first + (vec_len out.old - begins))) (vec_len out.old + 1) ∷ []) }
+        ≡ instructions_of out.old.items
+        ++ spec.Part (ask_of ask) (Some (first + (vec_len out.old - begins))) (vec_len out.old + 1) ∷ []) }
     ensures grown { OnOk result (vec_len out.new ≡ vec_len out.old + 1) }
     ensures value { IfOk result (λ x. operand_of x ≡ rules.Variable (first + (vec_len out.old - begins))) }
 {
@@ -169,9 +171,11 @@ fn lower_right(
     ensures code { OnOk result (instructions_of out.new.items ≡ instructions_of out.old.items
         ++ right_code op (operand_of left) (parts (rules.operand_of (expr_of right.now))) next (vec_len out.old)
         (code (rules.operand_of (expr_of right.now)))) }
-    ensures grown { OnOk result (vec_len out.new ≡ vec_len out.old + with_decision op (parts (rules.operand_of (expr_of right.now)))) }
+    ensures grown { OnOk result (vec_len out.new
+        ≡ vec_len out.old + with_decision op (parts (rules.operand_of (expr_of right.now)))) }
     ensures value { IfOk result (λ x. operand_of x
-        ≡ left_binary op (operand_of left) (parts (rules.operand_of (expr_of right.now))) next (spec_left (rules.operand_of (expr_of right.now)))) }
+        ≡ left_binary op (operand_of left) (parts (rules.operand_of (expr_of right.now))) next
+        (spec_left (rules.operand_of (expr_of right.now)))) }
 {
     let passed = count(right)?;
     if passed == 0 || !is_logic(op) {
@@ -183,7 +187,7 @@ fn lower_right(
     decided(alloc, op, next, right)
 }
 
-/// The same of several expressions, one after another.
+/// Writes the parts of several expressions, one after another, and answers what is left of each.
 #[cycle(lowering)]
 pub fn lower_exprs(
     alloc: Global,

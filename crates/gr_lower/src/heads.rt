@@ -30,7 +30,8 @@ fn perform_tested(
     action: Action,
 ) -> Result<(), NoMemory>
     ensures code { OnOk result (instructions_of out.new.items
-        ≡ instructions_of out.old.items ++ performed (tested (optional expr_of condition.now)) first (vec_len out.old) (action_of action)) }
+        ≡ instructions_of out.old.items
+        ++ performed (tested (optional expr_of condition.now)) first (vec_len out.old) (action_of action)) }
     ensures grown { OnOk result (vec_len out.new ≡ vec_len out.old + (parts_in (tested (optional expr_of condition.now)) + 1)) }
 {
     match condition {
@@ -54,9 +55,11 @@ pub fn head_if(
     ways: &Ways,
 ) -> Result<(), NoMemory>
     ensures code { OnOk result (instructions_of out.new.items ≡ instructions_of out.old.items
-        ++ if_heading (optional opening_of init.now) (rules.operand_of (expr_of condition.now)) sides.0 sides.1 first (vec_len out.old) on (ways_of ways.now)) }
+        ++ if_heading (optional opening_of init.now) (rules.operand_of (expr_of condition.now)) sides.0 sides.1 first
+        (vec_len out.old) on (ways_of ways.now)) }
     ensures grown { OnOk result (vec_len out.new
-        ≡ vec_len out.old + (opening_size (optional opening_of init.now) + (parts_in (rules.one (rules.operand_of (expr_of condition.now))) + 1))) }
+        ≡ vec_len out.old + (opening_size (optional opening_of init.now) +
+        (parts_in (rules.one (rules.operand_of (expr_of condition.now))) + 1))) }
 {
     let test = sum(out.len(), size_of_opening(init)?)?;
     let body = sum(sum(test, count(condition)?)?, 1)?;
@@ -78,10 +81,13 @@ pub fn head_for(
     ways: &Ways,
 ) -> Result<usize, NoMemory>
     ensures code { OnOk result (instructions_of out.new.items ≡ instructions_of out.old.items
-        ++ for_heading (optional opening_of init.now) (optional expr_of condition.now) sizes.0 sizes.1 first (vec_len out.old) on (ways_of ways.now)) }
+        ++ for_heading (optional opening_of init.now) (optional expr_of condition.now) sizes.0 sizes.1 first (vec_len out.old) on
+        (ways_of ways.now)) }
     ensures grown { OnOk result (vec_len out.new
-        ≡ vec_len out.old + (opening_size (optional opening_of init.now) + (parts_in (tested (optional expr_of condition.now)) + 1))) }
-    ensures value { IfOk result (λ n. n ≡ turn_of (optional opening_of init.now) (optional expr_of condition.now) sizes.0 sizes.1 (vec_len out.old)) }
+        ≡ vec_len out.old + (opening_size (optional opening_of init.now) +
+        (parts_in (tested (optional expr_of condition.now)) + 1))) }
+    ensures value { IfOk result (λ n. n
+        ≡ turn_of (optional opening_of init.now) (optional expr_of condition.now) sizes.0 sizes.1 (vec_len out.old)) }
 {
     let test = sum(out.len(), size_of_opening(init)?)?;
     let body = sum(sum(test, count_tested(condition)?)?, 1)?;
@@ -102,7 +108,8 @@ fn take_turn(
     first: usize,
     on: usize,
 ) -> Result<(), NoMemory>
-    ensures code { OnOk result (instructions_of out.new.items ≡ instructions_of out.old.items ++ turn_heading target many first (vec_len out.old) on) }
+    ensures code { OnOk result (instructions_of out.new.items ≡ instructions_of out.old.items
+        ++ turn_heading target many first (vec_len out.old) on) }
     ensures grown { OnOk result (vec_len out.new ≡ vec_len out.old + 3) }
 {
     let turn = out.len();
@@ -135,7 +142,8 @@ pub fn head_range(
 ) -> Result<(), NoMemory>
     ensures code { OnOk result (instructions_of out.new.items ≡ instructions_of out.old.items
         ++ range_heading target (rules.operand_of (expr_of channel.now)) many first (vec_len out.old) on) }
-    ensures grown { OnOk result (vec_len out.new ≡ vec_len out.old + (parts_in (rules.one (rules.operand_of (expr_of channel.now))) + 1 + 3)) }
+    ensures grown { OnOk result (vec_len out.new
+        ≡ vec_len out.old + (parts_in (rules.one (rules.operand_of (expr_of channel.now))) + 1 + 3)) }
 {
     let turn = sum(sum(out.len(), count(channel)?)?, 1)?;
     let action = Action::Range {
@@ -154,7 +162,8 @@ pub fn take_received(
     first: usize,
     on: usize,
 ) -> Result<(), NoMemory>
-    ensures code { OnOk result (instructions_of out.new.items ≡ instructions_of out.old.items ++ targets_code targets.now first on) }
+    ensures code { OnOk result (instructions_of out.new.items ≡ instructions_of out.old.items
+        ++ targets_code targets.now first on) }
     ensures grown { OnOk result (vec_len out.new ≡ vec_len out.old + targets_size targets.now) }
 {
     if targets.is_empty() {

@@ -14,7 +14,8 @@ ghost use Rattle.gr_lower.specs.StatementCode.{Way, stmts_code};
 ghost use Rattle.gr_lower.specs.StatementPoints.{plugged_again};
 ghost use Rattle.gr_lower.specs.Lowered.{body_code, body_lines, cells_of, lowered, meaning};
 ghost use Rattle.gr_lower.specs.CanLower.{CanDoAll, CanLower};
-ghost use Rattle.gr_lower.specs.Examples.{joining, looping, choosing, calling, calling_code, turning, turning_code, nesting, nesting_code, MeansAs};
+ghost use Rattle.gr_lower.specs.Examples.{joining, looping, choosing, calling, calling_code, turning, turning_code, nesting};
+ghost use Rattle.gr_lower.specs.Examples.{nesting_code, MeansAs};
 
 /// The code of statements where two ways join, of loops, of a select, of a call and of statements in each other, what it
 /// means, the cells that it needs, and its lines. All of them have what the law of layout asks for.
@@ -25,9 +26,11 @@ pub fn examples_of_layout()
     ensures calls { body_code 2 calling ≡ calling_code }
     ensures turns { body_code 2 turning ≡ turning_code }
     ensures nests { body_code 2 nesting ≡ nesting_code }
-    ensures cells { (cells_of 2 (body_code 2 joining) ≡ 4) × (cells_of 2 (body_code 2 looping) ≡ 4) × (cells_of 2 calling_code ≡ 4) }
+    ensures cells { (cells_of 2 (body_code 2 joining) ≡ 4) × (cells_of 2 (body_code 2 looping) ≡ 4)
+        × (cells_of 2 calling_code ≡ 4) }
     ensures lines { body_lines choosing (begins_at 9) ≡ 1 ∷ 1 ∷ 1 ∷ [] }
-    ensures fine { CanDoAll 2 joining × CanDoAll 2 looping × CanDoAll 2 choosing × CanDoAll 2 calling × CanDoAll 2 turning × CanDoAll 2 nesting }
+    ensures fine { CanDoAll 2 joining × CanDoAll 2 looping × CanDoAll 2 choosing × CanDoAll 2 calling × CanDoAll 2 turning
+        × CanDoAll 2 nesting }
 {}
 
 /// Operands whose parts are plugged with temporaries one after another are what is left of them, and their code has an

@@ -55,7 +55,7 @@ pub fn count(expr: &Expr) -> Result<usize, NoMemory>
     }
 }
 
-/// .. and those of several expressions.
+/// How many parts several expressions have together.
 #[cycle(counting)]
 pub fn count_all(exprs: &[Expr]) -> Result<usize, NoMemory>
     ensures { IfOk result (λ n. n ≡ parts_in (operands_of (exprs_of exprs.now))) }

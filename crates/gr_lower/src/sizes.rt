@@ -35,7 +35,7 @@ impl Sizes {
         Ok(self.noted.push(size)?)
     }
 
-    /// .. and several of them.
+    /// Notes several sizes before those noted so far, in their order.
     pub fn note_all(&mut self, sizes: Sizes) -> Result<(), NoMemory>
         ensures { OnOk result (self.new ≡ sizes ++ self.old) }
     {

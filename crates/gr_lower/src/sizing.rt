@@ -6,7 +6,8 @@ ghost use Rattle.gr_program.specs.Views.{expr_of, prints_of, act_of, opening_of,
 ghost use Rattle.gr_rules.specs.Operands.{operand_of};
 ghost use Rattle.gr_rules.specs.Points.{printed_operands, case_operands};
 ghost use Rattle.gr_code.specs.Passing.{parts_in};
-ghost use Rattle.gr_lower.specs.Sizes.{whole_size as spec_whole, returned, tested, act_size, opening_size, targets_size, size, size_in, size_among};
+ghost use Rattle.gr_lower.specs.Sizes.{whole_size as spec_whole, returned, tested, act_size, opening_size, targets_size, size};
+ghost use Rattle.gr_lower.specs.Sizes.{size_in, size_among};
 ghost use Rattle.gr_lower.specs.Asked.{clause_sizes, asked, asked_in, asked_among};
 
 use crate::parts::{count, count_all, sum};
@@ -83,7 +84,7 @@ pub fn size_of_act(act: &Act) -> Result<usize, NoMemory>
     }
 }
 
-/// .. and the statement in a heading.
+/// The size of the code of the statement in a heading: 0 if there is none.
 pub fn size_of_opening(opening: &Option<Box<Opening>>) -> Result<usize, NoMemory>
     ensures { IfOk result (λ n. n ≡ opening_size (optional opening_of opening.now)) }
 {
@@ -149,7 +150,7 @@ fn size_of(alloc: Global, sizes: &mut Sizes, stmt: &Stmt) -> Result<usize, NoMem
     }
 }
 
-/// .. and how many have several.
+/// The size of the code of several statements. Notes the sizes that writing them asks for.
 #[cycle(sizing)]
 pub fn size_of_all(alloc: Global, sizes: &mut Sizes, stmts: &[Stmt]) -> Result<usize, NoMemory>
     ensures noted { OnOk result (sizes.new ≡ asked_in (stmts_of stmts.now) sizes.old) }
@@ -202,7 +203,8 @@ fn size_of_cases(alloc: Global, sizes: &mut Sizes, cases: &[Case]) -> Result<usi
 
 // How many parts the operands of a clause have, before those of others.
 fn count_case(case: &Case) -> Result<usize, NoMemory>
-    ensures { IfOk result (λ n. (others : Cases) → parts_in (case_operands (case_on case.now others)) ≡ n + parts_in (case_operands others)) }
+    ensures { IfOk result (λ n. (others : Cases)
+        → parts_in (case_operands (case_on case.now others)) ≡ n + parts_in (case_operands others)) }
 {
     match case {
         Case::Default(_) => Ok(0),

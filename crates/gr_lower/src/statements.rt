@@ -93,7 +93,7 @@ fn lower_stmt(
     }
 }
 
-/// .. and of several.
+/// The code of several statements, one after another, before `on`.
 #[cycle(writing)]
 pub fn lower_stmts(
     alloc: Global,

@@ -1,6 +1,7 @@
 //! The pool of ready goroutines.
 
-ghost use Rattle.std.specs.Prelude.{◌≡◌, ◌∷◌, ◌++◌, [], length, true, option_copied, slice_get, if◌then◌else◌, ◌↔◌, IsTrue, OnOk, OnErr, IsOk};
+ghost use Rattle.std.specs.Prelude.{◌≡◌, ◌∷◌, ◌++◌, [], length, true, option_copied, slice_get, if◌then◌else◌, ◌↔◌, IsTrue, OnOk};
+ghost use Rattle.std.specs.Prelude.{OnErr, IsOk};
 ghost use Rattle.gr_pool.specs.Goroutines.{is_among, IsInOrder, with_name, without_name, next_name};
 
 use crate::places::{known_place, next_place, place_of, stands_at};
@@ -32,7 +33,8 @@ impl Model for Pool {
 
     ghost view = { λ p. record { known = p.known.keys; ready = names_at p.known.keys p.ready.items } };
 
-    ghost invariant = { λ p. All (λ place. place < length p.known.keys) p.ready.items × IsInOrder (names_at p.known.keys p.ready.items) × (length p.known.keys ≤ vec_capacity p.ready) };
+    ghost invariant = { λ p. All (λ place. place < length p.known.keys) p.ready.items
+        × IsInOrder (names_at p.known.keys p.ready.items) × (length p.known.keys ≤ vec_capacity p.ready) };
 }
 
 impl Pool {
@@ -52,7 +54,8 @@ impl Pool {
     /// Makes a name known, and room for it among the ready ones. A name that is known takes no memory. Refused, nothing
     /// has changed.
     pub fn know(&mut self, name: &GoName) -> Result<(), NoMemory>
-        ensures known { OnOk result (self.new.known ≡ (if is_among name.now self.old.known then self.old.known else self.old.known ++ name.now ∷ [])) }
+        ensures known { OnOk result (self.new.known
+            ≡ (if is_among name.now self.old.known then self.old.known else self.old.known ++ name.now ∷ [])) }
         ensures there { OnOk result (is_among name.now self.new.known ≡ true) }
         ensures ready { self.new.ready ≡ self.old.ready }
         ensures err { OnErr result (self.new ≡ self.old) }
@@ -100,8 +103,8 @@ impl Pool {
         self.ready.is_empty()
     }
 
-    /// Makes a known goroutine ready. It takes no memory, and constant time where it is the last answer of `next_after` and ready.
-    /// The one that was made unready last is not searched for among the known ones.
+    /// Makes a known goroutine ready. It takes no memory, and constant time where it is the last answer of `next_after` and
+    /// ready. The one that was made unready last is not searched for among the known ones.
     pub fn insert(&mut self, name: &GoName)
         requires { is_among name.now self.old.known ≡ true }
         ensures ready { self.new.ready ≡ with_name name.now self.old.ready }

@@ -113,7 +113,8 @@ fn is_same_passing(a: &Act, b: &Act) -> bool
 
 // Whether both are something else, and the same.
 fn is_same_other(a: &Act, b: &Act) -> bool
-    ensures { result ≡ (not (spec.assigns (act_of a.now)) && (not (spec.passes (act_of a.now)) && spec.same_act (act_of a.now) (act_of b.now))) }
+    ensures { result ≡ (not (spec.assigns (act_of a.now)) &&
+        (not (spec.passes (act_of a.now)) && spec.same_act (act_of a.now) (act_of b.now))) }
 {
     match (a, b) {
         (Act::Eval(x), Act::Eval(y)) | (Act::Close(x), Act::Close(y)) => is_same_expr(x, y),

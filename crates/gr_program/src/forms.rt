@@ -35,7 +35,8 @@ pub fn conditional(
     body: Vec<Stmt>,
     otherwise: Vec<Stmt>,
 ) -> Stmt
-    ensures { stmt_of result ≡ pure.If place (optional opening_of init) (expr_of condition) (stmts_of body.items) (stmts_of otherwise.items) }
+    ensures { stmt_of result ≡ pure.If place (optional opening_of init) (expr_of condition) (stmts_of body.items)
+        (stmts_of otherwise.items) }
 {
     Stmt::If {
         place,
@@ -53,7 +54,8 @@ pub fn repeated(
     post: Option<Box<Opening>>,
     body: Vec<Stmt>,
 ) -> Stmt
-    ensures { stmt_of result ≡ pure.For place (optional opening_of init) (optional expr_of condition) (optional opening_of post) (stmts_of body.items) }
+    ensures { stmt_of result ≡ pure.For place (optional opening_of init) (optional expr_of condition) (optional opening_of post)
+        (stmts_of body.items) }
 {
     Stmt::For {
         place,

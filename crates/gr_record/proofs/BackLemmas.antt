@@ -8,9 +8,9 @@ use Rattle.gr_channels.specs.Channels.{Content}
 use Rattle.gr_rules.specs.Operators.{same_channel}
 use Rattle.gr_rules.specs.States.{same_go}
 use Rattle.gr_code.specs.Goroutines.{CodeGoroutine}
-use Rattle.gr_contents.specs.Contents.{Contents}
-use Rattle.gr_contents.specs.NamedBack.{at_channel}
-use Rattle.gr_contents.proofs.NameLemmas.{go_is, channel_is}
+use Rattle.gr_refine.specs.Contents.{Contents}
+use Rattle.gr_refine.specs.NamedBack.{at_channel}
+use Rattle.gr_refine.proofs.NameLemmas.{go_is, channel_is}
 use Rattle.gr_tables.specs.NamedChannels.{chan_back}
 use Rattle.gr_record.specs.Conflicts.{written_by, touched_by}
 use Rattle.gr_record.specs.declared.record.Record.{Record}

@@ -2,8 +2,8 @@
 use Rattle.std.proofs.Common.{◌≡◌, suc, List, [], ◌∷◌, ◌++◌, length, refl, sym, ap, subst, append_assoc, append-nil}
 use Rattle.gr_program.specs.Programs.{Program}
 use Rattle.gr_laws.specs.Reached.{Logged}
-use Rattle.gr_contents.specs.Contents.{Contents}
-use Rattle.gr_contents.specs.Standing.{ContentsStand}
+use Rattle.gr_refine.specs.Contents.{Contents}
+use Rattle.gr_refine.specs.Standing.{ContentsStand}
 use Rattle.gr_lower.specs.Lowered.{lowered, meaning}
 use Rattle.gr_record.specs.declared.record.Record.{Record}
 use Rattle.gr_record.specs.Kept.{Kept, none, one_more, Tells}

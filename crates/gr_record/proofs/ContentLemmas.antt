@@ -9,8 +9,8 @@ use Rattle.gr_channels.specs.Objects.{GateContent, gate_of, slot_from, Part, Sam
 use Rattle.gr_channels.specs.Objects as parts
 use Rattle.gr_channels.proofs.Slots.{slots_same}
 use Rattle.gr_channels.proofs.Undoing.{same_self}
-use Rattle.gr_contents.specs.TakingBack.{all_undone, AllFit, any_written, AllTakenBack}
-use Rattle.gr_contents.proofs.BackLemmas.{changes_go_back_anywhere}
+use Rattle.gr_refine.specs.TakingBack.{all_undone, AllFit, any_written, AllTakenBack}
+use Rattle.gr_refine.proofs.BackLemmas.{changes_go_back_anywhere}
 
 pub same_back : (q : Part) (a b : Content) → SameAt q a b → SameAt q b a
 same_back parts.Gate a b e = sym e

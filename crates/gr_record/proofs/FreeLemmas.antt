@@ -8,7 +8,7 @@ use Rattle.gr_causal.proofs.PartLemmas.{last_dependents}
 use Rattle.gr_causal.proofs.UniqueLemmas.{same_others}
 use Rattle.gr_program.specs.Programs.{Program}
 use Rattle.gr_laws.specs.Reached.{Logged}
-use Rattle.gr_contents.specs.Contents.{Contents}
+use Rattle.gr_refine.specs.Contents.{Contents}
 use Rattle.gr_record.specs.Conflicts.{conflict_of}
 use Rattle.gr_record.specs.declared.record.Record.{Record}
 use Rattle.gr_record.specs.Kept.{Kept}

@@ -6,7 +6,7 @@ use Rattle.gr_program.specs.Programs.{Program}
 use Rattle.gr_rules.specs.States.{start}
 use Rattle.gr_rules.specs.Steps.{machine}
 use Rattle.gr_laws.specs.Reached.{Logged, IsRun}
-use Rattle.gr_contents.specs.Contents.{Contents}
+use Rattle.gr_refine.specs.Contents.{Contents}
 use Rattle.gr_record.specs.declared.record.Record.{Record}
 use Rattle.gr_record.specs.Kept.{Kept, none, one_more, Tells}
 use Rattle.gr_record.specs.Listings.{state_in}

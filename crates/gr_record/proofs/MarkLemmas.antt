@@ -2,7 +2,7 @@
 use Rattle.std.proofs.Common.{◌≡◌, suc, Bool, true, false, List, [], ◌∷◌, ◌++◌, length, refl, sym, ap, subst, append_assoc}
 use Rattle.gr_program.specs.Programs.{Program}
 use Rattle.gr_laws.specs.Reached.{Logged}
-use Rattle.gr_contents.specs.Contents.{Contents}
+use Rattle.gr_refine.specs.Contents.{Contents}
 use Rattle.gr_record.specs.Conflicts.{conflict_of}
 use Rattle.gr_record.specs.declared.record.Record.{Record}
 use Rattle.gr_record.specs.Kept.{Kept}

@@ -10,10 +10,10 @@ use Rattle.gr_rules.specs.Touches.{table, AsTheTable}
 use Rattle.gr_laws.specs.Reached.{Logged}
 use Rattle.gr_laws.specs.Touched.{each_once}
 use Rattle.gr_laws.proofs.AttemptTouches.{touched_as}
-use Rattle.gr_contents.specs.Contents.{Contents}
-use Rattle.gr_contents.specs.Leaves.{Performs}
-use Rattle.gr_contents.specs.Standing.{ContentsStand}
-use Rattle.gr_contents.proofs.MachineLemmas.{step_is_performed}
+use Rattle.gr_refine.specs.Contents.{Contents}
+use Rattle.gr_refine.specs.Leaves.{Performs}
+use Rattle.gr_refine.specs.Standing.{ContentsStand}
+use Rattle.gr_refine.proofs.MachineLemmas.{step_is_performed}
 use Rattle.gr_lower.specs.Lowered.{lowered, meaning}
 use Rattle.gr_record.specs.declared.record.Record.{Record}
 use Rattle.gr_record.specs.Kept.{Tells}

@@ -10,10 +10,10 @@ use Rattle.gr_channels.specs.Changes.{undone, Fits}
 use Rattle.gr_rules.specs.Operators.{same_channel}
 use Rattle.gr_rules.specs.States.{same_go}
 use Rattle.gr_code.specs.Goroutines.{CodeGoroutine}
-use Rattle.gr_contents.specs.NamedBack.{at_channel}
-use Rattle.gr_contents.specs.TakingBack.{all_undone, AllFit}
-use Rattle.gr_contents.proofs.NameLemmas.{go_is, channel_is, channel_self}
-use Rattle.gr_goros.specs.declared.undo.GoUndo.{GoUndo}
+use Rattle.gr_refine.specs.NamedBack.{at_channel}
+use Rattle.gr_refine.specs.TakingBack.{all_undone, AllFit}
+use Rattle.gr_refine.proofs.NameLemmas.{go_is, channel_is, channel_self}
+use Rattle.gr_tables.specs.GoUndo.{GoUndo}
 use Rattle.gr_tables.specs.NamedChannels.{chan_back, FitsAt, ChansFit}
 use Rattle.gr_record.specs.Records.{go_undone, go_back, GoFitsAt, GoesFit}
 use Rattle.gr_record.specs.Within.{IsAmong, EachIsAmong}

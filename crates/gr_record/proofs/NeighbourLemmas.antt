@@ -10,9 +10,9 @@ use Rattle.gr_channels.specs.Channels.{Content, IsChannel}
 use Rattle.gr_channels.specs.Objects.{Part}
 use Rattle.gr_program.specs.Programs.{Program}
 use Rattle.gr_rules.specs.States.{live, same}
-use Rattle.gr_contents.specs.Contents.{Contents}
-use Rattle.gr_contents.specs.Standing.{ContentsStand}
-use Rattle.gr_contents.specs.TakingBack.{part_of, all_undone, AllFit, any_written, ChannelBack, untouched, changed, unmade}
+use Rattle.gr_refine.specs.Contents.{Contents}
+use Rattle.gr_refine.specs.Standing.{ContentsStand}
+use Rattle.gr_refine.specs.TakingBack.{part_of, all_undone, AllFit, any_written, ChannelBack, untouched, changed, unmade}
 use Rattle.gr_lower.specs.Lowered.{lowered, meaning}
 use Rattle.gr_tables.specs.NamedChannels.{chan_back}
 use Rattle.gr_record.specs.Conflicts.{written_by, touched_by}

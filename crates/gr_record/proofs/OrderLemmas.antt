@@ -11,8 +11,8 @@ use Rattle.gr_rules.specs.Steps.{machine}
 use Rattle.gr_laws.specs.Dependence.{clash, StepName, step_name}
 use Rattle.gr_laws.specs.Reached.{Logged}
 use Rattle.gr_laws.proofs.RunLemmas.{distinct_steps}
-use Rattle.gr_contents.specs.Contents.{Contents}
-use Rattle.gr_contents.specs.Standing.{ContentsStand}
+use Rattle.gr_refine.specs.Contents.{Contents}
+use Rattle.gr_refine.specs.Standing.{ContentsStand}
 use Rattle.gr_lower.specs.Lowered.{lowered, meaning}
 use Rattle.gr_record.specs.Conflicts.{conflict_of}
 use Rattle.gr_record.specs.declared.record.Record.{Record}

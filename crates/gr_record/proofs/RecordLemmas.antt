@@ -18,8 +18,8 @@ use Rattle.gr_laws.specs.Touched.{AreTouched, TellTouches, each_once}
 use Rattle.gr_laws.proofs.AttemptTouches.{touched_as}
 use Rattle.gr_laws.proofs.CellLemmas.{machine_laws, same_is, same_self}
 use Rattle.gr_laws.proofs.TouchedLemmas.{any_in, in_any, touched_each, told_alike, clash_by_lists, writes_once}
-use Rattle.gr_contents.specs.Contents.{Contents}
-use Rattle.gr_contents.proofs.MachineLemmas.{performed_is_step}
+use Rattle.gr_refine.specs.Contents.{Contents}
+use Rattle.gr_refine.proofs.MachineLemmas.{performed_is_step}
 use Rattle.gr_record.specs.Conflicts.{written_by, read_by, touched_by, conflict_of}
 use Rattle.gr_record.specs.declared.record.Record.{Record}
 use Rattle.gr_record.specs.Kept.{Tells}

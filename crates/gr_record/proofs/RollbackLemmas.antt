@@ -9,7 +9,7 @@ use Rattle.gr_causal.proofs.PartLemmas.{part_to_end, last_dependents}
 use Rattle.gr_program.specs.Programs.{Program}
 use Rattle.gr_laws.specs.Dependence.{clash}
 use Rattle.gr_laws.specs.Reached.{Logged}
-use Rattle.gr_contents.specs.Contents.{Contents}
+use Rattle.gr_refine.specs.Contents.{Contents}
 use Rattle.gr_record.specs.Conflicts.{conflict_of}
 use Rattle.gr_record.specs.declared.record.Record.{Record}
 use Rattle.gr_record.specs.Kept.{Kept}

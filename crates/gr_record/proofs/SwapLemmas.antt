@@ -10,10 +10,10 @@ use Rattle.gr_rules.specs.Steps.{machine}
 use Rattle.gr_laws.specs.Dependence.{clash}
 use Rattle.gr_laws.specs.Reached.{Logged}
 use Rattle.gr_laws.proofs.CellLemmas.{machine_laws}
-use Rattle.gr_contents.specs.Contents.{Contents}
-use Rattle.gr_contents.specs.Standing.{ContentsStand}
-use Rattle.gr_contents.specs.TakingBack.{TakesBack}
-use Rattle.gr_contents.proofs.BackLemmas.{taking_back_puts_back}
+use Rattle.gr_refine.specs.Contents.{Contents}
+use Rattle.gr_refine.specs.Standing.{ContentsStand}
+use Rattle.gr_refine.specs.TakingBack.{TakesBack}
+use Rattle.gr_refine.proofs.BackLemmas.{taking_back_puts_back}
 use Rattle.gr_lower.specs.Lowered.{lowered, meaning}
 use Rattle.gr_record.specs.Conflicts.{written_by, touched_by}
 use Rattle.gr_record.specs.declared.record.Record.{Record}

@@ -15,7 +15,7 @@ use Rattle.gr_rules.specs.Goroutines.{Goroutine}
 use Rattle.gr_rules.specs.States.{Cell, go_has, State, look}
 use Rattle.gr_rules.specs.Steps.{count, steps_of}
 use Rattle.gr_rules.specs.Touches.{capacity_at, slot_numbered, senders_at, send_side, receive_side, side, taken, with_channel, without_channel, clauses_in, looked_at, row, table}
-use Rattle.gr_contents.proofs.StateLemmas.{gate_is, tail_is, head_is}
+use Rattle.gr_refine.proofs.StateLemmas.{gate_is, tail_is, head_is}
 
 go_is : (n : List ℕ) (x y : Option Goroutine) → go_has n x ≡ go_has n y → x ≡ y
 go_is n x y e = ap (λ (c : Cell). elim c [ go_has m z ↦ z | _ ↦ x ]) e

@@ -5,8 +5,8 @@ use Rattle.gr_base.specs.declared.kinds.Kind.{Kind}
 use Rattle.gr_base.specs.declared.kinds.Kind.TheVariants.{SendWait, RecvWait}
 use Rattle.gr_channels.specs.declared.changes.ChanUndo.{ChanUndo}
 use Rattle.gr_channels.specs.declared.changes.ChanUndo.TheVariants.{ParkedSender, ParkedReceiver}
-use Rattle.gr_goros.specs.declared.undo.GoUndo.{GoUndo}
-use Rattle.gr_goros.specs.declared.undo.GoUndo.TheVariants.{Parked}
+use Rattle.gr_tables.specs.GoUndo.{GoUndo}
+use Rattle.gr_tables.specs.GoUndo.TheVariants.{Parked}
 use Rattle.gr_record.specs.declared.few.Few.{Few}
 use Rattle.gr_record.specs.declared.few.Few.TheVariants.{Empty, One}
 use Rattle.gr_record.specs.declared.record.Operation.{Operation}

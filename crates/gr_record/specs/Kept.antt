@@ -5,7 +5,7 @@ use Rattle.gr_program.specs.Programs.{Program}
 use Rattle.gr_rules.specs.Attempts.{kind_of}
 use Rattle.gr_rules.specs.Steps.{machine}
 use Rattle.gr_laws.specs.Reached.{Logged}
-use Rattle.gr_contents.specs.Contents.{Contents}
+use Rattle.gr_refine.specs.Contents.{Contents}
 use Rattle.gr_record.specs.declared.record.Record.{Record}
 use Rattle.gr_record.specs.Listings.{state_in}
 use Rattle.gr_record.specs.Records.{event_of, is_printed}

@@ -11,3 +11,4 @@ pub mod Taking
 pub mod Kept
 pub mod Pairs
 pub mod Back
+pub use Rattle.gr_tables.specs.Back as TablesBack

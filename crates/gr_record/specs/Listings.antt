@@ -7,7 +7,7 @@ use Rattle.gr_rules.specs.States.{State}
 use Rattle.gr_code.specs.CodeFrames.{ProgramCode, CodeFrame}
 use Rattle.gr_code.specs.CodeViews.{program_code_of}
 use Rattle.gr_code.specs.Programs.{frame_of}
-use Rattle.gr_contents.specs.Contents.{Contents, state_of}
+use Rattle.gr_refine.specs.Contents.{Contents, state_of}
 use Rattle.gr_lower.specs.Lowered.{lowered, meaning}
 use Rattle.gr_record.specs.declared.listing.Listing.{Listing}
 

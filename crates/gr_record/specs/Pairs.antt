@@ -1,7 +1,9 @@
 -- Records, each with the step of the log that it is.
 use Rattle.std.specs.Prelude.{◌≡◌, Bool, List, map}
+use Rattle.gr_base.specs.declared.kinds.Kind.{Kind}
 use Rattle.gr_base.specs.declared.names.StepId.{StepId}
 use Rattle.gr_program.specs.Programs.{Program}
+use Rattle.gr_rules.specs.Attempts.{kind_of}
 use Rattle.gr_laws.specs.Dependence.{clash}
 use Rattle.gr_laws.specs.Reached.{Logged}
 use Rattle.gr_record.specs.declared.record.Record.{Record}
@@ -24,3 +26,7 @@ AreOf p steps records log = (records ≡ records_in p steps) × (log ≡ steps_i
 -- the name of a step: its goroutine, and its ordinal among the steps of that goroutine
 abbrev pub id_of : (p : Program) → Logged p → StepId
 id_of p l = record { go = l.event.go; n = l.note.kind.ordinal }
+
+-- the kind of a step
+abbrev pub step_kind : (p : Program) → Logged p → Kind
+step_kind p l = kind_of l.note.kind

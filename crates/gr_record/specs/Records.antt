@@ -11,13 +11,13 @@ use Rattle.gr_rules.specs.Attempts as rules
 use Rattle.gr_rules.specs.States.{live, same_go}
 use Rattle.gr_rules.specs.Operators.{same_channel}
 use Rattle.gr_code.specs.Goroutines.{CodeGoroutine}
-use Rattle.gr_goros.specs.Undoing.{undone, Fits, need}
-use Rattle.gr_goros.specs.declared.undo.GoUndo.{GoUndo}
-use Rattle.gr_goros.specs.declared.undo.GoUndo.TheVariants.{Printed}
+use Rattle.gr_tables.specs.Undoing.{undone, Fits, need}
+use Rattle.gr_tables.specs.GoUndo.{GoUndo}
+use Rattle.gr_tables.specs.GoUndo.TheVariants.{Printed}
 use Rattle.gr_tables.specs.Back.{back_at, AllFit}
 use Rattle.gr_tables.specs.NamedChannels.{chan_back, ChansFit}
 use Rattle.gr_tables.specs.NamedGoroutines.{At}
-use Rattle.gr_contents.specs.Contents.{Contents}
+use Rattle.gr_refine.specs.Contents.{Contents}
 use Rattle.gr_record.specs.declared.record.Operation.{Operation}
 use Rattle.gr_record.specs.declared.record.Operation.TheVariants.{SendsOn, ReceivesFrom, TakesLenOf, TakesCapOf, Closes}
 use Rattle.gr_record.specs.declared.record.Beyond.{Beyond}

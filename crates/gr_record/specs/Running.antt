@@ -3,8 +3,8 @@ use Rattle.gr_tree.specs.Files.{FileTree}
 use Rattle.gr_program.specs.Programs.{Program}
 use Rattle.gr_typing.specs.FileChecks.{ProgramOf}
 use Rattle.gr_laws.specs.Reached.{Reached}
-use Rattle.gr_contents.specs.Contents.{Contents}
-use Rattle.gr_contents.specs.Standing.{ContentsStand}
+use Rattle.gr_refine.specs.Contents.{Contents}
+use Rattle.gr_refine.specs.Standing.{ContentsStand}
 use Rattle.gr_lower.specs.Lowered.{lowered, meaning}
 use Rattle.gr_record.specs.Listings.{state_in}
 

@@ -6,9 +6,9 @@ use Rattle.gr_rules.specs.Attempts.{Attempt, Report, kind_of}
 use Rattle.gr_rules.specs.Steps.{attempt, count}
 use Rattle.gr_rules.specs.Touches.{table}
 use Rattle.gr_laws.specs.Touched.{each_once}
-use Rattle.gr_contents.specs.Contents.{Contents}
-use Rattle.gr_contents.specs.Performing.{StepsTo}
-use Rattle.gr_contents.specs.Standing.{ContentsStand}
+use Rattle.gr_refine.specs.Contents.{Contents}
+use Rattle.gr_refine.specs.Performing.{StepsTo}
+use Rattle.gr_refine.specs.Standing.{ContentsStand}
 use Rattle.gr_lower.specs.Lowered.{lowered, meaning}
 use Rattle.gr_record.specs.Effects.{Effect}
 use Rattle.gr_record.specs.declared.record.Record.{Record}

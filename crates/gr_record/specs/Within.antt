@@ -8,10 +8,10 @@ use Rattle.gr_channels.specs.declared.changes.ChanUndo.{ChanUndo}
 use Rattle.gr_channels.specs.Channels.{Content}
 use Rattle.gr_channels.specs.Objects.{Part}
 use Rattle.gr_rules.specs.States.{same}
-use Rattle.gr_contents.specs.Contents.{Contents}
-use Rattle.gr_contents.specs.NamedBack.{at_channel}
-use Rattle.gr_contents.specs.Partners.{AreChannels}
-use Rattle.gr_contents.specs.TakingBack.{part_of, any_written}
+use Rattle.gr_refine.specs.Contents.{Contents}
+use Rattle.gr_refine.specs.NamedBack.{at_channel}
+use Rattle.gr_refine.specs.Partners.{AreChannels}
+use Rattle.gr_refine.specs.TakingBack.{part_of, any_written}
 use Rattle.gr_record.specs.Effects.{Effect}
 use Rattle.gr_record.specs.Records.{goroutines_changed, channels_changed, begun_by, made_by, writes_of, reads_of}
 

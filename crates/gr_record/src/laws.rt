@@ -11,7 +11,7 @@ ghost use Rattle.gr_rules.specs.States.{start};
 ghost use Rattle.gr_rules.specs.Steps.{machine};
 ghost use Rattle.gr_laws.specs.Dependence.{clash};
 ghost use Rattle.gr_laws.specs.Reached.{Logged, IsRun};
-ghost use Rattle.gr_contents.specs.Contents.{Contents};
+ghost use Rattle.gr_refine.specs.Contents.{Contents};
 ghost use Rattle.gr_record.specs.Conflicts.{touched_by, conflict_of};
 ghost use Rattle.gr_record.specs.declared.record.Record.{Record};
 ghost use Rattle.gr_record.specs.Kept.{Kept, Tells};
@@ -31,7 +31,7 @@ pub fn law_of_conflicts()
         → conflict_of a b ≡ clash p k l }
 {}
 
-/// Of two steps that follow each other and do not conflict the first goes back behind the second: that leaves the second alone,
+/// Two steps follow each other and do not conflict. Then the first goes back behind the second, which leaves the second alone,
 /// and from there the first leads to where both led.
 pub fn law_of_neighbours()
     ensures { (p : Program) (s m t : Contents) (a b : Record) (k l : Logged p)
@@ -43,20 +43,22 @@ pub fn law_of_neighbours()
 /// A step with which no later step conflicts goes back from the middle, and the others are kept. The steps tell whether they
 /// conflict, and so do their records.
 pub fn law_of_the_middle()
-    ensures records { (p : Program) (s t : Contents) (front back : List Record) (r : Record) (kept later : List (Logged p)) (k : Logged p)
+    ensures records { (p : Program) (s t : Contents) (front back : List Record) (r : Record) (kept later : List (Logged p))
+        (k : Logged p)
         → Running p s → length front ≡ length kept
         → Kept p s (front ++ r ∷ back) (kept ++ k ∷ later) t
         → ((b : Record) → In b back → conflict_of r b ≡ false)
         → CanGoBack r.id.go r.change t × Kept p s (front ++ back) (kept ++ later) (taken_back r.id.go r.change t) }
-    ensures steps { (p : Program) (s t : Contents) (front back : List Record) (r : Record) (kept later : List (Logged p)) (k : Logged p)
+    ensures steps { (p : Program) (s t : Contents) (front back : List Record) (r : Record) (kept later : List (Logged p))
+        (k : Logged p)
         → Running p s → length front ≡ length kept
         → Kept p s (front ++ r ∷ back) (kept ++ k ∷ later) t
         → ((l : Logged p) → In l later → clash p k l ≡ false)
         → CanGoBack r.id.go r.change t × Kept p s (front ++ back) (kept ++ later) (taken_back r.id.go r.change t) }
 {}
 
-/// Records in another order that respects dependence are kept, as steps in an order that respects dependence, and lead to the same
-/// contents. The order is one of records, or one of records with their steps. No record stands twice.
+/// Records in another order that respects dependence are kept, as steps in an order that respects dependence, and lead to the
+/// same contents. The order is one of records, or one of records with their steps. No record stands twice.
 pub fn law_of_rearranging()
     ensures once { (p : Program) (s t : Contents) (records : List Record) (log : List (Logged p))
         → Running p s → Kept p s records log t
@@ -101,18 +103,20 @@ pub fn law_of_consequences()
         → (steps : List (Record × Logged p)) × AreOf p steps records log }
     ensures gone { (p : Program) (s t : Contents) (steps : List (Record × Logged p)) (i : ℕ)
         → Kept p s (records_in p steps) (steps_in p steps) t
-        → AreOf p (dependents (clash_in p) steps i) (dependents conflict_of (records_in p steps) i) (dependents (clash p) (steps_in p steps) i) }
+        → AreOf p (dependents (clash_in p) steps i) (dependents conflict_of (records_in p steps) i)
+        (dependents (clash p) (steps_in p steps) i) }
     ensures others { (p : Program) (s t : Contents) (steps : List (Record × Logged p)) (i : ℕ)
         → Kept p s (records_in p steps) (steps_in p steps) t
         → AreOf p (kept (clash_in p) steps i) (kept conflict_of (records_in p steps) i) (kept (clash p) (steps_in p steps) i) }
     ensures caused { (p : Program) (s t : Contents) (steps : List (Record × Logged p)) (i : ℕ)
         → Kept p s (records_in p steps) (steps_in p steps) t
-        → AreOf p (causes (clash_in p) steps i) (causes conflict_of (records_in p steps) i) (causes (clash p) (steps_in p steps) i) }
+        → AreOf p (causes (clash_in p) steps i) (causes conflict_of (records_in p steps) i)
+        (causes (clash p) (steps_in p steps) i) }
 {}
 
 /// Rollback of a step with its consequences, by the records: each of them can go back when those behind it are back. When all are
-/// back the other records are kept, and the consequences go again from there. It may stop on its way, and any part of the log with
-/// all its consequences goes back so.
+/// back the other records are kept, and the consequences go again from there. It may stop on its way, and any part of the log
+/// with all its consequences goes back so.
 pub fn law_of_back()
     ensures each { (p : Program) (s t : Contents) (records left gone : List Record) (r : Record) (log : List (Logged p)) (i : ℕ)
         → Running p s → Kept p s records log t
@@ -138,10 +142,11 @@ pub fn law_of_back()
         Kept p s (records_in p stay) (steps_in p stay) u × Kept p u (records_in p gone) (steps_in p gone) t }
 {}
 
-/// Marked steps go back on a walk from the end, and the others of that part stay: no later one that stays may conflict with one that
-/// goes. So it is where the last of the consequences of a step are marked.
+/// Marked steps go back on a walk from the end, and the others of that part stay: no later one that stays may conflict with one
+/// that goes. So it is where the last of the consequences of a step are marked.
 pub fn law_of_marks()
-    ensures free { (p : Program) (s t : Contents) (front tail left : List Record) (log : List (Logged p)) (marks : List Bool) (i : ℕ)
+    ensures free { (p : Program) (s t : Contents) (front tail left : List Record) (log : List (Logged p)) (marks : List Bool)
+        (i : ℕ)
         → Running p s → Kept p s (front ++ tail) log t
         → dependents conflict_of (front ++ tail) i ≡ left ++ marked marks tail
         → AreFree conflict_of marks tail }
@@ -152,11 +157,13 @@ pub fn law_of_marks()
         → Running p s → Kept p s records log t
         → dependents conflict_of records i ≡ marked marks records
         → kept conflict_of records i ≡ unmarked marks records }
-    ensures next { (p : Program) (s t : Contents) (front tail : List Record) (r : Record) (first later : List (Logged p)) (k : Logged p) (marks : List Bool)
+    ensures next { (p : Program) (s t : Contents) (front tail : List Record) (r : Record) (first later : List (Logged p))
+        (k : Logged p) (marks : List Bool)
         → Running p s → length front ≡ length first → Kept p s (front ++ r ∷ tail) (first ++ k ∷ later) t
         → AreFree conflict_of (true ∷ marks) (r ∷ tail)
         → CanGoBack r.id.go r.change (all_back (marked marks tail) t) }
-    ensures several { (p : Program) (s t : Contents) (front tail : List Record) (first later : List (Logged p)) (marks : List Bool)
+    ensures several { (p : Program) (s t : Contents) (front tail : List Record) (first later : List (Logged p))
+        (marks : List Bool)
         → Running p s → length front ≡ length first → Kept p s (front ++ tail) (first ++ later) t
         → AreFree conflict_of marks tail
         → Kept p s (front ++ unmarked marks tail) (first ++ unmarked marks later) (all_back (marked marks tail) t) }

@@ -7,7 +7,7 @@ ghost use Rattle.gr_record.specs.Parts.{begun_in, channel_in};
 use crate::few::Few;
 use gr_base::{ChName, Choice, GoName, Kind, Object, StepId};
 use gr_channels::ChanUndo;
-use gr_goros::{GoUndo, Spot};
+use gr_tables::{GoUndo, Spot};
 use std::marker::Model;
 
 /// What a step did with a channel.
@@ -134,7 +134,8 @@ pub enum Form {
     Alone(Kind, GoUndo),
     /// Its goroutine came to wait.
     Waits(Waiting),
-    /// It communicated over a channel, and met nobody: its kind, what it replaced in its goroutine, and what it did with the channel.
+    /// It communicated over a channel, and met nobody: its kind, what it replaced in its goroutine, and what it did with the
+    /// channel.
     Passes(Kind, GoUndo, Box<Passage>),
     /// It reached further: its kind, what it replaced in its goroutine, and what it reached.
     Further(Kind, GoUndo, Box<Beyond>),

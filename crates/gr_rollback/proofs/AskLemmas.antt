@@ -5,15 +5,15 @@ use Rattle.gr_causal.specs.Dependence.{dependents, causes}
 use Rattle.gr_program.specs.Programs.{Program}
 use Rattle.gr_laws.specs.Dependence.{clash}
 use Rattle.gr_laws.specs.Reached.{Logged}
-use Rattle.gr_record.specs.declared.record.Record.{Record}
-use Rattle.gr_record.specs.Conflicts.{conflict_of}
+use Rattle.gr_step.specs.Record.{Record}
+use Rattle.gr_step.specs.Conflicts.{conflict_of}
 use Rattle.gr_step.specs.Stores.{contents_at}
-use Rattle.gr_record.specs.Back.{marked}
+use Rattle.gr_step.specs.Back.{marked}
 use Rattle.gr_depend.specs.Named as records
 use Rattle.gr_rollback.specs.declared.machine.Machine.{Machine}
 use Rattle.gr_rollback.specs.Asking.{TellsSteps}
 use Rattle.gr_rollback.specs.Machines.{steps_of, Stands}
-use Rattle.gr_rollback.specs.Pasts.{World, id_of, ids_of}
+use Rattle.gr_rollback.specs.Pasts.{Timeline, id_of, ids_of}
 use Rattle.gr_rollback.proofs.AlikeLemmas.{Both, names_alike}
 use Rattle.gr_rollback.proofs.BackLemmas.{named_here}
 use Rattle.gr_rollback.proofs.DependenceLemmas.{dependents_alike, causes_alike}
@@ -29,7 +29,7 @@ pub none_left : {A : Type 0} (marks : List Bool) (xs : List A) → (xs ≡ []) �
 none_left marks xs (inl e) = ap (marked marks) e
 none_left marks xs (inr e) = none_of marks xs e
 
-module _ (p : Program) (w : World p) (m : Machine) (s : Stands p w m) where
+module _ (p : Program) (w : Timeline p) (m : Machine) (s : Stands p w m) where
   both : Both (IsOf p) (steps_of m) w.past.log
   both = kept_both p s.holds.begins (steps_of m) w.past.log (contents_at m.course.store) s.holds.kept
 

@@ -10,20 +10,20 @@ use Rattle.gr_program.specs.Programs.{Program}
 use Rattle.gr_rules.specs.Steps.{machine}
 use Rattle.gr_laws.specs.Dependence.{clash}
 use Rattle.gr_laws.specs.Reached.{Logged, IsRun}
-use Rattle.gr_contents.specs.Contents.{Contents}
-use Rattle.gr_record.specs.declared.record.Record.{Record}
-use Rattle.gr_record.specs.Conflicts.{touched_by, conflict_of}
-use Rattle.gr_record.specs.Kept.{Kept}
-use Rattle.gr_record.specs.Listings.{state_in}
-use Rattle.gr_record.specs.Running.{Running}
+use Rattle.gr_refine.specs.Contents.{Contents}
+use Rattle.gr_step.specs.Record.{Record}
+use Rattle.gr_step.specs.Conflicts.{touched_by, conflict_of}
+use Rattle.gr_step.specs.Kept.{Kept}
+use Rattle.gr_step.specs.Listings.{state_in}
+use Rattle.gr_step.specs.Running.{Running}
 use Rattle.gr_step.specs.declared.store.Store.{Store}
 use Rattle.gr_step.specs.Stores.{contents_at, SameListing}
-use Rattle.gr_record.specs.Back.{all_back, marked, unmarked}
-use Rattle.gr_record.proofs.ChainLemmas.{Chain, chain_of}
-use Rattle.gr_record.proofs.FreeLemmas.{others_of_marked, others_stay}
-use Rattle.gr_record.proofs.KeptLemmas.{kept_is_log, kept_is_run, runs_on}
-use Rattle.gr_record.proofs.RecordLemmas.{no_object_twice}
-use Rattle.gr_record.proofs.RollbackLemmas.{each_goes_back, may_stop, all_go_back}
+use Rattle.gr_step.specs.Back.{all_back, marked, unmarked}
+use Rattle.gr_step.proofs.ChainLemmas.{Chain, chain_of}
+use Rattle.gr_step.proofs.FreeLemmas.{others_of_marked, others_stay}
+use Rattle.gr_step.proofs.KeptLemmas.{kept_is_log, kept_is_run, runs_on}
+use Rattle.gr_step.proofs.RecordLemmas.{no_object_twice}
+use Rattle.gr_step.proofs.RollbackLemmas.{each_goes_back, may_stop, all_go_back}
 use Rattle.gr_depend.specs.Logs.{records_of}
 use Rattle.gr_depend.specs.Named as records
 use Rattle.gr_rollback.specs.declared.TheConstants.{LOG_LIMIT}
@@ -33,7 +33,7 @@ use Rattle.gr_rollback.specs.declared.machine.Machine.{Machine}
 use Rattle.gr_rollback.specs.Backs.{IsNamed, again_after, TakesBack, TakesSomeBack}
 use Rattle.gr_rollback.specs.Courses.{Holds}
 use Rattle.gr_rollback.specs.Machines.{steps_of, again_of, CanGo, Stands}
-use Rattle.gr_rollback.specs.Pasts.{Past, World, id_of, ids_of, events_in}
+use Rattle.gr_rollback.specs.Pasts.{Past, Timeline, id_of, ids_of, events_in}
 use Rattle.gr_rollback.specs.Readiness.{HasReady}
 use Rattle.gr_rollback.specs.Walks.{RollsBack, IsOnTheWay}
 use Rattle.gr_rollback.proofs.CourseLemmas.{same_program, runs_at}
@@ -147,7 +147,7 @@ same_long n s g a b = omega (arith, a, b)
 first_part : (a b limit : ℕ) → a + b ≤ limit → a ≤ limit
 first_part a b limit h = omega (arith, h)
 
-module _ (p : Program) (w : World p) (old : Machine) (s : Stands p w old) (at : ℕ) (marks : List Bool)
+module _ (p : Program) (w : Timeline p) (old : Machine) (s : Stands p w old) (at : ℕ) (marks : List Bool)
     (count : length marks + at ≡ length (steps_of old)) (members : marked marks (drop at (steps_of old)) ≡ dependents conflict_of (steps_of old) at)
     (mid : Course) (r : Rollback) (way : IsOnTheWay old.course at marks mid r) (listing : SameListing old.course.store mid.store)
     (new : Machine) (records : steps_of new ≡ records_of mid.log ++ reverse r.stay.items) (store : new.course.store ≡ mid.store)
@@ -336,7 +336,7 @@ within_list (y ∷ xs) zero x there = omega arith
 within_list (y ∷ xs) (suc i) x there = let e = within_list xs i x there in omega (arith, e)
 
 -- nothing is taken back
-pub takes_none : (p : Program) (w : World p) (m : Machine) → Stands p w m → (id : StepId) (place : ℕ) → records.IsNamed (steps_of m) place id
+pub takes_none : (p : Program) (w : Timeline p) (m : Machine) → Stands p w m → (id : StepId) (place : ℕ) → records.IsNamed (steps_of m) place id
     → (ids : List StepId) → ids ≡ [] → TakesSomeBack p w id ids m
 takes_none p w m s id place named ids none = record {
   place = place;

@@ -2,7 +2,7 @@
 use Rattle.std.proofs.Common.{◌≡◌, ℕ, suc, ◌<◌, true, false, if◌then◌else◌, List, [], ◌∷◌, length, drop, Option, Some, None, inl, inr, get_or, refl, sym, ap, subst, ◌∙◌, drop-cons}
 use Rattle.std.proofs.lemmas.Bool.{cases_Bool}
 use Rattle.gr_code.specs.Goroutines.{CodeGoroutine}
-use Rattle.gr_contents.specs.Contents.{Contents}
+use Rattle.gr_refine.specs.Contents.{Contents}
 use Rattle.gr_goros.specs.Undoing.{undone}
 use Rattle.gr_goros.specs.declared.undo.Spot.{Spot}
 use Rattle.gr_goros.specs.declared.undo.GoUndo.{GoUndo}
@@ -12,9 +12,9 @@ use Rattle.gr_pool.specs.Goroutines as pools
 use Rattle.gr_pool.specs.Goroutines.{is_among, with_name, without_name}
 use Rattle.gr_rules.specs.Goroutines.{ready}
 use Rattle.gr_rules.specs.States.{same_go}
-use Rattle.gr_record.specs.declared.record.Form.{Form}
-use Rattle.gr_record.specs.Effects.{Effect, effect_in}
-use Rattle.gr_record.specs.Records.{begun_by, go_back, go_undone, is_go, taken_back, goroutines_changed, GoesFit, CanGoBack}
+use Rattle.gr_step.specs.Form.{Form}
+use Rattle.gr_step.specs.Effects.{Effect, effect_in}
+use Rattle.gr_step.specs.Records.{begun_by, go_back, go_undone, is_go, taken_back, goroutines_changed, GoesFit, CanGoBack}
 use Rattle.gr_rollback.specs.Prior.{changes_back, BringsBack, BringsStepBack, Loses}
 use Rattle.gr_rollback.specs.Readiness.{IsAsIn, HasAllReady, KnowsThere, HasReady, Settles, AllKnown, met_by, others_of}
 use Rattle.gr_rollback.proofs.Basics.{some_inj, or_right, true_not_false, neither}

@@ -6,15 +6,16 @@ use Rattle.gr_pool.specs.Goroutines as pools
 use Rattle.gr_pool.specs.Goroutines.{is_among}
 use Rattle.gr_program.specs.Programs.{Program}
 use Rattle.gr_rules.specs.Steps.{refusal}
-use Rattle.gr_record.specs.Effects.{Effect}
-use Rattle.gr_record.specs.declared.record.Record.{Record}
+use Rattle.gr_step.specs.Effects.{Effect}
+use Rattle.gr_step.specs.Record.{Record}
 use Rattle.gr_step.specs.declared.refusal.StepRefused.{StepRefused}
 use Rattle.gr_step.specs.declared.store.Store.{Store}
-use Rattle.gr_record.specs.Records.{begun_by, event_of}
+use Rattle.gr_step.specs.Records.{begun_by, event_of}
 use Rattle.gr_step.specs.Stores as stores
 use Rattle.gr_step.specs.Stores.{program_at, contents_at, SameListing}
-use Rattle.gr_record.specs.Taking.{IsRecord}
+use Rattle.gr_step.specs.Taking.{IsRecord}
 use Rattle.gr_rollback.specs.declared.course.Course.{Course}
+use Rattle.gr_rollback.specs.declared.stepped.Stepped.{Stepped}
 use Rattle.gr_rollback.specs.Courses.{Holds}
 use Rattle.gr_rollback.specs.Joined.{IsLast, IsTakenBack, Joined}
 use Rattle.gr_rollback.specs.Pasts.{Past}
@@ -58,8 +59,8 @@ module _ (p : Program) (w : Past p) (old : Course) (s : Holds p w old) (r : Reco
       follows r (contents_at q) old.pool old.pool old.pool (λ n k. k) refl
       (met_in_pool p w old s r (contents_at q) here old.pool (λ n k. k) child) child settled
 
-  joins : (new : Course) → IsLast r (record old { store = q }) new → Keeps p w (event_of r) new
-  joins new last = keeps p w old new r s (record {
+  joins : (told : Stepped) (new : Course) → IsLast r told (record old { store = q }) new → Keeps p w (event_of r) told new
+  joins told new last = keeps p w old new r told last.tells s (record {
     is = subst (λ x. IsRecord (program_at old.store) (contents_at old.store) r (contents_at x)) (sym last.store) taken.is;
     run = subst stores.IsRun (sym last.store) taken.run;
     listing = subst (SameListing old.store) (sym last.store) taken.listing;
@@ -82,9 +83,9 @@ module _ (p : Program) (w : Past p) (old : Course) (s : Holds p w old) (r : Reco
         first = back.first;
       })
 
-  pub joined_or_not : (e : Event) (result : Result (Unit {0}) StepRefused) (new : Course) → event_of r ≡ e
+  pub joined_or_not : (e : Event) (result : Result Stepped StepRefused) (new : Course) → event_of r ≡ e
       → Joined (record old { store = q }) r result new → Kept p w e result new
-  joined_or_not e (Ok done) new same joined = subst (λ x. Keeps p w x new) same (joins new joined)
+  joined_or_not e (Ok told) new same joined = subst (λ x. Keeps p w x told new) same (joins told new joined)
   joined_or_not e (Err why) new same joined =
       subst (λ x. Kept p w e (Err x) new) (sym joined.0) (
         subst (λ x. refusal p w.state x ≡ None) same (record_is_allowed p w old r (contents_at q) s taken.is),

@@ -7,7 +7,7 @@ use Rattle.std.proofs.lemmas.List.{length_push}
 use Rattle.std.proofs.lemmas.List.Folds.{list_any-append}
 use Rattle.gr_causal.specs.Machine.{saved_of, IsLog}
 use Rattle.gr_causal.proofs.PathLemmas.{step_log}
-use Rattle.gr_channels.specs.Channels.{tail_of}
+use Rattle.gr_step.specs.Channels.{tail_of}
 use Rattle.gr_pool.specs.Goroutines as pools
 use Rattle.gr_pool.specs.Goroutines.{is_among}
 use Rattle.gr_program.specs.Programs.{Program}
@@ -18,28 +18,30 @@ use Rattle.gr_laws.specs.Reached.{Logged, IsRun}
 use Rattle.gr_laws.proofs.BoundLemmas.{steps_within, entered_within}
 use Rattle.gr_laws.proofs.CellLemmas.{go_is}
 use Rattle.gr_code.specs.Goroutines.{CodeGoroutine}
-use Rattle.gr_contents.specs.Contents.{Contents, goroutine_of}
-use Rattle.gr_contents.specs.Machines.{note_of}
-use Rattle.gr_contents.proofs.AttemptLemmas.{step_is_of_the_machine}
-use Rattle.gr_record.specs.declared.record.Record.{Record}
+use Rattle.gr_refine.specs.Contents.{Contents, goroutine_of}
+use Rattle.gr_refine.specs.Machines.{note_of}
+use Rattle.gr_refine.proofs.AttemptLemmas.{step_is_of_the_machine}
+use Rattle.gr_step.specs.Record.{Record}
 use Rattle.gr_step.specs.declared.store.Store.{Store}
-use Rattle.gr_record.specs.Listings.{program_in, frame_in, state_in, IsCoded}
+use Rattle.gr_step.specs.Listings.{program_in, frame_in, state_in, IsCoded}
 use Rattle.gr_step.specs.Premises.{CanCount}
-use Rattle.gr_record.specs.Running.{Running}
-use Rattle.gr_record.specs.Records.{event_of, begun_by, is_go}
+use Rattle.gr_step.specs.Running.{Running}
+use Rattle.gr_step.specs.Records.{event_of, begun_by, is_go}
 use Rattle.gr_depend.specs.Logs.{records_of}
 use Rattle.gr_step.specs.Stores.{program_at, contents_at, SameListing}
 use Rattle.gr_step.specs.Stores as stores
-use Rattle.gr_record.specs.Taking.{IsRecord}
-use Rattle.gr_record.specs.Kept.{one_more, Tells}
+use Rattle.gr_step.specs.Taking.{IsRecord}
+use Rattle.gr_step.specs.Kept.{one_more, Tells}
 use Rattle.gr_rollback.specs.declared.TheConstants.{LOG_LIMIT}
 use Rattle.gr_rollback.specs.declared.course.Course.{Course}
+use Rattle.gr_rollback.specs.declared.stepped.Stepped.{Stepped}
 use Rattle.gr_rollback.specs.Pasts.{Past}
 use Rattle.gr_rollback.specs.Courses.{Holds, IsCourse}
 use Rattle.gr_rollback.specs.Readiness.{IsReadyIn, IsAsIn, HasReady, Settles, Follows, KnowsMore, AllKnown, KeepsStatus, met_by, others_of}
 use Rattle.gr_rollback.specs.Retracting.{SameCourse}
+use Rattle.gr_rollback.specs.Stepping.{told_by}
 use Rattle.gr_rollback.specs.Steps.{Keeps}
-use Rattle.gr_record.proofs.KeptLemmas.{kept_is_run}
+use Rattle.gr_step.proofs.KeptLemmas.{kept_is_run}
 use Rattle.gr_rollback.proofs.Basics.{or_left, neither}
 use Rattle.gr_rollback.proofs.KeptLemmas.{kept_length}
 use Rattle.gr_rollback.proofs.OwnLemmas.{own_is_ready, others_stay, met_was_there, stays_ready}
@@ -227,10 +229,11 @@ pub record StepsOn (old : Course) (r : Record) (new : Course) : Type 0 where
 room_before : (n m limit : ℕ) → m ≡ n + 1 → m ≤ limit → n < limit
 room_before n m limit a b = omega arith
 
-pub keeps : (p : Program) (w : Past p) (old new : Course) (r : Record) → Holds p w old → StepsOn old r new → Keeps p w (event_of r) new
-keeps p w old new r s on =
+pub keeps : (p : Program) (w : Past p) (old new : Course) (r : Record) (told : Stepped) → told ≡ told_by r → Holds p w old → StepsOn old r new
+    → Keeps p w (event_of r) told new
+keeps p w old new r told is_told s on =
     let is : IsRecord p (contents_at old.store) r (contents_at new.store) = subst (λ q. IsRecord q (contents_at old.store) r (contents_at new.store)) s.program on.is in
-    let told = tells p (contents_at old.store) (contents_at new.store) r is in
+    let tells_step = tells p (contents_at old.store) (contents_at new.store) r is in
     let step = logged p (contents_at old.store) (contents_at new.store) r is in
     let up = own_was_ready p (contents_at old.store) (contents_at new.store) r is in
     let longer : length (records_of new.log) ≡ length (records_of old.log) + 1 = ap length on.log ∙ length_push (records_of old.log) r in
@@ -239,16 +242,17 @@ keeps p w old new r s on =
       state = state_in p (contents_at new.store);
       joins = record {
         event = refl;
-        leads = subst (λ x. IsLog (machine p) x (step ∷ []) (state_in p (contents_at new.store))) (sym s.state) told.step;
+        leads = subst (λ x. IsLog (machine p) x (step ∷ []) (state_in p (contents_at new.store))) (sym s.state) tells_step.step;
         room = subst (λ n. n < most_steps) (log_length p w old s)
             (room_before (length (records_of old.log)) (length (records_of new.log)) most_steps longer on.short);
       };
+      tells = is_told ∙ (λ i. record { ordinal = sym tells_step.ordinal i; kind = sym tells_step.kind i });
       holds = record {
         program = same_program old.store new.store on.listing ∙ s.program;
         run = on.run;
         begins = s.begins;
         begun = s.begun;
-        kept = rw on.log (one_more r step (contents_at new.store) s.kept told);
+        kept = rw on.log (one_more r step (contents_at new.store) s.kept tells_step);
         state = refl;
         pool = ready_after r (contents_at old.store) (contents_at new.store) old.pool new.pool s.pool
             (only_these p (contents_at old.store) (contents_at new.store) r is) (s.pool.knows r.id.go up.goroutine up.there) on.follows;

@@ -4,11 +4,11 @@ use Rattle.std.proofs.lemmas.List.{length_push, map-append}
 use Rattle.gr_base.specs.declared.events.Event.{Event}
 use Rattle.gr_program.specs.Programs.{Program}
 use Rattle.gr_laws.specs.Reached.{Logged, IsRun}
-use Rattle.gr_contents.specs.Contents.{Contents}
-use Rattle.gr_record.specs.declared.record.Record.{Record}
-use Rattle.gr_record.specs.Running.{IsChecked, Running}
-use Rattle.gr_record.specs.Records.{event_of}
-use Rattle.gr_record.specs.Kept.{Kept, none, one_more, Tells}
+use Rattle.gr_refine.specs.Contents.{Contents}
+use Rattle.gr_step.specs.Record.{Record}
+use Rattle.gr_step.specs.Running.{IsChecked, Running}
+use Rattle.gr_step.specs.Records.{event_of}
+use Rattle.gr_step.specs.Kept.{Kept, none, one_more, Tells}
 use Rattle.gr_rollback.specs.Courses.{Begins}
 use Rattle.gr_rollback.specs.Pasts.{id_of, ids_of, events_in}
 use Rattle.gr_rollback.proofs.Basics.{ends_same, not_nothing}

@@ -17,20 +17,20 @@ use Rattle.gr_rules.specs.States.{same_go}
 use Rattle.gr_rules.specs.Steps.{machine}
 use Rattle.gr_laws.specs.Reached.{Logged}
 use Rattle.gr_code.specs.Goroutines.{CodeGoroutine}
-use Rattle.gr_contents.specs.Contents.{Contents, with_goroutine}
-use Rattle.gr_contents.proofs.NameLemmas.{go_is}
-use Rattle.gr_lower.specs.Lowered.{lowered}
-use Rattle.gr_step.specs.declared.leasing.Lease.{Lease}
-use Rattle.gr_record.specs.declared.record.Record.{Record}
+use Rattle.gr_refine.specs.Contents.{Contents, with_goroutine}
+use Rattle.gr_refine.proofs.NameLemmas.{go_is}
+use Rattle.gr_step.specs.Lowered.{lowered}
+use Rattle.gr_step.specs.declared.leasing.LentCopy.{LentCopy}
+use Rattle.gr_step.specs.Record.{Record}
 use Rattle.gr_step.specs.declared.store.Store.{Store}
-use Rattle.gr_record.specs.Kept.{Kept, one_more}
+use Rattle.gr_step.specs.Kept.{Kept, one_more}
 use Rattle.gr_step.specs.Leasing.{AreRecords, no_record, one_more_record, Walk, IsLease, IsAsLent, loan_of, name_lent, goroutine_lent, goroutine_led_to, records_led}
 use Rattle.gr_step.specs.Leasing as leases
-use Rattle.gr_record.specs.Listings.{state_in}
-use Rattle.gr_record.specs.Running.{Running}
-use Rattle.gr_record.specs.Records.{event_of}
+use Rattle.gr_step.specs.Listings.{state_in}
+use Rattle.gr_step.specs.Running.{Running}
+use Rattle.gr_step.specs.Records.{event_of}
 use Rattle.gr_step.specs.Stores.{contents_at, SameListing}
-use Rattle.gr_step.proofs.LeasingLemmas.{Led, walk_leads, store_has_channels}
+use Rattle.gr_step.proofs.LeaseLemmas.{Led, walk_leads, store_has_channels}
 use Rattle.gr_depend.specs.Logs.{IsAlone, records_of}
 use Rattle.gr_rollback.specs.declared.TheConstants.{LOG_LIMIT}
 use Rattle.gr_rollback.specs.declared.course.Course.{Course}
@@ -38,7 +38,7 @@ use Rattle.gr_rollback.specs.declared.machine.Machine.{Machine}
 use Rattle.gr_rollback.specs.Courses.{Holds}
 use Rattle.gr_rollback.specs.Leasing.{own_events, KeepsAll, TakesAll}
 use Rattle.gr_rollback.specs.Machines.{again_of}
-use Rattle.gr_rollback.specs.Pasts.{Past, World, events_in}
+use Rattle.gr_rollback.specs.Pasts.{Past, Timeline, events_in}
 use Rattle.gr_rollback.specs.Readiness.{HasReady, IsAsIn, IsReadyIn}
 use Rattle.gr_rollback.proofs.CourseLemmas.{log_length, logged, runs_at, same_program, stays, tells}
 use Rattle.gr_rollback.proofs.StandLemmas.{stands_alone}
@@ -138,7 +138,7 @@ ready_stays pool s n g h has there was is = record { knows = knows; each = each 
     ]
 
 -- a lease whose goroutine is as it was lent, beside a course
-module _ (p : Program) (w : Past p) (old : Course) (l : Lease) (s : Holds p w old) (lease : IsLease l) (lent : IsAsLent l old.store) where
+module _ (p : Program) (w : Past p) (old : Course) (l : LentCopy) (s : Holds p w old) (lease : IsLease l) (lent : IsAsLent l old.store) where
   abbrev before : Contents
   before = contents_at old.store
 
@@ -165,7 +165,7 @@ module _ (p : Program) (w : Past p) (old : Course) (l : Lease) (s : Holds p w ol
   stays_in_pool = ready_stays old.pool before (name_lent l) (goroutine_lent l) (goroutine_led_to l) s.pool lent.there lease.was_ready led.is_ready
 
 -- .. whose steps have joined the log
-pub record JoinsAll (old : Course) (l : Lease) (new : Course) : Type 0 where
+pub record JoinsAll (old : Course) (l : LentCopy) (new : Course) : Type 0 where
   pub log : records_of new.log ≡ records_of old.log ++ records_led l
   pub contents : contents_at new.store ≡ with_goroutine (contents_at old.store) (name_lent l) (Some (goroutine_led_to l))
   pub listing : SameListing old.store new.store
@@ -176,7 +176,7 @@ pub record JoinsAll (old : Course) (l : Lease) (new : Course) : Type 0 where
 joined_length : {A : Type 0} (xs ys zs : List A) (k limit : ℕ) → zs ≡ xs ++ ys → k ≡ length ys → length xs + k ≤ limit → length zs ≤ limit
 joined_length xs ys zs k limit is count fits = let long : length zs ≡ length xs + length ys = ap length is ∙ length-append xs ys in omega (arith, long, count, fits)
 
-pub joins_all : (p : Program) (w : Past p) (old new : Course) (l : Lease) → Holds p w old → IsLease l → IsAsLent l old.store → JoinsAll old l new
+pub joins_all : (p : Program) (w : Past p) (old new : Course) (l : LentCopy) → Holds p w old → IsLease l → IsAsLent l old.store → JoinsAll old l new
     → KeepsAll p w (name_lent l) (loan_of l).steps new
 joins_all p w old new l s lease lent on =
     let kept = kept_then p w old l s lease lent in
@@ -217,6 +217,6 @@ not_joined p w old new s store log pool first = stays p w old new s (record {
 })
 
 -- nothing may be done again after the steps
-pub takes_all : (p : Program) (w : World p) (go : List ℕ) (count : ℕ) (m : Machine) → KeepsAll p w.past go count m.course → again_of m ≡ [] → TakesAll p w go count m
+pub takes_all : (p : Program) (w : Timeline p) (go : List ℕ) (count : ℕ) (m : Machine) → KeepsAll p w.past go count m.course → again_of m ≡ [] → TakesAll p w go count m
 takes_all p w go count m keeps none =
     record { steps = keeps.steps; state = keeps.state; join = keeps.join; stands = stands_alone p _ m keeps.holds none }

@@ -17,16 +17,17 @@ use Rattle.gr_rules.specs.States.{Run, live, ended, faulted, same_go}
 use Rattle.gr_laws.proofs.CellLemmas.{go_self, go_is}
 use Rattle.gr_code.specs.CodeFrames.{CodeFrame}
 use Rattle.gr_code.specs.Goroutines.{CodeGoroutine}
-use Rattle.gr_contents.specs.Contents.{Contents, goroutine_of}
+use Rattle.gr_refine.specs.Contents.{Contents, goroutine_of}
 use Rattle.gr_step.specs.declared.store.Store.{Store}
-use Rattle.gr_step.specs.declared.leasing.Lease.{Lease}
-use Rattle.gr_step.specs.Leasing.{IsUp, IsLease, IsAsLent, IsLoanOf, goes_alone, loan_of}
-use Rattle.gr_record.specs.Listings.{frame_in, state_in}
+use Rattle.gr_step.specs.declared.leasing.LentCopy.{LentCopy}
+use Rattle.gr_step.specs.Guard.{IsUp}
+use Rattle.gr_step.specs.Leasing.{IsLease, IsAsLent, IsLoanOf, goes_alone, loan_of}
+use Rattle.gr_step.specs.Listings.{frame_in, state_in}
 use Rattle.gr_step.specs.Stores.{contents_at, program_at, state_at}
 use Rattle.gr_rollback.specs.declared.machine.Machine.{Machine}
 use Rattle.gr_rollback.specs.Leasing.{GoAlone, IsLentAt, SomeGoesAlone}
 use Rattle.gr_rollback.specs.Machines.{Stands, store_of}
-use Rattle.gr_rollback.specs.Pasts.{World}
+use Rattle.gr_rollback.specs.Pasts.{Timeline}
 use Rattle.gr_rollback.specs.Readiness.{IsReadyIn}
 
 -- a list without those that fail a test
@@ -150,7 +151,7 @@ stands_among (x ∷ xs) zero n e =
 stands_among (x ∷ xs) (suc k) n e = ap (λ b. same_go n x || b) (stands_among xs k n e) ∙ or_true (same_go n x)
 
 -- the names of a machine's pool whose next step is local
-module _ (p : Program) (w : World p) (m : Machine) (s : Stands p w m) where
+module _ (p : Program) (w : Timeline p) (m : Machine) (s : Stands p w m) where
   abbrev pub names : List (List ℕ)
   names = filter (goes_alone (state_at (store_of m))) m.course.pool.ready
 
@@ -202,30 +203,30 @@ module _ (p : Program) (w : World p) (m : Machine) (s : Stands p w m) where
       by (x ∷ xs) e among = cc
 
 -- the goroutine at the place is up
-pub lent_is_up : (p : Program) (w : World p) (m : Machine) → Stands p w m → (place : ℕ) (n : List ℕ) → IsLentAt w.past.state place (Some n)
+pub lent_is_up : (p : Program) (w : Timeline p) (m : Machine) → Stands p w m → (place : ℕ) (n : List ℕ) → IsLentAt w.past.state place (Some n)
     → IsUp (contents_at (store_of m)) n
 lent_is_up p w m s place n at =
     is_up (contents_at (store_of m)) n (alone_is_up p (contents_at (store_of m)) n
     (ap (λ t. goes_alone t n) (sym s.holds.state) ∙ sym (at.alone.each n) ∙ stands_among at.names (place % length at.names) n at.at))
 
 -- what is lent is the goroutine at the place
-abbrev name_in : Option Lease → Option (List ℕ)
+abbrev name_in : Option LentCopy → Option (List ℕ)
 name_in o = option_map (λ l. (loan_of l).name) o
 
-pub lends : (p : Program) (w : World p) (m : Machine) → Stands p w m → (place : ℕ) (go : List ℕ) (r : Result (Option Lease) NoMemory)
+pub lends : (p : Program) (w : Timeline p) (m : Machine) → Stands p w m → (place : ℕ) (go : List ℕ) (r : Result (Option LentCopy) NoMemory)
     → IsLentAt w.past.state place (Some go) → IfOk r (λ o. IfSome o (λ l. IsLease l × IsLoanOf (store_of m) go l))
     → IfOk r (λ o. IfNone o (¬ IsUp (contents_at (store_of m)) go)) → IfOk r (λ o. IsLentAt w.past.state place (name_in o))
 lends p w m s place go (Err e) at some none = tt
 lends p w m s place go (Ok None) at some none = absurd (none (lent_is_up p w m s place go at))
 lends p w m s place go (Ok (Some l)) at some none = subst {_, _} (λ n. IsLentAt w.past.state place (Some n)) (sym some.1.name) at
 
-pub is_lease : (s : Store) (go : List ℕ) (r : Result (Option Lease) NoMemory) → IfOk r (λ o. IfSome o (λ l. IsLease l × IsLoanOf s go l))
+pub is_lease : (s : Store) (go : List ℕ) (r : Result (Option LentCopy) NoMemory) → IfOk r (λ o. IfSome o (λ l. IsLease l × IsLoanOf s go l))
     → IfOk r (λ o. IfSome o (λ l. IsLease l × IsAsLent l s))
 is_lease s go (Err e) some = tt
 is_lease s go (Ok None) some = tt
 is_lease s go (Ok (Some l)) some = (some.0, some.1.as_lent)
 
-pub is_fresh : (s : Store) (go : List ℕ) (r : Result (Option Lease) NoMemory) → IfOk r (λ o. IfSome o (λ l. IsLease l × IsLoanOf s go l))
+pub is_fresh : (s : Store) (go : List ℕ) (r : Result (Option LentCopy) NoMemory) → IfOk r (λ o. IfSome o (λ l. IsLease l × IsLoanOf s go l))
     → IfOk r (λ o. IfSome o (λ l. (loan_of l).steps ≡ 0))
 is_fresh s go (Err e) some = tt
 is_fresh s go (Ok None) some = tt

@@ -23,3 +23,8 @@ mod AskLemmas
 mod LeasingLemmas
 mod LendingLemmas
 mod CountedLemmas
+mod PlainLemmas
+pub use Rattle.gr_goros.proofs.goroutine.Goroutine.TheSendSync as GoroutineSendSync
+pub use Rattle.gr_depend.proofs.log.Log.TheSendSync as LogSendSync
+pub use Rattle.gr_refine.proofs.NameLemmas
+pub use Rattle.gr_step.proofs.objects.Objects.TheSendSync as ObjectsSendSync

@@ -3,7 +3,7 @@ use Rattle.std.proofs.Common.{◌≡◌, ℕ, zero, suc, ◌+◌, Bool, true, fa
 use Rattle.std.specs.Prelude.{not, replicate}
 use Rattle.std.proofs.lemmas.Bool.{cases_Bool}
 use Rattle.gr_causal.specs.Sequences.{In}
-use Rattle.gr_record.specs.Back.{marked, unmarked}
+use Rattle.gr_step.specs.Back.{marked, unmarked}
 use Rattle.gr_rollback.specs.Walks.{count_set, count_unset}
 
 module _ {A : Type 0} where

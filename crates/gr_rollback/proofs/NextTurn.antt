@@ -10,9 +10,9 @@ use Rattle.gr_rules.specs.Turns.{IsReady, IsTurn, last_owner}
 use Rattle.gr_laws.specs.Reached.{Logged}
 use Rattle.gr_laws.proofs.CellLemmas.{go_is}
 use Rattle.gr_code.specs.Goroutines.{CodeGoroutine}
-use Rattle.gr_contents.specs.Contents.{Contents, goroutine_of}
-use Rattle.gr_record.specs.declared.record.Record.{Record}
-use Rattle.gr_record.specs.Listings.{frame_in, state_in}
+use Rattle.gr_refine.specs.Contents.{Contents, goroutine_of}
+use Rattle.gr_step.specs.Record.{Record}
+use Rattle.gr_step.specs.Listings.{frame_in, state_in}
 use Rattle.gr_step.specs.Stores.{contents_at}
 use Rattle.gr_depend.specs.Logs.{records_of}
 use Rattle.gr_rollback.specs.declared.course.Course.{Course}

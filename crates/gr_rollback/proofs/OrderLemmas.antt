@@ -14,13 +14,13 @@ use Rattle.gr_rules.specs.States.{State}
 use Rattle.gr_laws.specs.Dependence.{clash, StepName, step_name, same_name, ordered_by}
 use Rattle.gr_laws.specs.Reached.{Logged, IsRun}
 use Rattle.gr_laws.proofs.RunLemmas.{distinct_steps, same_name_is}
-use Rattle.gr_contents.specs.Contents.{Contents}
-use Rattle.gr_record.specs.declared.record.Record.{Record}
-use Rattle.gr_record.specs.Conflicts.{conflict_of}
-use Rattle.gr_record.specs.Kept.{Kept, none, one_more, Tells}
-use Rattle.gr_record.specs.Running.{Running}
-use Rattle.gr_record.proofs.OrderLemmas.{records_once, rearranged_by_records}
-use Rattle.gr_record.proofs.RecordLemmas.{conflicts_alike}
+use Rattle.gr_refine.specs.Contents.{Contents}
+use Rattle.gr_step.specs.Record.{Record}
+use Rattle.gr_step.specs.Conflicts.{conflict_of}
+use Rattle.gr_step.specs.Kept.{Kept, none, one_more, Tells}
+use Rattle.gr_step.specs.Running.{Running}
+use Rattle.gr_step.proofs.OrderLemmas.{records_once, rearranged_by_records}
+use Rattle.gr_step.proofs.RecordLemmas.{conflicts_alike}
 use Rattle.gr_rollback.specs.Pasts.{id_of}
 use Rattle.gr_rollback.specs.Backs.{names_in}
 use Rattle.gr_rollback.proofs.AlikeLemmas.{Both, both_push, names_alike, Answers, orders_alike}

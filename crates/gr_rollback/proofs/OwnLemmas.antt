@@ -15,16 +15,16 @@ use Rattle.gr_rules.specs.Frames.{Frame}
 use Rattle.gr_rules.specs.Steps.{attempt, refusal}
 use Rattle.gr_code.specs.CodeFrames.{CodeFrame}
 use Rattle.gr_code.specs.Goroutines.{CodeGoroutine}
-use Rattle.gr_contents.specs.Contents.{Contents, state_of}
-use Rattle.gr_contents.specs.Leaves.{refused, performed, Refuses}
-use Rattle.gr_contents.specs.Performing.{StepsTo}
-use Rattle.gr_contents.proofs.MachineLemmas.{refusal_is_leaf}
-use Rattle.gr_contents.proofs.LookLemmas.{over_is_refused, unknown_is_refused, done_is_refused, waiting_is_refused}
-use Rattle.gr_record.specs.Effects.{Effect}
+use Rattle.gr_refine.specs.Contents.{Contents, state_of}
+use Rattle.gr_refine.specs.Leaves.{refused, performed, Refuses}
+use Rattle.gr_refine.specs.Performing.{StepsTo}
+use Rattle.gr_refine.proofs.MachineLemmas.{refusal_is_leaf}
+use Rattle.gr_refine.proofs.LookLemmas.{over_is_refused, unknown_is_refused, done_is_refused, waiting_is_refused}
+use Rattle.gr_step.specs.Effects.{Effect}
 use Rattle.gr_laws.proofs.CellLemmas.{go_is, go_self}
-use Rattle.gr_record.specs.Fews.{members}
-use Rattle.gr_record.specs.Records.{beyond, begun_by, go_back, go_undone, is_go, taken_back, goroutines_changed, GoesFit, CanGoBack}
-use Rattle.gr_tables.specs.NamedGoroutines.{At}
+use Rattle.gr_step.specs.Fews.{members}
+use Rattle.gr_step.specs.Records.{beyond, begun_by, go_back, go_undone, is_go, taken_back, goroutines_changed, GoesFit, CanGoBack}
+use Rattle.gr_step.specs.NamedGoroutines.{At}
 use Rattle.gr_rollback.specs.Readiness.{IsReadyIn, KeepsStatus, names_met, others_of}
 use Rattle.gr_rollback.proofs.Basics.{some_inj, or_right, true_not_false, neither}
 

@@ -8,7 +8,7 @@ use Rattle.std.proofs.lemmas.Map.Lookups.{exact_bytes}
 use Rattle.gr_base.specs.Names.{go_cmp}
 use Rattle.gr_rules.specs.States.{same_go}
 use Rattle.gr_laws.proofs.CellLemmas.{go_self, go_is}
-use Rattle.gr_contents.specs.Contents.{Contents}
+use Rattle.gr_refine.specs.Contents.{Contents}
 use Rattle.gr_pool.specs.Goroutines as pools
 use Rattle.gr_pool.specs.Goroutines.{is_among, lesser, greater, with_name, without_name}
 use Rattle.gr_pool.proofs.Order.{ties_itself}

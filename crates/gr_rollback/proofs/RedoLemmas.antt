@@ -1,6 +1,6 @@
 -- Steps that are done again: they are the steps that their events give, and go on from there.
 use Rattle.std.proofs.Common.{◌≡◌, ℕ, suc, ◌+◌, ◌-◌, ◌≤◌, List, [], ◌∷◌, ◌++◌, length, reverse, Option, Some, None, refl, sym, ap, ap₂, subst, ◌∙◌, append_assoc, arith}
-use Rattle.std.specs.Prelude.{slice_get, option_copied, IsSome}
+use Rattle.std.specs.Prelude.{slice_get, option_copied}
 use Rattle.std.specs.Borrow.{Bor}
 use Rattle.std.specs.Option.{option_to_list}
 use Rattle.std.proofs.lemmas.List.{append-nil, length_push, length-reverse, map-append, reverse-append}
@@ -24,24 +24,19 @@ use Rattle.gr_laws.specs.Reached.{Logged, IsRun}
 use Rattle.gr_laws.proofs.CellLemmas.{machine_laws}
 use Rattle.gr_laws.proofs.RefusalLemmas.{refused_is_no_step}
 use Rattle.gr_laws.proofs.RunLemmas.{distinct_log}
-use Rattle.gr_record.specs.declared.record.Record.{Record}
 use Rattle.gr_step.specs.declared.refusal.StepRefused.{StepRefused}
 use Rattle.gr_step.specs.declared.refusal.StepRefused.TheVariants as refusals
-use Rattle.gr_record.specs.Kept.{Kept}
-use Rattle.gr_step.specs.Stores.{contents_at}
-use Rattle.gr_depend.specs.Logs.{records_of}
 use Rattle.gr_rollback.specs.declared.TheConstants.{LOG_LIMIT}
-use Rattle.gr_rollback.specs.declared.course.Course.{Course}
 use Rattle.gr_rollback.specs.declared.machine.Machine.{Machine}
+use Rattle.gr_rollback.specs.declared.stepped.Stepped.{Stepped}
 use Rattle.gr_rollback.specs.Backs.{LosesAll, Redoes, TakesAgain, TakesSomeAgain}
 use Rattle.gr_rollback.specs.Courses.{Holds}
 use Rattle.gr_rollback.specs.Machines.{steps_of, again_of, CanGo, Stands, IsMachine}
-use Rattle.gr_rollback.specs.Pasts.{Past, World, id_of, ids_of, events_in}
+use Rattle.gr_rollback.specs.Pasts.{Past, Timeline, id_of, ids_of, events_in}
 use Rattle.gr_rollback.specs.Redoing.{GoesOn}
 use Rattle.gr_rollback.specs.Steps.{with_step, IsNoStep, Keeps}
-use Rattle.gr_rollback.proofs.Basics.{ends_same, last_item, no_item, not_nothing}
+use Rattle.gr_rollback.proofs.Basics.{ends_same, last_item}
 use Rattle.gr_rollback.proofs.CourseLemmas.{log_length}
-use Rattle.gr_rollback.proofs.KeptLemmas.{last_kept, none_kept, id_alike}
 
 -- the steps of the same events from the same state are the same, and so is the end
 pub same_steps : (p : Program) (s t u : State) (steps more : List (Logged p)) → IsLog (machine p) s steps t → IsLog (machine p) s more u
@@ -69,10 +64,10 @@ goes_on p s m step event rest leads is can = by_steps can.steps can.leads can.ev
         }
 
 -- nothing is done again; or the first steps, and after them others
-pub redoes_nothing : (p : Program) (w : World p) → Redoes p w [] w
+pub redoes_nothing : (p : Program) (w : Timeline p) → Redoes p w [] w
 redoes_nothing p w = record { steps = []; leads = refl; log = sym (append-nil w.past.log); events = refl; names = refl }
 
-pub redoes_more : (p : Program) (w u v : World p) (ids others : List StepId) → Redoes p w ids u → Redoes p u others v → Redoes p w (ids ++ others) v
+pub redoes_more : (p : Program) (w u v : Timeline p) (ids others : List StepId) → Redoes p w ids u → Redoes p u others v → Redoes p w (ids ++ others) v
 redoes_more p w u v ids others first second = record {
   steps = first.steps ++ second.steps;
   leads = log_join (machine p) w.past.state u.past.state v.past.state first.steps second.steps first.leads second.leads;
@@ -139,7 +134,7 @@ not_refused p s event rest can why refused = by_steps can.steps can.leads can.ev
         let none : (machine p).step s k.event ≡ None = (refused_is_no_step p s k.event).1 (why, ap (refusal p s) is ∙ refused) in
         none_not _ (sym none ∙ path.1.does)
 
-pub only_memory : (p : Program) (w : World p) (event : Event) (rest : List Event) (why : StepRefused) → w.again ≡ event ∷ rest
+pub only_memory : (p : Program) (w : Timeline p) (event : Event) (rest : List Event) (why : StepRefused) → w.again ≡ event ∷ rest
     → CanGo p w.past.state w.again → IsNoStep p w.past event why → why ≡ refusals.NoMemory
 only_memory p w event rest why next can none = by_why why none
   where
@@ -155,7 +150,7 @@ only_memory p w event rest why next can none = by_why why none
     by_why refusals.NoMemory none = refl
 
 -- nothing has changed
-pub stands_still : (p : Program) (w : World p) (old new : Machine) → Stands p w old → Holds p w.past new.course → again_of new ≡ again_of old → Stands p w new
+pub stands_still : (p : Program) (w : Timeline p) (old new : Machine) → Stands p w old → Holds p w.past new.course → again_of new ≡ again_of old → Stands p w new
 stands_still p w old new s holds again = record {
   holds = holds;
   again = again ∙ s.again;
@@ -163,11 +158,11 @@ stands_still p w old new s holds again = record {
   short = subst (λ n. n + length w.again ≤ LOG_LIMIT) (log_length p w.past old.course s.holds ∙ sym (log_length p w.past new.course holds)) s.short;
 }
 
-pub goes_nowhere : (p : Program) (w : World p) (ids : List StepId) (m : Machine) → Stands p w m → GoesOn p w ids ids m
+pub goes_nowhere : (p : Program) (w : Timeline p) (ids : List StepId) (m : Machine) → Stands p w m → GoesOn p w ids ids m
 goes_nowhere p w ids m s = record { world = w; names = []; joined = sym (append-nil ids); redoes = redoes_nothing p w; stands = s }
 
-pub goes_further : (p : Program) (w : World p) (before ids after : List StepId) (m n : Machine) → GoesOn p w before ids m
-    → ((v : World p) → Stands p v m → GoesOn p v ids after n) → GoesOn p w before after n
+pub goes_further : (p : Program) (w : Timeline p) (before ids after : List StepId) (m n : Machine) → GoesOn p w before ids m
+    → ((v : Timeline p) → Stands p v m → GoesOn p v ids after n) → GoesOn p w before after n
 goes_further p w before ids after m n first more =
     let second = more first.world first.stands in
     record {
@@ -182,9 +177,9 @@ one_less : (n m k l limit : ℕ) → n ≡ m + 1 → l ≡ suc k → m + l ≤ l
 one_less n m k l limit a b c = omega arith
 
 -- the next step is taken again
-module _ (p : Program) (w : World p) (old new : Machine) (event : Event) (rest : List Event) (s : Stands p w old) (next : w.again ≡ event ∷ rest)
-    (again : again_of new ≡ rest) (keeps : Keeps p w.past event new.course) where
-  abbrev after : World p
+module _ (p : Program) (w : Timeline p) (old new : Machine) (event : Event) (rest : List Event) (s : Stands p w old) (next : w.again ≡ event ∷ rest)
+    (again : again_of new ≡ rest) (told : Stepped) (keeps : Keeps p w.past event told new.course) where
+  abbrev after : Timeline p
   after = record { past = with_step p w.past keeps.step keeps.state; again = rest }
 
   stands : Stands p after new
@@ -197,21 +192,12 @@ module _ (p : Program) (w : World p) (old new : Machine) (event : Event) (rest :
         (ap length next) s.short;
   }
 
-  -- its name is that of the last record
-  named : (r : Record) → Some r ≡ slice_get (steps_of new) (length (steps_of new) - 1) → r.id ≡ id_of p keeps.step
-  named r there =
-      let front = last_item (steps_of new) r there in
-      let h = keeps.holds in
-      let last = last_kept p h.begins front.rest r after.past.log (contents_at new.course.store)
-      (subst (λ xs. Kept p h.begins xs after.past.log (contents_at new.course.store)) front.whole h.kept) in
-      id_alike p last.mid (contents_at new.course.store) r last.last last.tells ∙ ap (id_of p) (sym (ends_same w.past.log last.before keeps.step last.last last.log_is).1)
-
-  pub goes_next : (ids : List StepId) (go : List ℕ) (r : Record) → go ≡ event.go → Some r ≡ slice_get (steps_of new) (length (steps_of new) - 1)
-      → GoesOn p w ids (ids ++ record { go = go; n = r.id.n } ∷ []) new
-  goes_next ids go r own there =
-      let name : record { go = go; n = r.id.n } ≡ id_of p keeps.step = λ i. record {
+  -- its name is what is told of it
+  pub goes_next : (ids : List StepId) (go : List ℕ) → go ≡ event.go → GoesOn p w ids (ids ++ record { go = go; n = told.ordinal } ∷ []) new
+  goes_next ids go own =
+      let name : record { go = go; n = told.ordinal } ≡ id_of p keeps.step = λ i. record {
         go = (own ∙ ap (λ (e : Event). e.go) (sym keeps.joins.event)) i;
-        n = ap (λ (id : StepId). id.n) (named r there) i;
+        n = ap (λ (x : Stepped). x.ordinal) keeps.tells i;
       } in
       record {
         world = after;
@@ -237,26 +223,16 @@ last_first items e last =
     let front = last_item items e last in
     (reverse front.rest, ap reverse front.whole ∙ reverse-append front.rest (e ∷ []))
 
-pub some_last : {A : Type 0} (xs : List A) (o : Option (Bor A)) → option_copied o ≡ slice_get xs (length xs - 1) → (xs ≡ [] → ⊥) → IsSome o
-some_last xs (Some b) at some = refl
-some_last xs None at some = absurd (some (no_item xs at))
-
-pub keeps_some : (p : Program) (w : Past p) (event : Event) (c : Course) → Keeps p w event c → records_of c.log ≡ [] → ⊥
-keeps_some p w event c keeps none =
-    let h = keeps.holds in
-    not_nothing w.log keeps.step (none_kept p h.begins (w.log ++ keeps.step ∷ []) (contents_at c.store)
-    (subst (λ xs. Kept p h.begins xs (w.log ++ keeps.step ∷ []) (contents_at c.store)) none h.kept)).0
-
 -- a machine of a world is one
-pub is_machine : (p : Program) (w : World p) (m : Machine) → Stands p w m → IsMachine m
-is_machine p w m s = subst (λ q. (v : World q) → Stands q v m → IsMachine m) s.holds.program (λ v t. record { world = v; stands = t }) w s
+pub is_machine : (p : Program) (w : Timeline p) (m : Machine) → Stands p w m → IsMachine m
+is_machine p w m s = subst (λ q. (v : Timeline q) → Stands q v m → IsMachine m) s.holds.program (λ v t. record { world = v; stands = t }) w s
 
 -- all of them are taken again, or some
 none_reversed : (items : List Event) → reverse items ≡ [] → items ≡ []
 none_reversed [] e = refl
 none_reversed (x ∷ items) e = absurd (let no : suc (length items) ≡ 0 = sym (length-reverse (x ∷ items)) ∙ ap length e in cc)
 
-module _ (p : Program) (w : World p) (before ids : List StepId) (m : Machine) (some : w.again ≡ [] → ⊥) (first : before ≡ []) (goes : GoesOn p w before ids m) where
+module _ (p : Program) (w : Timeline p) (before ids : List StepId) (m : Machine) (some : w.again ≡ [] → ⊥) (first : before ≡ []) (goes : GoesOn p w before ids m) where
   names_are : goes.names ≡ ids
   names_are = sym (goes.joined ∙ ap (λ xs. xs ++ goes.names) first)
 
@@ -282,10 +258,10 @@ module _ (p : Program) (w : World p) (before ids : List StepId) (m : Machine) (s
   }
 
 -- where nothing was there, or something
-pub nothing_again : (p : Program) (w : World p) (m : Machine) → Stands p w m → m.again.items ≡ [] → w.again ≡ []
+pub nothing_again : (p : Program) (w : Timeline p) (m : Machine) → Stands p w m → m.again.items ≡ [] → w.again ≡ []
 nothing_again p w m s none = sym s.again ∙ ap reverse none
 
-pub something_again : (p : Program) (w : World p) (m : Machine) → Stands p w m → (m.again.items ≡ [] → ⊥) → w.again ≡ [] → ⊥
+pub something_again : (p : Program) (w : Timeline p) (m : Machine) → Stands p w m → (m.again.items ≡ [] → ⊥) → w.again ≡ [] → ⊥
 something_again p w m s some none = some (none_reversed m.again.items (s.again ∙ none))
 
 pub no_items : {A : Type 0} (xs : List A) → length xs ≡ 0 → xs ≡ []

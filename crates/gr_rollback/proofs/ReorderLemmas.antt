@@ -9,12 +9,12 @@ use Rattle.gr_causal.specs.Sequences.{Distinct}
 use Rattle.gr_causal.proofs.ListLemmas.{some_is, none_not}
 use Rattle.gr_program.specs.Programs.{Program}
 use Rattle.gr_laws.specs.Reached.{IsRun}
-use Rattle.gr_record.specs.declared.record.Record.{Record}
-use Rattle.gr_record.specs.Conflicts.{conflict_of}
-use Rattle.gr_record.specs.Listings.{state_in}
-use Rattle.gr_record.specs.Running.{Running}
+use Rattle.gr_step.specs.Record.{Record}
+use Rattle.gr_step.specs.Conflicts.{conflict_of}
+use Rattle.gr_step.specs.Listings.{state_in}
+use Rattle.gr_step.specs.Running.{Running}
 use Rattle.gr_step.specs.Stores.{contents_at}
-use Rattle.gr_record.proofs.KeptLemmas.{kept_is_run}
+use Rattle.gr_step.proofs.KeptLemmas.{kept_is_run}
 use Rattle.gr_depend.specs.declared.log.Log.{Log}
 use Rattle.gr_depend.specs.Logs.{records_of}
 use Rattle.gr_depend.specs.Named.{IsNamed}
@@ -26,7 +26,7 @@ use Rattle.gr_rollback.specs.declared.refusal.BackRefused.TheVariants as refusal
 use Rattle.gr_rollback.specs.Backs.{Reorders, Reordered}
 use Rattle.gr_rollback.specs.Courses.{Holds}
 use Rattle.gr_rollback.specs.Machines.{steps_of, Stands}
-use Rattle.gr_rollback.specs.Pasts.{World}
+use Rattle.gr_rollback.specs.Pasts.{Timeline}
 use Rattle.gr_rollback.specs.Reordering.{NamesPair}
 use Rattle.gr_rollback.proofs.CourseLemmas.{stays}
 use Rattle.gr_rollback.proofs.KeptLemmas.{begins_running}
@@ -55,7 +55,7 @@ name_there : (old new : List Record) (at : ℕ) (r : Record) (id : StepId) → n
 name_there old new at r id same there named =
     ap (λ (q : Record). q.id) (some_is r named.step (sym there ∙ ap (λ xs. slice_get xs at) (sym same) ∙ named.there)) ∙ named.named
 
-module _ (p : Program) (w : World p) (m : Machine) (s : Stands p w m) where
+module _ (p : Program) (w : Timeline p) (m : Machine) (s : Stands p w m) where
   abbrev h : Holds p w.past m.course
   h = s.holds
 

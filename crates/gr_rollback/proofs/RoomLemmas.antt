@@ -1,27 +1,29 @@
 -- What has room in a log has room without one of its steps.
-use Rattle.std.proofs.Common.{◌≡◌, ℕ, suc, ◌+◌, ◌^◌, ◌≤◌, Bool, true, false, ◌||◌, List, [], ◌∷◌, ◌++◌, length, filter, inl, inr, refl, ap, subst, arith, length-append}
+use Rattle.std.proofs.Common.{◌≡◌, ℕ, suc, ◌+◌, ◌^◌, ◌≤◌, List, [], ◌∷◌, ◌++◌, length, filter, inl, inr, refl, ap, subst, arith, length-append}
 use Rattle.std.proofs.lemmas.Bool.{cases_Bool}
 use Rattle.std.specs.Prelude.{vec_capacity}
 use Rattle.gr_base.specs.declared.objects.Object.{Object}
 use Rattle.gr_base.specs.declared.objects.Object.TheVariants as objects
-use Rattle.gr_record.specs.declared.record.Record.{Record}
-use Rattle.gr_record.specs.Conflicts.{written_by, touched_by}
+use Rattle.gr_step.specs.Record.{Record}
+use Rattle.gr_step.specs.Conflicts.{written_by, touched_by}
 use Rattle.gr_depend.specs.declared.log.Log.{Log}
-use Rattle.gr_touches.specs.declared.touch.Touch.{Touch}
+use Rattle.gr_depend.specs.Touch.{Touch}
 use Rattle.gr_depend.specs.Logs.{records_of}
-use Rattle.gr_touches.specs.Marks.{wanted}
+use Rattle.gr_depend.specs.Wanted.{Wanted}
+use Rattle.gr_depend.specs.Wanted.TheVariants as which_are
+use Rattle.gr_depend.specs.Marks.{takes, wanted}
 use Rattle.gr_depend.specs.Room.{CanTake}
-use Rattle.gr_touches.specs.Room.{capacity_of}
-use Rattle.gr_touches.specs.Touches.{is_among, touch_at, touches_in}
+use Rattle.gr_depend.specs.TouchesRoom.{capacity_of}
+use Rattle.gr_depend.specs.Touches.{is_among, touch_at, touches_in}
 
-module _ (all : Bool) (o : Object) where
+module _ (which : Wanted) (o : Object) where
   -- how many of the touches are wanted
   abbrev count : List Touch → ℕ
-  count ts = length (wanted all ts)
+  count ts = length (wanted which ts)
 
   count_both : (xs ys : List Touch) → count (xs ++ ys) ≡ count xs + count ys
   count_both [] ys = omega arith
-  count_both (x ∷ xs) ys = elim (cases_Bool (all || x.writes)) [
+  count_both (x ∷ xs) ys = elim (cases_Bool (takes which x.writes)) [
     | inl t ↦ rw t (let e = count_both xs ys in omega (arith, e))
     | inr f ↦ rw f (count_both xs ys)
   ]
@@ -29,7 +31,7 @@ module _ (all : Bool) (o : Object) where
   -- a step has as many touches wherever it stands
   count_at : (a b : ℕ) (r : Record) → count (touch_at o a r) ≡ count (touch_at o b r)
   count_at a b r = elim (cases_Bool (is_among o (touched_by r))) [
-    | inl t ↦ rw t (elim (cases_Bool (all || is_among o (written_by r))) [ inl u ↦ rw u refl | inr u ↦ rw u refl ])
+    | inl t ↦ rw t (elim (cases_Bool (takes which (is_among o (written_by r)))) [ inl u ↦ rw u refl | inr u ↦ rw u refl ])
     | inr t ↦ rw t refl
   ]
 
@@ -58,7 +60,7 @@ module _ (all : Bool) (o : Object) where
       let second = count_first b x (rs ++ r ∷ rest) in
       omega (arith, here, more, first, second)
 
-all_are_wanted : (ts : List Touch) → wanted true ts ≡ ts
+all_are_wanted : (ts : List Touch) → wanted which_are.All ts ≡ ts
 all_are_wanted [] = refl
 all_are_wanted (t ∷ ts) = ap (λ xs. t ∷ xs) (all_are_wanted ts)
 
@@ -75,13 +77,13 @@ less_room log r rest can = record {
   places = shorter (records_of log) rest r (2 ^ 32) can.places;
   touches = record {
     each = λ o.
-        let less = subst (λ ts. length ts ≤ length (wanted true (touches_in o 0 (records_of log ++ r ∷ rest)))) (all_are_wanted (touches_in o 0 (records_of log ++ rest)))
-        (fewer_touches true o 0 0 (records_of log) rest r) in
+        let less = subst (λ ts. length ts ≤ length (wanted which_are.All (touches_in o 0 (records_of log ++ r ∷ rest)))) (all_are_wanted (touches_in o 0 (records_of log ++ rest)))
+        (fewer_touches which_are.All o 0 0 (records_of log) rest r) in
         no_more (length (touches_in o 0 (records_of log ++ rest))) (length (touches_in o 0 (records_of log ++ r ∷ rest))) (capacity_of log.lanes o)
         (subst (λ ts. length (touches_in o 0 (records_of log ++ rest)) ≤ length ts) (all_are_wanted (touches_in o 0 (records_of log ++ r ∷ rest))) less)
         (can.touches.each o);
     stops = no_more (length (filter (λ (t : Touch). t.writes) (touches_in objects.Run 0 (records_of log ++ rest))))
         (length (filter (λ (t : Touch). t.writes) (touches_in objects.Run 0 (records_of log ++ r ∷ rest)))) (vec_capacity log.lanes.stops)
-        (fewer_touches false objects.Run 0 0 (records_of log) rest r) can.touches.stops;
+        (fewer_touches which_are.Writes objects.Run 0 0 (records_of log) rest r) can.touches.stops;
   };
 }

@@ -4,9 +4,10 @@ use Rattle.gr_base.specs.declared.events.Event.{Event}
 use Rattle.gr_program.specs.Programs.{Program}
 use Rattle.gr_rollback.specs.declared.TheConstants.{LOG_LIMIT}
 use Rattle.gr_rollback.specs.declared.machine.Machine.{Machine}
+use Rattle.gr_rollback.specs.declared.stepped.Stepped.{Stepped}
 use Rattle.gr_rollback.specs.Courses.{Holds}
 use Rattle.gr_rollback.specs.Machines.{again_of, Stands}
-use Rattle.gr_rollback.specs.Pasts.{Past, World}
+use Rattle.gr_rollback.specs.Pasts.{Past, Timeline}
 use Rattle.gr_rollback.specs.Steps.{Keeps, Takes}
 
 no_more : (n limit : ℕ) → n ≤ limit → n + 0 ≤ limit
@@ -22,10 +23,12 @@ stands_alone p past m holds none = record {
 }
 
 -- a step has joined the log
-pub takes : (p : Program) (w : World p) (e : Event) (m : Machine) → Keeps p w.past e m.course → again_of m ≡ [] → Takes p w e m
-takes p w e m keeps none = record {
+pub takes : (p : Program) (w : Timeline p) (e : Event) (told : Stepped) (m : Machine) → Keeps p w.past e told m.course → again_of m ≡ []
+    → Takes p w e told m
+takes p w e told m keeps none = record {
   step = keeps.step;
   state = keeps.state;
   joins = keeps.joins;
+  tells = keeps.tells;
   stands = stands_alone p _ m keeps.holds none;
 }

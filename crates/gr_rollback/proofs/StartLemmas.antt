@@ -9,14 +9,14 @@ use Rattle.gr_rules.specs.Goroutines.{Goroutine, ready}
 use Rattle.gr_rules.specs.States.{State, same_go, start}
 use Rattle.gr_laws.proofs.CellLemmas.{go_is}
 use Rattle.gr_code.specs.Goroutines.{CodeGoroutine}
-use Rattle.gr_contents.specs.Contents.{Contents, goroutine_of}
-use Rattle.gr_contents.specs.Standing.{ContentsStand}
-use Rattle.gr_lower.specs.Lowered.{lowered, meaning}
-use Rattle.gr_record.specs.Listings.{frame_in, state_in}
-use Rattle.gr_record.specs.Running.{IsChecked}
+use Rattle.gr_refine.specs.Contents.{Contents, goroutine_of}
+use Rattle.gr_refine.specs.Standing.{ContentsStand}
+use Rattle.gr_step.specs.Lowered.{lowered, meaning}
+use Rattle.gr_step.specs.Listings.{frame_in, state_in}
+use Rattle.gr_step.specs.Running.{IsChecked}
 use Rattle.gr_step.specs.Stores.{contents_at, IsStart}
-use Rattle.type_safety.proofs.CheckedRuns.{checked_begins}
-use Rattle.gr_record.specs.Kept.{none}
+use Rattle.gr_step.proofs.CheckedRuns.{checked_begins}
+use Rattle.gr_step.specs.Kept.{none}
 use Rattle.gr_depend.specs.Logs.{records_of}
 use Rattle.gr_rollback.specs.declared.course.Course.{Course}
 use Rattle.gr_rollback.specs.Pasts.{first_past}

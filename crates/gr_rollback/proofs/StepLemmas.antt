@@ -1,21 +1,23 @@
 -- Events that are no steps, and steps that the rules allow.
-use Rattle.std.proofs.Common.{◌≡◌, None, ap, subst, ◌∙◌}
+use Rattle.std.proofs.Common.{◌≡◌, None, sym, ap, subst, ◌∙◌}
 use Rattle.gr_base.specs.declared.events.Event.{Event}
 use Rattle.gr_program.specs.Programs.{Program}
 use Rattle.gr_rules.specs.Steps.{refusal}
-use Rattle.gr_contents.specs.Contents.{Contents}
-use Rattle.gr_record.specs.declared.record.Record.{Record}
+use Rattle.gr_refine.specs.Contents.{Contents}
+use Rattle.gr_step.specs.Record.{Record}
 use Rattle.gr_step.specs.declared.refusal.StepRefused.{StepRefused}
 use Rattle.gr_step.specs.declared.refusal.StepRefused.TheVariants as refusals
-use Rattle.gr_record.specs.Listings.{frame_in, state_in}
-use Rattle.gr_record.specs.Running.{Running}
-use Rattle.gr_record.specs.Records.{event_of}
-use Rattle.gr_step.specs.Stores.{program_at, contents_at}
-use Rattle.gr_record.specs.Taking.{IsRecord}
+use Rattle.gr_step.specs.Listings.{frame_in, state_in}
+use Rattle.gr_step.specs.Running.{Running}
+use Rattle.gr_step.specs.Records.{event_of}
+use Rattle.gr_step.specs.Stores.{program_at, contents_at, state_at}
+use Rattle.gr_step.specs.Taking.{IsRecord}
 use Rattle.gr_step.specs.Refusals.{SaysWhy}
+use Rattle.gr_rollback.specs.declared.asked.Asked.{Asked}
 use Rattle.gr_rollback.specs.declared.course.Course.{Course}
 use Rattle.gr_rollback.specs.Courses.{Holds}
 use Rattle.gr_rollback.specs.Pasts.{Past}
+use Rattle.gr_rollback.specs.Stepping.{event_meant}
 use Rattle.gr_rollback.specs.Steps.{IsNoStep}
 use Rattle.gr_rollback.proofs.OwnLemmas.{step_is_allowed}
 
@@ -32,9 +34,22 @@ says_here p s w e refusals.Waits same says = ap (λ t. refusal p t e) same ∙ s
 says_here p s w e refusals.NoChoice same says = ap (λ t. refusal p t e) same ∙ says
 says_here p s w e refusals.NoMemory same says = ap (λ t. refusal p t e) same ∙ says
 
-pub is_no_step : (p : Program) (w : Past p) (c : Course) (e : Event) (why : StepRefused) → Holds p w c
+is_no_step : (p : Program) (w : Past p) (c : Course) (e : Event) (why : StepRefused) → Holds p w c
     → SaysWhy (program_at c.store) (contents_at c.store) e why → IsNoStep p w e why
 is_no_step p w c e why s says = says_here p (contents_at c.store) w e why s.state (subst (λ q. SaysWhy q (contents_at c.store) e why) s.program says)
+
+-- the event that is meant, by the store and by the past
+pub meant_here : (p : Program) (w : Past p) (c : Course) (asked : Asked) → Holds p w c
+    → event_meant (program_at c.store) (state_at c.store) asked ≡ event_meant p w.state asked
+meant_here p w c asked s =
+    ap (λ q. event_meant q (state_in q (contents_at c.store)) asked) s.program ∙ ap (λ t. event_meant p t asked) (sym s.state)
+
+pub asked_no_step : (p : Program) (w : Past p) (c : Course) (asked : Asked) (why : StepRefused) → Holds p w c
+    → SaysWhy (program_at c.store) (contents_at c.store) (event_meant (program_at c.store) (state_at c.store) asked) why
+    → IsNoStep p w (event_meant p w.state asked) why
+asked_no_step p w c asked why s says =
+    subst (λ e. IsNoStep p w e why) (meant_here p w c asked s)
+    (is_no_step p w c (event_meant (program_at c.store) (state_at c.store) asked) why s says)
 
 -- the step of a record is one that the rules allow
 pub record_is_allowed : (p : Program) (w : Past p) (c : Course) (r : Record) (t : Contents) → Holds p w c → IsRecord (program_at c.store) (contents_at c.store) r t

@@ -6,13 +6,13 @@ use Rattle.gr_base.specs.declared.names.StepId.{StepId}
 use Rattle.gr_causal.specs.Machine.{IsLog}
 use Rattle.gr_program.specs.Programs.{Program}
 use Rattle.gr_rules.specs.Steps.{machine}
-use Rattle.gr_record.specs.declared.record.Record.{Record}
-use Rattle.gr_record.specs.Kept.{Kept}
-use Rattle.gr_record.specs.Listings.{state_in}
-use Rattle.gr_record.specs.Running.{Running}
+use Rattle.gr_step.specs.Record.{Record}
+use Rattle.gr_step.specs.Kept.{Kept}
+use Rattle.gr_step.specs.Listings.{state_in}
+use Rattle.gr_step.specs.Running.{Running}
 use Rattle.gr_step.specs.Stores.{contents_at, SameListing}
-use Rattle.gr_record.proofs.KeptLemmas.{kept_is_run, runs_on}
-use Rattle.gr_record.proofs.RecordLemmas.{no_object_twice}
+use Rattle.gr_step.proofs.KeptLemmas.{kept_is_run, runs_on}
+use Rattle.gr_step.proofs.RecordLemmas.{no_object_twice}
 use Rattle.gr_depend.specs.Logs.{records_of}
 use Rattle.gr_rollback.specs.declared.TheConstants.{LOG_LIMIT}
 use Rattle.gr_rollback.specs.declared.course.Course.{Course}
@@ -20,7 +20,7 @@ use Rattle.gr_rollback.specs.declared.machine.Machine.{Machine}
 use Rattle.gr_rollback.specs.Backs.{LosesLast, Undoes}
 use Rattle.gr_rollback.specs.Courses.{Holds}
 use Rattle.gr_rollback.specs.Machines.{steps_of, Stands}
-use Rattle.gr_rollback.specs.Pasts.{Past, World, id_of}
+use Rattle.gr_rollback.specs.Pasts.{Past, Timeline, id_of}
 use Rattle.gr_rollback.specs.Retracting.{LastGoesBack, Retracts, RetractsLast}
 use Rattle.gr_rollback.proofs.CourseLemmas.{same_program, runs_at}
 use Rattle.gr_rollback.proofs.KeptLemmas.{LastKept, last_kept, none_kept, some_kept, id_alike, begins_running}
@@ -104,7 +104,7 @@ with_one : (n m limit : ℕ) → m ≡ n + 1 → m ≤ limit → n + 1 ≤ limit
 with_one n m limit a b = omega arith
 
 -- .. and a machine whose last step it was
-module _ (p : Program) (w : World p) (old new : Machine) (s : Stands p w old) (listing : SameListing old.course.store new.course.store) (back : RetractsLast old new) where
+module _ (p : Program) (w : Timeline p) (old new : Machine) (s : Stands p w old) (listing : SameListing old.course.store new.course.store) (back : RetractsLast old new) where
   pub undoes : (id : StepId) → id ≡ back.course.step.id → Undoes p w id new
   undoes id is =
       let led = loses p w.past old.course new.course back.event s.holds listing back.course in

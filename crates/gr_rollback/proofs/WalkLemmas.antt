@@ -8,11 +8,11 @@ use Rattle.gr_base.specs.declared.names.StepId.{StepId}
 use Rattle.std.proofs.lemmas.List.{reverse-append, length_push}
 use Rattle.gr_causal.specs.Sequences.{In, Distinct}
 use Rattle.gr_causal.proofs.ListLemmas.{In-append_right}
-use Rattle.gr_record.specs.declared.record.Record.{Record}
-use Rattle.gr_record.specs.Conflicts.{touched_by}
-use Rattle.gr_record.specs.Records.{event_of, taken_back, CanGoBack}
+use Rattle.gr_step.specs.Record.{Record}
+use Rattle.gr_step.specs.Conflicts.{touched_by}
+use Rattle.gr_step.specs.Records.{event_of, taken_back, CanGoBack}
 use Rattle.gr_step.specs.Stores.{contents_at}
-use Rattle.gr_record.specs.Back.{unmarked}
+use Rattle.gr_step.specs.Back.{unmarked}
 use Rattle.gr_depend.specs.Logs.{records_of}
 use Rattle.gr_depend.specs.Room.{CanTake}
 use Rattle.gr_rollback.specs.declared.back.Rollback.{Rollback}

@@ -14,7 +14,7 @@ use Rattle.gr_laws.specs.Reached.{Logged, IsRun}
 use Rattle.gr_rollback.specs.declared.machine.Machine.{Machine}
 use Rattle.gr_rollback.specs.declared.refusal.BackRefused.{BackRefused}
 use Rattle.gr_rollback.specs.declared.refusal.BackRefused.TheVariants as refusals
-use Rattle.gr_rollback.specs.Pasts.{Past, World, id_of, ids_of, events_in}
+use Rattle.gr_rollback.specs.Pasts.{Past, Timeline, id_of, ids_of, events_in}
 use Rattle.gr_rollback.specs.Machines.{Stands}
 
 -- the step at this place of the log has the name
@@ -47,21 +47,21 @@ again_after [] before = before
 again_after (e ∷ es) before = e ∷ es
 
 -- what `undo` answers and leaves
-pub record Undoes (p : Program) (w : World p) (id : StepId) (m : Machine) : Type 0 where
+pub record Undoes (p : Program) (w : Timeline p) (id : StepId) (m : Machine) : Type 0 where
   pub step : Logged p
   pub past : Past p
   pub loses : LosesLast p w.past step past
   pub named : id_of p step ≡ id
   pub stands : Stands p (record { past = past; again = step.event ∷ [] }) m
 
-abbrev pub Undone : (p : Program) → World p → Result StepId BackRefused → Machine → Type 0
+abbrev pub Undone : (p : Program) → Timeline p → Result StepId BackRefused → Machine → Type 0
 Undone p w (Ok id) m = Undoes p w id m
 Undone p w (Err refusals.NothingToUndo) m = (w.past.log ≡ []) × Stands p w m
 Undone p w (Err (refusals.NoMemory ids)) m = (¬ (w.past.log ≡ [])) × (ids.items ≡ []) × Stands p w m
 Undone p w (Err _) m = ⊥
 
 -- what `back` answers and leaves, of the step of a name
-pub record TakesBack (p : Program) (w : World p) (id : StepId) (ids : List StepId) (m : Machine) : Type 0 where
+pub record TakesBack (p : Program) (w : Timeline p) (id : StepId) (ids : List StepId) (m : Machine) : Type 0 where
   pub place : ℕ
   pub named : IsNamed p w.past.log id place
   pub past : Past p
@@ -69,43 +69,43 @@ pub record TakesBack (p : Program) (w : World p) (id : StepId) (ids : List StepI
   pub names : ids ≡ ids_of p (dependents (clash p) w.past.log place)
   pub stands : Stands p (record { past = past; again = events_in p (dependents (clash p) w.past.log place) }) m
 
-pub record TakesSomeBack (p : Program) (w : World p) (id : StepId) (ids : List StepId) (m : Machine) : Type 0 where
+pub record TakesSomeBack (p : Program) (w : Timeline p) (id : StepId) (ids : List StepId) (m : Machine) : Type 0 where
   pub place : ℕ
   pub named : IsNamed p w.past.log id place
   pub gone : List (Logged p)
-  pub world : World p
+  pub world : Timeline p
   pub loses : LosesSome p w.past place gone world.past
   pub again : world.again ≡ again_after (events_in p gone) w.again
   pub names : ids ≡ ids_of p gone
   pub stands : Stands p world m
 
-abbrev pub TakenBack : (p : Program) → World p → StepId → Result (Vec StepId Global) BackRefused → Machine → Type 0
+abbrev pub TakenBack : (p : Program) → Timeline p → StepId → Result (Vec StepId Global) BackRefused → Machine → Type 0
 TakenBack p w id (Ok ids) m = TakesBack p w id ids.items m
 TakenBack p w id (Err refusals.NotKept) m = ((place : ℕ) → ¬ IsNamed p w.past.log id place) × Stands p w m
 TakenBack p w id (Err (refusals.NoMemory ids)) m = TakesSomeBack p w id ids.items m
 TakenBack p w id (Err _) m = ⊥
 
 -- what `redo` answers and leaves: the steps are taken again, in their order; or the first of them, the others being still to come
-pub record Redoes (p : Program) (w : World p) (ids : List StepId) (u : World p) : Type 0 where
+pub record Redoes (p : Program) (w : Timeline p) (ids : List StepId) (u : Timeline p) : Type 0 where
   pub steps : List (Logged p)
   pub leads : IsLog (machine p) w.past.state steps u.past.state
   pub log : u.past.log ≡ w.past.log ++ steps
   pub events : w.again ≡ events_in p steps ++ u.again
   pub names : ids ≡ ids_of p steps
 
-pub record TakesAgain (p : Program) (w : World p) (ids : List StepId) (m : Machine) : Type 0 where
+pub record TakesAgain (p : Program) (w : Timeline p) (ids : List StepId) (m : Machine) : Type 0 where
   pub past : Past p
   pub some : ¬ (w.again ≡ [])
   pub redoes : Redoes p w ids (record { past = past; again = [] })
   pub stands : Stands p (record { past = past; again = [] }) m
 
-pub record TakesSomeAgain (p : Program) (w : World p) (ids : List StepId) (m : Machine) : Type 0 where
-  pub world : World p
+pub record TakesSomeAgain (p : Program) (w : Timeline p) (ids : List StepId) (m : Machine) : Type 0 where
+  pub world : Timeline p
   pub left : ¬ (world.again ≡ [])
   pub redoes : Redoes p w ids world
   pub stands : Stands p world m
 
-abbrev pub TakenAgain : (p : Program) → World p → Result (Vec StepId Global) BackRefused → Machine → Type 0
+abbrev pub TakenAgain : (p : Program) → Timeline p → Result (Vec StepId Global) BackRefused → Machine → Type 0
 TakenAgain p w (Ok ids) m = TakesAgain p w ids.items m
 TakenAgain p w (Err refusals.NothingToRedo) m = (w.again ≡ []) × Stands p w m
 TakenAgain p w (Err (refusals.NoMemory ids)) m = TakesSomeAgain p w ids.items m
@@ -116,20 +116,20 @@ abbrev pub names_in : List StepId → List StepName
 names_in ids = map (λ id. (id.go, id.n)) ids
 
 -- what `reorder` answers and leaves: the order that the names give, with the same state, and nothing may be done again
-pub record Reorders (p : Program) (w : World p) (ids : List StepId) (m : Machine) : Type 0 where
+pub record Reorders (p : Program) (w : Timeline p) (ids : List StepId) (m : Machine) : Type 0 where
   pub log : List (Logged p)
   pub order : ordered_by p (names_in ids) w.past.log ≡ accepted log
   pub stands : Stands p (record { past = record { log = log; state = w.past.state }; again = [] }) m
 
 -- .. or two steps that conflict and would change places
-pub record Breaks (p : Program) (w : World p) (ids : List StepId) (first second : StepId) : Type 0 where
+pub record Breaks (p : Program) (w : Timeline p) (ids : List StepId) (first second : StepId) : Type 0 where
   pub earlier : Logged p
   pub later : Logged p
   pub order : ordered_by p (names_in ids) w.past.log ≡ broken earlier later
   pub first_is : id_of p earlier ≡ first
   pub second_is : id_of p later ≡ second
 
-abbrev pub Reordered : (p : Program) → World p → List StepId → Result (Unit {0}) BackRefused → Machine → Type 0
+abbrev pub Reordered : (p : Program) → Timeline p → List StepId → Result (Unit {0}) BackRefused → Machine → Type 0
 Reordered p w ids (Ok done) m = Reorders p w ids m
 Reordered p w ids (Err refusals.NotTheSteps) m = (ordered_by p (names_in ids) w.past.log ≡ other_steps) × Stands p w m
 Reordered p w ids (Err (refusals.BreaksDependence first second)) m = Breaks p w ids first second × Stands p w m

@@ -2,11 +2,11 @@
 use Rattle.std.specs.Prelude.{◌≡◌, ◌≤◌, [], length}
 use Rattle.gr_program.specs.Programs.{Program}
 use Rattle.gr_rules.specs.States.{start}
-use Rattle.gr_contents.specs.Contents.{Contents}
-use Rattle.gr_contents.specs.Standing.{ContentsStand}
-use Rattle.gr_lower.specs.Lowered.{lowered, meaning}
-use Rattle.gr_record.specs.Kept.{Kept}
-use Rattle.gr_record.specs.Listings.{state_in}
+use Rattle.gr_refine.specs.Contents.{Contents}
+use Rattle.gr_refine.specs.Standing.{ContentsStand}
+use Rattle.gr_step.specs.Lowered.{lowered, meaning}
+use Rattle.gr_step.specs.Kept.{Kept}
+use Rattle.gr_step.specs.Listings.{state_in}
 use Rattle.gr_step.specs.Stores.{program_at, contents_at, IsRun}
 use Rattle.gr_depend.specs.Logs.{records_of}
 use Rattle.gr_rollback.specs.declared.TheConstants.{LOG_LIMIT}

@@ -10,18 +10,18 @@ use Rattle.gr_rules.specs.Limits.{most_steps}
 use Rattle.gr_rules.specs.States.{State}
 use Rattle.gr_rules.specs.Steps.{machine}
 use Rattle.gr_laws.specs.Reached.{Logged}
-use Rattle.gr_contents.specs.Contents.{Contents}
-use Rattle.gr_record.specs.declared.record.Record.{Record}
-use Rattle.gr_record.specs.Kept.{Kept}
+use Rattle.gr_refine.specs.Contents.{Contents}
+use Rattle.gr_step.specs.Record.{Record}
+use Rattle.gr_step.specs.Kept.{Kept}
 use Rattle.gr_step.specs.Leasing.{goes_alone}
-use Rattle.gr_record.specs.Listings.{state_in}
+use Rattle.gr_step.specs.Listings.{state_in}
 use Rattle.gr_step.specs.Stores.{contents_at}
 use Rattle.gr_depend.specs.Logs.{records_of}
 use Rattle.gr_rollback.specs.declared.course.Course.{Course}
 use Rattle.gr_rollback.specs.declared.machine.Machine.{Machine}
 use Rattle.gr_rollback.specs.Courses.{Begins, Holds}
 use Rattle.gr_rollback.specs.Machines.{Stands}
-use Rattle.gr_rollback.specs.Pasts.{Past, World, events_in}
+use Rattle.gr_rollback.specs.Pasts.{Past, Timeline, events_in}
 
 -- the goroutines whose next step is local, in the order of names
 pub record GoAlone (s : State) (names : List (List ℕ)) : Type 0 where
@@ -59,13 +59,13 @@ pub record KeepsAll (p : Program) (w : Past p) (go : List ℕ) (count : ℕ) (c 
   pub holds : Holds p (with_steps p w steps state) c
 
 -- the machine after them; or nothing has changed
-pub record TakesAll (p : Program) (w : World p) (go : List ℕ) (count : ℕ) (m : Machine) : Type 0 where
+pub record TakesAll (p : Program) (w : Timeline p) (go : List ℕ) (count : ℕ) (m : Machine) : Type 0 where
   pub steps : List (Logged p)
   pub state : State
   pub join : JoinAll p w.past go count steps state
   pub stands : Stands p (record { past = with_steps p w.past steps state; again = [] }) m
 
-abbrev pub AllTaken : (p : Program) → World p → List ℕ → ℕ → Result (Unit {0}) NoMemory → Machine → Type 0
+abbrev pub AllTaken : (p : Program) → Timeline p → List ℕ → ℕ → Result (Unit {0}) NoMemory → Machine → Type 0
 AllTaken p w go count (Ok done) m = TakesAll p w go count m
 AllTaken p w go count (Err e) m = Stands p w m
 

@@ -6,14 +6,14 @@ use Rattle.gr_program.specs.Programs.{Program}
 use Rattle.gr_rules.specs.States.{State}
 use Rattle.gr_rules.specs.Steps.{machine}
 use Rattle.gr_laws.specs.Reached.{Logged}
-use Rattle.gr_record.specs.declared.record.Record.{Record}
+use Rattle.gr_step.specs.Record.{Record}
 use Rattle.gr_step.specs.declared.store.Store.{Store}
 use Rattle.gr_step.specs.Stores.{program_at}
 use Rattle.gr_depend.specs.declared.log.Log.{Log}
 use Rattle.gr_depend.specs.Logs.{records_of}
 use Rattle.gr_rollback.specs.declared.TheConstants.{LOG_LIMIT}
 use Rattle.gr_rollback.specs.declared.machine.Machine.{Machine}
-use Rattle.gr_rollback.specs.Pasts.{World, events_in}
+use Rattle.gr_rollback.specs.Pasts.{Timeline, events_in}
 use Rattle.gr_rollback.specs.Courses.{Holds}
 
 -- its store, its log, the records of its steps, and the events that `redo` would take, the first of them first
@@ -37,7 +37,7 @@ pub record CanGo (p : Program) (s : State) (events : List Event) : Type 0 where
   pub events_are : events_in p steps ≡ events
 
 -- the machine is that of a world of a program
-pub record Stands (p : Program) (w : World p) (m : Machine) : Type 0 where
+pub record Stands (p : Program) (w : Timeline p) (m : Machine) : Type 0 where
   pub holds : Holds p w.past m.course
   pub again : again_of m ≡ w.again
   pub can_go : CanGo p w.past.state w.again
@@ -45,5 +45,5 @@ pub record Stands (p : Program) (w : World p) (m : Machine) : Type 0 where
 
 -- .. of some world
 pub record IsMachine (m : Machine) : Type 0 where
-  pub world : World (program_at (store_of m))
+  pub world : Timeline (program_at (store_of m))
   pub stands : Stands (program_at (store_of m)) world m

@@ -6,7 +6,7 @@ use Rattle.gr_base.specs.declared.names.StepId.{StepId}
 use Rattle.gr_program.specs.Programs.{Program}
 use Rattle.gr_rules.specs.States.{State, start}
 use Rattle.gr_laws.specs.Reached.{Logged}
-pub use Rattle.gr_record.specs.Pairs.{id_of}
+pub use Rattle.gr_step.specs.Pairs.{id_of}
 
 -- the steps that are kept, the oldest first, and the state to which they lead
 pub record Past (p : Program) : Type 0 where
@@ -14,7 +14,7 @@ pub record Past (p : Program) : Type 0 where
   pub state : State
 
 -- a past, and the events of the steps that may be done again, in the order in which they were taken
-pub record World (p : Program) : Type 0 where
+pub record Timeline (p : Program) : Type 0 where
   pub past : Past p
   pub again : List Event
 
@@ -22,8 +22,8 @@ pub record World (p : Program) : Type 0 where
 abbrev pub first_past : (p : Program) → Past p
 first_past p = record { log = []; state = start p }
 
-abbrev pub first_world : (p : Program) → World p
-first_world p = record { past = first_past p; again = [] }
+abbrev pub first_timeline : (p : Program) → Timeline p
+first_timeline p = record { past = first_past p; again = [] }
 
 -- the events of steps
 abbrev pub events_in : (p : Program) → List (Logged p) → List Event

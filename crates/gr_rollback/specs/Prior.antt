@@ -1,13 +1,13 @@
 -- Which goroutines were ready before a change, by what the change replaced.
 use Rattle.std.specs.Prelude.{◌≡◌, ℕ, true, false, List, Option}
 use Rattle.gr_code.specs.Goroutines.{CodeGoroutine}
-use Rattle.gr_contents.specs.Contents.{Contents}
+use Rattle.gr_refine.specs.Contents.{Contents}
 use Rattle.gr_goros.specs.Undoing.{undone}
 use Rattle.gr_goros.specs.declared.undo.GoUndo.{GoUndo}
 use Rattle.gr_pool.specs.Goroutines as pools
 use Rattle.gr_pool.specs.Goroutines.{is_among}
 use Rattle.gr_rules.specs.Goroutines.{Status, ready}
-use Rattle.gr_record.specs.Records.{go_back, is_go, GoesFit}
+use Rattle.gr_step.specs.Records.{go_back, is_go, GoesFit}
 use Rattle.gr_rollback.specs.declared.bringing.Prior.{Prior}
 use Rattle.gr_rollback.specs.declared.bringing.Prior.TheVariants as priors
 use Rattle.gr_rollback.specs.Readiness.{HasAllReady}

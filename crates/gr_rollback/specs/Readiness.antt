@@ -5,13 +5,13 @@ use Rattle.gr_pool.specs.Goroutines as pools
 use Rattle.gr_pool.specs.Goroutines.{is_among}
 use Rattle.gr_rules.specs.Goroutines.{ready}
 use Rattle.gr_code.specs.Goroutines.{CodeGoroutine}
-use Rattle.gr_contents.specs.Contents.{Contents}
+use Rattle.gr_refine.specs.Contents.{Contents}
 use Rattle.gr_goros.specs.Undoing.{undone}
 use Rattle.gr_goros.specs.declared.undo.GoUndo.{GoUndo}
-use Rattle.gr_record.specs.Effects.{Effect}
-use Rattle.gr_record.specs.declared.record.Record.{Record}
-use Rattle.gr_record.specs.Fews.{members}
-use Rattle.gr_record.specs.Records.{beyond, begun_by}
+use Rattle.gr_step.specs.Effects.{Effect}
+use Rattle.gr_step.specs.Record.{Record}
+use Rattle.gr_step.specs.Fews.{members}
+use Rattle.gr_step.specs.Records.{beyond, begun_by}
 
 -- the goroutine is there, and ready
 pub record IsReadyIn (s : Contents) (n : List ℕ) : Type 0 where

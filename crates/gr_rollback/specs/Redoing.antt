@@ -4,12 +4,12 @@ use Rattle.gr_base.specs.declared.names.StepId.{StepId}
 use Rattle.gr_program.specs.Programs.{Program}
 use Rattle.gr_rollback.specs.declared.machine.Machine.{Machine}
 use Rattle.gr_rollback.specs.Machines.{Stands}
-use Rattle.gr_rollback.specs.Pasts.{World}
+use Rattle.gr_rollback.specs.Pasts.{Timeline}
 use Rattle.gr_rollback.specs.Backs.{Redoes}
 
 -- the first of them are taken, and their names join those of the steps before them
-pub record GoesOn (p : Program) (w : World p) (before after : List StepId) (m : Machine) : Type 0 where
-  pub world : World p
+pub record GoesOn (p : Program) (w : Timeline p) (before after : List StepId) (m : Machine) : Type 0 where
+  pub world : Timeline p
   pub names : List StepId
   pub joined : after ≡ before ++ names
   pub redoes : Redoes p w names world

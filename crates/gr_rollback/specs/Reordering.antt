@@ -1,6 +1,6 @@
 -- An order of the log that is refused.
 use Rattle.std.specs.Prelude.{◌≡◌, ℕ, List, []}
-use Rattle.gr_record.specs.declared.record.Record.{Record}
+use Rattle.gr_step.specs.Record.{Record}
 use Rattle.gr_depend.specs.Named.{IsNamed}
 use Rattle.gr_rollback.specs.declared.refusal.BackRefused.{BackRefused}
 use Rattle.gr_rollback.specs.declared.refusal.BackRefused.TheVariants.{BreaksDependence, NoMemory}

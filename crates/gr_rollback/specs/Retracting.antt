@@ -2,9 +2,9 @@
 use Rattle.std.specs.Prelude.{◌≡◌, List, [], ◌∷◌, ◌++◌}
 use Rattle.gr_base.specs.declared.events.Event.{Event}
 use Rattle.gr_causal.specs.Sequences.{Distinct}
-use Rattle.gr_record.specs.declared.record.Record.{Record}
-use Rattle.gr_record.specs.Conflicts.{touched_by}
-use Rattle.gr_record.specs.Records.{event_of, taken_back, CanGoBack}
+use Rattle.gr_step.specs.Record.{Record}
+use Rattle.gr_step.specs.Conflicts.{touched_by}
+use Rattle.gr_step.specs.Records.{event_of, taken_back, CanGoBack}
 use Rattle.gr_step.specs.Stores.{contents_at, SameListing}
 use Rattle.gr_depend.specs.Logs.{records_of}
 use Rattle.gr_depend.specs.Room.{CanTake}

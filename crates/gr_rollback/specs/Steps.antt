@@ -12,7 +12,9 @@ use Rattle.gr_step.specs.declared.refusal.StepRefused.{StepRefused}
 use Rattle.gr_step.specs.declared.refusal.StepRefused.TheVariants as refusals
 use Rattle.gr_rollback.specs.declared.course.Course.{Course}
 use Rattle.gr_rollback.specs.declared.machine.Machine.{Machine}
-use Rattle.gr_rollback.specs.Pasts.{Past, World}
+use Rattle.gr_rollback.specs.declared.stepped.Stepped.{Stepped}
+use Rattle.gr_rollback.specs.Stepping.{told_of}
+use Rattle.gr_rollback.specs.Pasts.{Past, Timeline}
 use Rattle.gr_rollback.specs.Courses.{Holds}
 use Rattle.gr_rollback.specs.Machines.{Stands}
 
@@ -35,24 +37,26 @@ IsNoStep p w e refusals.Waits = refusal p w.state e ≡ Some rules.goroutine_wai
 IsNoStep p w e refusals.NoChoice = refusal p w.state e ≡ Some rules.no_such_choice
 IsNoStep p w e refusals.NoMemory = refusal p w.state e ≡ None
 
--- the course after the step of an event; or nothing has changed
-pub record Keeps (p : Program) (w : Past p) (e : Event) (c : Course) : Type 0 where
+-- the course after the step of an event, and what is told of the step; or nothing has changed
+pub record Keeps (p : Program) (w : Past p) (e : Event) (told : Stepped) (c : Course) : Type 0 where
   pub step : Logged p
   pub state : State
   pub joins : Joins p w e step state
+  pub tells : told ≡ told_of p step
   pub holds : Holds p (with_step p w step state) c
 
-abbrev pub Kept : (p : Program) → Past p → Event → Result (Unit {0}) StepRefused → Course → Type 0
-Kept p w e (Ok done) c = Keeps p w e c
+abbrev pub Kept : (p : Program) → Past p → Event → Result Stepped StepRefused → Course → Type 0
+Kept p w e (Ok told) c = Keeps p w e told c
 Kept p w e (Err why) c = IsNoStep p w e why × Holds p w c
 
--- the machine after the step of an event; or nothing has changed
-pub record Takes (p : Program) (w : World p) (e : Event) (m : Machine) : Type 0 where
+-- the machine after the step of an event, and what is told of the step; or nothing has changed
+pub record Takes (p : Program) (w : Timeline p) (e : Event) (told : Stepped) (m : Machine) : Type 0 where
   pub step : Logged p
   pub state : State
   pub joins : Joins p w.past e step state
+  pub tells : told ≡ told_of p step
   pub stands : Stands p (record { past = with_step p w.past step state; again = [] }) m
 
-abbrev pub Taken : (p : Program) → World p → Event → Result (Unit {0}) StepRefused → Machine → Type 0
-Taken p w e (Ok done) m = Takes p w e m
+abbrev pub Taken : (p : Program) → Timeline p → Event → Result Stepped StepRefused → Machine → Type 0
+Taken p w e (Ok told) m = Takes p w e told m
 Taken p w e (Err why) m = IsNoStep p w.past e why × Stands p w m

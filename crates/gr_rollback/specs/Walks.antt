@@ -1,11 +1,11 @@
 -- A rollback on its way from the end of the log down to a place.
 use Rattle.std.specs.Prelude.{◌≡◌, ◌+◌, ◌≤◌, ℕ, Bool, true, not, List, [], ◌∷◌, ◌++◌, length, filter, map, reverse, vec_len, vec_capacity}
 use Rattle.gr_causal.specs.Sequences.{In, Distinct}
-use Rattle.gr_record.specs.declared.record.Record.{Record}
-use Rattle.gr_record.specs.Conflicts.{touched_by}
-use Rattle.gr_record.specs.Records.{event_of, taken_back, CanGoBack}
+use Rattle.gr_step.specs.Record.{Record}
+use Rattle.gr_step.specs.Conflicts.{touched_by}
+use Rattle.gr_step.specs.Records.{event_of, taken_back, CanGoBack}
 use Rattle.gr_step.specs.Stores.{contents_at}
-use Rattle.gr_record.specs.Back.{all_back, marked, unmarked}
+use Rattle.gr_step.specs.Back.{all_back, marked, unmarked}
 use Rattle.gr_depend.specs.Logs.{records_of}
 use Rattle.gr_depend.specs.Room.{CanTake}
 use Rattle.gr_rollback.specs.declared.back.Rollback.{Rollback}

@@ -4,15 +4,15 @@ ghost use Rattle.std.specs.Prelude.{◌≡◌, ◌<◌, length, map, IfOk};
 ghost use Rattle.gr_causal.specs.Dependence.{dependents, causes};
 ghost use Rattle.gr_program.specs.Programs.{Program};
 ghost use Rattle.gr_laws.specs.Dependence.{clash};
-ghost use Rattle.gr_record.specs.Conflicts.{conflict_of};
-ghost use Rattle.gr_record.specs.Back.{marked};
+ghost use Rattle.gr_step.specs.Conflicts.{conflict_of};
+ghost use Rattle.gr_step.specs.Back.{marked};
 ghost use Rattle.gr_depend.specs.Logs.{records_of};
 ghost use Rattle.gr_rollback.specs.Asking.{Tells};
 
 use crate::machine::Machine;
 use gr_base::{NoMemory, StepId};
 use gr_depend::Log;
-use gr_record::Record;
+use gr_step::Record;
 use std::alloc::Global;
 
 /// The names of the steps that are marked.
@@ -47,12 +47,13 @@ fn names_of_causes(alloc: Global, log: &Log, at: usize) -> Result<Vec<StepId>, N
 }
 
 impl Machine {
-    ghost use Rattle.gr_rollback.specs.Pasts.{World};
+    ghost use Rattle.gr_rollback.specs.Pasts.{Timeline};
     ghost use Rattle.gr_rollback.specs.Machines.{Stands};
 
     /// The names of the step of a name and of all that depend on it, in the order of the log; none where no such step is kept.
     pub fn dependents(&self, alloc: Global, id: &StepId) -> Result<Option<Vec<StepId>>, NoMemory>
-        ensures { (p : Program) (w : World p) → Stands p w self.now → IfOk result (Tells p w.past.log id.now (dependents (clash p) w.past.log)) }
+        ensures { (p : Program) (w : Timeline p) → Stands p w self.now
+            → IfOk result (Tells p w.past.log id.now (dependents (clash p) w.past.log)) }
     {
         let Some(at) = self.course.log.place_of(id) else {
             return Ok(None);
@@ -63,7 +64,8 @@ impl Machine {
 
     /// The names of the step of a name and of all that it depends on, in the order of the log; none where no such step is kept.
     pub fn causes(&self, alloc: Global, id: &StepId) -> Result<Option<Vec<StepId>>, NoMemory>
-        ensures { (p : Program) (w : World p) → Stands p w self.now → IfOk result (Tells p w.past.log id.now (causes (clash p) w.past.log)) }
+        ensures { (p : Program) (w : Timeline p) → Stands p w self.now
+            → IfOk result (Tells p w.past.log id.now (causes (clash p) w.past.log)) }
     {
         let Some(at) = self.course.log.place_of(id) else {
             return Ok(None);

@@ -3,8 +3,8 @@
 ghost use Rattle.std.specs.Prelude.{◌≡◌, ◌<◌, ◌+◌, ◌++◌, [], length, vec_len, vec_capacity, reverse, IfOk, OnOk, OnErr};
 ghost use Rattle.gr_causal.specs.Sequences.{In, Distinct};
 ghost use Rattle.gr_program.specs.Programs.{Program};
-ghost use Rattle.gr_record.specs.declared.record.Record.{Record as RecordSeen};
-ghost use Rattle.gr_record.specs.Conflicts.{touched_by};
+ghost use Rattle.gr_step.specs.Record.{Record as RecordSeen};
+ghost use Rattle.gr_step.specs.Conflicts.{touched_by};
 ghost use Rattle.gr_step.specs.Stores.{taken_at, SameListing};
 ghost use Rattle.gr_depend.specs.Logs.{records_of};
 ghost use Rattle.gr_depend.specs.Room.{CanTake};
@@ -15,7 +15,7 @@ use crate::machine::Machine;
 use crate::refusal::BackRefused;
 use gr_base::{Event, NoMemory, StepId};
 use gr_depend::Log;
-use gr_record::Record;
+use gr_step::Record;
 use std::alloc::Global;
 
 /// A rollback on its way from the end of the log: each list begins with what was last in the log.
@@ -86,8 +86,8 @@ impl Course {
         Ok(())
     }
 
-    /// Takes the last step of the log back where it is marked, and else lays it aside. The marks are for the steps from a place on.
-    /// Refused, nothing has changed.
+    /// Takes the last step of the log back where it is marked, and else lays it aside. The marks are for the steps from a place
+    /// on. Refused, nothing has changed.
     fn unwind_last(
         &mut self,
         alloc: Global,
@@ -148,12 +148,12 @@ impl Course {
 }
 
 impl Machine {
-    ghost use Rattle.gr_rollback.specs.Pasts.{World};
+    ghost use Rattle.gr_rollback.specs.Pasts.{Timeline};
     ghost use Rattle.gr_rollback.specs.Machines.{store_of, steps_of, again_of, Stands, IsMachine};
     ghost use Rattle.gr_rollback.specs.Backs.{again_after, TakenBack};
 
-    /// Puts the records in again that stay, and answers the names of the steps that are taken back, in the order of the log; these
-    /// may be done again.
+    /// Puts the records in again that stay, and answers the names of the steps that are taken back, in the order of the log;
+    /// these may be done again.
     fn finish(&mut self, rollback: Rollback) -> Vec<StepId>
         requires room { CanTake self.old.course.log (reverse rollback.stay.items) }
         requires once { (r : RecordSeen) → In r (reverse rollback.stay.items) → Distinct (touched_by r) }
@@ -179,7 +179,7 @@ impl Machine {
     /// memory is wanting on the way, the last of these steps are back, which the refusal names, and all others are kept.
     pub fn back(&mut self, alloc: Global, id: &StepId) -> Result<Vec<StepId>, BackRefused>
         requires { IsMachine self.old }
-        ensures back { (p : Program) (w : World p) → Stands p w self.old → TakenBack p w id.now result self.new }
+        ensures back { (p : Program) (w : Timeline p) → Stands p w self.old → TakenBack p w id.now result self.new }
         ensures listing { SameListing (store_of self.old) (store_of self.new) }
         ensures taken { taken_at (store_of self.new) ≡ taken_at (store_of self.old) }
     {
@@ -193,6 +193,7 @@ impl Machine {
             return Err(BackRefused::NoMemory(Vec::new(alloc)));
         };
         let mut rollback = rollback;
+        // brings the law to the prover
         Log::law_of_no_steps(&self.course.log);
         let done = self.course.unwind(alloc, at, &marks, &mut rollback);
         let ids = self.finish(rollback);

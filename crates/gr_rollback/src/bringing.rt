@@ -4,17 +4,16 @@ ghost use Rattle.std.specs.Prelude.{◌≡◌, ◌∷◌, [], true, option_copie
 ghost use Rattle.gr_goros.specs.Views.{status_of};
 ghost use Rattle.gr_pool.specs.Goroutines.{is_among};
 ghost use Rattle.gr_rules.specs.Goroutines.{Status as StatusSeen};
-ghost use Rattle.gr_record.specs.Fews.{members};
-ghost use Rattle.gr_record.specs.Parts.{begun_in};
-ghost use Rattle.gr_record.specs.Records.{begun_by, goroutines_changed};
+ghost use Rattle.gr_step.specs.Fews.{members};
+ghost use Rattle.gr_step.specs.Parts.{begun_in};
+ghost use Rattle.gr_step.specs.Records.{begun_by, goroutines_changed};
 ghost use Rattle.gr_rollback.specs.Readiness.{AllKnown, names_met, met_by};
 ghost use Rattle.gr_rollback.specs.Prior.{IsPrior, TellsPrior, BringsBack, BringsStepBack, Loses};
 
 use gr_base::GoName;
 use gr_goros::{GoUndo, Status};
 use gr_pool::Pool;
-use gr_record::Record;
-use gr_record::record::{Beyond, Form};
+use gr_step::{Beyond, Form, Record};
 
 /// Whether a goroutine was ready before a change.
 #[derive(Clone, Copy)]
@@ -69,7 +68,7 @@ fn bring_back(pool: &mut Pool, go: &GoName, undo: &GoUndo)
     }
 }
 
-/// The same for changes of several goroutines, the last change first.
+/// Brings the pool back before the changes of several goroutines, the last change first.
 fn bring_all_back(pool: &mut Pool, changes: &[(GoName, GoUndo)])
     requires { AllKnown (names_met changes.now) pool.old }
     ensures { BringsBack changes.now pool.old pool.new }

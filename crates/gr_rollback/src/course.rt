@@ -3,7 +3,7 @@
 ghost use Rattle.std.specs.Prelude.{◌≡◌, [], IfOk, option_copied};
 ghost use Rattle.gr_pool.specs.Goroutines.{next_name};
 ghost use Rattle.gr_program.specs.Views.{program_of};
-ghost use Rattle.gr_record.specs.Running.{IsChecked};
+ghost use Rattle.gr_step.specs.Running.{IsChecked};
 ghost use Rattle.gr_rollback.specs.Pasts.{first_past};
 ghost use Rattle.gr_rollback.specs.Courses.{Holds};
 

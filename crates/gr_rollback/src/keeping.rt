@@ -4,21 +4,24 @@ ghost use Rattle.std.specs.Prelude.{◌≡◌, ◌≤◌, ◌++◌, ◌∷◌, [
 ghost use Rattle.std.specs.Option.{option_to_list};
 ghost use Rattle.gr_causal.specs.Sequences.{Distinct};
 ghost use Rattle.gr_program.specs.Programs.{Program};
-ghost use Rattle.gr_record.specs.Conflicts.{touched_by};
-ghost use Rattle.gr_record.specs.Records.{begun_by, event_of, taken_back, CanGoBack};
+ghost use Rattle.gr_step.specs.Conflicts.{touched_by};
+ghost use Rattle.gr_step.specs.Records.{begun_by, event_of, taken_back, CanGoBack};
 ghost use Rattle.gr_step.specs.Stores.{contents_at, taken_at, SameListing, HasRoomFor};
 ghost use Rattle.gr_depend.specs.Logs.{records_of};
+ghost use Rattle.gr_step.specs.Choices.{usual_event};
 ghost use Rattle.gr_rollback.specs.Readiness.{HasReady, KnowsMore, AllKnown};
+ghost use Rattle.gr_rollback.specs.Stepping.{event_meant};
 
 use crate::LOG_LIMIT;
+use crate::asked::{Asked, take_asked};
 use crate::bringing::bring_step_back;
 use crate::course::Course;
 use crate::readiness::{know_child, settle_again, settle_taken};
-use gr_base::{Event, NoMemory};
+use crate::stepped::Stepped;
+use gr_base::{Choice, Event, GoName, NoMemory};
 use gr_depend::Log;
 use gr_pool::Pool;
-use gr_record::Record;
-use gr_step::{StepRefused, Store};
+use gr_step::{Record, StepRefused, Store};
 
 /// Takes a step back directly after it, which takes no memory.
 #[inline(never)]
@@ -57,7 +60,7 @@ fn enter(log: &mut Log, pool: &mut Pool, step: Record) -> Result<(), Record>
 }
 
 /// Takes a step back whose record has left the log. Refused, the record is handed back, and nothing has changed.
-fn take_back(store: &mut Store, pool: &mut Pool, step: Record) -> Result<Event, Record>
+fn undo_record(store: &mut Store, pool: &mut Pool, step: Record) -> Result<Event, Record>
     requires fits { CanGoBack step.id.go step.change (contents_at store.old) }
     requires ready { HasReady pool.old (contents_at store.old) }
     ensures back { OnOk result (contents_at store.new ≡ taken_back step.id.go step.change (contents_at store.old)) }
@@ -85,23 +88,42 @@ impl Course {
     ghost use Rattle.gr_rollback.specs.Steps.{Kept};
     ghost use Rattle.gr_rollback.specs.Retracting.{LastGoesBack, Retracts, SameCourse, KeepsLogRoom};
 
-    /// Takes the step of an event, whose record joins the log. Refused, nothing has changed. A step over whole numbers alone, as most
-    /// are, is looked for first: its goroutine is ready after it, and it reached no other.
+    /// Takes the step of an event, whose record joins the log. Refused, nothing has changed. A step over whole numbers alone, as
+    /// most are, is looked for first: its goroutine is ready after it, and it reached no other.
     #[inline(always)]
-    pub(crate) fn keep(&mut self, event: Event) -> Result<(), StepRefused>
+    pub(crate) fn keep(&mut self, event: Event) -> Result<Stepped, StepRefused>
         requires { IsCourse self.old }
         ensures kept { (p : Program) (w : Past p) → Holds p w self.old → Kept p w event result self.new }
         ensures listing { SameListing self.old.store self.new.store }
     {
-        match self.store.count_step(event) {
+        match self.store.step_ints(event) {
             Ok(step) => self.join(step),
-            Err(event) => self.keep_further(event),
+            Err(event) => self.keep_further(Asked::Event(event)),
+        }
+    }
+
+    /// Takes the step of a goroutine with its usual choice, whose record joins the log. Refused, nothing has changed. A step over
+    /// whole numbers leaves no choice, so the usual one is found only where the step is of another kind.
+    #[inline(always)]
+    pub(crate) fn keep_usual(&mut self, go: GoName) -> Result<Stepped, StepRefused>
+        requires { IsCourse self.old }
+        ensures kept { (p : Program) (w : Past p) → Holds p w self.old
+            → Kept p w (usual_event p w.state go) result self.new }
+        ensures listing { SameListing self.old.store self.new.store }
+    {
+        let plain = Event {
+            go,
+            choice: Choice::Plain,
+        };
+        match self.store.step_ints(plain) {
+            Ok(step) => self.join(step),
+            Err(event) => self.keep_further(Asked::Usual(event.go)),
         }
     }
 
     /// Lets the record of a step that reached no further than its goroutine join the log. Refused, the step is taken back.
     #[inline(always)]
-    fn join(&mut self, step: Record) -> Result<(), StepRefused>
+    fn join(&mut self, step: Record) -> Result<Stepped, StepRefused>
         requires fits { CanGoBack step.id.go step.change (contents_at self.old.store) }
         requires room { HasRoomFor step self.old.store }
         requires once { Distinct (touched_by step) }
@@ -111,8 +133,9 @@ impl Course {
             withdraw(&mut self.store, step);
             return Err(StepRefused::NoMemory);
         }
+        let told = Stepped::of(&step);
         match self.log.push(step) {
-            Ok(()) => Ok(()),
+            Ok(()) => Ok(told),
             Err((step, _)) => {
                 withdraw(&mut self.store, step);
                 Err(StepRefused::NoMemory)
@@ -120,14 +143,16 @@ impl Course {
         }
     }
 
-    /// .. of any event.
+    /// Takes the step that is asked for, of whatever kind it is, whose record joins the log. Refused, nothing has changed.
     #[inline(never)]
-    fn keep_further(&mut self, event: Event) -> Result<(), StepRefused>
+    fn keep_further(&mut self, asked: Asked) -> Result<Stepped, StepRefused>
         requires { IsCourse self.old }
-        ensures kept { (p : Program) (w : Past p) → Holds p w self.old → Kept p w event result self.new }
+        ensures kept { (p : Program) (w : Past p) → Holds p w self.old
+            → Kept p w (event_meant p w.state asked) result self.new }
         ensures listing { SameListing self.old.store self.new.store }
     {
-        let step = self.store.step(event)?;
+        let step = take_asked(&mut self.store, asked)?;
+        let told = Stepped::of(&step);
         let entered = enter(&mut self.log, &mut self.pool, step);
         if let Err(step) = entered {
             withdraw(&mut self.store, step);
@@ -136,7 +161,7 @@ impl Course {
         if let Some(last) = self.log.last() {
             settle_taken(&mut self.pool, &self.store, last);
         }
-        Ok(())
+        Ok(told)
     }
 
     /// Takes the last record out of the log, and its step back. Refused, nothing has changed.
@@ -151,7 +176,7 @@ impl Course {
         let Some(step) = self.log.pop() else {
             return Err(NoMemory);
         };
-        match take_back(&mut self.store, &mut self.pool, step) {
+        match undo_record(&mut self.store, &mut self.pool, step) {
             Ok(event) => Ok(event),
             Err(step) => {
                 self.log.push(step).unwrap();

@@ -1,6 +1,7 @@
 //! Steps that a goroutine takes by itself on a copy, and that join the log together.
 
-ghost use Rattle.std.specs.Prelude.{◌≡◌, ◌+◌, ◌<◌, ◌≤◌, ◌↔◌, length, filter, slice_get, get_or, [], IfOk, IfSome, IsTrue, OnOk, OnErr, option_copied, option_map};
+ghost use Rattle.std.specs.Prelude.{◌≡◌, ◌+◌, ◌<◌, ◌≤◌, ◌↔◌, length, filter, slice_get, get_or, [], IfOk, IfSome, IsTrue, OnOk};
+ghost use Rattle.std.specs.Prelude.{OnErr, option_copied, option_map};
 ghost use Rattle.gr_pool.specs.Goroutines.{IsInOrder};
 ghost use Rattle.gr_program.specs.Programs.{Program as ProgramSeen};
 ghost use Rattle.gr_step.specs.Leasing.{IsLease, IsAsLent, goes_alone, loan_of, program_lent};
@@ -12,7 +13,7 @@ use crate::course::Course;
 use crate::machine::Machine;
 use gr_base::{GoName, NoMemory};
 use gr_pool::Pool;
-use gr_step::{Lease, Store};
+use gr_step::{LentCopy, Store};
 use std::alloc::Global;
 
 /// Whether the next step of the ready goroutine at a place is local.
@@ -68,7 +69,7 @@ impl Course {
     ghost use Rattle.gr_rollback.specs.Leasing.{KeepsAll};
 
     /// Lets the steps of a lease join the log, whose goroutine is as it was lent. Refused, none has.
-    fn keep_all(&mut self, alloc: Global, lease: &mut Lease) -> Result<(), NoMemory>
+    fn keep_all(&mut self, alloc: Global, lease: &mut LentCopy) -> Result<(), NoMemory>
         requires course { IsCourse self.old }
         requires lease { IsLease lease.old }
         requires lent { IsAsLent lease.old self.old.store }
@@ -88,7 +89,7 @@ impl Course {
 }
 
 impl Machine {
-    ghost use Rattle.gr_rollback.specs.Pasts.{World};
+    ghost use Rattle.gr_rollback.specs.Pasts.{Timeline};
     ghost use Rattle.gr_rollback.specs.Machines.{store_of, steps_of, Stands, IsMachine};
     ghost use Rattle.gr_rollback.specs.Leasing.{AllTaken, IsLentAt, SomeGoesAlone};
 
@@ -96,7 +97,7 @@ impl Machine {
     /// further than at that place, unless there are no more of them.
     fn alone_at(&self, place: u32) -> Option<&GoName>
         requires { IsMachine self.now }
-        ensures { (p : ProgramSeen) (w : World p) → Stands p w self.now → IsLentAt w.past.state place (option_copied result) }
+        ensures { (p : ProgramSeen) (w : Timeline p) → Stands p w self.now → IsLentAt w.past.state place (option_copied result) }
     {
         if let Some(go) = nth_alone(&self.course.store, &self.course.pool, place as usize) {
             return Some(go);
@@ -114,11 +115,11 @@ impl Machine {
 
     /// A copy of a goroutine whose next step is local, to take steps of its own: of those, in the order of names, the one at the
     /// place, modulo their number; `None` where there is none.
-    pub fn lend_at(&self, alloc: Global, place: u32) -> Result<Option<Lease>, NoMemory>
+    pub fn lend_at(&self, alloc: Global, place: u32) -> Result<Option<LentCopy>, NoMemory>
         requires { IsMachine self.now }
         ensures lease { IfOk result (λ o. IfSome o (λ l. IsLease l × IsAsLent l (store_of self.now))) }
         ensures fresh { IfOk result (λ o. IfSome o (λ l. (loan_of l).steps ≡ 0)) }
-        ensures which { (p : ProgramSeen) (w : World p) → Stands p w self.now
+        ensures which { (p : ProgramSeen) (w : Timeline p) → Stands p w self.now
             → IfOk result (λ o. IsLentAt w.past.state place (option_map (λ l. (loan_of l).name) o)) }
     {
         let Some(go) = self.alone_at(place) else {
@@ -130,7 +131,7 @@ impl Machine {
     /// Whether the next step of some goroutine is local. It takes no memory.
     pub fn has_own_step(&self) -> bool
         requires { IsMachine self.now }
-        ensures { (p : ProgramSeen) (w : World p) → Stands p w self.now → IsTrue result ↔ SomeGoesAlone w.past.state }
+        ensures { (p : ProgramSeen) (w : Timeline p) → Stands p w self.now → IsTrue result ↔ SomeGoesAlone w.past.state }
     {
         match nth_alone(&self.course.store, &self.course.pool, 0) {
             Some(_) => true,
@@ -139,14 +140,14 @@ impl Machine {
     }
 
     /// Whether a lease is of the same program. It compares all of it, and takes no memory.
-    pub fn has_program_of(&self, lease: &Lease) -> bool
+    pub fn has_program_of(&self, lease: &LentCopy) -> bool
         ensures { IsTrue result ↔ (program_lent lease.now ≡ program_at (store_of self.now)) }
     {
         self.course.store.has_program_of(lease)
     }
 
     /// Whether the goroutine of a lease of the same program is as it was lent, in a run that goes on. It takes no memory.
-    pub fn has_as_lent(&self, lease: &Lease) -> bool
+    pub fn has_as_lent(&self, lease: &LentCopy) -> bool
         requires { program_lent lease.now ≡ program_at (store_of self.now) }
         ensures { IsTrue result ↔ IsAsLent lease.now (store_of self.now) }
     {
@@ -155,13 +156,13 @@ impl Machine {
 
     /// Lets the steps of a lease join the log, whose goroutine is as it was lent, and which took some; nothing may be done again
     /// after them. Refused, nothing has changed, but that the lease has its steps no more.
-    pub fn keep_all(&mut self, alloc: Global, lease: &mut Lease) -> Result<(), NoMemory>
+    pub fn keep_all(&mut self, alloc: Global, lease: &mut LentCopy) -> Result<(), NoMemory>
         requires machine { IsMachine self.old }
         requires lease { IsLease lease.old }
         requires lent { IsAsLent lease.old (store_of self.old) }
         requires some { 0 < (loan_of lease.old).steps }
         requires room { length (steps_of self.old) + (loan_of lease.old).steps ≤ LOG_LIMIT }
-        ensures kept { (p : ProgramSeen) (w : World p) → Stands p w self.old
+        ensures kept { (p : ProgramSeen) (w : Timeline p) → Stands p w self.old
             → AllTaken p w (loan_of lease.old).name (loan_of lease.old).steps result self.new }
         ensures loan { loan_of lease.new ≡ loan_of lease.old }
         ensures listing { SameListing (store_of self.old) (store_of self.new) }

@@ -1,6 +1,7 @@
 //! A program that runs, with its steps: taken, taken back with their consequences, done again, and put in another order.
 #![tactic(auto)]
 
+pub mod asked;
 mod asking;
 mod back;
 mod bringing;
@@ -13,9 +14,14 @@ mod readiness;
 mod redo;
 pub mod refusal;
 mod reorder;
+pub mod stepped;
 
+pub use gr_depend::assigning::law_of_assignments;
+pub use gr_depend::history::law_of_history;
+pub use gr_step::{LentCopy, LocalRun, Run, StepRefused};
 pub use machine::Machine;
 pub use refusal::BackRefused;
+pub use stepped::Stepped;
 
 /// The most steps that a log keeps.
 pub const LOG_LIMIT: usize = 1_000_000;

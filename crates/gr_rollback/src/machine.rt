@@ -1,14 +1,16 @@
 //! The machine of a program: its state, the log of its steps, and the steps that may be done again.
 
-ghost use Rattle.std.specs.Prelude.{◌≡◌, length, IfOk, OnOk, OnErr, option_copied};
+ghost use Rattle.std.specs.Prelude.{◌≡◌, IfOk, OnOk, OnErr, option_copied};
 ghost use Rattle.gr_program.specs.Programs.{Program as ProgramSeen};
 ghost use Rattle.gr_program.specs.Views.{program_of};
 ghost use Rattle.gr_rules.specs.Turns.{IsTurn, last_owner};
-ghost use Rattle.gr_record.specs.Running.{IsChecked};
+ghost use Rattle.gr_step.specs.Running.{IsChecked};
+ghost use Rattle.gr_step.specs.Choices.{usual_event};
 ghost use Rattle.gr_step.specs.Stores.{taken_at, SameListing};
 
 use crate::course::Course;
 use crate::refusal::BackRefused;
+use crate::stepped::Stepped;
 use gr_base::{Event, GoName, NoMemory, StepId};
 use gr_depend::Log;
 use gr_program::program::Program;
@@ -25,7 +27,7 @@ pub struct Machine {
 }
 
 impl Machine {
-    ghost use Rattle.gr_rollback.specs.Pasts.{World, first_world};
+    ghost use Rattle.gr_rollback.specs.Pasts.{Timeline, first_timeline};
     ghost use Rattle.gr_rollback.specs.Machines.{store_of, log_of, Stands, IsMachine};
     ghost use Rattle.gr_rollback.specs.Retracting.{LastGoesBack, SameCourse, RetractsLast};
     ghost use Rattle.gr_rollback.specs.Steps.{Taken};
@@ -34,7 +36,7 @@ impl Machine {
     /// The machine of a checked program before its first step.
     pub fn start(alloc: Global, program: Program) -> Result<Machine, NoMemory>
         requires { IsChecked (program_of program) }
-        ensures { IfOk result (Stands (program_of program) (first_world (program_of program))) }
+        ensures { IfOk result (Stands (program_of program) (first_timeline (program_of program))) }
     {
         let course = Course::start(alloc, program)?;
         Ok(Machine {
@@ -57,17 +59,11 @@ impl Machine {
         &self.course.log
     }
 
-    /// How many steps may be done again.
-    pub fn steps_to_redo(&self) -> usize
-        ensures { (p : ProgramSeen) (w : World p) → Stands p w self.now → result ≡ length w.again }
-    {
-        self.again.len()
-    }
-
     /// Whose turn it is: the first ready goroutine after that of the last step, in the order of names, else the first of all.
     #[inline(always)]
     pub fn next_turn(&self) -> Option<&GoName>
-        ensures { (p : ProgramSeen) (w : World p) → Stands p w self.now → IsTurn w.past.state (last_owner p w.past.log) (option_copied result) }
+        ensures { (p : ProgramSeen) (w : Timeline p) → Stands p w self.now
+            → IsTurn w.past.state (last_owner p w.past.log) (option_copied result) }
     {
         let Some(last) = self.course.log.last() else {
             return self.course.pool.next_after(&self.course.first);
@@ -75,23 +71,37 @@ impl Machine {
         self.course.pool.next_after(&last.id.go)
     }
 
-    /// Takes the step of an event, whose record is then the last of the log; nothing may be done again after it. Refused, nothing
-    /// has changed. A full log and want of memory are one refusal.
+    /// Takes the step of an event, whose record is then the last of the log, and tells its ordinal and its kind; nothing may be
+    /// done again after it. Refused, nothing has changed. A full log and want of memory are one refusal.
     #[inline(always)]
-    pub fn step(&mut self, event: Event) -> Result<(), StepRefused>
+    pub fn step(&mut self, event: Event) -> Result<Stepped, StepRefused>
         requires { IsMachine self.old }
-        ensures taken { (p : ProgramSeen) (w : World p) → Stands p w self.old → Taken p w event result self.new }
+        ensures taken { (p : ProgramSeen) (w : Timeline p) → Stands p w self.old → Taken p w event result self.new }
         ensures listing { SameListing (store_of self.old) (store_of self.new) }
     {
-        self.course.keep(event)?;
+        let told = self.course.keep(event)?;
         self.again.clear();
-        Ok(())
+        Ok(told)
+    }
+
+    /// Takes the step of a goroutine with its usual choice: at a select the lowest clause that can proceed, else the default
+    /// clause, else to wait. All else is as for the step of an event.
+    #[inline(always)]
+    pub fn step_usual(&mut self, go: GoName) -> Result<Stepped, StepRefused>
+        requires { IsMachine self.old }
+        ensures taken { (p : ProgramSeen) (w : Timeline p) → Stands p w self.old
+            → Taken p w (usual_event p w.past.state go) result self.new }
+        ensures listing { SameListing (store_of self.old) (store_of self.new) }
+    {
+        let told = self.course.keep_usual(go)?;
+        self.again.clear();
+        Ok(told)
     }
 
     /// Takes the last step back, which may then be done again. Refused, nothing has changed.
     pub fn undo(&mut self, alloc: Global) -> Result<StepId, BackRefused>
         requires { IsMachine self.old }
-        ensures undone { (p : ProgramSeen) (w : World p) → Stands p w self.old → Undone p w result self.new }
+        ensures undone { (p : ProgramSeen) (w : Timeline p) → Stands p w self.old → Undone p w result self.new }
         ensures listing { SameListing (store_of self.old) (store_of self.new) }
         ensures taken { taken_at (store_of self.new) ≡ taken_at (store_of self.old) }
     {

@@ -3,17 +3,16 @@
 ghost use Rattle.std.specs.Prelude.{◌≡◌, ◌∷◌, [], None, true, ◌↔◌, IsTrue, OnOk, option_copied};
 ghost use Rattle.std.specs.Option.{option_to_list};
 ghost use Rattle.gr_pool.specs.Goroutines.{is_among};
-ghost use Rattle.gr_record.specs.Records.{begun_by};
+ghost use Rattle.gr_step.specs.Records.{begun_by};
 ghost use Rattle.gr_step.specs.Stores.{contents_at};
-ghost use Rattle.gr_rollback.specs.Readiness.{IsReadyIn, KeepsStatus, KnowsReady, KnowsThere, Settles, KnowsMore, AllKnown, names_met, others_of, met_by};
+ghost use Rattle.gr_rollback.specs.Readiness.{IsReadyIn, KeepsStatus, KnowsReady, KnowsThere, Settles, KnowsMore, AllKnown};
+ghost use Rattle.gr_rollback.specs.Readiness.{names_met, others_of, met_by};
 
 use crate::bringing::{Prior, prior_to};
 use gr_base::{GoName, NoMemory};
 use gr_goros::{GoUndo, Status};
 use gr_pool::Pool;
-use gr_record::Record;
-use gr_record::record::{Change, Form};
-use gr_step::Store;
+use gr_step::{Change, Form, Record, Store};
 
 // Whether a goroutine is there, and ready.
 #[inline(always)]
@@ -142,7 +141,8 @@ pub(crate) fn settle_again(pool: &mut Pool, store: &Store, step: &Record)
 #[inline(always)]
 pub(crate) fn settle_taken(pool: &mut Pool, store: &Store, step: &Record)
     requires own { is_among step.now.id.go pool.old.ready ≡ true }
-    requires ready { step.now.change.beyond ≡ None → KeepsStatus step.now.change.own → IsReadyIn (contents_at store.now) step.now.id.go }
+    requires ready { step.now.change.beyond ≡ None → KeepsStatus step.now.change.own
+        → IsReadyIn (contents_at store.now) step.now.id.go }
     requires met { AllKnown (met_by step.now.change) pool.old }
     requires child { AllKnown (option_to_list (begun_by step.now.change)) pool.old }
     ensures { Settles (step.now.id.go ∷ others_of step.now.change) (contents_at store.now) pool.old pool.new }

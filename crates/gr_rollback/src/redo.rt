@@ -22,7 +22,7 @@ fn only_memory(why: StepRefused) -> NoMemory
 }
 
 impl Machine {
-    ghost use Rattle.gr_rollback.specs.Pasts.{World};
+    ghost use Rattle.gr_rollback.specs.Pasts.{Timeline};
     ghost use Rattle.gr_rollback.specs.Machines.{store_of, again_of, Stands, IsMachine};
     ghost use Rattle.gr_rollback.specs.Redoing.{GoesOn};
     ghost use Rattle.gr_rollback.specs.Backs.{TakenAgain};
@@ -32,7 +32,7 @@ impl Machine {
         requires machine { IsMachine self.old }
         requires some { 0 < vec_len self.old.again }
         requires room { vec_len ids.old < vec_capacity ids.old }
-        ensures goes { (p : Program) (w : World p) → Stands p w self.old → GoesOn p w ids.old.items ids.new.items self.new }
+        ensures goes { (p : Program) (w : Timeline p) → Stands p w self.old → GoesOn p w ids.old.items ids.new.items self.new }
         ensures ok { OnOk result (vec_len self.new.again + 1 ≡ vec_len self.old.again) }
         ensures ok_ids { OnOk result (vec_len ids.new ≡ vec_len ids.old + 1) }
         ensures ok_room { OnOk result (vec_capacity ids.new ≡ vec_capacity ids.old) }
@@ -40,20 +40,24 @@ impl Machine {
         ensures listing { SameListing (store_of self.old) (store_of self.new) }
     {
         let event = self.again.last().unwrap().copy(alloc)?;
-        if let Err(why) = self.course.keep(event) {
-            return Err(only_memory(why));
+        match self.course.keep(event) {
+            Ok(told) => {
+                let Event { go, .. } = self.again.pop().unwrap();
+                ids.push_reserved(StepId {
+                    go,
+                    n: told.ordinal,
+                });
+                Ok(())
+            }
+            Err(why) => Err(only_memory(why)),
         }
-        let Event { go, .. } = self.again.pop().unwrap();
-        let n = self.course.log.last().unwrap().id.n;
-        ids.push_reserved(StepId { go, n });
-        Ok(())
     }
 
     /// Takes the steps again, whose names join the others. Refused, it stands where it came to.
     fn take_all(&mut self, alloc: Global, ids: &mut Vec<StepId>) -> Result<(), NoMemory>
         requires machine { IsMachine self.old }
         requires room { vec_len ids.old + vec_len self.old.again ≤ vec_capacity ids.old }
-        ensures goes { (p : Program) (w : World p) → Stands p w self.old → GoesOn p w ids.old.items ids.new.items self.new }
+        ensures goes { (p : Program) (w : Timeline p) → Stands p w self.old → GoesOn p w ids.old.items ids.new.items self.new }
         ensures all { OnOk result (vec_len self.new.again ≡ 0) }
         ensures left { OnErr result (0 < vec_len self.new.again) }
         ensures listing { SameListing (store_of self.old) (store_of self.new) }
@@ -64,12 +68,12 @@ impl Machine {
         Ok(())
     }
 
-    /// Takes the steps again that the last `undo` or `back` took back, in their old order and with their choices; none where another
-    /// step or order came since. It answers their names. Where memory is wanting on the way, the first of these steps are taken,
-    /// which the refusal names, and the others may still be done.
+    /// Takes the steps again that the last `undo` or `back` took back, in their old order and with their choices; none where
+    /// another step or order came since. It answers their names. Where memory is wanting on the way, the first of these steps are
+    /// taken, which the refusal names, and the others may still be done.
     pub fn redo(&mut self, alloc: Global) -> Result<Vec<StepId>, BackRefused>
         requires { IsMachine self.old }
-        ensures again { (p : Program) (w : World p) → Stands p w self.old → TakenAgain p w result self.new }
+        ensures again { (p : Program) (w : Timeline p) → Stands p w self.old → TakenAgain p w result self.new }
         ensures listing { SameListing (store_of self.old) (store_of self.new) }
     {
         if self.again.is_empty() {

@@ -43,7 +43,7 @@ fn broken(alloc: Global, log: &Log, earlier: usize, later: usize) -> BackRefused
 }
 
 impl Machine {
-    ghost use Rattle.gr_rollback.specs.Pasts.{World};
+    ghost use Rattle.gr_rollback.specs.Pasts.{Timeline};
     ghost use Rattle.gr_rollback.specs.Machines.{store_of, Stands, IsMachine};
     ghost use Rattle.gr_rollback.specs.Backs.{Reordered};
 
@@ -51,7 +51,7 @@ impl Machine {
     /// nothing may be done again. Refused, nothing has changed.
     pub fn reorder(&mut self, alloc: Global, ids: &[StepId]) -> Result<(), BackRefused>
         requires { IsMachine self.old }
-        ensures reordered { (p : Program) (w : World p) → Stands p w self.old → Reordered p w ids.now result self.new }
+        ensures reordered { (p : Program) (w : Timeline p) → Stands p w self.old → Reordered p w ids.now result self.new }
         ensures listing { SameListing (store_of self.old) (store_of self.new) }
         ensures taken { taken_at (store_of self.new) ≡ taken_at (store_of self.old) }
     {

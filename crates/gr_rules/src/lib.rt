@@ -3,7 +3,9 @@
 #![tactic(auto)]
 
 ghost use Rattle.gr_rules.specs.ExamplePoints.{PartsInOrder, WaysOut, TurnsInOrder};
-ghost use Rattle.gr_rules.specs.ExampleSteps.{ItemsBeforeSenders, PartnersMove, OneClauseIsMet, ReadyOrDefault, AllThatIsWritten, StepsAreTheirGoroutines, AllAreWoken, FaultsStop, ChildrenAreCounted, NamesOfValues};
+ghost use Rattle.gr_rules.specs.ExampleSteps.{ItemsBeforeSenders, PartnersMove, OneClauseIsMet, ReadyOrDefault, AllThatIsWritten};
+ghost use Rattle.gr_rules.specs.ExampleSteps.{StepsAreTheirGoroutines, AllAreWoken, FaultsStop, ChildrenAreCounted};
+ghost use Rattle.gr_rules.specs.ExampleSteps.{NamesOfValues};
 ghost use Rattle.gr_rules.specs.ExampleValues.{AtTheLimits, Quotients, Shifts, Zeros};
 
 /// Results are what is left in 64 bits, quotients are cut off towards zero, counts of shifts have no upper limit, and a zero
@@ -26,8 +28,8 @@ pub fn examples_of_points()
 
 /// A receive takes the item that is there before it meets a sender, which moves up. One that waits is met with a step of the
 /// other alone, and the other clauses of its select are withdrawn. A step writes what the table of touches says, the goroutine
-/// that takes it among it. What a step writes is in the table of touches. Default is taken where no clause is ready. Closing wakes
-/// all that wait. A fault stops the program. Children are counted. Assignments and calls give values to names.
+/// that takes it among it. What a step writes is in the table of touches. Default is taken where no clause is ready. Closing
+/// wakes all that wait. A fault stops the program. Children are counted. Assignments and calls give values to names.
 pub fn examples_of_steps()
     ensures items { ItemsBeforeSenders }
     ensures partners { PartnersMove }

@@ -1,7 +1,8 @@
 //! Whole numbers in binary, octal, decimal and hexadecimal.
 ghost use Rattle.std.specs.Prelude.{◌≡◌, ◌≤◌, ◌<◌, ◌+◌, ◌^◌, drop, length, slice_index, IfOk, IfErr, IfSome, IfNone, Some, None};
 ghost use Rattle.std.specs.List.{list_any};
-ghost use Rattle.gr_scan.specs.Numbers.{is_hex_digit, digit_value, is_digit_of, are_digits, value_after, prefix_of, number_of, is_left_out, is_hexadecimal, is_exponent};
+ghost use Rattle.gr_scan.specs.Numbers.{is_hex_digit, digit_value, is_digit_of, are_digits, value_after, prefix_of, number_of};
+ghost use Rattle.gr_scan.specs.Numbers.{is_left_out, is_hexadecimal, is_exponent};
 ghost use Rattle.gr_scan.specs.Numbers as spec;
 ghost use Rattle.gr_scan.specs.Scanning.{Tells, is_part};
 ghost use Rattle.gr_scan.specs.Faults.{number_fault};

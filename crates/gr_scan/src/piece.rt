@@ -1,5 +1,6 @@
 //! The pieces that a text is cut into.
-ghost use Rattle.std.specs.Prelude.{◌≡◌, ℕ, ◌+◌, ◌<◌, ◌≤◌, ◌==◌, Some, length, slice_index, IfSome, IfNone, IfOk, IfErr, true, false};
+ghost use Rattle.std.specs.Prelude.{◌≡◌, ℕ, ◌+◌, ◌<◌, ◌≤◌, ◌==◌, Some, length, slice_index, IfSome, IfNone, IfOk, IfErr, true};
+ghost use Rattle.std.specs.Prelude.{false};
 ghost use Rattle.gr_scan.specs.Pieces.{is_letter, is_word, is_digit, is_space, Closes, IsPiece, NoPiece};
 ghost use Rattle.gr_scan.specs.Faults.{stray_fault};
 ghost use Rattle.gr_scan.specs.Scanning.{class_of, OnlyMarks, IsFirstEnd, Tells, Letter, Digit, Quote, Slash, Point};

@@ -84,7 +84,8 @@ fn ends_line(mark: Mark) -> bool
 
 #[tactic(auto, using(crate::proofs::Goes::tokens_of_push))]
 fn push(tokens: &mut Vec<Token>, kind: Kind, span: Span) -> Result<(), AllocError>
-    ensures { OnOk result (tokens_of tokens.new.items ≡ tokens_of tokens.old.items ++ (token_of (record { kind = kind; span = span }) ∷ [])) }
+    ensures { OnOk result (tokens_of tokens.new.items ≡ tokens_of tokens.old.items
+        ++ (token_of (record { kind = kind; span = span }) ∷ [])) }
 {
     tokens.push(Token { kind, span })?;
     Ok(())
@@ -113,7 +114,8 @@ fn put_word(
     bytes: &[u8],
     span: Span,
 ) -> Result<bool, AllocError>
-    ensures added { OnOk result (tokens_of tokens.new.items ≡ tokens_of tokens.old.items ++ (At (place_of_span span) (keyword_or_name (mark_in keywords bytes.now) bytes.now) ∷ [])) }
+    ensures added { OnOk result (tokens_of tokens.new.items ≡ tokens_of tokens.old.items
+        ++ (At (place_of_span span) (keyword_or_name (mark_in keywords bytes.now) bytes.now) ∷ [])) }
     ensures ends { IfOk result (λ wanted. wanted ≡ word_ends (keyword_or_name (mark_in keywords bytes.now) bytes.now)) }
 {
     if let Some(mark) = keyword(bytes) {
@@ -135,7 +137,8 @@ fn put(
 ) -> Result<bool, ScanError>
     requires spelled { Spells piece bytes.now }
     requires place { span.end ≡ span.start + length bytes.now }
-    ensures added { Puts result wanted (items_of piece bytes.now span.start span.line) (tokens_of tokens.old.items) (tokens_of tokens.new.items) }
+    ensures added { Puts result wanted (items_of piece bytes.now span.start span.line) (tokens_of tokens.old.items)
+        (tokens_of tokens.new.items) }
     ensures fault { IfErr result (λ e. Finds e (piece_fault span.start piece bytes.now)) }
 {
     match piece {

@@ -8,9 +8,9 @@ use Rattle.gr_rules.specs.States.{State}
 use Rattle.gr_laws.specs.Reached.{Logged}
 use Rattle.gr_command.specs.declared.refusal.Refusal.TheVariants.{LogFull}
 use Rattle.gr_command.specs.Replies.{Said, Committed, Stale, No}
-use Rattle.gr_step.specs.declared.leasing.Batch.{Batch}
-use Rattle.gr_step.specs.Leasing.{Loan, loan_kept, IsAsLentIn}
-use Rattle.gr_step.specs.Stores.{program_at, contents_at}
+use Rattle.gr_rollback.specs.LocalRun.{LocalRun}
+use Rattle.gr_rollback.specs.StepLeasing.{Loan, loan_kept, IsAsLentIn}
+use Rattle.gr_rollback.specs.Stores.{program_at, contents_at}
 use Rattle.gr_rollback.specs.Leasing.{JoinAll, TakesAll, own_events}
 use Rattle.gr_rollback.specs.Machines as rollback
 use Rattle.gr_session.specs.declared.debuggee.Debuggee.{Debuggee}
@@ -24,7 +24,7 @@ use Rattle.gr_session.specs.Carried.{CommitsTo}
 use Rattle.gr_session.proofs.GrantLemmas.{contains_here, lent_here, not_lent_here}
 
 -- what comes of a loan comes of the batch that is kept of it
-pub means_batch : (p : Program) (w u : World p) (batch : Batch) (loan : Loan) (stood : Bool) (reply : Said) → loan_kept batch ≡ loan
+pub means_batch : (p : Program) (w u : World p) (batch : LocalRun) (loan : Loan) (stood : Bool) (reply : Said) → loan_kept batch ≡ loan
     → Commits p w loan stood u reply → Means p w (asks.Batch batch stood) Enough u reply
 means_batch p w u batch loan stood reply is commits = by_batch (subst (λ l. Commits p w l stood u reply) (sym is) commits)
 

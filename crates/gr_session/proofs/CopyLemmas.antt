@@ -2,33 +2,33 @@
 use Rattle.std.proofs.Common.{◌≡◌, ◌<◌, ◌≤◌, ℕ, ap, subst, ◌∙◌, arith}
 use Rattle.gr_program.specs.Programs.{Program}
 use Rattle.gr_code.specs.Goroutines.{CodeGoroutine}
-use Rattle.gr_step.specs.declared.leasing.Lease.{Lease}
-use Rattle.gr_step.specs.Leasing.{IsLease, SameLoan, LeadsOn, Stays, CanCountOn, HasOwnStep, goroutine_led_to, program_lent}
+use Rattle.gr_rollback.specs.LentCopy.{LentCopy}
+use Rattle.gr_rollback.specs.StepLeasing.{IsLease, SameLoan, LeadsOn, Stays, CanCountOn, HasOwnStep, goroutine_led_to, program_lent}
 use Rattle.gr_lower.specs.Lowered.{lowered}
 use Rattle.gr_session.specs.Copies.{HasNoFurther, IsBatch, most_at, loan_of}
 
 -- steps on the copy, of the same loan, at most so many
-pub record OnTheWay (most : ℕ) (lent led : Lease) : Type 0 where
+pub record OnTheWay (most : ℕ) (lent led : LentCopy) : Type 0 where
   pub lease : IsLease led
   pub loan : SameLoan lent led
   pub few : (loan_of led).steps ≤ most
 
-same_loan : (a b c : Lease) → SameLoan a b → SameLoan b c → SameLoan a c
+same_loan : (a b c : LentCopy) → SameLoan a b → SameLoan b c → SameLoan a c
 same_loan a b c first second = record {
   program = second.program ∙ first.program;
   name = second.name ∙ first.name;
   lent = second.lent ∙ first.lent;
 }
 
-itself : (a : Lease) → SameLoan a a
+itself : (a : LentCopy) → SameLoan a a
 itself a = record { program = λ i. program_lent a; name = λ i. (loan_of a).name; lent = λ i. (loan_of a).goroutine }
 
 -- none yet
-pub on_the_way : (most : ℕ) (lent : Lease) → IsLease lent → (loan_of lent).steps ≡ 0 → OnTheWay most lent lent
+pub on_the_way : (most : ℕ) (lent : LentCopy) → IsLease lent → (loan_of lent).steps ≡ 0 → OnTheWay most lent lent
 on_the_way most lent lease fresh = record { lease = lease; loan = itself lent; few = omega (arith, fresh) }
 
 -- one more
-pub goes_on : (most : ℕ) (lent old new : Lease) → OnTheWay most lent old → (loan_of old).steps < most → IsLease new → SameLoan old new → LeadsOn old new
+pub goes_on : (most : ℕ) (lent old new : LentCopy) → OnTheWay most lent old → (loan_of old).steps < most → IsLease new → SameLoan old new → LeadsOn old new
     → OnTheWay most lent new
 goes_on most lent old new way less lease loan on = record {
   lease = lease;
@@ -37,7 +37,7 @@ goes_on most lent old new way less lease loan on = record {
 }
 
 -- as many as may be
-pub ends_full : (limit : ℕ) (lent led : Lease) → OnTheWay (most_at limit) lent led → (counted : ℕ) → counted ≡ (loan_of led).steps → (counted < most_at limit → ⊥)
+pub ends_full : (limit : ℕ) (lent led : LentCopy) → OnTheWay (most_at limit) lent led → (counted : ℕ) → counted ≡ (loan_of led).steps → (counted < most_at limit → ⊥)
     → IsBatch limit lent led
 ends_full limit lent led way counted same full = record {
   loan = way.loan;
@@ -46,7 +46,7 @@ ends_full limit lent led way counted same full = record {
 }
 
 -- .. or no further one is the goroutine's own
-pub ends_alone : (limit : ℕ) (lent old new : Lease) → OnTheWay (most_at limit) lent old → IsLease new → SameLoan old new → Stays old new
+pub ends_alone : (limit : ℕ) (lent old new : LentCopy) → OnTheWay (most_at limit) lent old → IsLease new → SameLoan old new → Stays old new
     → (CanCountOn (goroutine_led_to old) → ¬ HasOwnStep (lowered (program_lent old)) (goroutine_led_to old)) → IsBatch limit lent new
 ends_alone limit lent old new way lease loan stays none = record {
   loan = same_loan lent old new way.loan loan;

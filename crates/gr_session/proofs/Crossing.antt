@@ -11,12 +11,12 @@ use Rattle.gr_tree.proofs.expr.BinaryOp.TheSendSync as binary
 use Rattle.gr_tree.proofs.expr.UnaryOp.TheSendSync as unary
 use Rattle.gr_tree.proofs.expr.Direction.TheSendSync as direction
 use Rattle.gr_code.proofs.code.Action.TheSendSync as action
-use Rattle.gr_step.proofs.objects.Objects.TheSendSync as objects
-use Rattle.gr_depend.proofs.log.Log.TheSendSync as log
+use Rattle.gr_rollback.proofs.ObjectsSendSync as objects
+use Rattle.gr_rollback.proofs.LogSendSync as log
 use Rattle.gr_pool.proofs.pool.Pool.TheSendSync as pool
 use Rattle.gr_base.proofs.names.GoName.TheSendSync as name
 use Rattle.gr_base.proofs.events.Event.TheSendSync as event
-use Rattle.gr_goros.proofs.goroutine.Goroutine.TheSendSync as goroutine
+use Rattle.gr_rollback.proofs.GoroutineSendSync as goroutine
 use Rattle.gr_command.proofs.command.Command.TheSendSync as command
 use Rattle.gr_program.specs.contracts.types.Type as Types
 use Rattle.gr_program.specs.contracts.program.Expr as Expr
@@ -34,9 +34,9 @@ use Rattle.gr_code.specs.contracts.code.Arm as Arm
 use Rattle.gr_code.specs.contracts.code.Instruction as Instruction
 use Rattle.gr_code.specs.contracts.code.FunctionCode as FunctionCode
 use Rattle.gr_code.specs.contracts.code.Code as Code
-use Rattle.gr_record.specs.contracts.listing.Listing as Listing
-use Rattle.gr_step.specs.contracts.store.Store as Store
-use Rattle.gr_step.specs.contracts.leasing.Batch as Batch
+use Rattle.gr_rollback.specs.ListingContracts as Listing
+use Rattle.gr_rollback.specs.StoreContracts as Store
+use Rattle.gr_rollback.specs.LocalRunContracts as LocalRun
 use Rattle.gr_rollback.specs.contracts.course.Course as Course
 use Rattle.gr_rollback.specs.contracts.machine.Machine as Machine
 use Rattle.gr_session.specs.contracts.debuggee.Debuggee as Debuggee
@@ -155,11 +155,11 @@ Machine-send = search (Course-send, event.the_field_send, sendable, crosses) dep
 pub Debuggee-send : IsSend Debuggee.the_field.row
 Debuggee-send = search (Machine-send, sendable, crosses) depth 20
 
-pub Batch-send : IsSend Batch.the_field.row
-Batch-send = search (Listing-send, goroutine.the_send, name.the_send, sendable, crosses) depth 20
+pub LocalRun-send : IsSend LocalRun.the_field.row
+LocalRun-send = search (Listing-send, goroutine.the_send, name.the_send, sendable, crosses) depth 20
 
 pub Asked-send : IsSend Asked.the_field.row
-Asked-send = search (Batch-send, command.the_field_send, sendable, crosses) depth 20
+Asked-send = search (LocalRun-send, command.the_field_send, sendable, crosses) depth 20
 
 pub Entry-send : IsSend Entry.the_field.row
 Entry-send = search (Asked-send, sendable, crosses) depth 20

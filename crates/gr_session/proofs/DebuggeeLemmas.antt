@@ -3,12 +3,12 @@ use Rattle.std.proofs.Common.{◌≡◌, ℕ, List, Option, length, sym, ap, sub
 use Rattle.gr_program.specs.Programs.{Program}
 use Rattle.gr_rollback.specs.Machines.{IsMachine}
 use Rattle.gr_rollback.proofs.KeptLemmas.{kept_length}
-use Rattle.gr_depend.specs.Logs.{records_of}
+use Rattle.gr_rollback.specs.Logs.{records_of}
 use Rattle.gr_rules.specs.Turns.{line_of}
-use Rattle.gr_step.specs.declared.store.Store.{Store}
-use Rattle.gr_record.specs.Listings.{state_in}
-use Rattle.gr_record.specs.Running.{Running}
-use Rattle.gr_step.specs.Stores.{program_at, contents_at, state_at, IsRun}
+use Rattle.gr_rollback.specs.Store.{Store}
+use Rattle.gr_rollback.specs.Listings.{state_in}
+use Rattle.gr_rollback.specs.Running.{Running}
+use Rattle.gr_rollback.specs.Stores.{program_at, contents_at, state_at, IsRun}
 use Rattle.gr_session.specs.declared.debuggee.Debuggee.{Debuggee}
 use Rattle.gr_session.specs.Journal.{World, course_of}
 use Rattle.gr_session.specs.Debuggees.{store_in, log_in, Stands, IsDebuggee}

@@ -10,10 +10,10 @@ use Rattle.gr_rules.specs.States.{live, ended, faulted, State}
 use Rattle.gr_rules.specs.Turns.{IsTurn, last_owner}
 use Rattle.gr_pool.specs.Goroutines.{is_among}
 use Rattle.gr_causal.proofs.ListLemmas.{some_is, none_not}
-use Rattle.gr_contents.proofs.NameLemmas.{go_self}
-use Rattle.gr_step.specs.declared.leasing.Lease.{Lease}
-use Rattle.gr_step.specs.Leasing.{Loan, IsLease, IsAsLent, IsAsLentIn, loan_of}
-use Rattle.gr_step.specs.Stores.{program_at, contents_at}
+use Rattle.gr_rollback.proofs.NameLemmas.{go_self}
+use Rattle.gr_rollback.specs.LentCopy.{LentCopy}
+use Rattle.gr_rollback.specs.StepLeasing.{Loan, IsLease, IsAsLent, IsAsLentIn, loan_of}
+use Rattle.gr_rollback.specs.Stores.{program_at, contents_at}
 use Rattle.gr_rollback.specs.Leasing.{Contains, contains, IsLentAt, SomeGoesAlone}
 use Rattle.gr_session.specs.declared.debuggee.Debuggee.{Debuggee}
 use Rattle.gr_session.specs.Journal.{World, past_of}
@@ -150,7 +150,7 @@ module _ (p : Program) (w : World p) (d : Debuggee) (s : Stands p w d) where
   lent_none place may steps is can = let yes : may ≡ true = steps.1 can.may_step in true≢false (sym yes ∙ is)
 
   -- .. else what the machine lends
-  pub lent_where : (place : ℕ) (may : Bool) (o : Option Lease) → (IsTrue may ↔ MayStep p w) → may ≡ true
+  pub lent_where : (place : ℕ) (may : Bool) (o : Option LentCopy) → (IsTrue may ↔ MayStep p w) → may ≡ true
       → IfSome o (λ l. IsLease l × IsAsLent l (store_in d)) → IfSome o (λ l. (loan_of l).steps ≡ 0)
       → IsLentAt w.state place (option_map (λ l. (loan_of l).name) o) → IsLent p w place o
   lent_where place may None steps is lease fresh which = λ can. none_alone w.state place which can.some_alone
@@ -163,7 +163,7 @@ module _ (p : Program) (w : World p) (d : Debuggee) (s : Stands p w d) where
     fresh = fresh;
   }
 
-  pub lent_result : (place : ℕ) (may : Bool) (r : Result (Option Lease) NoMemory) → (IsTrue may ↔ MayStep p w) → may ≡ true
+  pub lent_result : (place : ℕ) (may : Bool) (r : Result (Option LentCopy) NoMemory) → (IsTrue may ↔ MayStep p w) → may ≡ true
       → IfOk r (λ o. IfSome o (λ l. IsLease l × IsAsLent l (store_in d))) → IfOk r (λ o. IfSome o (λ l. (loan_of l).steps ≡ 0))
       → IfOk r (λ o. IsLentAt w.state place (option_map (λ l. (loan_of l).name) o)) → IfOk r (IsLent p w place)
   lent_result place may (Ok o) steps is lease fresh which = lent_where place may o steps is lease fresh which

@@ -5,7 +5,7 @@ use Rattle.std.proofs.lemmas.List.{length_push}
 use Rattle.std.proofs.lemmas.List.Elements.{All-push}
 use Rattle.gr_program.specs.Programs.{Program}
 use Rattle.gr_command.specs.Replies.{Said}
-use Rattle.gr_step.specs.Stores.{program_at}
+use Rattle.gr_rollback.specs.Stores.{program_at}
 use Rattle.gr_session.specs.declared.TheConstants.{JOURNAL_LIMIT, ASKER_LIMIT}
 use Rattle.gr_session.specs.declared.debuggee.Debuggee.{Debuggee}
 use Rattle.gr_session.specs.declared.journal.Entry.{Entry}

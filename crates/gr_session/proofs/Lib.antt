@@ -23,5 +23,4 @@ mod OneMeaningJournals
 mod GrantLemmas
 mod CommitLemmas
 mod CopyLemmas
-mod PlainLemmas
 pub mod Crossing

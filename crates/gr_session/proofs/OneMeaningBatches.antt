@@ -6,7 +6,7 @@ use Rattle.gr_rules.specs.States.{start}
 use Rattle.gr_rules.specs.Steps.{machine}
 use Rattle.gr_laws.specs.Reached.{IsRun}
 use Rattle.gr_command.specs.Replies.{Said}
-use Rattle.gr_step.specs.Leasing.{Loan}
+use Rattle.gr_rollback.specs.StepLeasing.{Loan}
 use Rattle.gr_session.specs.Journal.{World}
 use Rattle.gr_session.specs.Batches.{Commits, with_steps}
 use Rattle.gr_session.specs.Batches as commits

@@ -4,7 +4,7 @@ use Rattle.std.proofs.lemmas.List.{same_from_push}
 use Rattle.gr_program.specs.Programs.{Program}
 use Rattle.gr_laws.specs.Reached.{IsRun}
 use Rattle.gr_command.specs.Replies.{Said}
-use Rattle.gr_step.specs.Leasing.{loan_kept}
+use Rattle.gr_rollback.specs.StepLeasing.{loan_kept}
 use Rattle.gr_session.specs.declared.journal.Asked.{Asked}
 use Rattle.gr_session.specs.declared.journal.Entry.{Entry}
 use Rattle.gr_session.specs.declared.journal.Memory.{Memory}

@@ -11,7 +11,7 @@ use Rattle.gr_command.specs.declared.command.Command.{Command}
 use Rattle.gr_command.specs.declared.reply.RunEnd.{RunEnd}
 use Rattle.gr_command.specs.declared.reply.RunEnd.TheVariants as ends
 use Rattle.gr_command.specs.Replies.{Said, Stepped, Ran, Undone, Steps, PartlyDone, BreaksDependence, No, end_in, refusal_told}
-use Rattle.gr_show.specs.Said.{step_kind}
+use Rattle.gr_queries.specs.Said.{step_kind}
 use Rattle.gr_rollback.specs.Backs.{again_after}
 use Rattle.gr_rollback.specs.Pasts.{Past, id_of, ids_of, events_in}
 use Rattle.gr_rollback.specs.Steps.{with_step}

@@ -11,7 +11,7 @@ use Rattle.gr_rules.specs.States.{State, start}
 use Rattle.gr_rules.specs.Steps.{machine}
 use Rattle.gr_laws.specs.Reached.{Logged, IsRun}
 use Rattle.gr_rollback.specs.Backs.{Redoes}
-use Rattle.gr_rollback.specs.Pasts.{World, id_of, ids_of, events_in}
+use Rattle.gr_rollback.specs.Pasts.{Timeline, id_of, ids_of, events_in}
 use Rattle.gr_session.proofs.OneMeaningLists.{same_parts}
 use Rattle.gr_session.proofs.OneMeaningPasts.{same_past}
 
@@ -23,18 +23,18 @@ same_steps p s t u steps more leads goes e =
     (ap (λ (x : State × List (Logged p)). x.0) both, ap (λ (x : State × List (Logged p)). x.1) both)
 
 -- steps that are taken again lead on from what a run leads to
-pub redo_leads_on : (p : Program) (w u : World p) (ids : List StepId) → IsRun p w.past.log w.past.state → Redoes p w ids u → IsRun p u.past.log u.past.state
+pub redo_leads_on : (p : Program) (w u : Timeline p) (ids : List StepId) → IsRun p w.past.log w.past.state → Redoes p w ids u → IsRun p u.past.log u.past.state
 redo_leads_on p w u ids run redoes =
     subst (λ l. IsRun p l u.past.state) (sym redoes.log)
     (log_join (machine p) (start p) w.past.state u.past.state w.past.log redoes.steps run redoes.leads)
 
 -- two ways to take steps again that are one
-pub record SameRedo (p : Program) (u v : World p) (ids others : List StepId) : Type 0 where
+pub record SameRedo (p : Program) (u v : Timeline p) (ids others : List StepId) : Type 0 where
   pub past : u.past ≡ v.past
   pub again : u.again ≡ v.again
   pub names : ids ≡ others
 
-module _ (p : Program) (w u v : World p) (ids others : List StepId) (first : Redoes p w ids u) (second : Redoes p w others v) where
+module _ (p : Program) (w u v : Timeline p) (ids others : List StepId) (first : Redoes p w ids u) (second : Redoes p w others v) where
   -- the steps of one list of events, to its end or not, are taken again in one way
   of_events : (events_in p first.steps ≡ events_in p second.steps) × (u.again ≡ v.again) → SameRedo p u v ids others
   of_events e =

@@ -6,21 +6,21 @@ use Rattle.gr_causal.specs.Dependence.{dependents, causes}
 use Rattle.gr_program.specs.Programs.{Program}
 use Rattle.gr_laws.specs.Dependence.{clash}
 use Rattle.gr_laws.specs.Reached.{Logged}
-use Rattle.gr_contents.specs.Contents.{Contents}
+use Rattle.gr_rollback.specs.Contents.{Contents}
 use Rattle.gr_command.specs.declared.command.Command.{Command}
 use Rattle.gr_command.specs.declared.command.Command.TheVariants.{Dependents, Causes, Show, Chan, Text, Console, Log}
 use Rattle.gr_command.specs.declared.refusal.Refusal.TheVariants.{NotKept}
 use Rattle.gr_command.specs.Replies.{Said, Steps, No}
-use Rattle.gr_depend.specs.Logs.{records_of}
+use Rattle.gr_rollback.specs.Logs.{records_of}
 use Rattle.gr_rollback.specs.Asking.{TellsSteps}
 use Rattle.gr_rollback.specs.Backs.{IsNamed}
 use Rattle.gr_rollback.specs.Pasts.{ids_of}
-use Rattle.gr_record.specs.declared.record.Record.{Record}
-use Rattle.gr_step.specs.declared.store.Store.{Store}
-use Rattle.gr_record.specs.Kept.{Kept}
-use Rattle.gr_step.specs.Stores.{program_at, contents_at, state_at}
-use Rattle.gr_show.specs.Said.{goroutine_said, channel_said, text_said, console_said, log_said}
-use Rattle.gr_show.specs.Consoles.{OfEachLog}
+use Rattle.gr_rollback.specs.Record.{Record}
+use Rattle.gr_rollback.specs.Store.{Store}
+use Rattle.gr_rollback.specs.Kept.{Kept}
+use Rattle.gr_rollback.specs.Stores.{program_at, contents_at, state_at}
+use Rattle.gr_queries.specs.Said.{goroutine_said, channel_said, text_said, console_said, log_said}
+use Rattle.gr_queries.specs.Consoles.{OfEachLog}
 use Rattle.gr_session.specs.declared.debuggee.Debuggee.{Debuggee}
 use Rattle.gr_session.specs.declared.journal.Memory.TheVariants.{Enough}
 use Rattle.gr_session.specs.Journal.{World, Leads, tells_dependents, has_no_dependents, tells_causes, has_no_causes, shows, shows_channel, tells_text, tells_console, tells_log}

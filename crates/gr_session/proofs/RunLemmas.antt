@@ -11,8 +11,8 @@ use Rattle.gr_rules.specs.Turns.{IsTurn, last_owner, break_at, line_of, at_break
 use Rattle.gr_command.specs.declared.reply.RunEnd.{RunEnd}
 use Rattle.gr_command.specs.declared.reply.RunEnd.TheVariants as ends
 use Rattle.gr_command.specs.Replies.{end_in}
-use Rattle.gr_step.specs.Stores.{contents_at}
-use Rattle.gr_depend.specs.Logs.{records_of}
+use Rattle.gr_rollback.specs.Stores.{contents_at}
+use Rattle.gr_rollback.specs.Logs.{records_of}
 use Rattle.gr_rollback.specs.declared.TheConstants.{LOG_LIMIT}
 use Rattle.gr_rollback.specs.Pasts.{Past}
 use Rattle.gr_rollback.specs.Steps.{with_step}

@@ -9,8 +9,8 @@ use Rattle.gr_scan.specs.Scan.{IsScan, HasNoTokens}
 use Rattle.gr_scan.specs.Faults.{HasFault}
 use Rattle.gr_syntax.specs.declared.parse.ParseError.{ParseError}
 use Rattle.gr_syntax.specs.declared.parse.ParseError.TheVariants as parsing
-use Rattle.gr_types.specs.declared.fault.CheckError.{CheckError}
-use Rattle.gr_types.specs.declared.fault.CheckError.TheVariants as checking
+use Rattle.gr_types.specs.declared.refusal.CheckError.{CheckError}
+use Rattle.gr_types.specs.declared.refusal.CheckError.TheVariants as checking
 use Rattle.gr_tree.specs.Files.{FileTree}
 use Rattle.gr_syntax.specs.FileGrammar.{SpellsFile, IsTreeOf}
 use Rattle.gr_syntax.specs.Refused.{HasNoTree}

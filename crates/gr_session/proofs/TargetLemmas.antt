@@ -7,13 +7,13 @@ use Rattle.gr_rules.specs.Assigned.{last_assignment}
 use Rattle.gr_rules.specs.States.{State}
 use Rattle.gr_code.specs.CodeFrames.{ProgramCode}
 use Rattle.gr_lower.specs.Lowered.{lowered}
-use Rattle.gr_record.specs.Kept.{Kept}
-use Rattle.gr_record.specs.Listings.{state_in}
-use Rattle.gr_record.specs.Running.{Running}
-use Rattle.gr_step.specs.Stores.{program_at, contents_at}
-use Rattle.gr_depend.specs.declared.log.Log.{Log}
-use Rattle.gr_depend.specs.Given.{last_given}
-use Rattle.gr_depend.specs.Logs.{records_of}
+use Rattle.gr_rollback.specs.Kept.{Kept}
+use Rattle.gr_rollback.specs.Listings.{state_in}
+use Rattle.gr_rollback.specs.Running.{Running}
+use Rattle.gr_rollback.specs.Stores.{program_at, contents_at}
+use Rattle.gr_rollback.specs.Log.{Log}
+use Rattle.gr_rollback.specs.Given.{last_given}
+use Rattle.gr_rollback.specs.Logs.{records_of}
 use Rattle.gr_rollback.specs.Pasts.{id_of}
 use Rattle.gr_rollback.proofs.KeptLemmas.{begins_running}
 use Rattle.gr_session.specs.declared.debuggee.Debuggee.{Debuggee}

@@ -4,10 +4,10 @@ use Rattle.gr_program.specs.Programs.{Program}
 use Rattle.gr_rules.specs.Limits.{most_steps}
 use Rattle.gr_rules.specs.States.{State}
 use Rattle.gr_laws.specs.Reached.{Logged}
-use Rattle.gr_contents.specs.Contents.{Contents}
+use Rattle.gr_rollback.specs.Contents.{Contents}
 use Rattle.gr_command.specs.declared.refusal.Refusal.TheVariants.{LogFull}
 use Rattle.gr_command.specs.Replies.{Said, Committed, Stale, No}
-use Rattle.gr_step.specs.Leasing.{Loan, IsAsLentIn}
+use Rattle.gr_rollback.specs.StepLeasing.{Loan, IsAsLentIn}
 use Rattle.gr_rollback.specs.Leasing.{Contains, JoinAll}
 use Rattle.gr_session.specs.Journal.{World, past_of, moved, again_past}
 

@@ -6,8 +6,8 @@ use Rattle.gr_command.specs.declared.command.Command.{Command}
 use Rattle.gr_command.specs.declared.refusal.Refusal.TheVariants as refusals
 use Rattle.gr_command.specs.declared.reply.Reply.{Reply}
 use Rattle.gr_command.specs.Replies.{Said, PartlyDone, BreaksDependence, No, said_of}
-use Rattle.gr_step.specs.declared.leasing.Batch.{Batch}
-use Rattle.gr_step.specs.Leasing.{Loan, loan_kept}
+use Rattle.gr_rollback.specs.LocalRun.{LocalRun}
+use Rattle.gr_rollback.specs.StepLeasing.{Loan, loan_kept}
 use Rattle.gr_rollback.specs.declared.refusal.BackRefused.{BackRefused}
 use Rattle.gr_rollback.specs.declared.refusal.BackRefused.TheVariants as backs
 use Rattle.gr_session.specs.declared.debuggee.Debuggee.{Debuggee}
@@ -52,6 +52,6 @@ CommitsLent p w loan (Ok reply) d = CommitsTo p w loan true (said_of reply) d
 CommitsLent p w loan (Err error) d = Stands p w d
 
 -- .. as the answer tells, with what is kept of it, or nothing has changed
-abbrev pub CommitsBatch : (p : Program) → World p → Loan → Result (Batch × Bool × Reply) NoMemory → Debuggee → Type 0
+abbrev pub CommitsBatch : (p : Program) → World p → Loan → Result (LocalRun × Bool × Reply) NoMemory → Debuggee → Type 0
 CommitsBatch p w loan (Ok answer) d = (loan_kept answer.0 ≡ loan) × CommitsTo p w loan answer.1 (said_of answer.2) d
 CommitsBatch p w loan (Err error) d = Stands p w d

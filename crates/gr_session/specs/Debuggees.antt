@@ -3,9 +3,9 @@ use Rattle.std.specs.Prelude.{◌≡◌, ℕ, nat_eq, if◌then◌else◌, List,
 use Rattle.std.specs.List.{list_any}
 use Rattle.indexmap.specs.IndexMap.{IndexMap, get}
 use Rattle.gr_program.specs.Programs.{Program}
-use Rattle.gr_depend.specs.declared.log.Log.{Log}
-use Rattle.gr_step.specs.declared.store.Store.{Store}
-use Rattle.gr_step.specs.Stores.{program_at}
+use Rattle.gr_rollback.specs.Log.{Log}
+use Rattle.gr_rollback.specs.Store.{Store}
+use Rattle.gr_rollback.specs.Stores.{program_at}
 use Rattle.gr_rollback.specs.Machines as rollback
 use Rattle.gr_rollback.specs.Machines.{store_of, log_of}
 use Rattle.gr_session.specs.declared.debuggee.Debuggee.{Debuggee}

@@ -3,8 +3,8 @@ use Rattle.std.specs.Prelude.{◌≡◌, ℕ, ◌≤◌, Bool, List, [], ◌∷�
 use Rattle.gr_program.specs.Programs.{Program}
 use Rattle.gr_command.specs.declared.command.Command.{Command}
 use Rattle.gr_command.specs.Replies.{Said}
-use Rattle.gr_step.specs.declared.leasing.Batch.{Batch}
-use Rattle.gr_step.specs.Leasing.{Loan, loan_kept}
+use Rattle.gr_rollback.specs.LocalRun.{LocalRun}
+use Rattle.gr_rollback.specs.StepLeasing.{Loan, loan_kept}
 use Rattle.gr_session.specs.declared.journal.Memory.{Memory}
 use Rattle.gr_session.specs.declared.journal.Memory.TheVariants.{Enough}
 use Rattle.gr_session.specs.declared.journal.Asked.{Asked}
@@ -18,7 +18,7 @@ use Rattle.gr_session.specs.Batches.{Commits}
 pub data Means (p : Program) (w : World p) : Asked → Memory → World p → Said → Type 0 where
   by_command : {command : Command} {memory : Memory} {u : World p} {reply : Said}
       → Leads p w command memory u reply → Means p w (asks.Command command) memory u reply
-  by_batch : {batch : Batch} {stood : Bool} {u : World p} {reply : Said}
+  by_batch : {batch : LocalRun} {stood : Bool} {u : World p} {reply : Said}
       → Commits p w (loan_kept batch) stood u reply → Means p w (asks.Batch batch stood) Enough u reply
 
 -- entries lead from one world to another, one after the other
@@ -59,7 +59,7 @@ EntersCommand p asker command old new number reply = Enters p asker (asks.Comman
 
 -- .. or the steps of a loan
 pub record EntersBatch (p : Program) (asker : ℕ) (loan : Loan) (old new : List Entry) (number : ℕ) (reply : Said) : Type 0 where
-  pub batch : Batch
+  pub batch : LocalRun
   pub is_loan : loan_kept batch ≡ loan
   pub as_lent : Bool
   pub enters : Enters p asker (asks.Batch batch as_lent) old new number reply

@@ -4,9 +4,9 @@ use Rattle.gr_program.specs.Programs.{Program}
 use Rattle.gr_rules.specs.Limits.{most_steps}
 use Rattle.gr_rules.specs.States.{live}
 use Rattle.gr_rules.specs.Turns.{IsReady}
-use Rattle.gr_contents.specs.Contents.{Contents}
-use Rattle.gr_step.specs.declared.leasing.Lease.{Lease}
-use Rattle.gr_step.specs.Leasing.{IsAsLentIn, loan_of}
+use Rattle.gr_rollback.specs.Contents.{Contents}
+use Rattle.gr_rollback.specs.LentCopy.{LentCopy}
+use Rattle.gr_rollback.specs.StepLeasing.{IsAsLentIn, loan_of}
 use Rattle.gr_rollback.specs.Leasing.{Contains, IsLentAt, SomeGoesAlone}
 use Rattle.gr_session.specs.Journal.{World, past_of}
 
@@ -31,7 +31,7 @@ pub record CanLend (p : Program) (w : World p) : Type 0 where
   pub some_alone : SomeGoesAlone w.state
 
 -- a copy of the goroutine at the place among those that can be lent, with no step yet
-pub record IsLoan (p : Program) (w : World p) (place : ℕ) (l : Lease) : Type 0 where
+pub record IsLoan (p : Program) (w : World p) (place : ℕ) (l : LentCopy) : Type 0 where
   pub can_lend : CanLend p w
   pub which : IsLentAt w.state place (Some (loan_of l).name)
   pub contents : Contents
@@ -40,6 +40,6 @@ pub record IsLoan (p : Program) (w : World p) (place : ℕ) (l : Lease) : Type 0
   pub fresh : (loan_of l).steps ≡ 0
 
 -- a goroutine is lent where one can be
-abbrev pub IsLent : (p : Program) → World p → ℕ → Option Lease → Type 0
+abbrev pub IsLent : (p : Program) → World p → ℕ → Option LentCopy → Type 0
 IsLent p w place (Some l) = IsLoan p w place l
 IsLent p w place None = ¬ CanLend p w

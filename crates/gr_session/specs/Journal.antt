@@ -31,7 +31,7 @@ use Rattle.gr_rollback.specs.Pasts as rollback
 use Rattle.gr_rollback.specs.Pasts.{Past, first_past, id_of, ids_of, events_in}
 use Rattle.gr_rollback.specs.Steps.{Joins, with_step}
 use Rattle.gr_rollback.specs.Backs.{IsNamed, LosesLast, LosesAll, LosesSome, again_after, names_in, Redoes}
-use Rattle.gr_show.specs.Said.{step_kind, goroutine_said, channel_said, text_said, console_said, log_said}
+use Rattle.gr_queries.specs.Said.{step_kind, goroutine_said, channel_said, text_said, console_said, log_said}
 use Rattle.gr_session.specs.declared.journal.Memory.{Memory}
 use Rattle.gr_session.specs.declared.journal.Memory.TheVariants.{Enough, EnoughFor}
 use Rattle.gr_session.specs.Targets.{step_asked}
@@ -53,7 +53,7 @@ first_world p = record { log = []; state = start p; again = []; lines = []; gran
 abbrev pub past_of : (p : Program) → World p → Past p
 past_of p w = record { log = w.log; state = w.state }
 
-abbrev pub course_of : (p : Program) → World p → rollback.World p
+abbrev pub course_of : (p : Program) → World p → rollback.Timeline p
 course_of p w = record { past = past_of p w; again = w.again }
 
 -- the world with other steps, and with these events to take again
@@ -146,7 +146,7 @@ pub data Leads (p : Program) (w : World p) : Command → Memory → World p → 
       → Redoes p (course_of p w) ids (record { past = u; again = [] })
       → Leads p w commands.Redo Enough (moved p w u []) (replies.Steps ids)
   -- .. or only the first of them are, until a growth was refused
-  takes_some_again : {ids : List StepId} {u : rollback.World p} {taken : ℕ} → ¬ (u.again ≡ [])
+  takes_some_again : {ids : List StepId} {u : rollback.Timeline p} {taken : ℕ} → ¬ (u.again ≡ [])
       → Redoes p (course_of p w) ids u → length ids ≡ taken
       → Leads p w commands.Redo (EnoughFor taken) (moved p w u.past u.again) (replies.PartlyDone ids)
   has_none_again : w.again ≡ [] → Leads p w commands.Redo Enough w (replies.No refusals.NothingToRedo)

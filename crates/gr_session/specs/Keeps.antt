@@ -1,8 +1,8 @@
 -- What a session keeps: a legal journal, and a program that stands where it means.
 use Rattle.std.specs.Prelude.{ℕ, ◌≤◌, List, length, All}
 use Rattle.gr_program.specs.declared.program.Program.{Program}
-use Rattle.gr_step.specs.declared.store.Store.{Store}
-use Rattle.gr_step.specs.Stores.{program_at}
+use Rattle.gr_rollback.specs.Store.{Store}
+use Rattle.gr_rollback.specs.Stores.{program_at}
 use Rattle.gr_session.specs.declared.TheConstants.{JOURNAL_LIMIT, ASKER_LIMIT}
 use Rattle.gr_session.specs.declared.debuggee.Debuggee.{Debuggee}
 use Rattle.gr_session.specs.declared.journal.Entry.{Entry}

@@ -12,8 +12,8 @@ use Rattle.gr_syntax.specs.declared.parse.ParseError.{ParseError}
 use Rattle.gr_syntax.specs.declared.parse.ParseError.TheVariants as parsing
 use Rattle.gr_syntax.specs.FileGrammar.{IsTreeOf}
 use Rattle.gr_syntax.specs.Refused.{HasNoTree}
-use Rattle.gr_types.specs.declared.fault.CheckError.{CheckError}
-use Rattle.gr_types.specs.declared.fault.CheckError.TheVariants as checking
+use Rattle.gr_types.specs.declared.refusal.CheckError.{CheckError}
+use Rattle.gr_types.specs.declared.refusal.CheckError.TheVariants as checking
 use Rattle.gr_program.specs.Programs.{Program}
 use Rattle.gr_session.specs.declared.open.OpenError.{OpenError}
 use Rattle.gr_session.specs.declared.open.OpenError.TheVariants.{Scan, Parse, Check, Memory}

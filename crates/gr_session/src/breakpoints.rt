@@ -5,7 +5,7 @@ ghost use Rattle.gr_program.specs.Programs.{Program};
 ghost use Rattle.gr_rules.specs.Turns.{at_break, break_at, line_of};
 ghost use Rattle.gr_command.specs.Replies.{said_of};
 ghost use Rattle.gr_command.specs.declared.command.Command.TheVariants as commands;
-ghost use Rattle.gr_step.specs.Stores.{SameListing};
+ghost use Rattle.gr_rollback.specs.Stores.{SameListing};
 ghost use Rattle.gr_session.specs.Journal.{World};
 ghost use Rattle.gr_session.specs.Debuggees.{Stands, IsDebuggee, store_in};
 ghost use Rattle.gr_session.specs.Carried.{Carries, LeadsTo};
@@ -14,7 +14,7 @@ use crate::debuggee::Debuggee;
 use crate::journal::Memory;
 use gr_base::{GoName, NoMemory};
 use gr_command::Reply;
-use gr_show::next_line;
+use gr_queries::next_line;
 
 /// The line of a goroutine's next statement, if it has a breakpoint.
 #[inline(always)]
@@ -35,7 +35,8 @@ pub(crate) fn breakpoint_at(debuggee: &Debuggee, go: &GoName) -> Option<u32>
 /// Sets a breakpoint on a line. Refused, nothing has changed.
 pub(crate) fn set(debuggee: &mut Debuggee, line: u32) -> Result<(Memory, Reply), NoMemory>
     requires { IsDebuggee debuggee.old }
-    ensures leads { (p : Program) → (w : World p) → Stands p w debuggee.old → Carries p w (commands.Break line) result debuggee.new }
+    ensures leads { (p : Program) → (w : World p) → Stands p w debuggee.old
+        → Carries p w (commands.Break line) result debuggee.new }
     ensures listing { SameListing (store_in debuggee.old) (store_in debuggee.new) }
 {
     match debuggee.lines.insert(line as usize, line) {

@@ -1,7 +1,7 @@
 //! Commands carried out on a program under the debugger.
 
 ghost use Rattle.gr_program.specs.Programs.{Program};
-ghost use Rattle.gr_step.specs.Stores.{SameListing};
+ghost use Rattle.gr_rollback.specs.Stores.{SameListing};
 ghost use Rattle.gr_session.specs.Journal.{World};
 ghost use Rattle.gr_session.specs.Debuggees.{Stands, IsDebuggee, store_in};
 ghost use Rattle.gr_session.specs.Carried.{Carries};
@@ -16,7 +16,7 @@ use crate::running::run;
 use crate::stepping::step;
 use gr_base::NoMemory;
 use gr_command::{Command, Reply};
-use gr_show::{chan, console, log, show, text};
+use gr_queries::{chan, console, log, show, text};
 use std::alloc::Global;
 
 /// Carries a command out, and tells how far memory allowed it. An error means that there was no memory to ask for the step, to

@@ -1,9 +1,9 @@
 //! Batches that are committed: the steps of a goroutine on its copy become steps of the program.
 
-ghost use Rattle.std.specs.Prelude.{◌≡◌, IsTrue};
+ghost use Rattle.std.specs.Prelude.{◌≡◌};
 ghost use Rattle.gr_program.specs.Programs.{Program};
-ghost use Rattle.gr_step.specs.Stores.{SameListing, program_at};
-ghost use Rattle.gr_step.specs.Leasing.{IsLease, IsAsLent, loan_of, program_lent};
+ghost use Rattle.gr_rollback.specs.Stores.{SameListing, program_at};
+ghost use Rattle.gr_rollback.specs.StepLeasing.{IsLease, IsAsLent, loan_of, program_lent};
 ghost use Rattle.gr_session.specs.Journal.{World};
 ghost use Rattle.gr_session.specs.Debuggees.{Stands, IsDebuggee, store_in};
 ghost use Rattle.gr_session.specs.Carried.{CommitsLent, CommitsBatch};
@@ -12,16 +12,21 @@ use crate::debuggee::Debuggee;
 use crate::granting::room;
 use gr_base::NoMemory;
 use gr_command::{Refusal, Reply};
-use gr_step::{Batch, Lease};
+use gr_rollback::{LentCopy, LocalRun};
 use std::alloc::Global;
 
 /// What the steps of a lease come to, whose goroutine is as it was lent: they join the log if the grant and the log have room for
 /// them. An error means that a growth was refused; nothing has changed then.
-fn commit_lent(alloc: Global, debuggee: &mut Debuggee, lease: &mut Lease) -> Result<Reply, NoMemory>
+fn commit_lent(
+    alloc: Global,
+    debuggee: &mut Debuggee,
+    lease: &mut LentCopy,
+) -> Result<Reply, NoMemory>
     requires debuggee { IsDebuggee debuggee.old }
     requires lease { IsLease lease.old }
     requires lent { IsAsLent lease.old (store_in debuggee.old) }
-    ensures commits { (p : Program) → (w : World p) → Stands p w debuggee.old → CommitsLent p w (loan_of lease.old) result debuggee.new }
+    ensures commits { (p : Program) → (w : World p) → Stands p w debuggee.old
+        → CommitsLent p w (loan_of lease.old) result debuggee.new }
     ensures loan { loan_of lease.new ≡ loan_of lease.old }
     ensures listing { SameListing (store_in debuggee.old) (store_in debuggee.new) }
 {
@@ -44,43 +49,54 @@ fn commit_lent(alloc: Global, debuggee: &mut Debuggee, lease: &mut Lease) -> Res
     }
 }
 
-/// Lets the steps of a batch of the same program join the log, if its goroutine is as it was lent, in a run that goes on, and if the
-/// grant and the log have room for them. The program is compared with the one that runs, unless it is known to be that. It tells
-/// whether program and goroutine were so. An error means that a growth was refused; nothing has changed then.
+/// Where a batch comes from.
+#[derive(Clone, Copy, PartialEq, Eq)]
+pub(crate) enum Origin {
+    /// A lease of any session: its program has to be compared with the one that runs.
+    Unknown,
+    /// A lease of this session.
+    Own,
+}
+
+/// Lets the steps of a batch of the same program join the log, if its goroutine is as it was lent, in a run that goes on, and if
+/// the grant and the log have room for them. The program of a batch of unknown origin is compared with the one that runs. It
+/// tells whether program and goroutine were so. An error means that a growth was refused; nothing has changed then.
 pub(crate) fn commit(
     alloc: Global,
     debuggee: &mut Debuggee,
-    lease: Lease,
-    own: bool,
-) -> Result<(Batch, bool, Reply), NoMemory>
+    lease: LentCopy,
+    origin: Origin,
+) -> Result<(LocalRun, bool, Reply), NoMemory>
     requires debuggee { IsDebuggee debuggee.old }
     requires lease { IsLease lease }
-    requires own { IsTrue own → (program_lent lease ≡ program_at (store_in debuggee.old)) }
-    ensures commits { (p : Program) → (w : World p) → Stands p w debuggee.old → CommitsBatch p w (loan_of lease) result debuggee.new }
+    requires own { (origin ≡ Origin.Own) → (program_lent lease ≡ program_at (store_in debuggee.old)) }
+    ensures commits { (p : Program) → (w : World p) → Stands p w debuggee.old
+        → CommitsBatch p w (loan_of lease) result debuggee.new }
     ensures listing { SameListing (store_in debuggee.old) (store_in debuggee.new) }
 {
-    if !own && !debuggee.machine.has_program_of(&lease) {
-        return Ok((lease.into_batch(), false, Reply::Stale));
+    if origin == Origin::Unknown && !debuggee.machine.has_program_of(&lease) {
+        return Ok((lease.into_run(), false, Reply::Stale));
     }
     commit_own(alloc, debuggee, lease)
 }
 
-/// .. of a batch of the same program.
+/// Lets the steps of a batch of this program join the log, under the conditions of `commit`.
 fn commit_own(
     alloc: Global,
     debuggee: &mut Debuggee,
-    lease: Lease,
-) -> Result<(Batch, bool, Reply), NoMemory>
+    lease: LentCopy,
+) -> Result<(LocalRun, bool, Reply), NoMemory>
     requires debuggee { IsDebuggee debuggee.old }
     requires lease { IsLease lease }
     requires own { program_lent lease ≡ program_at (store_in debuggee.old) }
-    ensures commits { (p : Program) → (w : World p) → Stands p w debuggee.old → CommitsBatch p w (loan_of lease) result debuggee.new }
+    ensures commits { (p : Program) → (w : World p) → Stands p w debuggee.old
+        → CommitsBatch p w (loan_of lease) result debuggee.new }
     ensures listing { SameListing (store_in debuggee.old) (store_in debuggee.new) }
 {
     let mut lease = lease;
     if !debuggee.machine.has_as_lent(&lease) {
-        return Ok((lease.into_batch(), false, Reply::Stale));
+        return Ok((lease.into_run(), false, Reply::Stale));
     }
     let reply = commit_lent(alloc, debuggee, &mut lease)?;
-    Ok((lease.into_batch(), true, reply))
+    Ok((lease.into_run(), true, reply))
 }

@@ -2,7 +2,7 @@
 
 ghost use Rattle.std.specs.Prelude.{IfOk};
 ghost use Rattle.gr_program.specs.Views.{program_of};
-ghost use Rattle.gr_record.specs.Running.{IsChecked};
+ghost use Rattle.gr_rollback.specs.Running.{IsChecked};
 ghost use Rattle.gr_session.specs.Journal.{first_world};
 ghost use Rattle.gr_session.specs.Debuggees.{Stands};
 

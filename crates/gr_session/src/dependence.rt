@@ -20,7 +20,8 @@ pub(crate) fn dependents(
     id: &StepId,
 ) -> Result<(Memory, Reply), NoMemory>
     requires { IsDebuggee debuggee.now }
-    ensures { (p : Program) → (w : World p) → Stands p w debuggee.now → Carries p w (commands.Dependents id.now) result debuggee.now }
+    ensures { (p : Program) → (w : World p) → Stands p w debuggee.now
+        → Carries p w (commands.Dependents id.now) result debuggee.now }
 {
     let ids = debuggee.machine.dependents(alloc, id)?;
     match ids {

@@ -5,11 +5,11 @@ ghost use Rattle.gr_program.specs.Programs.{Program};
 ghost use Rattle.gr_rules.specs.Limits.{most_steps};
 ghost use Rattle.gr_command.specs.Replies.{said_of};
 ghost use Rattle.gr_command.specs.declared.command.Command.TheVariants as commands;
-ghost use Rattle.gr_step.specs.Stores.{SameListing};
+ghost use Rattle.gr_rollback.specs.Stores.{SameListing};
 ghost use Rattle.gr_session.specs.Journal.{World};
 ghost use Rattle.gr_session.specs.Debuggees.{Stands, IsDebuggee, store_in};
 ghost use Rattle.gr_session.specs.Carried.{LeadsTo};
-ghost use Rattle.gr_step.specs.Leasing.{IsLease};
+ghost use Rattle.gr_rollback.specs.StepLeasing.{IsLease};
 ghost use Rattle.gr_session.specs.Granting.{MayStep, IsTurnDue, CanLend, IsLent};
 
 use crate::debuggee::Debuggee;
@@ -17,8 +17,7 @@ use crate::journal::Memory;
 use crate::running::{ran, take_turns};
 use gr_base::NoMemory;
 use gr_command::Reply;
-use gr_rollback::LOG_LIMIT;
-use gr_step::{Lease, Run};
+use gr_rollback::{LOG_LIMIT, LentCopy, Run};
 use std::alloc::Global;
 
 /// Grants the workers so many steps, in place of what is left of the last grant.
@@ -98,7 +97,7 @@ pub(crate) fn lend(
     alloc: Global,
     debuggee: &Debuggee,
     place: u32,
-) -> Result<Option<Lease>, NoMemory>
+) -> Result<Option<LentCopy>, NoMemory>
     requires { IsDebuggee debuggee.now }
     ensures lease { IfOk result (λ o. IfSome o IsLease) }
     ensures lent { (p : Program) → (w : World p) → Stands p w debuggee.now → IfOk result (IsLent p w place) }

@@ -4,7 +4,7 @@ ghost use Rattle.std.specs.Prelude.{◌≡◌, ◌↔◌, ◌++◌, ◌∷◌, [
 
 use crate::JOURNAL_LIMIT;
 use gr_command::{Command, Reply};
-use gr_step::Batch;
+use gr_rollback::LocalRun;
 
 /// How far memory allowed a command to be carried out.
 #[derive(Clone, Copy, Debug, PartialEq, Eq)]
@@ -21,7 +21,7 @@ pub enum Asked {
     Command(Command),
     /// That the steps of a batch join the log; and whether its goroutine stood as it was lent, in a run of the same program that
     /// went on.
-    Batch(Batch, bool),
+    Batch(LocalRun, bool),
 }
 
 /// What the journal keeps of what was asked.

@@ -6,7 +6,7 @@ ghost use Rattle.gr_session.specs.Copies.{IsBatch};
 use crate::BATCH_LIMIT;
 use crate::journal::Receipt;
 use gr_base::{GoName, NoMemory};
-use gr_step::Lease as Copied;
+use gr_rollback::LentCopy;
 use std::alloc::Global;
 use std::marker::Model;
 
@@ -36,7 +36,7 @@ impl Gate for Open {
 /// A copy of a goroutine that a session lends, with no step yet.
 #[derive(Drop)]
 pub struct Lease {
-    pub(crate) copy: Copied,
+    pub(crate) copy: LentCopy,
     /// The place at which it was lent.
     pub(crate) place: u32,
 }
@@ -48,7 +48,7 @@ impl Model for Lease {
     ghost use Rattle.gr_program.specs.contracts.types.Type as types;
     ghost use Rattle.gr_code.specs.contracts.code.Operand as operands;
     ghost use Rattle.std.specs.Coded.{codes};
-    ghost use Rattle.gr_step.specs.Leasing.{IsLease, loan_of};
+    ghost use Rattle.gr_rollback.specs.StepLeasing.{IsLease, loan_of};
     ghost use Rattle.gr_session.specs.Copies.{Lent};
 
     ghost Value = { Lent };
@@ -63,7 +63,7 @@ impl Model for Lease {
 /// Steps that a goroutine took on a copy.
 #[derive(Drop)]
 pub struct Batch {
-    pub(crate) led: Copied,
+    pub(crate) copy: LentCopy,
 }
 
 impl Model for Batch {
@@ -72,21 +72,21 @@ impl Model for Batch {
     ghost use Rattle.gr_program.specs.contracts.types.Type as types;
     ghost use Rattle.gr_code.specs.contracts.code.Operand as operands;
     ghost use Rattle.std.specs.Coded.{codes};
-    ghost use Rattle.gr_step.specs.declared.leasing.Lease.{Lease};
-    ghost use Rattle.gr_step.specs.Leasing.{IsLease};
+    ghost use Rattle.gr_rollback.specs.LentCopy.{LentCopy};
+    ghost use Rattle.gr_rollback.specs.StepLeasing.{IsLease};
 
-    ghost Value = { Lease };
+    ghost Value = { LentCopy };
 
     ghost coded = { Prim.hlevel (codes, expr.the_row.coded, stmt.the_row.coded, types.the_row.coded, operands.the_row.coded) };
 
-    ghost view = { λ b. b.led };
+    ghost view = { λ b. b.copy };
 
-    ghost invariant = { λ b. IsLease b.led };
+    ghost invariant = { λ b. IsLease b.copy };
 }
 
 impl Lease {
     ghost use Rattle.std.specs.Prelude.{◌≡◌};
-    ghost use Rattle.gr_step.specs.Leasing.{loan_of};
+    ghost use Rattle.gr_rollback.specs.StepLeasing.{loan_of};
 
     /// The name of its goroutine.
     pub fn go(&self) -> &GoName
@@ -105,20 +105,20 @@ impl Lease {
 
 impl Batch {
     ghost use Rattle.std.specs.Prelude.{◌≡◌};
-    ghost use Rattle.gr_step.specs.Leasing.{loan_of};
+    ghost use Rattle.gr_rollback.specs.StepLeasing.{loan_of};
 
     /// The name of its goroutine.
     pub fn go(&self) -> &GoName
         ensures { result.now ≡ (loan_of self.now).name }
     {
-        self.led.go()
+        self.copy.go()
     }
 
     /// How many steps it has.
     pub fn len(&self) -> usize
         ensures { result ≡ (loan_of self.now).steps }
     {
-        self.led.len()
+        self.copy.len()
     }
 }
 
@@ -138,9 +138,9 @@ pub fn run_batch<G: Gate>(
     let most = limit.min(BATCH_LIMIT).max(1);
     while copy.len() < most {
         if !copy.step(alloc)? {
-            return Ok(Batch { led: copy });
+            return Ok(Batch { copy });
         }
         gate.in_batch(place);
     }
-    Ok(Batch { led: copy })
+    Ok(Batch { copy })
 }

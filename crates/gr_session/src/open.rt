@@ -16,7 +16,7 @@ use gr_scan::token::Token;
 use gr_syntax::parse::{ParseError, one_tree, parse};
 use gr_tree::File;
 use gr_types::check::check;
-use gr_types::fault::CheckError;
+use gr_types::refusal::CheckError;
 use std::alloc::Global;
 
 /// Why a source was not opened. A fault that has a place in the source comes with its position.

@@ -1,34 +1,12 @@
 //! Why steps are not taken, as replies tell it.
 
 ghost use Rattle.std.specs.Prelude.{◌≡◌};
-ghost use Rattle.gr_step.specs.Stores.{program_at, contents_at};
-ghost use Rattle.gr_session.specs.Refusing.{CanStep, SaysNoStep, Refuses, memory_of};
+ghost use Rattle.gr_session.specs.Refusing.{SaysNoStep, Refuses, memory_of};
 
 use crate::debuggee::Debuggee;
 use crate::journal::Memory;
-use gr_base::GoName;
 use gr_command::{Refusal, Reply};
-use gr_goros::Status;
-use gr_rollback::LOG_LIMIT;
-use gr_step::{Run, StepRefused, Store};
-
-/// Why a goroutine can take no step, whatever it chooses.
-pub(crate) fn standing(store: &Store, go: &GoName) -> Option<Refusal>
-    ensures { CanStep (program_at store.now) (contents_at store.now) go.now result }
-{
-    match store.run() {
-        Run::Live => {}
-        _ => return Some(Refusal::Ended),
-    }
-    let Some(goroutine) = store.goroutine(go) else {
-        return Some(Refusal::NotThere);
-    };
-    match goroutine.status() {
-        Status::Ready => None,
-        Status::Sending(_) | Status::Receiving(_) | Status::Waiting(_) => Some(Refusal::Waits),
-        Status::Finished => Some(Refusal::Done),
-    }
-}
+use gr_rollback::{LOG_LIMIT, StepRefused};
 
 /// Why a step that the rules allow is not kept: the log has no room for it, or else memory was wanting.
 pub(crate) fn unkept(debuggee: &Debuggee) -> Refusal

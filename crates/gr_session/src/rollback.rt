@@ -5,7 +5,7 @@ ghost use Rattle.gr_program.specs.Programs.{Program};
 ghost use Rattle.gr_command.specs.Replies.{said_of};
 ghost use Rattle.gr_command.specs.Replies as said;
 ghost use Rattle.gr_command.specs.declared.command.Command.TheVariants as commands;
-ghost use Rattle.gr_step.specs.Stores.{SameListing};
+ghost use Rattle.gr_rollback.specs.Stores.{SameListing};
 ghost use Rattle.gr_session.specs.Journal.{World};
 ghost use Rattle.gr_session.specs.Debuggees.{Stands, IsDebuggee, store_in};
 ghost use Rattle.gr_session.specs.Carried.{Carries, LeadsTo, Tells};
@@ -63,7 +63,8 @@ pub(crate) fn back(
     target: &Target,
 ) -> Result<(Memory, Reply), NoMemory>
     requires { IsDebuggee debuggee.old }
-    ensures leads { (p : Program) → (w : World p) → Stands p w debuggee.old → Carries p w (commands.Back target.now) result debuggee.new }
+    ensures leads { (p : Program) → (w : World p) → Stands p w debuggee.old
+        → Carries p w (commands.Back target.now) result debuggee.new }
     ensures listing { SameListing (store_in debuggee.old) (store_in debuggee.new) }
 {
     let Some(id) = find(alloc, debuggee, target)? else {

@@ -2,11 +2,9 @@
 
 ghost use Rattle.std.specs.Prelude.{◌≡◌, ◌≤◌, IfOk, IfErr, OnOk};
 ghost use Rattle.gr_program.specs.Programs.{Program};
-ghost use Rattle.gr_base.specs.declared.events.Choice.TheVariants as choices;
-ghost use Rattle.gr_rules.specs.Tells.{usual_choice};
 ghost use Rattle.gr_command.specs.Replies.{said_of};
 ghost use Rattle.gr_command.specs.declared.command.Command.TheVariants as commands;
-ghost use Rattle.gr_step.specs.Stores.{program_at, state_at, IsRun, SameListing};
+ghost use Rattle.gr_rollback.specs.Stores.{SameListing};
 ghost use Rattle.gr_session.specs.Journal.{World};
 ghost use Rattle.gr_session.specs.Debuggees.{Stands, IsDebuggee, store_in};
 ghost use Rattle.gr_session.specs.Turning.{HasTurn, Ends, Turns, GoesByTurns, memory_at};
@@ -15,10 +13,9 @@ ghost use Rattle.gr_session.specs.Carried.{LeadsTo};
 use crate::breakpoints::breakpoint_at;
 use crate::debuggee::Debuggee;
 use crate::journal::Memory;
-use gr_base::{Choice, Event, GoName, NoMemory};
+use gr_base::GoName;
 use gr_command::{Reply, RunEnd};
-use gr_rollback::LOG_LIMIT;
-use gr_step::{Run, StepRefused, Store};
+use gr_rollback::{LOG_LIMIT, Run};
 use std::alloc::Global;
 
 // The goroutine whose turn it is, or else why no more steps are taken: the first reason that holds, in the order of `RunEnd`.
@@ -53,54 +50,7 @@ fn next_turn(debuggee: &Debuggee, wanted: u64, taken: u64) -> Result<&GoName, Ru
     }
 }
 
-// The step of a goroutine with its usual choice.
-fn usual_event(alloc: Global, store: &Store, go: &GoName) -> Result<Event, NoMemory>
-    requires { IsRun store.now }
-    ensures { IfOk result (λ event. event ≡ record { go = go.now; choice = usual_choice (program_at store.now) (state_at store.now) go.now }) }
-{
-    let choice = store.usual_choice(go)?;
-    let go = go.copy(alloc)?;
-    Ok(Event { go, choice })
-}
-
-// Takes the next step by turns with its usual choice, where so many are wanted and so many were taken. Refused, nothing has
-// changed.
-#[inline(never)]
-fn take_choice(
-    alloc: Global,
-    debuggee: &mut Debuggee,
-    wanted: u64,
-    taken: u64,
-) -> Result<(), RunEnd>
-    requires { IsDebuggee debuggee.old }
-    ensures more { OnOk result (¬ (taken ≡ wanted)) }
-    ensures turns { (p : Program) → (w : World p) → Stands p w debuggee.old → Turns p w wanted taken result debuggee.new }
-    ensures listing { SameListing (store_in debuggee.old) (store_in debuggee.new) }
-{
-    let go = next_turn(debuggee, wanted, taken)?;
-    let Ok(event) = usual_event(alloc, debuggee.machine.store(), go) else {
-        return Err(RunEnd::Memory);
-    };
-    match debuggee.machine.step(event) {
-        Ok(()) => Ok(()),
-        Err(_) => Err(RunEnd::Memory),
-    }
-}
-
-// The step of a goroutine that has no choice.
-#[inline(always)]
-fn plain_event(alloc: Global, go: &GoName) -> Result<Event, NoMemory>
-    ensures { IfOk result (λ event. event ≡ record { go = go.now; choice = choices.Plain }) }
-{
-    let go = go.copy(alloc)?;
-    Ok(Event {
-        go,
-        choice: Choice::Plain,
-    })
-}
-
-// Takes the next step by turns, where so many are wanted and so many were taken. Refused, nothing has changed. Most steps leave
-// no choice, so the usual one is found only where a plain step is refused for it.
+// Takes the next step by turns, where so many are wanted and so many were taken. Refused, nothing has changed.
 #[inline(always)]
 fn take_turn(alloc: Global, debuggee: &mut Debuggee, wanted: u64, taken: u64) -> Result<(), RunEnd>
     requires { IsDebuggee debuggee.old }
@@ -109,16 +59,13 @@ fn take_turn(alloc: Global, debuggee: &mut Debuggee, wanted: u64, taken: u64) ->
     ensures listing { SameListing (store_in debuggee.old) (store_in debuggee.new) }
 {
     let go = next_turn(debuggee, wanted, taken)?;
-    let Ok(event) = plain_event(alloc, go) else {
+    let Ok(owner) = go.copy(alloc) else {
         return Err(RunEnd::Memory);
     };
-    let Err(why) = debuggee.machine.step(event) else {
-        return Ok(());
-    };
-    if let StepRefused::NoChoice = why {
-        return take_choice(alloc, debuggee, wanted, taken);
+    match debuggee.machine.step_usual(owner) {
+        Ok(_) => Ok(()),
+        Err(_) => Err(RunEnd::Memory),
     }
-    Err(RunEnd::Memory)
 }
 
 /// That so many steps were taken, and why no more.
@@ -136,7 +83,8 @@ pub(crate) fn ran(steps: u64, end: RunEnd) -> (Memory, Reply)
 pub(crate) fn take_turns(alloc: Global, debuggee: &mut Debuggee, count: u32) -> (u64, RunEnd)
     requires { IsDebuggee debuggee.old }
     ensures few { result.0 ≤ count }
-    ensures goes { (p : Program) → (w : World p) → Stands p w debuggee.old → GoesByTurns p w count result.0 result.1 debuggee.new }
+    ensures goes { (p : Program) → (w : World p) → Stands p w debuggee.old
+        → GoesByTurns p w count result.0 result.1 debuggee.new }
     ensures listing { SameListing (store_in debuggee.old) (store_in debuggee.new) }
 {
     let wanted = u64::from(count);

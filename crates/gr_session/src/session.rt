@@ -4,13 +4,13 @@ ghost use Rattle.std.specs.Prelude.{◌≡◌, ◌↔◌, ◌+◌, ◌≤◌, []
 ghost use Rattle.gr_program.specs.Views.{program_of};
 ghost use Rattle.gr_rules.specs.Limits.{most_steps};
 ghost use Rattle.gr_command.specs.Replies.{said_of};
-ghost use Rattle.gr_step.specs.Leasing.{loan_of};
+ghost use Rattle.gr_rollback.specs.StepLeasing.{loan_of};
 ghost use Rattle.gr_session.specs.Entries.{EntersCommand, EntersBatch, IsLegal, InItsWorld};
 ghost use Rattle.gr_session.specs.Granting.{IsTurnDue, CanLend, IsLoan};
-ghost use Rattle.gr_record.specs.Running.{IsChecked};
+ghost use Rattle.gr_rollback.specs.Running.{IsChecked};
 
 use crate::carry::carry_out;
-use crate::committing::commit;
+use crate::committing::{Origin, commit};
 use crate::debuggee::Debuggee;
 use crate::granting::{can_lend, lend, room, turn_due};
 use crate::journal::{
@@ -121,8 +121,8 @@ impl Session {
     }
 
     /// Lends a copy of a goroutine: of those whose next step reaches no further than themselves and is no fault, in the order of
-    /// names, the one at the place, modulo their number. There is none where the grant is 0, the log is full, the program does not
-    /// run, or no goroutine is such.
+    /// names, the one at the place, modulo their number. There is none where the grant is 0, the log is full, the program does
+    /// not run, or no goroutine is such.
     pub fn lease(&self, alloc: Global, place: u32) -> Result<Option<Lease>, NoMemory>
         ensures place { IfOk result (λ o. IfSome o (λ l. l.place ≡ place)) }
         ensures lent { IfOk result (λ o. IfSome o (λ l. InItsWorld (program_of self.now.program) self.now.journal
@@ -136,9 +136,9 @@ impl Session {
         }
     }
 
-    /// Commits a batch, which the journal keeps with its reply: its steps join the log if its goroutine is as it was lent, in a run
-    /// of the same program that goes on, and if the grant and the log have room for them. The asker is one that `enrol` of this
-    /// session gave.
+    /// Commits a batch, which the journal keeps with its reply: its steps join the log if its goroutine is as it was lent, in a
+    /// run of the same program that goes on, and if the grant and the log have room for them. The asker is one that `enrol` of
+    /// this session gave.
     pub fn commit(
         &mut self,
         alloc: Global,
@@ -152,10 +152,10 @@ impl Session {
         ensures err { OnErr result (self.new ≡ self.old) }
         ensures others { (self.new.program ≡ self.old.program) × (self.new.askers ≡ self.old.askers) }
     {
-        self.enter_batch(alloc, desk, batch, false)
+        self.enter_batch(alloc, desk, batch, Origin::Unknown)
     }
 
-    /// The same of a batch whose program is known to be that of the session, and is not compared with it.
+    /// Commits a batch as `commit` does. Its program is known to be that of the session, and is not compared with it.
     pub fn commit_own(
         &mut self,
         alloc: Global,
@@ -170,19 +170,19 @@ impl Session {
         ensures err { OnErr result (self.new ≡ self.old) }
         ensures others { (self.new.program ≡ self.old.program) × (self.new.askers ≡ self.old.askers) }
     {
-        self.enter_batch(alloc, desk, batch, true)
+        self.enter_batch(alloc, desk, batch, Origin::Own)
     }
 
-    /// The same of either, where it is told whether the program is known to be that of the session.
+    /// Commits a batch of this origin.
     fn enter_batch(
         &mut self,
         alloc: Global,
         desk: DeskId,
         batch: Batch,
-        own: bool,
+        origin: Origin,
     ) -> Result<Receipt, AskRefused>
         requires asker { (1 ≤ desk.number) × (desk.number ≤ self.old.askers) }
-        requires own { IsTrue own → ((loan_of batch).program ≡ program_of self.old.program) }
+        requires own { (origin ≡ Origin.Own) → ((loan_of batch).program ≡ program_of self.old.program) }
         ensures entry { IfOk result (λ receipt. EntersBatch (program_of self.old.program) desk.number (loan_of batch)
             self.old.journal self.new.journal receipt.number (said_of receipt.reply)) }
         ensures full { IsErrOf result AskRefused.JournalFull ↔ (length self.old.journal ≡ JOURNAL_LIMIT) }
@@ -192,8 +192,8 @@ impl Session {
         if let Err(why) = make_room(&mut self.journal) {
             return Err(why);
         }
-        let Batch { led } = batch;
-        match commit(alloc, &mut self.debuggee, led, own) {
+        let Batch { copy } = batch;
+        match commit(alloc, &mut self.debuggee, copy, origin) {
             Err(NoMemory) => Err(AskRefused::NoMemory),
             Ok((batch, stood, reply)) => {
                 let asked = Asked::Batch(batch, stood);
@@ -224,10 +224,11 @@ impl Session {
         room(&self.debuggee)
     }
 
-    /// Whether a goroutine can be lent: the grant is above 0, the log has room, and, while the program runs, some goroutine's next
-    /// step reaches no further than itself and is no fault.
+    /// Whether a goroutine can be lent: the grant is above 0, the log has room, and, while the program runs, some goroutine's
+    /// next step reaches no further than itself and is no fault.
     pub fn can_lend(&self) -> bool
-        ensures { InItsWorld (program_of self.now.program) self.now.journal (λ w. IsTrue result ↔ CanLend (program_of self.now.program) w) }
+        ensures { InItsWorld (program_of self.now.program) self.now.journal (λ w. IsTrue result
+            ↔ CanLend (program_of self.now.program) w) }
     {
         can_lend(&self.debuggee)
     }
@@ -235,7 +236,8 @@ impl Session {
     /// Whether a worker is to ask for a turn: the program runs, the grant is above 0, the log has room, some goroutine is ready,
     /// and none can be lent.
     pub fn turn_due(&self) -> bool
-        ensures { InItsWorld (program_of self.now.program) self.now.journal (λ w. IsTrue result ↔ IsTurnDue (program_of self.now.program) w) }
+        ensures { InItsWorld (program_of self.now.program) self.now.journal (λ w. IsTrue result
+            ↔ IsTurnDue (program_of self.now.program) w) }
     {
         turn_due(&self.debuggee)
     }

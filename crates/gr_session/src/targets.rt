@@ -9,8 +9,7 @@ ghost use Rattle.gr_session.specs.Debuggees.{Stands, IsDebuggee};
 use crate::debuggee::Debuggee;
 use gr_base::{NoMemory, StepId};
 use gr_command::Target;
-use gr_depend::assigning::law_of_assignments;
-use gr_depend::history::law_of_history;
+use gr_rollback::{law_of_assignments, law_of_history};
 use std::alloc::Global;
 
 /// The step that is asked for, as the log has it or as it is named.

@@ -4,3 +4,4 @@ pub mod Telling
 pub mod Answering
 pub mod Calling
 pub mod Seats
+pub use Rattle.gr_session.proofs.Crossing

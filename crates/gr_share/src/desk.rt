@@ -53,7 +53,8 @@ impl<B: Room> Model for Desk<B> {
 
     ghost view = { λ d. record { number = d.number; calls = d.calls.items } };
 
-    ghost invariant = { λ d. (d.seat.table_id ≡ B.table) × (1 ≤ d.number) × (d.seat.me.0 ≡ asking d.number (calls_of d.number d.calls.items)) };
+    ghost invariant = { λ d. (d.seat.table_id ≡ B.table) × (1 ≤ d.number)
+        × (d.seat.me.0 ≡ asking d.number (calls_of d.number d.calls.items)) };
 }
 
 impl<B: Room> Desk<B> {
@@ -199,7 +200,8 @@ impl<B: Room> Desk<B> {
         shared: &Shared<B>,
         command: Command,
     ) -> Result<&Receipt, AskRefused>
-        ensures* writes_back { sem 𝓛 (EndsAs (the_row B.row B.Room) self.entry (λ d. AskedBy self.entry.now (Asked.Command command) result d)) }
+        ensures* writes_back { sem 𝓛 (EndsAs (the_row B.row B.Room) self.entry
+            (λ d. AskedBy self.entry.now (Asked.Command command) result d)) }
     {
         self.enter(rt, alloc, shared, command)?;
         Ok(self.last())

@@ -133,7 +133,8 @@ pub fn finish<B: Room>(
     ensures workers { IfOk result (λ f. (f.workers.items ≡ workers.items) × All (λ w. IsTied f.session w.seat) f.workers.items) }
     ensures all { IfOk result (λ f. AreAll shared.first f.session.askers desks.items workers.items) }
     ensures program { IfOk result (λ f. program_of f.session.program ≡ B.program) }
-    ensures back { IfErr result (λ u. (u.desks.items ≡ desks.items) × (u.workers.items ≡ workers.items) × (u.shared.first ≡ shared.first)) }
+    ensures back { IfErr result (λ u. (u.desks.items ≡ desks.items) × (u.workers.items ≡ workers.items)
+        × (u.shared.first ≡ shared.first)) }
 {
     let Shared {
         tie,

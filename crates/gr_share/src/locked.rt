@@ -56,7 +56,8 @@ impl<B: Room> Locked<B> {
         ensures desk { IfOk result (λ d. (1 ≤ d.0.number) × (d.1.table_id ≡ B.table) × (d.1.me.0 ≡ asking d.0.number [])) }
         ensures after { IfOk result (λ d. B.first < d.0.number) }
         ensures number { IfOk result (λ d. (d.0.number ≡ self.old.session.askers + 1) × (self.new.session.askers ≡ d.0.number)) }
-        ensures others { (self.new.session.journal ≡ self.old.session.journal) × (self.new.session.program ≡ self.old.session.program)
+        ensures others { (self.new.session.journal ≡ self.old.session.journal)
+            × (self.new.session.program ≡ self.old.session.program)
             × (self.new.workers ≡ self.old.workers) }
         ensures err { OnErr result (self.new ≡ self.old) }
     {
@@ -75,7 +76,8 @@ impl<B: Room> Locked<B> {
         ensures desk { IfOk result (λ d. (1 ≤ d.0.number) × (d.1.table_id ≡ B.table) × (d.1.me.0 ≡ asking d.0.number [])) }
         ensures after { IfOk result (λ d. B.first < d.0.number) }
         ensures place { IfOk result (λ d. 1 ≤ d.2) }
-        ensures others { (self.new.session.journal ≡ self.old.session.journal) × (self.new.session.program ≡ self.old.session.program) }
+        ensures others { (self.new.session.journal ≡ self.old.session.journal)
+            × (self.new.session.program ≡ self.old.session.program) }
         ensures err { OnErr result (self.new ≡ self.old) }
     {
         match self.enrol(tie) {
@@ -102,7 +104,8 @@ impl<B: Room> Locked<B> {
         requires tie { tie.now.table.shared.table_id ≡ B.table }
         requires seat { (seat.old.table_id ≡ B.table) × (1 ≤ number) × (seat.old.me.0 ≡ asking number seat.old.me.0.calls) }
         ensures table { seat.new.table_id ≡ B.table }
-        ensures call { IfOk result (λ c. (c.asked ≡ Asked.Command command) × (seat.new.me.0 ≡ asking number (seat.old.me.0.calls ++ told number c ∷ []))) }
+        ensures call { IfOk result (λ c. (c.asked ≡ Asked.Command command)
+            × (seat.new.me.0 ≡ asking number (seat.old.me.0.calls ++ told number c ∷ []))) }
         ensures rises { IfOk result (λ c. AllBelow c.receipt.number (numbers_of seat.old.me.0.calls)) }
         ensures entry { IfOk result (λ c. EntersCall (program_of self.old.session.program) number (Asked.Command command)
             self.old.session.journal self.new.session.journal c.receipt.number (said_of c.receipt.reply)) }

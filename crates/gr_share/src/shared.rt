@@ -41,7 +41,8 @@ impl Model for Opened {
 
     ghost view = { λ o. record { table = o.tie.table.shared.table_id; session = o.session } };
 
-    ghost invariant = { λ o. (o.keeper.table_id ≡ o.tie.table.shared.table_id) × (o.keeper.me.0 ≡ keeping (older_lines 1 o.session.journal) o.session.askers) };
+    ghost invariant = { λ o. (o.keeper.table_id ≡ o.tie.table.shared.table_id)
+        × (o.keeper.me.0 ≡ keeping (older_lines 1 o.session.journal) o.session.askers) };
 }
 
 impl Opened {

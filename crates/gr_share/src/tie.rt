@@ -42,7 +42,8 @@ impl Tie {
 
     // The asker is one of the session's, and its calls are entries.
     pub(crate) fn compare(&self, keeper: &mut Pass, desk: &mut Pass)
-        requires tables { (keeper.old.table_id ≡ self.now.table.shared.table_id) × (desk.old.table_id ≡ self.now.table.shared.table_id) }
+        requires tables { (keeper.old.table_id ≡ self.now.table.shared.table_id)
+            × (desk.old.table_id ≡ self.now.table.shared.table_id) }
         requires keeper { keeper.old.me.0 ≡ keeping keeper.old.me.0.log keeper.old.me.0.askers }
         requires desk { 0 < desk.old.me.0.asker }
         ensures keeper { (keeper.new.table_id ≡ keeper.old.table_id) × (keeper.new.me.0 ≡ keeper.old.me.0) }
@@ -60,7 +61,8 @@ impl Tie {
         requires table { keeper.old.table_id ≡ self.now.table.shared.table_id }
         requires keeper { keeper.old.me.0.keeps ≡ true }
         requires line { (0 < asker) × (asker ≤ keeper.old.me.0.askers) }
-        ensures { (keeper.new.table_id ≡ keeper.old.table_id) × (keeper.new.me.0 ≡ keeping (keeper.old.me.0.log ++ told asker call.now ∷ []) keeper.old.me.0.askers) }
+        ensures { (keeper.new.table_id ≡ keeper.old.table_id)
+            × (keeper.new.me.0 ≡ keeping (keeper.old.me.0.log ++ told asker call.now ∷ []) keeper.old.me.0.askers) }
     {
         let word = u64::from(asker);
         for _ in rt.forever() {
@@ -76,10 +78,12 @@ impl Tie {
 
     // An asker is shown the journal.
     pub(crate) fn show(&self, keeper: &mut Pass, desk: &mut Pass)
-        requires tables { (keeper.old.table_id ≡ self.now.table.shared.table_id) × (desk.old.table_id ≡ self.now.table.shared.table_id) }
+        requires tables { (keeper.old.table_id ≡ self.now.table.shared.table_id)
+            × (desk.old.table_id ≡ self.now.table.shared.table_id) }
         requires keeper { keeper.old.me.0.keeps ≡ true }
         ensures keeper { (keeper.new.table_id ≡ keeper.old.table_id) × (keeper.new.me.0 ≡ keeper.old.me.0) }
-        ensures desk { (desk.new.table_id ≡ desk.old.table_id) × (desk.new.me.0 ≡ hearing desk.old.me.0 (sight keeper.old.me.0.log)) }
+        ensures desk { (desk.new.table_id ≡ desk.old.table_id)
+            × (desk.new.me.0 ≡ hearing desk.old.me.0 (sight keeper.old.me.0.log)) }
     {
         let note = self.table.shared.split_seat::<Shows>(keeper);
         self.table.shared.join_seat::<Hears>(desk, note);
@@ -91,7 +95,8 @@ impl Tie {
         requires desk { (0 < asker) × (desk.old.me.0.asker ≡ asker) }
         requires shown { desk.old.me.0.seen ≡ front desk.old.me.0.seen ++ told asker call.now ∷ [] }
         requires begins { length desk.old.me.0.calls ≤ length (asked asker (front desk.old.me.0.seen)) }
-        ensures { (desk.new.table_id ≡ desk.old.table_id) × (desk.new.me.0 ≡ asking desk.old.me.0.asker (desk.old.me.0.calls ++ told asker call.now ∷ [])) }
+        ensures { (desk.new.table_id ≡ desk.old.table_id)
+            × (desk.new.me.0 ≡ asking desk.old.me.0.asker (desk.old.me.0.calls ++ told asker call.now ∷ [])) }
     {
         let word = u64::from(asker);
         for _ in rt.forever() {
@@ -109,7 +114,8 @@ impl Tie {
     pub(crate) fn settle(&self, desk: &mut Pass) -> bool
         requires table { desk.old.table_id ≡ self.now.table.shared.table_id }
         requires desk { 0 < desk.old.me.0.asker }
-        ensures desk { (desk.new.table_id ≡ desk.old.table_id) × (desk.new.me.0 ≡ asking desk.old.me.0.asker desk.old.me.0.calls) }
+        ensures desk { (desk.new.table_id ≡ desk.old.table_id)
+            × (desk.new.me.0 ≡ asking desk.old.me.0.asker desk.old.me.0.calls) }
         ensures settled { IsTrue result → IsPrefix (asked desk.old.me.0.asker desk.old.me.0.seen) desk.old.me.0.calls }
     {
         self.table.shared.load::<Settles>(desk, 0) == 0
@@ -124,13 +130,16 @@ impl Tie {
         asker: u32,
         call: &Call,
     )
-        requires tables { (keeper.old.table_id ≡ self.now.table.shared.table_id) × (desk.old.table_id ≡ self.now.table.shared.table_id) }
+        requires tables { (keeper.old.table_id ≡ self.now.table.shared.table_id)
+            × (desk.old.table_id ≡ self.now.table.shared.table_id) }
         requires keeper { keeper.old.me.0.keeps ≡ true }
         requires desk { desk.old.me.0.asker ≡ asker }
         requires line { (0 < asker) × (asker ≤ keeper.old.me.0.askers) }
         requires begins { IsPrefix desk.old.me.0.calls (asked asker keeper.old.me.0.log) }
-        ensures keeper { (keeper.new.table_id ≡ keeper.old.table_id) × (keeper.new.me.0 ≡ keeping (keeper.old.me.0.log ++ told asker call.now ∷ []) keeper.old.me.0.askers) }
-        ensures desk { (desk.new.table_id ≡ desk.old.table_id) × (desk.new.me.0 ≡ asking desk.old.me.0.asker (desk.old.me.0.calls ++ told asker call.now ∷ [])) }
+        ensures keeper { (keeper.new.table_id ≡ keeper.old.table_id)
+            × (keeper.new.me.0 ≡ keeping (keeper.old.me.0.log ++ told asker call.now ∷ []) keeper.old.me.0.askers) }
+        ensures desk { (desk.new.table_id ≡ desk.old.table_id)
+            × (desk.new.me.0 ≡ asking desk.old.me.0.asker (desk.old.me.0.calls ++ told asker call.now ∷ [])) }
     {
         self.enter(rt, keeper, asker, call);
         self.show(keeper, desk);

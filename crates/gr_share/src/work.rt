@@ -55,8 +55,8 @@ impl<B: Room> Worker<B> {
 }
 
 /// Works as often as the budget allows: it takes steps of a goroutine that is lent, without the lock, and commits them, or it
-/// takes a turn where none can be lent. It waits while there is nothing to do, and ends after `close`, where it is refused, as in a
-/// full journal, or for want of memory. The worker's calls grow by those batches and turns. All calls of the gate are made
+/// takes a turn where none can be lent. It waits while there is nothing to do, and ends after `close`, where it is refused, as in
+/// a full journal, or for want of memory. The worker's calls grow by those batches and turns. All calls of the gate are made
 /// without the lock.
 pub fn worker<B: Room, R: Wait, G: Gate>(
     rt: &R,

@@ -17,12 +17,12 @@ use Rattle.gr_code.specs.Code.{Meanings}
 use Rattle.gr_code.specs.CodeFrames.{ProgramCode, CodeFrame, Task, Steps, Wants}
 use Rattle.gr_code.specs.Goroutines.{CodeGoroutine, task_of, is_local}
 use Rattle.gr_code.specs.Programs.{deed_meant}
-use Rattle.gr_contents.specs.Contents.{Contents, goroutine_of}
-use Rattle.gr_contents.specs.Leaves.{Refuses}
-use Rattle.gr_contents.specs.Tasks.{chooses, stays_within}
-use Rattle.gr_contents.proofs.MachineLemmas.{refusal_is_leaf}
-use Rattle.gr_contents.proofs.TaskLemmas.{deed_is}
-use Rattle.gr_contents.proofs.WithinLemmas.{local_stays_within}
+use Rattle.gr_refine.specs.Contents.{Contents, goroutine_of}
+use Rattle.gr_refine.specs.Leaves.{Refuses}
+use Rattle.gr_refine.specs.Tasks.{chooses, stays_within}
+use Rattle.gr_refine.proofs.MachineLemmas.{refusal_is_leaf}
+use Rattle.gr_refine.proofs.TaskLemmas.{deed_is}
+use Rattle.gr_refine.proofs.WithinLemmas.{local_stays_within}
 use Rattle.gr_goros.specs.Needs.{SendsIn}
 use Rattle.gr_goros.specs.Views.{Seen}
 use Rattle.gr_tables.specs.NamedGoroutines.{seen_at}
@@ -34,7 +34,7 @@ use Rattle.gr_record.specs.Listings.{frame_in, state_in}
 use Rattle.gr_step.specs.Objects.{contents_in}
 use Rattle.gr_step.specs.Premises.{Acting}
 use Rattle.gr_step.proofs.RunningLemmas.{never_unsound, stands_as, ActsHere, acts_here}
-use Rattle.gr_step.proofs.SendingLemmas.{sends_in}
+use Rattle.gr_step.proofs.SendsInLemmas.{sends_in}
 
 pub some_is : {X : Type 0} {x y : X} → Some x ≡ Some y → x ≡ y
 some_is {X} {x} h = ap (λ o. elim o [ Some z ↦ z | None ↦ x ]) h

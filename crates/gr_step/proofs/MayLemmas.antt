@@ -22,16 +22,16 @@ use Rattle.gr_rules.specs.Touches.{clauses_by, clauses_in}
 use Rattle.gr_code.specs.CodeFrames.{CodeFrame, Wants}
 use Rattle.gr_code.specs.Goroutines.{CodeGoroutine, faulted}
 use Rattle.gr_code.specs.Programs.{deed_meant}
-use Rattle.gr_contents.specs.Contents.{Contents, goroutine_of}
-use Rattle.gr_contents.specs.Leaves.{leaf}
-use Rattle.gr_contents.specs.Looks.{Ends, actor_of}
-use Rattle.gr_contents.specs.Partners.{AreChannels, can_proceed}
-use Rattle.gr_contents.specs.Presence.{Sound}
-use Rattle.gr_contents.proofs.AttemptLemmas.{ready_has_a_frame}
-use Rattle.gr_contents.proofs.PartnerLemmas.{none_ready_is_looked_up, enqueued_is_looked_up}
-use Rattle.gr_contents.proofs.PresenceLemmas.{enqueued_is_there}
-use Rattle.gr_contents.proofs.SelectLemmas.{none_ready_is_made, picking_communicates, picking_faults, picking_cannot, picking_has_values, default_is_none, default_is_late, parking_has_default, parking_is_late}
-use Rattle.gr_contents.proofs.TaskLemmas.{attempt_is_of_the_task, deed_is}
+use Rattle.gr_refine.specs.Contents.{Contents, goroutine_of}
+use Rattle.gr_refine.specs.Leaves.{leaf}
+use Rattle.gr_refine.specs.Looks.{Ends, actor_of}
+use Rattle.gr_refine.specs.Partners.{AreChannels, can_proceed}
+use Rattle.gr_refine.specs.Presence.{Sound}
+use Rattle.gr_refine.proofs.AttemptLemmas.{ready_has_a_frame}
+use Rattle.gr_refine.proofs.PartnerLemmas.{none_ready_is_looked_up, enqueued_is_looked_up}
+use Rattle.gr_refine.proofs.PresenceLemmas.{enqueued_is_there}
+use Rattle.gr_refine.proofs.SelectLemmas.{none_ready_is_made, picking_communicates, picking_faults, picking_cannot, picking_has_values, default_is_none, default_is_late, parking_has_default, parking_is_late}
+use Rattle.gr_refine.proofs.TaskLemmas.{attempt_is_of_the_task, deed_is}
 use Rattle.gr_lower.specs.Lowered.{lowered, meaning}
 use Rattle.gr_record.specs.Listings.{frame_in, state_in}
 use Rattle.gr_record.specs.Running.{Running}

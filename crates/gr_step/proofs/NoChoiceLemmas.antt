@@ -22,11 +22,11 @@ use Rattle.gr_rules.specs.Tells.{may, how_many_clauses, ready_clauses, usual_cho
 use Rattle.gr_code.specs.Instructions.{Action, Assigns, AssignsReceived, Updates, ClosesChannel, PrintsLine, Sends, StartsFunction, Returns, GoesOn, Fails, Tests, Ranges, Turns, Instruction, Part, Decide, Perform, Choose}
 use Rattle.gr_code.specs.CodeFrames.{ProgramCode, CodeFrame, Task, asked_in, acted, task}
 use Rattle.gr_code.specs.Goroutines.{CodeGoroutine, instruction_in, task_in, task_of}
-use Rattle.gr_contents.specs.Contents.{Contents}
-use Rattle.gr_contents.specs.Leaves.{Refuses}
-use Rattle.gr_contents.specs.Tasks.{chooses}
-use Rattle.gr_contents.proofs.LookLemmas.{over_is_refused, unknown_is_refused, done_is_refused, waiting_is_refused}
-use Rattle.gr_contents.proofs.TaskLemmas.{task_has_no_choice}
+use Rattle.gr_refine.specs.Contents.{Contents}
+use Rattle.gr_refine.specs.Leaves.{Refuses}
+use Rattle.gr_refine.specs.Tasks.{chooses}
+use Rattle.gr_refine.proofs.LookLemmas.{over_is_refused, unknown_is_refused, done_is_refused, waiting_is_refused}
+use Rattle.gr_refine.proofs.TaskLemmas.{task_has_no_choice}
 use Rattle.gr_goros.specs.Needs.{is_choice, is_select_in}
 use Rattle.gr_lower.specs.Lowered.{lowered, meaning}
 use Rattle.gr_record.specs.Listings.{frame_in, state_in}

@@ -13,7 +13,7 @@ use Rattle.gr_rules.specs.Operators.{same_channel}
 use Rattle.gr_rules.specs.States.{updated}
 use Rattle.gr_tables.specs.NamedChannels.{At, contents_of, seen_of, OfferAt, TakeAt}
 use Rattle.gr_tables.specs.declared.channels.Channels.{Channels}
-use Rattle.gr_step.proofs.MetLemmas.{some_is}
+use Rattle.gr_step.proofs.PartnerLemmas.{some_is}
 
 -- the content of a channel that was seen
 pub was_seen : (o : Channels) (c : ChName) (x : Seen) → Some x ≡ seen_of o c → contents_of o c ≡ Some x.content

@@ -14,19 +14,14 @@ use Rattle.gr_rules.specs.States as states
 use Rattle.gr_code.specs.CodeFrames.{CodeFrame, Task, Steps, Wants}
 use Rattle.gr_code.specs.Goroutines.{CodeGoroutine, is_deepest, task_of}
 use Rattle.gr_code.specs.Programs.{deed_meant}
-use Rattle.gr_contents.specs.Contents.{Contents, goroutine_of}
-use Rattle.gr_contents.proofs.LocalLemmas.{map_length}
-use Rattle.gr_contents.proofs.TaskLemmas.{deed_is}
+use Rattle.gr_refine.specs.Contents.{Contents, goroutine_of}
+use Rattle.gr_refine.proofs.LocalLemmas.{map_length}
+use Rattle.gr_refine.proofs.TaskLemmas.{deed_is}
 use Rattle.gr_goros.specs.Alone.{stays_in, stays_alone}
-use Rattle.gr_goros.specs.Views.{status_of}
-use Rattle.gr_goros.specs.declared.wait.Status as seen
-use Rattle.gr_goros.specs.declared.wait.Status.TheVariants as statuses
 use Rattle.gr_lower.specs.Lowered.{lowered, meaning}
-use Rattle.gr_step.specs.declared.objects.Run as runs
-use Rattle.gr_step.specs.declared.objects.Run.TheVariants.{Live, Ended, Faulted}
+use Rattle.gr_step.specs.Guard.{IsUp}
 use Rattle.gr_step.specs.Leasing.{goes_alone}
 use Rattle.gr_record.specs.Listings.{frame_in, state_in}
-use Rattle.gr_step.specs.Objects.{run_of}
 use Rattle.gr_record.specs.Running.{Running}
 use Rattle.gr_step.proofs.MayLemmas.{acts_at, chosen_by}
 
@@ -40,36 +35,26 @@ by_goroutine o = elim o [ Some x ↦ is_local_in x | None ↦ false ]
 abbrev by_status : Status → Bool → Bool
 by_status s b = elim s [ ready ↦ b | _ ↦ false ]
 
-over : (r : runs.Run) (b : Bool) → ¬ (r ≡ Live) → false ≡ by_run (run_of r) b
-over Live b not = absurd (not refl)
-over Ended b not = refl
-over (Faulted e) b not = refl
-
-none_runs : (r : states.Run) → false ≡ by_run r false
-none_runs live = refl
-none_runs ended = refl
-none_runs (faulted e) = refl
-
-unready : (s : seen.Status) (b : Bool) → ¬ (s ≡ statuses.Ready) → false ≡ by_status (status_of s) b
-unready statuses.Ready b not = absurd (not refl)
-unready (statuses.Sending c) b not = refl
-unready (statuses.Receiving c) b not = refl
-unready (statuses.Waiting ws) b not = refl
-unready statuses.Finished b not = refl
-
 module _ (p : Program) (s : Contents) (n : List ℕ) where
-  pub over_is_not : (r : runs.Run) → s.run ≡ run_of r → ¬ (r ≡ Live) → false ≡ goes_alone (state_in p s) n
-  over_is_not r is not = over r (is_local (state_in p s) n) not ∙ ap (λ r. by_run r (is_local (state_in p s) n)) (sym is)
+  -- a goroutine that is not ready has no such step, and none of a program that does not run
+  module _ (down : ¬ IsUp s n) where
+    down_by_status : (g : CodeGoroutine) (t : Status) → s.run ≡ live → s.goroutines n ≡ Some g → g.status ≡ t
+        → by_status t (is_local_at (map (frame_in p) g.frames)) ≡ false
+    down_by_status g ready runs there is = absurd (down (record { runs = runs; goroutine = g; there = there; is_ready = is }))
+    down_by_status g (rules.waiting ws) runs there is = refl
+    down_by_status g rules.finished runs there is = refl
 
-  pub missing_is_not : s.goroutines n ≡ None → false ≡ goes_alone (state_in p s) n
-  missing_is_not none = none_runs s.run ∙ ap (λ o. by_run s.run (by_goroutine (option_map (goroutine_of (frame_in p)) o))) (sym none)
+    down_by_goroutine : (o : Option CodeGoroutine) → s.run ≡ live → s.goroutines n ≡ o → by_goroutine (option_map (goroutine_of (frame_in p)) o) ≡ false
+    down_by_goroutine None runs is = refl
+    down_by_goroutine (Some g) runs is = down_by_status g g.status runs is refl
 
-  pub unready_is_not : (g : CodeGoroutine) (t : seen.Status) → s.goroutines n ≡ Some g → status_of t ≡ g.status → ¬ (t ≡ statuses.Ready)
-      → false ≡ goes_alone (state_in p s) n
-  unready_is_not g t there status not =
-      none_runs s.run
-      ∙ ap (by_run s.run) (unready t (is_local_at (map (frame_in p) g.frames)) not ∙ ap (λ x. by_status x (is_local_at (map (frame_in p) g.frames))) status)
-      ∙ ap (λ o. by_run s.run (by_goroutine (option_map (goroutine_of (frame_in p)) o))) (sym there)
+    down_by_run : (r : states.Run) → s.run ≡ r → by_run r (is_local (state_in p s) n) ≡ false
+    down_by_run live runs = down_by_goroutine (s.goroutines n) runs refl
+    down_by_run ended over = refl
+    down_by_run (faulted e) over = refl
+
+    pub down_goes_not : goes_alone (state_in p s) n ≡ false
+    down_goes_not = down_by_run s.run refl
 
   -- a task and the deed that it means
   module _ (f : CodeFrame) where

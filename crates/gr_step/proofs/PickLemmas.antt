@@ -24,10 +24,10 @@ use Rattle.gr_code.specs.CodeViews.{arm_of, arms_of}
 use Rattle.gr_code.specs.declared.code.Arm as code_arm
 use Rattle.gr_code.specs.Goroutines.{CodeGoroutine, task_in, task_of}
 use Rattle.gr_code.specs.Programs.{IsClause}
-use Rattle.gr_contents.specs.Arriving.{HasClauseHere}
-use Rattle.gr_contents.specs.Attempting.{is_plain}
-use Rattle.gr_contents.specs.Looks.{Ends}
-use Rattle.gr_contents.proofs.LocalLemmas.{never, faults_never}
+use Rattle.gr_refine.specs.Arriving.{HasClauseHere}
+use Rattle.gr_refine.specs.Attempting.{is_plain}
+use Rattle.gr_refine.specs.Looks.{Ends}
+use Rattle.gr_refine.proofs.LocalLemmas.{never, faults_never}
 use Rattle.gr_goros.specs.Needs.{clause_by, one_channel, SelectsIn}
 use Rattle.gr_goros.specs.Views.{Seen}
 use Rattle.gr_tables.specs.NamedGoroutines.{seen_at}
@@ -41,10 +41,10 @@ use Rattle.gr_step.specs.Possible.{arm_at, arm_given, channel_given}
 use Rattle.gr_step.specs.Premises.{Acting, OfActor}
 use Rattle.gr_step.specs.Communicating.{TrialIsSound, Tried, Chosen}
 use Rattle.gr_record.specs.Effects.{Effect}
-use Rattle.gr_contents.specs.Contents.{Contents}
+use Rattle.gr_refine.specs.Contents.{Contents}
 use Rattle.gr_step.proofs.EventLemmas.{some_is, found_is}
 use Rattle.gr_step.proofs.PossibleLemmas.{AreClauses, no_clause, clause, have, innermost, task_of_arms, plain_at_fault, arms_at}
-use Rattle.gr_step.proofs.SelectSteps.{of_actor, of_actor_now, pick_communicates, pick_has_clause, trial_sound, trial_chosen}
+use Rattle.gr_step.proofs.SelectLemmas.{of_actor, of_actor_now, pick_communicates, pick_has_clause, trial_sound, trial_chosen}
 
 neither : (a b : Bool) → (a || b) ≡ false → (a ≡ false) × (b ≡ false)
 neither false b none = (refl, none)

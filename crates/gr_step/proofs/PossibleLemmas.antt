@@ -22,16 +22,16 @@ use Rattle.gr_code.specs.CodeFrames.{ProgramCode, CodeFrame, Wants, task}
 use Rattle.gr_code.specs.Goroutines.{CodeGoroutine, task_in, task_of}
 use Rattle.gr_code.specs.CodeViews.{arm_of, arms_of}
 use Rattle.gr_code.specs.declared.code.Arm as code_arm
-use Rattle.gr_contents.specs.Attempting.{is_plain}
-use Rattle.gr_contents.specs.Contents.{Contents}
-use Rattle.gr_contents.specs.Leaves.{Refuses}
-use Rattle.gr_contents.specs.Looks.{actor_of}
-use Rattle.gr_contents.specs.Partners.{AreChannels, can_proceed}
-use Rattle.gr_contents.specs.Tasks.{chooses}
-use Rattle.gr_contents.proofs.MachineLemmas.{refusal_is_leaf}
-use Rattle.gr_contents.proofs.SelectLemmas.{picking_of_none}
-use Rattle.gr_contents.proofs.TaskLemmas.{attempt_is_of_the_task, task_wants_a_choice}
-use Rattle.gr_contents.proofs.LocalLemmas.{never, faults_never}
+use Rattle.gr_refine.specs.Attempting.{is_plain}
+use Rattle.gr_refine.specs.Contents.{Contents}
+use Rattle.gr_refine.specs.Leaves.{Refuses}
+use Rattle.gr_refine.specs.Looks.{actor_of}
+use Rattle.gr_refine.specs.Partners.{AreChannels, can_proceed}
+use Rattle.gr_refine.specs.Tasks.{chooses}
+use Rattle.gr_refine.proofs.MachineLemmas.{refusal_is_leaf}
+use Rattle.gr_refine.proofs.SelectLemmas.{picking_of_none}
+use Rattle.gr_refine.proofs.TaskLemmas.{attempt_is_of_the_task, task_wants_a_choice}
+use Rattle.gr_refine.proofs.LocalLemmas.{never, faults_never}
 use Rattle.gr_goros.specs.Needs.{clause_by, one_channel, is_select_in, SelectsIn}
 use Rattle.gr_goros.specs.Views.{Seen}
 use Rattle.gr_tables.specs.NamedGoroutines.{seen_at}
@@ -44,7 +44,7 @@ use Rattle.gr_step.specs.Possible.{is_given, choice_goes, arm_given, goes_by, ar
 use Rattle.gr_record.specs.Running.{Running}
 use Rattle.gr_step.specs.Premises.{Acting}
 use Rattle.gr_step.proofs.EventLemmas.{some_is, found_is, plain_goes, others_refused}
-use Rattle.gr_step.proofs.ChoosingLemmas.{are_channels}
+use Rattle.gr_step.proofs.ChoiceLemmas.{are_channels}
 use Rattle.gr_step.proofs.NoChoiceLemmas.{no_select}
 use Rattle.gr_step.proofs.MayLemmas.{acts_at, chosen_by, may_pick, default_by, park_by}
 

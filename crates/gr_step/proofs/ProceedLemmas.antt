@@ -18,14 +18,14 @@ use Rattle.gr_rules.specs.Attempts.{Operation, Attempt, Refusal, refuse, sends_o
 use Rattle.gr_rules.specs.Actors.{Actor, fault, given, without, ask_met}
 use Rattle.gr_rules.specs.Communications.{proceeds, send_to, take, receive_from, communicate}
 use Rattle.gr_code.specs.CodeFrames.{CodeFrame}
-use Rattle.gr_contents.specs.Contents.{Contents, state_of}
-use Rattle.gr_contents.specs.Leaves.{Leaf, refused, performed, leaf}
-use Rattle.gr_contents.specs.Looks.{Ends, room_in, front_in}
-use Rattle.gr_contents.specs.Partners.{AreChannels, can_send, can_receive, can_proceed, met_cells}
-use Rattle.gr_contents.specs.Presence.{Sound}
-use Rattle.gr_contents.proofs.LookLemmas.{gate_is_looked_up, tail_is_looked_up, room_is_looked_up, item_is_looked_up}
-use Rattle.gr_contents.proofs.PartnerLemmas.{met_is_looked_up}
-use Rattle.gr_contents.proofs.PresenceLemmas.{gate_is_there, met_is_there}
+use Rattle.gr_refine.specs.Contents.{Contents, state_of}
+use Rattle.gr_refine.specs.Leaves.{Leaf, refused, performed, leaf}
+use Rattle.gr_refine.specs.Looks.{Ends, room_in, front_in}
+use Rattle.gr_refine.specs.Partners.{AreChannels, can_send, can_receive, can_proceed, met_cells}
+use Rattle.gr_refine.specs.Presence.{Sound}
+use Rattle.gr_refine.proofs.LookLemmas.{gate_is_looked_up, tail_is_looked_up, room_is_looked_up, item_is_looked_up}
+use Rattle.gr_refine.proofs.PartnerLemmas.{met_is_looked_up}
+use Rattle.gr_refine.proofs.PresenceLemmas.{gate_is_there, met_is_there}
 
 -- the last part of an alternative
 last_true : (b : Bool) → true ≡ (b || true)

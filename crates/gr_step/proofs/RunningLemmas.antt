@@ -11,11 +11,11 @@ use Rattle.gr_laws.proofs.RuleWaits.{reached_waits}
 use Rattle.gr_code.specs.CodeFrames.{CodeFrame}
 use Rattle.gr_code.specs.Goroutines.{CodeGoroutine}
 use Rattle.gr_code.specs.Programs.{ProgramFits}
-use Rattle.gr_contents.specs.Contents.{Contents, goroutine_of}
-use Rattle.gr_contents.specs.Presence.{Sound}
-use Rattle.gr_contents.specs.Tasks.{Acts}
-use Rattle.gr_contents.proofs.AttemptLemmas.{ready_has_a_frame}
-use Rattle.gr_contents.proofs.MachineLemmas.{refusal_is_leaf}
+use Rattle.gr_refine.specs.Contents.{Contents, goroutine_of}
+use Rattle.gr_refine.specs.Presence.{Sound}
+use Rattle.gr_refine.specs.Tasks.{Acts}
+use Rattle.gr_refine.proofs.AttemptLemmas.{ready_has_a_frame}
+use Rattle.gr_refine.proofs.MachineLemmas.{refusal_is_leaf}
 use Rattle.gr_lower.specs.Lowered.{lowered, meaning}
 use Rattle.type_safety.specs.Standing.{StandsAs, AreFresh}
 use Rattle.type_safety.proofs.CheckedRuns.{checked_sounds, checked_stands, checked_names}

@@ -18,14 +18,14 @@ use Rattle.gr_rules.specs.Touches.{waits_at}
 use Rattle.gr_code.specs.Goroutines.{CodeGoroutine}
 use Rattle.gr_goros.specs.Views.{is_finished}
 use Rattle.gr_laws.specs.Soundness.{Stands}
-use Rattle.gr_contents.specs.Contents.{Contents, goroutine_of, with_goroutine}
-use Rattle.gr_contents.specs.Gates.{with_gate}
-use Rattle.gr_contents.specs.Meetings.{thinned, woken, with_woken, all_waits_in, closed_in}
-use Rattle.gr_contents.specs.Closing.{shut}
-use Rattle.gr_contents.specs.Partners.{is_waiting, known_as, waiters_in}
-use Rattle.gr_contents.proofs.NameLemmas.{go_is, channel_self}
-use Rattle.gr_contents.proofs.MeetingLemmas.{named, nobody_leaves}
-use Rattle.gr_contents.proofs.OrderLemmas.{waking_in_turn}
+use Rattle.gr_refine.specs.Contents.{Contents, goroutine_of, with_goroutine}
+use Rattle.gr_refine.specs.Gates.{with_gate}
+use Rattle.gr_refine.specs.Meetings.{thinned, woken, with_woken, all_waits_in, closed_in}
+use Rattle.gr_refine.specs.Closing.{shut}
+use Rattle.gr_refine.specs.Partners.{is_waiting, known_as, waiters_in}
+use Rattle.gr_refine.proofs.NameLemmas.{go_is, channel_self}
+use Rattle.gr_refine.proofs.MeetingLemmas.{named, nobody_leaves}
+use Rattle.gr_refine.proofs.OrderLemmas.{waking_in_turn}
 use Rattle.gr_record.specs.Listings.{frame_in, state_in}
 use Rattle.gr_record.specs.Running.{Running}
 use Rattle.gr_step.specs.Wakes.{waits_known, all_waits_known, without_one, without_each, is_live_there, with_each_woken}

@@ -10,9 +10,9 @@ use Rattle.gr_laws.specs.Reached.{Reached}
 use Rattle.gr_code.specs.CodeFrames.{ProgramCode, CodeFrame, entered}
 use Rattle.gr_code.specs.Goroutines.{CodeGoroutine}
 use Rattle.gr_code.specs.Programs.{ProgramFits}
-use Rattle.gr_contents.specs.Contents.{Contents}
-use Rattle.gr_contents.specs.Starting.{begun}
-use Rattle.gr_contents.proofs.StartingLemmas.{begun_is_the_start, begun_stands, main_is_entered}
+use Rattle.gr_refine.specs.Contents.{Contents}
+use Rattle.gr_refine.specs.Starting.{begun}
+use Rattle.gr_refine.proofs.StartingLemmas.{begun_is_the_start, begun_stands, main_is_entered}
 use Rattle.gr_goros.specs.Views.{Seen, IsStarted}
 use Rattle.gr_tables.specs.NamedChannels as channels
 use Rattle.gr_tables.specs.NamedChannels.{contents_of}

@@ -6,9 +6,9 @@ use Rattle.gr_causal.proofs.PathLemmas.{log_push, step_log}
 use Rattle.gr_program.specs.Programs.{Program}
 use Rattle.gr_rules.specs.States.{start}
 use Rattle.gr_rules.specs.Steps.{attempt, machine}
-use Rattle.gr_contents.specs.Contents.{Contents}
-use Rattle.gr_contents.specs.Machines.{note_of}
-use Rattle.gr_contents.proofs.AttemptLemmas.{step_is_of_the_machine}
+use Rattle.gr_refine.specs.Contents.{Contents}
+use Rattle.gr_refine.specs.Machines.{note_of}
+use Rattle.gr_refine.proofs.AttemptLemmas.{step_is_of_the_machine}
 use Rattle.gr_record.specs.Effects.{Effect}
 use Rattle.gr_record.specs.Listings.{frame_in, state_in}
 use Rattle.gr_record.specs.Running.{Running}

@@ -15,8 +15,8 @@ use Rattle.gr_rules.specs.States.{same}
 use Rattle.gr_rules.specs.Touches.{slot_numbered, slot_at_tail, slot_at_head, waits_at, woken, senders_at, receivers_at}
 use Rattle.gr_laws.specs.Touched.{each_once}
 use Rattle.gr_code.specs.Goroutines.{CodeGoroutine}
-use Rattle.gr_contents.specs.Contents.{Contents, goroutine_of}
-use Rattle.gr_contents.proofs.NameLemmas.{channel_self}
+use Rattle.gr_refine.specs.Contents.{Contents, goroutine_of}
+use Rattle.gr_refine.proofs.NameLemmas.{channel_self}
 use Rattle.gr_record.specs.Listings.{frame_in, state_in}
 
 -- an object of another sort stands among no gates, and among no slots

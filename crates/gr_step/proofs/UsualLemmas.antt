@@ -13,9 +13,9 @@ use Rattle.gr_rules.specs.Tells.{usual_choice}
 use Rattle.gr_code.specs.Instructions.{Arm, clauses_of}
 use Rattle.gr_code.specs.CodeFrames.{ProgramCode, CodeFrame, Wants}
 use Rattle.gr_code.specs.Goroutines.{CodeGoroutine, task_in, task_of}
-use Rattle.gr_contents.specs.Contents.{Contents}
-use Rattle.gr_contents.specs.Partners.{AreChannels, can_proceed}
-use Rattle.gr_contents.specs.Tasks.{chooses}
+use Rattle.gr_refine.specs.Contents.{Contents}
+use Rattle.gr_refine.specs.Partners.{AreChannels, can_proceed}
+use Rattle.gr_refine.specs.Tasks.{chooses}
 use Rattle.gr_goros.specs.Needs.{SelectsIn}
 use Rattle.gr_lower.specs.Lowered.{lowered}
 use Rattle.gr_step.specs.Choices.{IsAtSelect, HasNoChoice, ready_from, choice_without, first_of}

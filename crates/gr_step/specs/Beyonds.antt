@@ -9,7 +9,7 @@ use Rattle.gr_rules.specs.Limits.{most_places}
 use Rattle.gr_rules.specs.States as rules
 use Rattle.gr_code.specs.Goroutines.{CodeGoroutine, faulted, finished}
 use Rattle.gr_goros.specs.Undoing.{undone, need, Fits}
-use Rattle.gr_contents.specs.Contents.{Contents, with_goroutine}
+use Rattle.gr_refine.specs.Contents.{Contents, with_goroutine}
 use Rattle.gr_goros.specs.declared.undo.GoUndo.{GoUndo}
 use Rattle.gr_tables.specs.NamedGoroutines.{ChangesBy, ComesTo}
 use Rattle.gr_tables.specs.declared.goroutines.Goroutines.{Goroutines}

@@ -9,19 +9,19 @@ use Rattle.gr_program.specs.Programs.{Program}
 use Rattle.gr_rules.specs.Outcomes.{gives}
 use Rattle.gr_rules.specs.Deeds.{Communication, Chooses}
 use Rattle.gr_rules.specs.Goroutines.{ready}
-use Rattle.gr_rules.specs.States.{live, faulted as run_faulted}
 use Rattle.gr_rules.specs.Selects.{default_from}
 use Rattle.gr_rules.specs.Steps.{attempt}
-use Rattle.gr_rules.specs.Tells.{may}
+use Rattle.gr_rules.specs.States.{State, live, faulted as run_faulted}
+use Rattle.gr_rules.specs.Tells.{may, usual_choice}
 use Rattle.gr_rules.specs.Touches.{looked_at, clauses_in}
 use Rattle.gr_code.specs.CodeFrames.{Wants}
 use Rattle.gr_code.specs.Instructions.{Arm}
 use Rattle.gr_code.specs.Goroutines.{CodeGoroutine, faulted, task_of}
-use Rattle.gr_contents.specs.Attempting.{is_plain}
-use Rattle.gr_contents.specs.CodeSteps.{code_report}
-use Rattle.gr_contents.specs.Contents.{Contents, with_goroutine}
-use Rattle.gr_contents.specs.Partners.{can_proceed}
-use Rattle.gr_contents.specs.Performing.{StepsTo}
+use Rattle.gr_refine.specs.Attempting.{is_plain}
+use Rattle.gr_refine.specs.CodeSteps.{code_report}
+use Rattle.gr_refine.specs.Contents.{Contents, with_goroutine}
+use Rattle.gr_refine.specs.Partners.{can_proceed}
+use Rattle.gr_refine.specs.Performing.{StepsTo}
 use Rattle.gr_goros.specs.Needs.{is_select_in, SelectsIn}
 use Rattle.gr_goros.specs.declared.needs.Clause.{Clause}
 use Rattle.gr_goros.specs.declared.needs.Clause.TheVariants as clauses
@@ -54,6 +54,10 @@ pub record HasManyClauses (p : Program) (s : Contents) (n : List ℕ) : Type 0 w
 -- no choice of a select is a step of the goroutine
 abbrev pub HasNoChoice : Program → Contents → List ℕ → Type 0
 HasNoChoice p s n = (choice : Choice) → is_plain choice ≡ false → may p (state_in p s) n choice ≡ false
+
+-- the event of a goroutine that makes its usual choice
+abbrev pub usual_event : Program → State → List ℕ → Event
+usual_event p s go = record { go = go; choice = usual_choice p s go }
 
 -- the numbers of the clauses that can proceed, counted from i on
 abbrev pub ready_from : Contents → ℕ → List Communication → List ℕ

@@ -11,10 +11,10 @@ use Rattle.gr_rules.specs.Outcomes.{gives}
 use Rattle.gr_rules.specs.Selects.{numbered, values_of}
 use Rattle.gr_goros.specs.declared.needs.Clause.{Clause}
 use Rattle.gr_goros.specs.Views.{communications_of}
-use Rattle.gr_contents.specs.Contents.{Contents}
-use Rattle.gr_contents.specs.Leaves.{Refuses}
-use Rattle.gr_contents.specs.Looks.{Ends}
-use Rattle.gr_contents.specs.Presence.{Sound}
+use Rattle.gr_refine.specs.Contents.{Contents}
+use Rattle.gr_refine.specs.Leaves.{Refuses}
+use Rattle.gr_refine.specs.Looks.{Ends}
+use Rattle.gr_refine.specs.Presence.{Sound}
 use Rattle.gr_record.specs.Effects.{Effect}
 use Rattle.gr_record.specs.Listings.{frame_in, state_in}
 use Rattle.gr_step.specs.Premises.{OfActor}

@@ -10,12 +10,12 @@ use Rattle.gr_rules.specs.LocalSteps as rules
 use Rattle.gr_rules.specs.States.{State, live}
 use Rattle.gr_code.specs.CodeFrames.{ProgramCode}
 use Rattle.gr_code.specs.Goroutines.{CodeGoroutine, is_local, local}
-use Rattle.gr_contents.specs.Contents.{Contents}
-use Rattle.gr_contents.specs.Partners.{AreChannels}
+use Rattle.gr_refine.specs.Contents.{Contents}
+use Rattle.gr_refine.specs.Partners.{AreChannels}
 use Rattle.gr_goros.specs.Undoing.{undone, Fits}
 use Rattle.gr_lower.specs.Lowered.{lowered}
-use Rattle.gr_step.specs.declared.leasing.Batch.{Batch}
-use Rattle.gr_step.specs.declared.leasing.Lease.{Lease}
+use Rattle.gr_step.specs.declared.leasing.LocalRun.{LocalRun}
+use Rattle.gr_step.specs.declared.leasing.LentCopy.{LentCopy}
 use Rattle.gr_record.specs.Effects.{Effect}
 use Rattle.gr_record.specs.declared.record.Record.{Record}
 use Rattle.gr_step.specs.declared.store.Store.{Store}
@@ -73,30 +73,30 @@ pub record Loan : Type 0 where
   pub goroutine : CodeGoroutine
   pub steps : ℕ
 
-abbrev pub loan_kept : Batch → Loan
+abbrev pub loan_kept : LocalRun → Loan
 loan_kept b = record { program = program_in b.listing; name = b.go; goroutine = b.lent.content; steps = b.len }
 
-abbrev pub loan_of : Lease → Loan
+abbrev pub loan_of : LentCopy → Loan
 loan_of l = loan_kept l.batch
 
 -- of a lease: its program, its goroutine's name and content when it was lent, and that after its steps, with their records
-abbrev pub program_lent : Lease → Program
+abbrev pub program_lent : LentCopy → Program
 program_lent l = (loan_of l).program
 
-abbrev pub name_lent : Lease → List ℕ
+abbrev pub name_lent : LentCopy → List ℕ
 name_lent l = (loan_of l).name
 
-abbrev pub goroutine_lent : Lease → CodeGoroutine
+abbrev pub goroutine_lent : LentCopy → CodeGoroutine
 goroutine_lent l = (loan_of l).goroutine
 
-abbrev pub goroutine_led_to : Lease → CodeGoroutine
+abbrev pub goroutine_led_to : LentCopy → CodeGoroutine
 goroutine_led_to l = l.reached.content
 
-abbrev pub records_led : Lease → List Record
+abbrev pub records_led : LentCopy → List Record
 records_led l = l.records.items
 
 -- a goroutine that some run has ready, and steps of its own from there
-pub record IsLease (l : Lease) : Type 0 where
+pub record IsLease (l : LentCopy) : Type 0 where
   pub coded : IsCoded l.batch.listing
   pub walk : Walk (lowered (program_lent l)) (name_lent l) (goroutine_lent l) (records_led l) (goroutine_led_to l)
   pub can_be : CanBe (program_lent l) (name_lent l) (goroutine_led_to l)
@@ -104,28 +104,21 @@ pub record IsLease (l : Lease) : Type 0 where
   pub counted : (loan_of l).steps ≡ length (records_led l)
 
 -- the same goroutine is lent of the same program
-pub record SameLoan (old new : Lease) : Type 0 where
+pub record SameLoan (old new : LentCopy) : Type 0 where
   pub program : program_lent new ≡ program_lent old
   pub name : name_lent new ≡ name_lent old
   pub lent : goroutine_lent new ≡ goroutine_lent old
 
 -- it took one step more, or none
-pub record LeadsOn (old new : Lease) : Type 0 where
+pub record LeadsOn (old new : LentCopy) : Type 0 where
   pub record_of : Record
   pub records : records_led new ≡ records_led old ++ record_of ∷ []
   pub steps : (loan_of new).steps ≡ (loan_of old).steps + 1
 
-pub record Stays (old new : Lease) : Type 0 where
+pub record Stays (old new : LentCopy) : Type 0 where
   pub loan : loan_of new ≡ loan_of old
   pub records : records_led new ≡ records_led old
   pub reached : goroutine_led_to new ≡ goroutine_led_to old
-
--- a goroutine that is ready, while the program runs
-pub record IsUp (s : Contents) (go : List ℕ) : Type 0 where
-  pub runs : s.run ≡ live
-  pub goroutine : CodeGoroutine
-  pub there : s.goroutines go ≡ Some goroutine
-  pub is_ready : goroutine.status ≡ ready
 
 -- the program is the one that runs, and the goroutine is as it was lent
 pub record IsAsLentIn (l : Loan) (p : Program) (s : Contents) : Type 0 where
@@ -133,11 +126,11 @@ pub record IsAsLentIn (l : Loan) (p : Program) (s : Contents) : Type 0 where
   pub runs : s.run ≡ live
   pub there : s.goroutines l.name ≡ Some l.goroutine
 
-abbrev pub IsAsLent : Lease → Store → Type 0
+abbrev pub IsAsLent : LentCopy → Store → Type 0
 IsAsLent l s = IsAsLentIn (loan_of l) (program_at s) (contents_at s)
 
 -- a lease of a goroutine of the store, with no step
-pub record IsLoanOf (s : Store) (go : List ℕ) (l : Lease) : Type 0 where
+pub record IsLoanOf (s : Store) (go : List ℕ) (l : LentCopy) : Type 0 where
   pub name : name_lent l ≡ go
   pub as_lent : IsAsLent l s
   pub steps : (loan_of l).steps ≡ 0

@@ -2,6 +2,7 @@
 pub mod Objects
 pub mod Room
 pub mod Refusals
+pub mod Guard
 pub mod Premises
 pub mod Beyonds
 pub mod Passing
@@ -16,3 +17,22 @@ pub mod Possible
 pub mod Picks
 pub mod Unstepping
 pub mod Leasing
+pub use Rattle.gr_record.specs.Back
+pub use Rattle.gr_record.specs.declared.record.Beyond
+pub use Rattle.gr_channels.specs.Channels
+pub use Rattle.gr_record.specs.Conflicts
+pub use Rattle.gr_record.specs.Effects
+pub use Rattle.gr_record.specs.Fews
+pub use Rattle.gr_record.specs.declared.record.Form
+pub use Rattle.gr_record.specs.Kept
+pub use Rattle.gr_record.specs.contracts.listing.Listing as ListingContracts
+pub use Rattle.gr_record.specs.Listings
+pub use Rattle.gr_lower.specs.Lowered
+pub use Rattle.gr_tables.specs.NamedGoroutines
+pub use Rattle.gr_record.specs.Pairs
+pub use Rattle.gr_record.specs.Parts
+pub use Rattle.gr_record.specs.declared.record.Record
+pub use Rattle.gr_record.specs.Records
+pub use Rattle.gr_record.specs.Running
+pub use Rattle.gr_record.specs.Taking
+pub use Rattle.gr_goros.specs.Views

@@ -2,7 +2,7 @@
 use Rattle.gr_rules.specs.States as rules
 use Rattle.gr_tables.specs.NamedChannels as channels
 use Rattle.gr_tables.specs.NamedGoroutines.{goroutines_of}
-use Rattle.gr_contents.specs.Contents.{Contents}
+use Rattle.gr_refine.specs.Contents.{Contents}
 use Rattle.gr_step.specs.declared.objects.Run.{Run}
 use Rattle.gr_step.specs.declared.objects.Run.TheVariants.{Live, Ended, Faulted}
 use Rattle.gr_step.specs.declared.objects.Objects.{Objects}

@@ -18,9 +18,9 @@ use Rattle.gr_laws.specs.Touched.{each_once}
 use Rattle.gr_code.specs.Goroutines.{parked}
 use Rattle.gr_goros.specs.Views.{communication_of}
 use Rattle.gr_goros.specs.declared.needs.Clause.{Clause}
-use Rattle.gr_contents.specs.Contents.{Contents}
-use Rattle.gr_contents.specs.Partners.{is_made_for}
-use Rattle.gr_contents.specs.Waiting.{parked_for}
+use Rattle.gr_refine.specs.Contents.{Contents}
+use Rattle.gr_refine.specs.Partners.{is_made_for}
+use Rattle.gr_refine.specs.Waiting.{parked_for}
 use Rattle.gr_tables.specs.NamedChannels.{contents_of, AreAtGates, GoesBack}
 use Rattle.gr_tables.specs.NamedGoroutines.{ChangesBy, ComesTo}
 use Rattle.gr_step.specs.declared.objects.Objects.{Objects}

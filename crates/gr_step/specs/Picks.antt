@@ -13,9 +13,9 @@ use Rattle.gr_rules.specs.Communications.{receive}
 use Rattle.gr_rules.specs.Steps.{attempt}
 use Rattle.gr_code.specs.Instructions.{Arm, SendArm}
 use Rattle.gr_code.specs.Programs.{IsClause}
-use Rattle.gr_contents.specs.Arriving.{HasClauseHere}
-use Rattle.gr_contents.specs.Contents.{Contents}
-use Rattle.gr_contents.specs.Looks.{Ends}
+use Rattle.gr_refine.specs.Arriving.{HasClauseHere}
+use Rattle.gr_refine.specs.Contents.{Contents}
+use Rattle.gr_refine.specs.Looks.{Ends}
 use Rattle.gr_goros.specs.Needs.{clause_by}
 use Rattle.gr_lower.specs.Lowered.{lowered}
 use Rattle.gr_step.specs.declared.picking.Picked.{Picked}

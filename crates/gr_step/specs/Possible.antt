@@ -11,8 +11,8 @@ use Rattle.gr_rules.specs.Deeds.{Communication}
 use Rattle.gr_rules.specs.Actors.{clause_at}
 use Rattle.gr_rules.specs.Selects.{default_from}
 use Rattle.gr_code.specs.Instructions.{Arm, DefaultArm}
-use Rattle.gr_contents.specs.Contents.{Contents}
-use Rattle.gr_contents.specs.Partners.{can_proceed}
+use Rattle.gr_refine.specs.Contents.{Contents}
+use Rattle.gr_refine.specs.Partners.{can_proceed}
 use Rattle.gr_goros.specs.Needs.{clause_by}
 
 abbrev pub is_given : {A : Type 0} → Outcome A → Bool

@@ -9,8 +9,8 @@ use Rattle.gr_rules.specs.States.{live}
 use Rattle.gr_rules.specs.Actors.{Actor}
 use Rattle.gr_code.specs.CodeFrames.{CodeFrame}
 use Rattle.gr_code.specs.Goroutines.{CodeGoroutine}
-use Rattle.gr_contents.specs.Contents.{Contents}
-use Rattle.gr_contents.specs.Looks.{actor_of}
+use Rattle.gr_refine.specs.Contents.{Contents}
+use Rattle.gr_refine.specs.Looks.{actor_of}
 use Rattle.gr_tables.specs.NamedGoroutines.{name_at}
 use Rattle.gr_step.specs.declared.objects.Objects.{Objects}
 use Rattle.gr_record.specs.Listings.{frame_in}

@@ -12,7 +12,7 @@ use Rattle.gr_rules.specs.Attempts.{Operation}
 use Rattle.gr_rules.specs.Actors.{channels_but}
 use Rattle.gr_code.specs.CodeFrames.{ProgramCode}
 use Rattle.gr_code.specs.Goroutines.{CodeGoroutine, Arrival}
-use Rattle.gr_contents.specs.Meetings.{NamesChannels}
+use Rattle.gr_refine.specs.Meetings.{NamesChannels}
 use Rattle.gr_goros.specs.declared.undo.GoUndo.{GoUndo}
 use Rattle.gr_tables.specs.NamedChannels.{contents_of, rooms_of, ChansFit, HasRooms}
 use Rattle.gr_tables.specs.NamedGoroutines.{At, goroutines_of, name_at}

@@ -4,7 +4,7 @@ use Rattle.gr_base.specs.declared.events.Event.{Event}
 use Rattle.gr_program.specs.Programs.{Program}
 use Rattle.gr_rules.specs.Attempts as rules
 use Rattle.gr_rules.specs.Steps.{refusal}
-use Rattle.gr_contents.specs.Contents.{Contents}
+use Rattle.gr_refine.specs.Contents.{Contents}
 use Rattle.gr_step.specs.declared.refusal.StepRefused.{StepRefused}
 use Rattle.gr_step.specs.declared.refusal.StepRefused.TheVariants as refusals
 use Rattle.gr_record.specs.Listings.{state_in}

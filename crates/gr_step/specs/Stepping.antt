@@ -1,56 +1,98 @@
--- Which goroutine takes a step, what it asks for, and what the step is.
-use Rattle.std.specs.Prelude.{◌≡◌, ◌+◌, Bool, Some, None}
+-- The turn of a goroutine: what it may do, what its step asks for, and what the step is.
+use Rattle.std.specs.Prelude.{◌≡◌, Bool, None, Option}
 use Rattle.gr_base.specs.declared.events.Event.{Event}
+use Rattle.gr_base.specs.declared.events.Choice.TheVariants.{Plain}
+use Rattle.gr_base.specs.declared.values.Value.{Value}
 use Rattle.gr_program.specs.Programs.{Program}
+use Rattle.gr_rules.specs.Communications.{send, receive}
 use Rattle.gr_rules.specs.Outcomes.{gives}
 use Rattle.gr_rules.specs.Deeds.{Deed}
-use Rattle.gr_rules.specs.Goroutines.{ready}
-use Rattle.gr_rules.specs.States.{live}
 use Rattle.gr_rules.specs.Steps.{attempt, refusal}
-use Rattle.gr_code.specs.CodeFrames.{Wants}
+use Rattle.gr_code.specs.CodeFrames.{ProgramCode, Wants}
+use Rattle.gr_code.specs.CodeViews.{program_code_of}
 use Rattle.gr_code.specs.Goroutines.{CodeGoroutine, task_of, is_local}
+use Rattle.gr_code.specs.Programs.{IsClause}
+use Rattle.gr_refine.specs.Arriving.{HasClauseHere}
 use Rattle.gr_goros.specs.Needs.{NeedIs}
 use Rattle.gr_goros.specs.declared.needs.Need.{Need}
 use Rattle.gr_lower.specs.Lowered.{lowered}
-use Rattle.gr_tables.specs.NamedGoroutines.{name_at}
-use Rattle.gr_record.specs.declared.listing.Listing.{Listing}
 use Rattle.gr_step.specs.declared.objects.Objects.{Objects}
+use Rattle.gr_step.specs.declared.turn.Meeting.{Meeting}
+use Rattle.gr_step.specs.declared.turn.Turn.{Turn}
 use Rattle.gr_record.specs.Effects.{Effect}
-use Rattle.gr_step.specs.declared.refusal.StepRefused.{StepRefused}
-use Rattle.gr_step.specs.declared.stepping.Ready.{Ready}
-use Rattle.gr_record.specs.Listings.{program_in, state_in}
+use Rattle.gr_record.specs.Listings.{program_in, state_in, IsCoded}
 use Rattle.gr_step.specs.Objects.{contents_in}
-use Rattle.gr_step.specs.Premises.{OfGoroutine}
-use Rattle.gr_step.specs.Refusals.{SaysWhy}
+use Rattle.gr_step.specs.Communicating.{Trial, TrialIsSound, Tried, Chosen}
+use Rattle.gr_step.specs.Premises.{Acting, OfGoroutine}
+use Rattle.gr_step.specs.Room.{HasRoom}
 use Rattle.gr_record.specs.Taking.{Takes}
 
--- the goroutine of an event is ready, in a program that runs; this is its number, and the ordinal of its next step
-pub record IsReady (e : Event) (o : Objects) (r : Ready) : Type 0 where
-  pub runs : (contents_in o).run ≡ live
-  pub named : name_at o.goroutines r.number ≡ Some e.go
-  pub goroutine : CodeGoroutine
-  pub there : (contents_in o).goroutines e.go ≡ Some goroutine
-  pub is_ready : goroutine.status ≡ ready
-  pub ordinal : r.ordinal ≡ goroutine.steps + 1
+-- the program that runs, and the event
+abbrev pub program_for : Turn → Program
+program_for t = program_in t.listing.now
 
--- why the event is refused, whatever the program
-abbrev pub IsRefusedFor : Event → Objects → StepRefused → Type 0
-IsRefusedFor e o why = (p : Program) → SaysWhy p (contents_in o) e why
+abbrev pub event_for : Turn → Event
+event_for t = t.event.now
+
+-- the code that runs
+abbrev pub code_for : Turn → ProgramCode
+code_for t = program_code_of t.listing.now.code.value
+
+-- the code is that of the program, and the goroutine of the event, which has this number, is ready
+pub record MayAct (t : Turn) (o : Objects) : Type 0 where
+  pub coded : IsCoded t.listing.now
+  pub acting : Acting (program_for t) (event_for t) t.number o
+
+-- it chooses nothing
+abbrev pub IsPlain : Turn → Type 0
+IsPlain t = (event_for t).choice ≡ Plain
+
+-- of its goroutine
+abbrev pub OfItsGoroutine : Turn → Objects → (CodeGoroutine → Type 0) → Type 0
+OfItsGoroutine t o P = OfGoroutine (event_for t) (contents_in o) P
 
 -- whether the instruction of its goroutine asks for nothing beyond that, and what it asks for
-abbrev pub AsksNothing : Listing → Event → Objects → Bool → Type 0
-AsksNothing l e o b = OfGoroutine e (contents_in o) (λ g. is_local (lowered (program_in l)) g ≡ b)
+abbrev pub AsksNothing : Turn → Objects → Bool → Type 0
+AsksNothing t o b = OfItsGoroutine t o (λ g. is_local (lowered (program_for t)) g ≡ b)
 
-abbrev pub AsksFor : Listing → Event → Objects → Deed → Type 0
-AsksFor l e o d = OfGoroutine e (contents_in o) (λ g. task_of (lowered (program_in l)) g ≡ gives (Wants d))
+abbrev pub AsksFor : Turn → Objects → Deed → Type 0
+AsksFor t o d = OfItsGoroutine t o (λ g. task_of (lowered (program_for t)) g ≡ gives (Wants d))
 
-abbrev pub HasNeed : Listing → Event → Objects → Need → Type 0
-HasNeed l e o need = OfGoroutine e (contents_in o) (λ g. NeedIs need (lowered (program_in l)) g)
+abbrev pub HasNeed : Turn → Objects → Need → Type 0
+HasNeed t o need = OfItsGoroutine t o (λ g. NeedIs need (lowered (program_for t)) g)
 
 -- the event is a step
-abbrev pub IsPossible : Listing → Event → Objects → Type 0
-IsPossible l e o = refusal (program_in l) (state_in (program_in l) (contents_in o)) e ≡ None
+abbrev pub IsPossible : Turn → Objects → Type 0
+IsPossible t o = refusal (program_for t) (state_in (program_for t) (contents_in o)) (event_for t) ≡ None
 
 -- the change is that of the step of the event, from the first objects to the second
-abbrev pub TakesStep : Listing → Event → Objects → Objects → Effect → Type 0
-TakesStep l e old new c = Takes (program_in l) e (attempt (program_in l) e) (contents_in old) c (contents_in new)
+abbrev pub TakesStep : Turn → Objects → Objects → Effect → Type 0
+TakesStep t old new c = Takes (program_for t) (event_for t) (attempt (program_for t) (event_for t)) (contents_in old) c (contents_in new)
+
+-- the choice of the event is taken, or is not possible here
+abbrev pub HasChosen : Turn → Objects → Objects → Option Effect → Type 0
+HasChosen t old new c = Chosen (program_for t) (event_for t) (contents_in old) c (contents_in new)
+
+-- there is room for taking the change back
+abbrev pub LeavesRoom : Turn → Objects → Effect → Type 0
+LeavesRoom t o c = HasRoom (event_for t).go c o
+
+-- the goroutine may act, and stands at the clause with the number, if its communication is one of a select
+pub record MayMeet (m : Meeting) (o : Objects) : Type 0 where
+  pub coded : IsCoded m.turn.now.listing.now
+  pub acting : Acting (program_for m.turn.now) (event_for m.turn.now) m.turn.now.number o
+  pub clause : OfItsGoroutine m.turn.now o (λ g. IsClause m.clause × HasClauseHere (lowered (program_for m.turn.now)) g.frames m.clause)
+
+-- it sends the value, or receives one, with this zero value
+abbrev pub to_send : Meeting → Value → Trial
+to_send m v = λ a otherwise. send a m.clause m.channel.now v otherwise
+
+abbrev pub to_receive : Meeting → Value → Trial
+to_receive m zero_value = λ a otherwise. receive a m.clause m.channel.now zero_value otherwise
+
+-- that is not refused as unsound; it proceeds with a change, or cannot
+abbrev pub MayTry : Meeting → Objects → Trial → Type 0
+MayTry m o trial = TrialIsSound (program_for m.turn.now) (event_for m.turn.now) (contents_in o) trial
+
+abbrev pub HasTried : Meeting → Trial → Objects → Option Effect → Objects → Type 0
+HasTried m trial old c new = Tried (program_for m.turn.now) (event_for m.turn.now) trial (contents_in old) c (contents_in new)

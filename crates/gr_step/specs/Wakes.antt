@@ -17,9 +17,9 @@ use Rattle.gr_code.specs.CodeFrames.{ProgramCode}
 use Rattle.gr_code.specs.Goroutines.{CodeGoroutine, Completion}
 use Rattle.gr_goros.specs.Views.{is_finished}
 use Rattle.gr_goros.specs.declared.undo.GoUndo.{GoUndo}
-use Rattle.gr_contents.specs.Closing.{waiting_on}
-use Rattle.gr_contents.specs.Meetings.{woken}
-use Rattle.gr_contents.specs.Partners.{waits_in}
+use Rattle.gr_refine.specs.Closing.{waiting_on}
+use Rattle.gr_refine.specs.Meetings.{woken}
+use Rattle.gr_refine.specs.Partners.{waits_in}
 use Rattle.gr_tables.specs.NamedChannels.{contents_of, withdrawn, once_closed, AreAtGates, GoesBack}
 use Rattle.gr_tables.specs.NamedGoroutines.{goroutines_of}
 use Rattle.gr_step.specs.declared.objects.Objects.{Objects}

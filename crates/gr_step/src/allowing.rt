@@ -5,15 +5,17 @@ ghost use Rattle.std.specs.List.{list_any, list_all};
 ghost use Rattle.std.specs.Option.{option_map_or};
 ghost use Rattle.gr_rules.specs.Steps.{refusal};
 ghost use Rattle.gr_code.specs.CodeViews.{arm_of, arms_of, operand_of};
-ghost use Rattle.gr_contents.specs.Attempting.{is_plain as is_no_choice};
+ghost use Rattle.gr_refine.specs.Attempting.{is_plain as is_no_choice};
 ghost use Rattle.gr_goros.specs.Needs.{one_channel};
 ghost use Rattle.gr_record.specs.Listings.{program_in, state_in, IsCoded};
 ghost use Rattle.gr_step.specs.Objects.{contents_in};
 ghost use Rattle.gr_step.specs.Possible.{is_given, channel_given, arm_given, arm_goes, is_default, arm_at, arms_go};
 ghost use Rattle.gr_step.specs.Premises.{Acting};
+ghost use Rattle.gr_step.specs.Stepping.{MayAct, program_for, event_for};
 
 use crate::choosing::{can_receive, can_send};
 use crate::objects::Objects;
+use crate::turn::Turn;
 use gr_base::{ChName, Choice, Event, Value};
 use gr_code::code::{Arm, Operand};
 use gr_eval::settles;
@@ -163,24 +165,22 @@ impl Objects {
     }
 
     /// Whether the choice of an event is possible, whose goroutine is ready. It takes no memory.
-    pub(crate) fn allows(&self, listing: &Listing, event: &Event, number: usize) -> bool
-        requires coded { IsCoded listing.now }
-        requires acting { Acting (program_in listing.now) event.now number self.now }
-        ensures { result ≡ is_none (refusal (program_in listing.now) (state_in (program_in listing.now) (contents_in self.now)) event.now) }
+    pub(crate) fn allows(&self, turn: &Turn<'_>) -> bool
+        requires may { MayAct turn.now self.now }
+        ensures { result ≡ is_none (refusal (program_for turn.now)
+            (state_in (program_for turn.now) (contents_in self.now)) (event_for turn.now)) }
     {
-        let Some(goroutine) = self.goroutines.get(number) else {
-            unreachable!()
-        };
-        let Some(arms) = goroutine.arms(&listing.code) else {
-            return is_plain(event.choice);
+        let goroutine = self.goroutines.at(turn.number);
+        let Some(arms) = goroutine.arms(&turn.listing.code) else {
+            return is_plain(turn.event.choice);
         };
         let Some(frame) = goroutine.frame(0) else {
             unreachable!()
         };
         let cells = frame.cells();
         if !have_channels(cells, arms) {
-            return is_plain(event.choice);
+            return is_plain(turn.event.choice);
         }
-        self.choice_is_possible(cells, arms, event.choice)
+        self.choice_is_possible(cells, arms, turn.event.choice)
     }
 }

@@ -2,7 +2,7 @@
 
 ghost use Rattle.std.specs.Prelude.{◌≡◌, ◌++◌, map, IfOk, OnOk};
 ghost use Rattle.gr_rules.specs.Communications as rules;
-ghost use Rattle.gr_contents.specs.Closing as closing;
+ghost use Rattle.gr_refine.specs.Closing as closing;
 
 use gr_base::{GoName, NoMemory};
 use gr_channels::Channel;

@@ -43,7 +43,8 @@ pub(crate) fn waited(
     operation: Option<Operation>,
     touched: Touched,
 ) -> Result<Box<Beyond>, NoMemory>
-    ensures { (reads writes : List Object) → AreTouched touched (option_map channel_in operation) reads writes → IfOk result (λ beyond. Reaches operation reads writes false beyond.value) }
+    ensures { (reads writes : List Object) → AreTouched touched (option_map channel_in operation) reads writes
+        → IfOk result (λ beyond. Reaches operation reads writes false beyond.value) }
 {
     let beyond = Beyond {
         operation,
@@ -92,7 +93,8 @@ fn gates_too(alloc: Global, channels: &[ChName]) -> Result<Option<Box<More>>, No
     Ok(Some(Box::new(alloc, more)?))
 }
 
-/// What a step with one channel reached that met a goroutine which waited there, and on the others too, before it changes anything.
+/// What a step with one channel reached that met a goroutine which waited there, and on the others too, before it changes
+/// anything.
 pub(crate) fn reached_with(
     alloc: Global,
     operation: Operation,
@@ -101,7 +103,8 @@ pub(crate) fn reached_with(
     others: &[ChName],
 ) -> Result<Box<Beyond>, NoMemory>
     ensures { (reads writes : List Object) → AreTouched touched (Some (channel_in operation)) reads writes
-        → IfOk result (λ beyond. IsReached (operation_of operation) reads (writes ++ objects.Go partner.now ∷ map objects.Gate others.now) beyond.value) }
+        → IfOk result (λ beyond. IsReached (operation_of operation) reads (writes ++ objects.Go partner.now
+        ∷ map objects.Gate others.now) beyond.value) }
 {
     let more = gates_too(alloc, others)?;
     let beyond = Beyond {

@@ -6,7 +6,7 @@ ghost use Rattle.gr_rules.specs.Operators.{same_channel};
 ghost use Rattle.gr_rules.specs.Actors.{channels_but as ruled};
 ghost use Rattle.gr_rules.specs.Goroutines.{channel_of as channel_ruled};
 ghost use Rattle.gr_rules.specs.Goroutines.{Wait as WaitSeen, waiting};
-ghost use Rattle.gr_contents.specs.Partners.{waits_in};
+ghost use Rattle.gr_refine.specs.Partners.{waits_in};
 ghost use Rattle.gr_goros.specs.Views.{status_of, wait_of, waits_of};
 ghost use Rattle.gr_step.specs.Preparing.{AreToLeave};
 
@@ -56,7 +56,8 @@ pub(crate) fn channels_but(
 
 /// This channel, but for those that were seen.
 fn channel_but(alloc: Global, seen: &[ChName], channel: &ChName) -> Result<Vec<ChName>, NoMemory>
-    ensures { IfOk result (λ names. names.items ≡ (if list_any (same_channel channel.now) seen.now then [] else channel.now ∷ [])) }
+    ensures { IfOk result (λ names. names.items
+        ≡ (if list_any (same_channel channel.now) seen.now then [] else channel.now ∷ [])) }
 {
     let mut names = Vec::new(alloc);
     if !is_among(channel, seen) {
@@ -83,7 +84,7 @@ pub(crate) fn channels_awaited(
 }
 
 /// The channels of these waits, each once, but for this one: none where that is all for which they wait, as mostly.
-#[tactic(auto, using(crate::proofs::ChannelsNamed::none_but))]
+#[tactic(auto, using(crate::proofs::ChannelsButLemmas::none_but))]
 fn other_channels(alloc: Global, channel: &ChName, waits: &[Wait]) -> Result<Vec<ChName>, NoMemory>
     ensures { IfOk result (λ names. names.items ≡ ruled (channel.now ∷ []) (waits_of waits.now)) }
 {
@@ -112,8 +113,8 @@ pub(crate) fn others_awaited(
     }
 }
 
-/// The channels that a goroutine with these waits is still to leave, where it left a queue of this one: none where it waits for one
-/// thing alone, and else this one and the others.
+/// The channels that a goroutine with these waits is still to leave, where it left a queue of this one: none where it waits for
+/// one thing alone, and else this one and the others.
 fn channels_to_leave(
     alloc: Global,
     channel: &ChName,
@@ -132,7 +133,7 @@ fn channels_to_leave(
 }
 
 /// .. of a goroutine that waits, by its status.
-#[tactic(auto, using(crate::proofs::PreparingLemmas::alone_leaves_none))]
+#[tactic(auto, using(crate::proofs::PrepareLemmas::alone_leaves_none))]
 pub(crate) fn still_to_leave(
     alloc: Global,
     channel: &ChName,
@@ -140,7 +141,8 @@ pub(crate) fn still_to_leave(
     others: Vec<ChName>,
 ) -> Result<Vec<ChName>, NoMemory>
     requires { others.items ≡ ruled (channel.now ∷ []) (waits_in (status_of status.now)) }
-    ensures { (ws : List WaitSeen) → status_of status.now ≡ waiting ws → IfOk result (λ names. AreToLeave names.items channel.now ws) }
+    ensures { (ws : List WaitSeen) → status_of status.now ≡ waiting ws
+        → IfOk result (λ names. AreToLeave names.items channel.now ws) }
 {
     match status {
         Status::Waiting(waits) => channels_to_leave(alloc, channel, waits, others),

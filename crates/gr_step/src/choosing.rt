@@ -3,17 +3,17 @@
 ghost use Rattle.std.specs.Prelude.{◌≡◌, IfOk, MatchOption};
 ghost use Rattle.std.specs.List.{list_any};
 ghost use Rattle.gr_rules.specs.Tells.{ready_clauses};
-ghost use Rattle.gr_contents.specs.Partners.{can_send as may_send, can_receive as may_receive, can_proceed as may_proceed};
+ghost use Rattle.gr_refine.specs.Partners.{can_send as may_send, can_receive as may_receive, can_proceed as may_proceed};
 ghost use Rattle.gr_goros.specs.Views.{communication_of, communications_of};
 ghost use Rattle.gr_step.specs.Choices.{Selects, IsAtSelect, HasNoChoice, ready_from};
 ghost use Rattle.gr_record.specs.Listings.{program_in, state_in, IsCoded};
 ghost use Rattle.gr_step.specs.Objects.{contents_in};
 ghost use Rattle.gr_record.specs.Running.{Running};
 
-use crate::objects::{Objects, Run};
+use crate::objects::Objects;
 use gr_base::{GoName, NoMemory};
 use gr_channels::Channel;
-use gr_goros::{Clause, Goroutine, Need, Status};
+use gr_goros::{Clause, Goroutine, Need};
 use gr_record::Listing;
 
 /// Whether a send on the channel can proceed, which it can on a closed channel: it is a fault.
@@ -79,29 +79,27 @@ impl Objects {
     }
 
     /// The goroutine of a name, where it is ready at a select, in a program that runs.
-    pub(crate) fn at_select(&self, listing: &Listing, go: &GoName) -> Option<&Goroutine>
+    fn at_select(&self, listing: &Listing, go: &GoName) -> Option<&Goroutine>
         requires coded { IsCoded listing.now }
         requires running { Running (program_in listing.now) (contents_in self.now) }
-        ensures { MatchOption result (HasNoChoice (program_in listing.now) (contents_in self.now) go.now) (λ g. IsAtSelect (program_in listing.now) (contents_in self.now) go.now g.now.content) }
+        ensures { MatchOption result (HasNoChoice (program_in listing.now) (contents_in self.now) go.now)
+            (λ g. IsAtSelect (program_in listing.now) (contents_in self.now) go.now g.now.content) }
     {
-        let Run::Live = self.run else {
+        let Ok(ready) = self.ready_goroutine(go) else {
             return None;
         };
-        let goroutine = self.goroutines.get(self.goroutines.number(go)?)?;
-        let Status::Ready = goroutine.status() else {
-            return None;
-        };
-        if !goroutine.is_select(&listing.code) {
+        if !ready.goroutine.is_select(&listing.code) {
             return None;
         }
-        Some(goroutine)
+        Some(ready.goroutine)
     }
 
     /// The clauses of the select at which a goroutine is ready, if it is, in a program that runs.
     fn clauses_at(&self, listing: &Listing, go: &GoName) -> Result<Option<Vec<Clause>>, NoMemory>
         requires coded { IsCoded listing.now }
         requires running { Running (program_in listing.now) (contents_in self.now) }
-        ensures { IfOk result (λ o. MatchOption o (HasNoChoice (program_in listing.now) (contents_in self.now) go.now) (λ clauses. Selects (program_in listing.now) (contents_in self.now) go.now (communications_of clauses.items))) }
+        ensures { IfOk result (λ o. MatchOption o (HasNoChoice (program_in listing.now) (contents_in self.now) go.now)
+            (λ clauses. Selects (program_in listing.now) (contents_in self.now) go.now (communications_of clauses.items))) }
     {
         let Some(goroutine) = self.at_select(listing, go) else {
             return Ok(None);
@@ -116,7 +114,8 @@ impl Objects {
     pub fn ready_cases(&self, listing: &Listing, go: &GoName) -> Result<Vec<u32>, NoMemory>
         requires coded { IsCoded listing.now }
         requires running { Running (program_in listing.now) (contents_in self.now) }
-        ensures { IfOk result (λ cases. cases.items ≡ ready_clauses (program_in listing.now) (state_in (program_in listing.now) (contents_in self.now)) go.now) }
+        ensures { IfOk result (λ cases. cases.items
+            ≡ ready_clauses (program_in listing.now) (state_in (program_in listing.now) (contents_in self.now)) go.now) }
     {
         match self.clauses_at(listing, go)? {
             Some(clauses) => self.ready_numbers(&clauses),

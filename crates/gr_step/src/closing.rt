@@ -21,7 +21,7 @@ ghost use Rattle.gr_base.specs.declared.names.ChName.{ChName};
 ghost use Rattle.gr_channels.specs.Channels.{Content};
 ghost use Rattle.gr_code.specs.CodeViews.{program_code_of};
 ghost use Rattle.gr_code.specs.Goroutines.{CodeGoroutine, Completion};
-ghost use Rattle.gr_contents.specs.Closing.{waiting_on};
+ghost use Rattle.gr_refine.specs.Closing.{waiting_on};
 ghost use Rattle.gr_tables.specs.NamedChannels.{contents_of, At, IsOpen};
 ghost use Rattle.gr_tables.specs.NamedGoroutines.{goroutines_of, name_at, seen_at, CanArrive, IsCounted};
 ghost use Rattle.gr_record.specs.declared.record.Operation.TheVariants as Operation;
@@ -30,11 +30,13 @@ ghost use Rattle.gr_step.specs.Wakes.{is_live_there, written_by_close, Closing};
 ghost use Rattle.gr_step.specs.Room.{HasRoom};
 ghost use Rattle.gr_step.specs.Premises.{Acting, OfGoroutine};
 ghost use Rattle.gr_record.specs.Taking.{Takes};
+ghost use Rattle.gr_step.specs.Stepping.{MayAct, IsPlain, AsksFor, TakesStep, LeavesRoom, event_for, code_for};
 
 use crate::awaiting::waiting_on;
 use crate::beyond::reached;
 use crate::objects::Objects;
 use crate::touching::{gate_side, push_gates};
+use crate::turn::Turn;
 use crate::waking::{all_channels, shut, wake_each};
 use gr_base::{ChName, Event, Fault, GoName, Kind, NoMemory, Object};
 use gr_channels::ChanUndo;
@@ -60,7 +62,8 @@ fn push_goroutines(
 
 /// What a close of the first of these channels writes, where these goroutines wait on it, and on the others.
 fn written(alloc: Global, names: &[GoName], channels: &[ChName]) -> Result<Vec<Object>, NoMemory>
-    ensures { IfOk result (λ written. (c : ChName) (others : List ChName) → channels.now ≡ c ∷ others → written.items ≡ objects.Gate c ∷ map objects.Go names.now ++ map objects.Gate others) }
+    ensures { IfOk result (λ written. (c : ChName) (others : List ChName) → channels.now ≡ c ∷ others
+        → written.items ≡ objects.Gate c ∷ map objects.Go names.now ++ map objects.Gate others) }
 {
     let mut written = Vec::new(alloc);
     let Some((channel, others)) = channels.split_first() else {
@@ -79,7 +82,8 @@ fn beyond_close(
     channel: &ChName,
     names: &[GoName],
 ) -> Result<Box<Beyond>, NoMemory>
-    ensures { IfOk result (λ beyond. Reaches (Some (Operation.Closes channel.now)) [] (written_by_close channel.now (goroutines_of goroutines.now) names.now) false beyond.value) }
+    ensures { IfOk result (λ beyond. Reaches (Some (Operation.Closes channel.now)) []
+        (written_by_close channel.now (goroutines_of goroutines.now) names.now) false beyond.value) }
 {
     let channels = all_channels(alloc, goroutines, channel, names)?;
     let writes = written(alloc, names, &channels)?;
@@ -95,7 +99,8 @@ fn closed(
     channels: Vec<(ChName, ChanUndo)>,
 ) -> Change
     ensures own { result.own ≡ own }
-    ensures told { (c : ChName) (writes : List objects_touched.Object) → Reaches (Some (Operation.Closes c)) [] writes false beyond.value
+    ensures told { (c : ChName) (writes : List objects_touched.Object)
+        → Reaches (Some (Operation.Closes c)) [] writes false beyond.value
         → Tells result kinds.Close (Some (closes c)) [] writes own met.items channels.items }
 {
     let mut beyond = beyond;
@@ -108,18 +113,15 @@ fn closed(
 
 impl Objects {
     /// Closes a channel that is open, on which all that wait are ready again. Refused, nothing has changed.
-    fn close_open(
-        &mut self,
-        listing: &Listing,
-        event: &Event,
-        number: usize,
-        channel: &ChName,
-    ) -> Result<Change, NoMemory>
+    fn close_open(&mut self, turn: &Turn<'_>, channel: &ChName) -> Result<Change, NoMemory>
         requires open { At IsOpen (contents_of self.old.channels channel.now) }
-        requires arrives { At (CanArrive (program_code_of listing.now.code.value) Completion) (seen_at self.old.goroutines number) }
-        requires named { name_at self.old.goroutines number ≡ Some event.now.go }
-        requires live { (x : Content) → contents_of self.old.channels channel.now ≡ Some x → list_all (λ n. is_live_there (goroutines_of self.old.goroutines n)) (waiting_on x) ≡ true }
-        ensures ok { IfOk result (λ change. (x : Content) → contents_of self.old.channels channel.now ≡ Some x → Closing (program_code_of listing.now.code.value) event.now channel.now x change self.old self.new) }
+        requires arrives { At (CanArrive (code_for turn.now) Completion)
+            (seen_at self.old.goroutines turn.now.number) }
+        requires named { name_at self.old.goroutines turn.now.number ≡ Some (event_for turn.now).go }
+        requires live { (x : Content) → contents_of self.old.channels channel.now ≡ Some x
+            → list_all (λ n. is_live_there (goroutines_of self.old.goroutines n)) (waiting_on x) ≡ true }
+        ensures ok { IfOk result (λ change. (x : Content) → contents_of self.old.channels channel.now ≡ Some x
+            → Closing (code_for turn.now) (event_for turn.now) channel.now x change self.old self.new) }
         ensures err { OnErr result (contents_in self.new ≡ contents_in self.old) }
     {
         let alloc = self.alloc;
@@ -129,7 +131,7 @@ impl Objects {
         let undos = shut(&mut self.channels, alloc, &self.goroutines, channel, &names)?;
         let arrives = self
             .goroutines
-            .deliver(number, &listing.code, Arrival::Completion);
+            .deliver(turn.number, &turn.listing.code, Arrival::Completion);
         let own = match arrives {
             Ok(own) => own,
             Err(error) => {
@@ -144,7 +146,10 @@ impl Objects {
     /// The fault of closing a channel that is closed. Refused, nothing has changed.
     fn close_twice(&mut self, number: usize, channel: &ChName) -> Result<Change, NoMemory>
         requires { At IsCounted (seen_at self.old.goroutines number) }
-        ensures ok { IfOk result (λ change. (n : List ℕ) (g : CodeGoroutine) → name_at self.old.goroutines number ≡ Some n → (contents_in self.old).goroutines n ≡ Some g → Stops n faulted.CloseOfClosed (Some (Operation.Closes channel.now)) (objects.Gate channel.now ∷ []) (contents_in self.old) g change (contents_in self.new)) }
+        ensures ok { IfOk result (λ change. (n : List ℕ) (g : CodeGoroutine) → name_at self.old.goroutines number ≡ Some n
+            → (contents_in self.old).goroutines n ≡ Some g
+            → Stops n faulted.CloseOfClosed (Some (Operation.Closes channel.now)) (objects.Gate channel.now ∷ [])
+            (contents_in self.old) g change (contents_in self.new)) }
         ensures room { IfOk result (λ change. (n : List ℕ) → HasRoom n change self.new) }
         ensures err { OnErr result (contents_in self.new ≡ contents_in self.old) }
     {
@@ -155,27 +160,24 @@ impl Objects {
     }
 
     /// Closes a channel, on which all that wait are ready again; it may be a fault. Refused, nothing has changed.
-    pub fn close(
+    pub(crate) fn close(
         &mut self,
-        listing: &Listing,
-        event: &Event,
-        number: usize,
+        turn: &Turn<'_>,
         channel: Option<ChName>,
     ) -> Result<Change, NoMemory>
-        requires coded { IsCoded listing.now }
-        requires acting { Acting (program_in listing.now) event.now number self.old }
-        requires plain { event.now.choice ≡ choices.Plain }
-        requires task { OfGoroutine event.now (contents_in self.old) (λ g. task_of (lowered (program_in listing.now)) g ≡ gives (Wants (deeds.Closes channel))) }
-        ensures ok { IfOk result (λ change. Takes (program_in listing.now) event.now (attempt (program_in listing.now) event.now) (contents_in self.old) change (contents_in self.new)) }
-        ensures room { IfOk result (λ change. HasRoom event.now.go change self.new) }
+        requires may { MayAct turn.now self.old }
+        requires plain { IsPlain turn.now }
+        requires task { AsksFor turn.now self.old (deeds.Closes channel) }
+        ensures ok { IfOk result (TakesStep turn.now self.old self.new) }
+        ensures room { IfOk result (LeavesRoom turn.now self.new) }
         ensures err { OnErr result (contents_in self.new ≡ contents_in self.old) }
     {
         let Some(channel) = channel else {
-            return self.plain_fault(number, Fault::CloseOfNil);
+            return self.plain_fault(turn.number, Fault::CloseOfNil);
         };
         if self.channels.get(&channel).unwrap().is_closed() {
-            return self.close_twice(number, &channel);
+            return self.close_twice(turn.number, &channel);
         }
-        self.close_open(listing, event, number, &channel)
+        self.close_open(turn, &channel)
     }
 }

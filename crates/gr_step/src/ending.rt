@@ -13,9 +13,11 @@ ghost use Rattle.gr_step.specs.Objects.{contents_in};
 ghost use Rattle.gr_step.specs.Room.{HasRoom};
 ghost use Rattle.gr_step.specs.Premises.{Acting, OfGoroutine};
 ghost use Rattle.gr_record.specs.Taking.{Takes};
+ghost use Rattle.gr_step.specs.Stepping.{MayAct, IsPlain, OfItsGoroutine, TakesStep, LeavesRoom, program_for};
 
 use crate::faults::stopping;
 use crate::objects::{Objects, Run};
+use crate::turn::Turn;
 use gr_base::{Event, Kind, NoMemory};
 use gr_goros::{Halt, Need};
 use gr_record::Listing;
@@ -23,24 +25,19 @@ use gr_record::record::{Change, Form};
 
 impl Objects {
     /// The goroutine is done, and with that of `main` the program ends (Go: Program execution). Refused, nothing has changed.
-    pub fn exit(
-        &mut self,
-        listing: &Listing,
-        event: &Event,
-        number: usize,
-    ) -> Result<Change, NoMemory>
-        requires coded { IsCoded listing.now }
-        requires acting { Acting (program_in listing.now) event.now number self.old }
-        requires plain { event.now.choice ≡ choices.Plain }
-        requires task { OfGoroutine event.now (contents_in self.old) (λ g. NeedIs Need.Exit (lowered (program_in listing.now)) g) }
-        ensures ok { IfOk result (λ change. Takes (program_in listing.now) event.now (attempt (program_in listing.now) event.now) (contents_in self.old) change (contents_in self.new)) }
-        ensures room { IfOk result (λ change. HasRoom event.now.go change self.new) }
+    pub(crate) fn exit(&mut self, turn: &Turn<'_>) -> Result<Change, NoMemory>
+        requires may { MayAct turn.now self.old }
+        requires plain { IsPlain turn.now }
+        requires task { OfItsGoroutine turn.now self.old
+            (λ g. NeedIs Need.Exit (lowered (program_for turn.now)) g) }
+        ensures ok { IfOk result (TakesStep turn.now self.old self.new) }
+        ensures room { IfOk result (LeavesRoom turn.now self.new) }
         ensures err { OnErr result (contents_in self.new ≡ contents_in self.old) }
     {
-        if event.go.is_main() {
-            return self.end(number);
+        if turn.event.go.is_main() {
+            return self.end(turn.number);
         }
-        let own = self.goroutines.halt(number, Halt::Finished);
+        let own = self.goroutines.halt(turn.number, Halt::Finished);
         Ok(Change {
             form: Form::Alone(Kind::Return, own),
         })

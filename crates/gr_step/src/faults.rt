@@ -40,7 +40,9 @@ impl Objects {
         reads: Vec<Object>,
     ) -> Result<Change, NoMemory>
         requires { At IsCounted (seen_at self.old.goroutines number) }
-        ensures ok { IfOk result (λ change. (n : List ℕ) (g : CodeGoroutine) → name_at self.old.goroutines number ≡ Some n → (contents_in self.old).goroutines n ≡ Some g → Stops n fault operation reads.items (contents_in self.old) g change (contents_in self.new)) }
+        ensures ok { IfOk result (λ change. (n : List ℕ) (g : CodeGoroutine) → name_at self.old.goroutines number ≡ Some n
+            → (contents_in self.old).goroutines n ≡ Some g
+            → Stops n fault operation reads.items (contents_in self.old) g change (contents_in self.new)) }
         ensures room { IfOk result (λ change. (n : List ℕ) → HasRoom n change self.new) }
         ensures err { OnErr result (contents_in self.new ≡ contents_in self.old) }
     {
@@ -52,10 +54,13 @@ impl Objects {
         })
     }
 
-    /// The goroutine with a number stops the program with a fault, which did nothing with a channel. Refused, nothing has changed.
+    /// The goroutine with a number stops the program with a fault, which did nothing with a channel. Refused, nothing has
+    /// changed.
     pub(crate) fn plain_fault(&mut self, number: usize, fault: Fault) -> Result<Change, NoMemory>
         requires { At IsCounted (seen_at self.old.goroutines number) }
-        ensures ok { IfOk result (λ change. (n : List ℕ) (g : CodeGoroutine) → name_at self.old.goroutines number ≡ Some n → (contents_in self.old).goroutines n ≡ Some g → Stops n fault None [] (contents_in self.old) g change (contents_in self.new)) }
+        ensures ok { IfOk result (λ change. (n : List ℕ) (g : CodeGoroutine) → name_at self.old.goroutines number ≡ Some n
+            → (contents_in self.old).goroutines n ≡ Some g
+            → Stops n fault None [] (contents_in self.old) g change (contents_in self.new)) }
         ensures room { IfOk result (λ change. (n : List ℕ) → HasRoom n change self.new) }
         ensures err { OnErr result (contents_in self.new ≡ contents_in self.old) }
     {

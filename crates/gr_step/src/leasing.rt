@@ -6,18 +6,20 @@ ghost use Rattle.gr_program.specs.Programs.{Program};
 ghost use Rattle.gr_rules.specs.Goroutines.{ready};
 ghost use Rattle.gr_rules.specs.States.{live};
 ghost use Rattle.gr_code.specs.Goroutines.{CodeGoroutine};
-ghost use Rattle.gr_contents.specs.Contents.{Contents};
-ghost use Rattle.gr_contents.specs.Partners.{AreChannels};
+ghost use Rattle.gr_refine.specs.Contents.{Contents};
+ghost use Rattle.gr_refine.specs.Partners.{AreChannels};
 ghost use Rattle.gr_lower.specs.Lowered.{lowered};
 ghost use Rattle.gr_record.specs.declared.record.Record.{Record as RecordSeen};
 ghost use Rattle.gr_record.specs.Running.{Running};
-ghost use Rattle.gr_contents.specs.Contents.{with_goroutine};
-ghost use Rattle.gr_step.specs.Leasing.{IsLease, SameLoan, LeadsOn, Stays, HasOwnStep, CanCountOn, IsLoanOf, IsUp, IsAsLent, Walk, AreRecords, loan_of, loan_kept, name_lent, records_led, program_lent, goroutine_led_to, goes_alone};
+ghost use Rattle.gr_refine.specs.Contents.{with_goroutine};
+ghost use Rattle.gr_step.specs.Leasing.{IsLease, SameLoan, LeadsOn, Stays, HasOwnStep, CanCountOn, IsLoanOf, IsAsLent};
+ghost use Rattle.gr_step.specs.Guard.{IsUp};
+ghost use Rattle.gr_step.specs.Leasing.{Walk, AreRecords, loan_of, loan_kept, name_lent, records_led, program_lent};
+ghost use Rattle.gr_step.specs.Leasing.{goroutine_led_to, goes_alone};
 
-use crate::objects::Run;
 use crate::store::Store;
 use gr_base::{Choice, GoName, Kind, NoMemory, StepId};
-use gr_goros::{Goroutine, Status};
+use gr_goros::Goroutine;
 use gr_record::Listing;
 use gr_record::record::{Change, Form, Record};
 use std::alloc::Global;
@@ -26,14 +28,14 @@ use std::mem;
 /// What is kept of the steps that a goroutine took on a copy of it: the program, its name, the goroutine as it was lent, and how
 /// many they were.
 #[derive(Drop)]
-pub struct Batch {
+pub struct LocalRun {
     pub(crate) listing: Listing,
     pub(crate) go: GoName,
     pub(crate) lent: Goroutine,
     pub(crate) len: usize,
 }
 
-impl Batch {
+impl LocalRun {
     /// The name of the goroutine.
     pub fn go(&self) -> &GoName
         ensures { result.now ≡ (loan_kept self.now).name }
@@ -51,14 +53,14 @@ impl Batch {
 
 /// A copy of a goroutine, with the steps that it took by itself since it was lent.
 #[derive(Drop)]
-pub struct Lease {
-    pub(crate) batch: Batch,
+pub struct LentCopy {
+    pub(crate) batch: LocalRun,
     /// The goroutine after its steps.
     pub(crate) reached: Goroutine,
     pub(crate) records: Vec<Record>,
 }
 
-impl Lease {
+impl LentCopy {
     /// The name of its goroutine.
     pub fn go(&self) -> &GoName
         ensures { result.now ≡ (loan_of self.now).name }
@@ -74,7 +76,7 @@ impl Lease {
     }
 
     /// What is kept of it.
-    pub fn into_batch(self) -> Batch
+    pub fn into_run(self) -> LocalRun
         ensures { loan_kept result ≡ loan_of self }
     {
         self.batch
@@ -128,8 +130,8 @@ impl Lease {
     }
 }
 
-/// The same name, whose counts no other name shares. Whoever takes steps on a copy shares them with a record of each, and how many
-/// names share them is counted in memory that other threads then do not write.
+/// The same name, whose counts no other name shares. Whoever takes steps on a copy shares them with a record of each, and how
+/// many names share them is counted in memory that other threads then do not write.
 fn own_name(alloc: Global, go: &GoName) -> Result<GoName, NoMemory>
     ensures { IfOk result (λ name. name ≡ go.now) }
 {
@@ -150,75 +152,63 @@ impl Store {
         requires { IsRun self.now }
         ensures { result ≡ goes_alone (state_at self.now) go.now }
     {
-        let Run::Live = self.objects.run else {
-            return false;
-        };
-        let Some(goroutine) = self.goroutine(go) else {
-            return false;
-        };
-        let Status::Ready = goroutine.status() else {
-            return false;
-        };
-        goroutine.goes_alone(&self.listing.code)
+        match self.objects.ready_goroutine(go) {
+            Ok(ready) => ready.goroutine.goes_alone(&self.listing.code),
+            Err(_) => false,
+        }
     }
 
     /// A copy of a goroutine, to take steps of its own; `None` where it is not ready, or the program does not run.
-    pub fn lend(&self, alloc: Global, go: &GoName) -> Result<Option<Lease>, NoMemory>
+    pub fn lend(&self, alloc: Global, go: &GoName) -> Result<Option<LentCopy>, NoMemory>
         requires { IsRun self.now }
         ensures lease { IfOk result (λ o. IfSome o (λ l. IsLease l × IsLoanOf self.now go.now l)) }
         ensures none { IfOk result (λ o. IfNone o (¬ IsUp (contents_at self.now) go.now)) }
     {
-        let Run::Live = self.objects.run else {
-            return Ok(None);
-        };
-        let Some(goroutine) = self.goroutine(go) else {
-            return Ok(None);
-        };
-        let Status::Ready = goroutine.status() else {
+        let Ok(ready) = self.objects.ready_goroutine(go) else {
             return Ok(None);
         };
         let listing = Listing {
             program: self.listing.program.clone()?,
             code: self.listing.code.clone()?,
         };
-        let batch = Batch {
+        let batch = LocalRun {
             listing,
             go: own_name(alloc, go)?,
-            lent: goroutine.copy(alloc)?,
+            lent: ready.goroutine.copy(alloc)?,
             len: 0,
         };
-        Ok(Some(Lease {
+        Ok(Some(LentCopy {
             batch,
-            reached: goroutine.copy(alloc)?,
+            reached: ready.goroutine.copy(alloc)?,
             records: Vec::new(alloc),
         }))
     }
 
     /// Whether a lease is of the same program. It compares all of it.
-    pub fn has_program_of(&self, lease: &Lease) -> bool
+    pub fn has_program_of(&self, lease: &LentCopy) -> bool
         ensures { IsTrue result ↔ (program_lent lease.now ≡ program_at self.now) }
     {
         *self.listing.program == *lease.batch.listing.program
     }
 
     /// Whether the goroutine of a lease of the same program is as it was lent, in a run that goes on.
-    pub fn has_as_lent(&self, lease: &Lease) -> bool
+    pub fn has_as_lent(&self, lease: &LentCopy) -> bool
         requires { program_lent lease.now ≡ program_at self.now }
         ensures { IsTrue result ↔ IsAsLent lease.now self.now }
     {
-        let Run::Live = self.objects.run else {
+        let Ok(number) = self.objects.number_of(&lease.batch.go) else {
             return false;
         };
-        let Some(goroutine) = self.goroutine(&lease.batch.go) else {
-            return false;
-        };
+        let goroutine = self.objects.goroutines.at(number);
         goroutine.is_like(&lease.batch.lent)
     }
 
-    /// Gives a goroutine that is as it was lent the content after the steps of its lease, which gets the old one. It takes no memory.
-    pub fn take_over(&mut self, lease: &mut Lease)
+    /// Gives a goroutine that is as it was lent the content after the steps of its lease, which gets the old one. It takes no
+    /// memory.
+    pub fn take_over(&mut self, lease: &mut LentCopy)
         requires { IsAsLent lease.old self.old }
-        ensures after { contents_at self.new ≡ with_goroutine (contents_at self.old) (name_lent lease.old) (Some (goroutine_led_to lease.old)) }
+        ensures after { contents_at self.new
+            ≡ with_goroutine (contents_at self.old) (name_lent lease.old) (Some (goroutine_led_to lease.old)) }
         ensures loan { loan_of lease.new ≡ loan_of lease.old }
         ensures records { records_led lease.new ≡ records_led lease.old }
         ensures taken { taken_at self.new ≡ taken_at self.old }

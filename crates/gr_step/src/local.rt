@@ -11,8 +11,10 @@ ghost use Rattle.gr_step.specs.Objects.{contents_in};
 ghost use Rattle.gr_step.specs.Room.{HasRoom};
 ghost use Rattle.gr_step.specs.Premises.{Acting, OfGoroutine};
 ghost use Rattle.gr_record.specs.Taking.{Takes};
+ghost use Rattle.gr_step.specs.Stepping.{MayAct, IsPlain, OfItsGoroutine, TakesStep, LeavesRoom, program_for};
 
 use crate::objects::Objects;
+use crate::turn::Turn;
 use gr_base::{Event, Fault, Kind, NoMemory};
 use gr_record::Listing;
 use gr_record::record::{Change, Form};
@@ -20,23 +22,17 @@ use gr_record::record::{Change, Form};
 impl Objects {
     /// A step that reaches no further than its goroutine; it may be a fault, which stops the program. Refused, nothing has
     /// changed.
-    pub fn local(
-        &mut self,
-        listing: &Listing,
-        event: &Event,
-        number: usize,
-    ) -> Result<Change, NoMemory>
-        requires coded { IsCoded listing.now }
-        requires acting { Acting (program_in listing.now) event.now number self.old }
-        requires plain { event.now.choice ≡ choices.Plain }
-        requires task { OfGoroutine event.now (contents_in self.old) (λ g. is_local (lowered (program_in listing.now)) g ≡ true) }
-        ensures ok { IfOk result (λ change. Takes (program_in listing.now) event.now (attempt (program_in listing.now) event.now) (contents_in self.old) change (contents_in self.new)) }
-        ensures room { IfOk result (λ change. HasRoom event.now.go change self.new) }
+    pub(crate) fn local(&mut self, turn: &Turn<'_>) -> Result<Change, NoMemory>
+        requires may { MayAct turn.now self.old }
+        requires plain { IsPlain turn.now }
+        requires task { OfItsGoroutine turn.now self.old (λ g. is_local (lowered (program_for turn.now)) g ≡ true) }
+        ensures ok { IfOk result (TakesStep turn.now self.old self.new) }
+        ensures room { IfOk result (LeavesRoom turn.now self.new) }
         ensures err { OnErr result (contents_in self.new ≡ contents_in self.old) }
     {
-        let (kind, own) = self.goroutines.local_step(number, &listing.code)?;
+        let (kind, own) = self.goroutines.local_step(turn.number, &turn.listing.code)?;
         if let Kind::Fault(fault) = kind {
-            return self.stop(number, fault, own);
+            return self.stop(turn.number, fault, own);
         }
         Ok(Change {
             form: Form::Alone(kind, own),
@@ -44,21 +40,15 @@ impl Objects {
     }
 
     /// A step whose operands are at fault, which stops the program. Refused, nothing has changed.
-    pub fn fail(
-        &mut self,
-        listing: &Listing,
-        event: &Event,
-        number: usize,
-        fault: Fault,
-    ) -> Result<Change, NoMemory>
-        requires coded { IsCoded listing.now }
-        requires acting { Acting (program_in listing.now) event.now number self.old }
-        requires plain { event.now.choice ≡ choices.Plain }
-        requires task { OfGoroutine event.now (contents_in self.old) (λ g. (is_local (lowered (program_in listing.now)) g ≡ false) × (task_of (lowered (program_in listing.now)) g ≡ faults fault)) }
-        ensures ok { IfOk result (λ change. Takes (program_in listing.now) event.now (attempt (program_in listing.now) event.now) (contents_in self.old) change (contents_in self.new)) }
-        ensures room { IfOk result (λ change. HasRoom event.now.go change self.new) }
+    pub(crate) fn fail(&mut self, turn: &Turn<'_>, fault: Fault) -> Result<Change, NoMemory>
+        requires may { MayAct turn.now self.old }
+        requires plain { IsPlain turn.now }
+        requires task { OfItsGoroutine turn.now self.old (λ g. (is_local (lowered (program_for turn.now)) g ≡ false)
+            × (task_of (lowered (program_for turn.now)) g ≡ faults fault)) }
+        ensures ok { IfOk result (TakesStep turn.now self.old self.new) }
+        ensures room { IfOk result (LeavesRoom turn.now self.new) }
         ensures err { OnErr result (contents_in self.new ≡ contents_in self.old) }
     {
-        self.plain_fault(number, fault)
+        self.plain_fault(turn.number, fault)
     }
 }

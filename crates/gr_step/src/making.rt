@@ -22,10 +22,12 @@ ghost use Rattle.gr_step.specs.Objects.{contents_in};
 ghost use Rattle.gr_step.specs.Room.{HasRoom};
 ghost use Rattle.gr_step.specs.Premises.{Acting, OfGoroutine};
 ghost use Rattle.gr_record.specs.Taking.{Takes};
+ghost use Rattle.gr_step.specs.Stepping.{MayAct, IsPlain, OfItsGoroutine, AsksFor, TakesStep, LeavesRoom, event_for};
 
 use crate::beyond::{reached, with_more};
 use crate::objects::Objects;
 use crate::touching::gate_side;
+use crate::turn::Turn;
 use gr_base::{ChName, Event, Fault, GoName, Kind, NoMemory, Object, Value};
 use gr_channels::Channel;
 use gr_goros::{Arrival, Goroutine};
@@ -95,7 +97,8 @@ fn whole(count: u32) -> Value
 
 /// The objects that a count of the items of a channel reads: its gate, and the ends of its buffer.
 fn read_for_len(alloc: Global, channel: &ChName) -> Result<Vec<Object>, NoMemory>
-    ensures { IfOk result (λ reads. reads.items ≡ objects.Gate channel.now ∷ objects.Head channel.now ∷ objects.Tail channel.now ∷ []) }
+    ensures { IfOk result (λ reads. reads.items ≡ objects.Gate channel.now ∷ objects.Head channel.now ∷ objects.Tail channel.now
+        ∷ []) }
 {
     let mut reads = Vec::with_capacity(alloc, 3)?;
     reads.push(Object::Gate(channel.copy(alloc)?))?;
@@ -113,59 +116,45 @@ fn reading(alloc: Global, operation: Operation, reads: Vec<Object>) -> Result<Bo
 
 impl Objects {
     /// Makes a channel of this size; it may be a fault. Refused, nothing has changed.
-    pub fn make(
-        &mut self,
-        listing: &Listing,
-        event: &Event,
-        number: usize,
-        size: i64,
-    ) -> Result<Change, NoMemory>
-        requires coded { IsCoded listing.now }
-        requires acting { Acting (program_in listing.now) event.now number self.old }
-        requires plain { event.now.choice ≡ choices.Plain }
-        requires task { OfGoroutine event.now (contents_in self.old) (λ g. task_of (lowered (program_in listing.now)) g ≡ gives (Wants (deeds.Makes size))) }
-        ensures ok { IfOk result (λ change. Takes (program_in listing.now) event.now (attempt (program_in listing.now) event.now) (contents_in self.old) change (contents_in self.new)) }
-        ensures room { IfOk result (λ change. HasRoom event.now.go change self.new) }
+    pub(crate) fn make(&mut self, turn: &Turn<'_>, size: i64) -> Result<Change, NoMemory>
+        requires may { MayAct turn.now self.old }
+        requires plain { IsPlain turn.now }
+        requires task { AsksFor turn.now self.old (deeds.Makes size) }
+        ensures ok { IfOk result (TakesStep turn.now self.old self.new) }
+        ensures room { IfOk result (LeavesRoom turn.now self.new) }
         ensures err { OnErr result (contents_in self.new ≡ contents_in self.old) }
     {
         let Some(places) = places_of(size) else {
-            return self.plain_fault(number, Fault::BadSize);
+            return self.plain_fault(turn.number, Fault::BadSize);
         };
-        let made = self.goroutines.get(number).unwrap().channels();
+        let made = self.goroutines.get(turn.number).unwrap().channels();
         if made == u32::MAX {
-            return self.plain_fault(number, Fault::NameCount);
+            return self.plain_fault(turn.number, Fault::NameCount);
         }
-        self.make_next(listing, event, number, made + 1, places)
+        self.make_next(turn, made + 1, places)
     }
 
     /// Makes the next channel of a goroutine, with this number of its own. Refused, nothing has changed.
-    fn make_next(
-        &mut self,
-        listing: &Listing,
-        event: &Event,
-        number: usize,
-        count: u32,
-        places: u32,
-    ) -> Result<Change, NoMemory>
-        requires coded { IsCoded listing.now }
-        requires acting { Acting (program_in listing.now) event.now number self.old }
-        requires plain { event.now.choice ≡ choices.Plain }
-        requires task { OfGoroutine event.now (contents_in self.old) (λ g. task_of (lowered (program_in listing.now)) g ≡ gives (Wants (deeds.Makes (pos places)))) }
+    fn make_next(&mut self, turn: &Turn<'_>, count: u32, places: u32) -> Result<Change, NoMemory>
+        requires may { MayAct turn.now self.old }
+        requires plain { IsPlain turn.now }
+        requires task { AsksFor turn.now self.old (deeds.Makes (pos places)) }
         requires small { places < most_places + 1 }
-        requires few { OfGoroutine event.now (contents_in self.old) (λ g. (g.channels + 1 ≡ count) × (g.channels < greatest_count)) }
-        ensures ok { IfOk result (λ change. Takes (program_in listing.now) event.now (attempt (program_in listing.now) event.now) (contents_in self.old) change (contents_in self.new)) }
-        ensures room { IfOk result (λ change. HasRoom event.now.go change self.new) }
+        requires few { OfItsGoroutine turn.now self.old (λ g. (g.channels + 1 ≡ count)
+            × (g.channels < greatest_count)) }
+        ensures ok { IfOk result (TakesStep turn.now self.old self.new) }
+        ensures room { IfOk result (LeavesRoom turn.now self.new) }
         ensures err { OnErr result (contents_in self.new ≡ contents_in self.old) }
     {
-        let go = event.go.copy(self.alloc)?;
+        let go = turn.event.go.copy(self.alloc)?;
         let name = ChName { go, n: count };
         let beyond = making(self.alloc, &name)?;
         let value = Value::Chan(Some(name.copy(self.alloc)?));
         let own = self
             .goroutines
-            .deliver(number, &listing.code, Arrival::Channel(value))?;
+            .deliver(turn.number, &turn.listing.code, Arrival::Channel(value))?;
         if let Err(error) = self.channels.add(name, places) {
-            self.goroutines.undo(number, own).unwrap();
+            self.goroutines.undo(turn.number, own).unwrap();
             return Err(error);
         }
         Ok(Change {
@@ -174,59 +163,54 @@ impl Objects {
     }
 
     /// Starts a goroutine; it may be a fault. Refused, nothing has changed.
-    pub fn start(
+    pub(crate) fn start(
         &mut self,
-        listing: &Listing,
-        event: &Event,
-        number: usize,
+        turn: &Turn<'_>,
         function: usize,
         arguments: Vec<Value>,
     ) -> Result<Change, NoMemory>
-        requires coded { IsCoded listing.now }
-        requires acting { Acting (program_in listing.now) event.now number self.old }
-        requires plain { event.now.choice ≡ choices.Plain }
-        requires task { OfGoroutine event.now (contents_in self.old) (λ g. task_of (lowered (program_in listing.now)) g ≡ gives (Wants (deeds.Starts function arguments.items))) }
-        ensures ok { IfOk result (λ change. Takes (program_in listing.now) event.now (attempt (program_in listing.now) event.now) (contents_in self.old) change (contents_in self.new)) }
-        ensures room { IfOk result (λ change. HasRoom event.now.go change self.new) }
+        requires may { MayAct turn.now self.old }
+        requires plain { IsPlain turn.now }
+        requires task { AsksFor turn.now self.old (deeds.Starts function arguments.items) }
+        ensures ok { IfOk result (TakesStep turn.now self.old self.new) }
+        ensures room { IfOk result (LeavesRoom turn.now self.new) }
         ensures err { OnErr result (contents_in self.new ≡ contents_in self.old) }
     {
-        if event.go.counts().len() >= MOST_COUNTS {
-            return self.plain_fault(number, Fault::NameDepth);
+        if turn.event.go.counts().len() >= MOST_COUNTS {
+            return self.plain_fault(turn.number, Fault::NameDepth);
         }
-        let started = self.goroutines.get(number).unwrap().children();
+        let started = self.goroutines.get(turn.number).unwrap().children();
         if started == u32::MAX {
-            return self.plain_fault(number, Fault::NameCount);
+            return self.plain_fault(turn.number, Fault::NameCount);
         }
-        self.start_next(listing, event, number, started + 1, function, arguments)
+        self.start_next(turn, started + 1, function, arguments)
     }
 
     /// Starts the next child of a goroutine, with this number among its children. Refused, nothing has changed.
     fn start_next(
         &mut self,
-        listing: &Listing,
-        event: &Event,
-        number: usize,
+        turn: &Turn<'_>,
         count: u32,
         function: usize,
         arguments: Vec<Value>,
     ) -> Result<Change, NoMemory>
-        requires coded { IsCoded listing.now }
-        requires acting { Acting (program_in listing.now) event.now number self.old }
-        requires plain { event.now.choice ≡ choices.Plain }
-        requires task { OfGoroutine event.now (contents_in self.old) (λ g. task_of (lowered (program_in listing.now)) g ≡ gives (Wants (deeds.Starts function arguments.items))) }
-        requires short { length event.now.go < most_counts }
-        requires few { OfGoroutine event.now (contents_in self.old) (λ g. (g.children + 1 ≡ count) × (g.children < greatest_count)) }
-        ensures ok { IfOk result (λ change. Takes (program_in listing.now) event.now (attempt (program_in listing.now) event.now) (contents_in self.old) change (contents_in self.new)) }
-        ensures room { IfOk result (λ change. HasRoom event.now.go change self.new) }
+        requires may { MayAct turn.now self.old }
+        requires plain { IsPlain turn.now }
+        requires task { AsksFor turn.now self.old (deeds.Starts function arguments.items) }
+        requires short { length (event_for turn.now).go < most_counts }
+        requires few { OfItsGoroutine turn.now self.old (λ g. (g.children + 1 ≡ count)
+            × (g.children < greatest_count)) }
+        ensures ok { IfOk result (TakesStep turn.now self.old self.new) }
+        ensures room { IfOk result (LeavesRoom turn.now self.new) }
         ensures err { OnErr result (contents_in self.new ≡ contents_in self.old) }
     {
-        let child = event.go.child(self.alloc, count)?;
-        let goroutine = Goroutine::start(self.alloc, &listing.code, function, arguments)?;
+        let child = turn.event.go.child(self.alloc, count)?;
+        let goroutine = Goroutine::start(self.alloc, &turn.listing.code, function, arguments)?;
         let place = self.goroutines.know(&child)?;
         let beyond = starting(self.alloc, child)?;
         let own = self
             .goroutines
-            .deliver(number, &listing.code, Arrival::Child)?;
+            .deliver(turn.number, &turn.listing.code, Arrival::Child)?;
         self.goroutines.put(place, goroutine);
         Ok(Change {
             form: Form::Further(Kind::Go, own, beyond),
@@ -234,53 +218,47 @@ impl Objects {
     }
 
     /// Counts the items of a channel. Refused, nothing has changed.
-    pub fn len(
+    pub(crate) fn len(
         &mut self,
-        listing: &Listing,
-        event: &Event,
-        number: usize,
+        turn: &Turn<'_>,
         channel: Option<ChName>,
     ) -> Result<Change, NoMemory>
-        requires coded { IsCoded listing.now }
-        requires acting { Acting (program_in listing.now) event.now number self.old }
-        requires plain { event.now.choice ≡ choices.Plain }
-        requires task { OfGoroutine event.now (contents_in self.old) (λ g. task_of (lowered (program_in listing.now)) g ≡ gives (Wants (deeds.TakesLen channel))) }
-        ensures ok { IfOk result (λ change. Takes (program_in listing.now) event.now (attempt (program_in listing.now) event.now) (contents_in self.old) change (contents_in self.new)) }
-        ensures room { IfOk result (λ change. HasRoom event.now.go change self.new) }
+        requires may { MayAct turn.now self.old }
+        requires plain { IsPlain turn.now }
+        requires task { AsksFor turn.now self.old (deeds.TakesLen channel) }
+        ensures ok { IfOk result (TakesStep turn.now self.old self.new) }
+        ensures room { IfOk result (LeavesRoom turn.now self.new) }
         ensures err { OnErr result (contents_in self.new ≡ contents_in self.old) }
     {
         let Some(channel) = channel else {
-            return self.count(listing, number, 0, None);
+            return self.count(turn.listing, turn.number, 0, None);
         };
         let items = items_of(self.channels.get(&channel).unwrap());
         let reads = read_for_len(self.alloc, &channel)?;
         let beyond = reading(self.alloc, Operation::TakesLenOf(channel), reads)?;
-        self.count(listing, number, items, Some(beyond))
+        self.count(turn.listing, turn.number, items, Some(beyond))
     }
 
     /// Counts the places of a channel. Refused, nothing has changed.
-    pub fn cap(
+    pub(crate) fn cap(
         &mut self,
-        listing: &Listing,
-        event: &Event,
-        number: usize,
+        turn: &Turn<'_>,
         channel: Option<ChName>,
     ) -> Result<Change, NoMemory>
-        requires coded { IsCoded listing.now }
-        requires acting { Acting (program_in listing.now) event.now number self.old }
-        requires plain { event.now.choice ≡ choices.Plain }
-        requires task { OfGoroutine event.now (contents_in self.old) (λ g. task_of (lowered (program_in listing.now)) g ≡ gives (Wants (deeds.TakesCap channel))) }
-        ensures ok { IfOk result (λ change. Takes (program_in listing.now) event.now (attempt (program_in listing.now) event.now) (contents_in self.old) change (contents_in self.new)) }
-        ensures room { IfOk result (λ change. HasRoom event.now.go change self.new) }
+        requires may { MayAct turn.now self.old }
+        requires plain { IsPlain turn.now }
+        requires task { AsksFor turn.now self.old (deeds.TakesCap channel) }
+        ensures ok { IfOk result (TakesStep turn.now self.old self.new) }
+        ensures room { IfOk result (LeavesRoom turn.now self.new) }
         ensures err { OnErr result (contents_in self.new ≡ contents_in self.old) }
     {
         let Some(channel) = channel else {
-            return self.count(listing, number, 0, None);
+            return self.count(turn.listing, turn.number, 0, None);
         };
         let places = self.channels.get(&channel).unwrap().capacity();
         let reads = gate_side(self.alloc, &channel)?;
         let beyond = reading(self.alloc, Operation::TakesCapOf(channel), reads)?;
-        self.count(listing, number, places, Some(beyond))
+        self.count(turn.listing, turn.number, places, Some(beyond))
     }
 
     /// The goroutine with a number goes on with a count, which reached this beyond it. Refused, nothing has changed.
@@ -291,8 +269,12 @@ impl Objects {
         count: u32,
         beyond: Option<Box<Beyond>>,
     ) -> Result<Change, NoMemory>
-        requires { At (CanArrive (program_code_of listing.now.code.value) (arrivals.Value (Int (pos count)))) (seen_at self.old.goroutines number) }
-        ensures ok { IfOk result (λ change. (change.kind ≡ kinds.Length) × (change.beyond ≡ option_map (λ b. b.value) beyond) × ChangesObjects (ChangesBy number (Arrives (program_code_of listing.now.code.value) (arrivals.Value (Int (pos count))) change.own)) self.old.run self.old self.new) }
+        requires { At (CanArrive (program_code_of listing.now.code.value) (arrivals.Value (Int (pos count))))
+            (seen_at self.old.goroutines number) }
+        ensures ok { IfOk result (λ change. (change.kind ≡ kinds.Length) × (change.beyond ≡ option_map (λ b. b.value) beyond)
+            × ChangesObjects (ChangesBy number
+            (Arrives (program_code_of listing.now.code.value)
+            (arrivals.Value (Int (pos count))) change.own)) self.old.run self.old self.new) }
         ensures err { OnErr result (contents_in self.new ≡ contents_in self.old) }
     {
         let arrival = Arrival::Value(whole(count));

@@ -5,25 +5,28 @@ ghost use Rattle.gr_base.specs.declared.objects.Object.TheVariants as objects;
 ghost use Rattle.gr_rules.specs.Attempts as attempts;
 ghost use Rattle.gr_rules.specs.States.{same_go};
 ghost use Rattle.gr_rules.specs.Goroutines.{Wait};
-ghost use Rattle.gr_contents.specs.Partners.{is_waiting};
+ghost use Rattle.gr_refine.specs.Partners.{is_waiting};
 ghost use Rattle.gr_code.specs.CodeViews.{program_code_of};
 ghost use Rattle.gr_goros.specs.Views.{arrival_of};
 ghost use Rattle.gr_record.specs.Fews.{members};
-ghost use Rattle.gr_tables.specs.NamedChannels.{contents_of, rooms_of, withdrawn, ChansFit, HasRooms, TookBack, Follows, MoreAtGates, listed};
-ghost use Rattle.gr_tables.specs.NamedGoroutines.{At, goroutines_of, name_at, seen_at, CanArrive, Arrives, ChangesBy, KeepsContents};
+ghost use Rattle.gr_tables.specs.NamedChannels.{contents_of, rooms_of, withdrawn, ChansFit, HasRooms, TookBack, Follows};
+ghost use Rattle.gr_tables.specs.NamedChannels.{MoreAtGates, listed};
+ghost use Rattle.gr_tables.specs.NamedGoroutines.{At, goroutines_of, name_at, seen_at, CanArrive, Arrives, ChangesBy};
+ghost use Rattle.gr_tables.specs.NamedGoroutines.{KeepsContents};
 ghost use Rattle.gr_record.specs.Effects.{reached_by_passage};
 ghost use Rattle.gr_record.specs.Parts.{channel_in, AreTouched};
 ghost use Rattle.gr_record.specs.Records.{operation_of};
 ghost use Rattle.gr_step.specs.Passing.{CanArriveAt, BothArrive, Tells};
 ghost use Rattle.gr_step.specs.Preparing.{IsReached, IsPrepared, CanPass, IsPass, CanExchange, IsExchange, WaitsFor};
+ghost use Rattle.gr_step.specs.Stepping.{event_for, code_for};
 
 use crate::beyond::reached_with;
 use crate::channels_named::{others_awaited, still_to_leave};
 use crate::objects::Objects;
+use crate::turn::Turn;
 use crate::unstepping::{put_back, put_one_back};
-use gr_base::{ChName, Event, GoName, Kind, NoMemory, Object};
+use gr_base::{ChName, GoName, Kind, NoMemory, Object};
 use gr_channels::ChanUndo;
-use gr_code::code::Code;
 use gr_goros::{Arrival, GoUndo};
 use gr_record::Few;
 use gr_record::record::{Beyond, Change, Form, Operation, Passage, Touched};
@@ -33,7 +36,8 @@ use std::alloc::Global;
 /// The change of a step that met nobody, and changed its channel so, if it did.
 #[inline(always)]
 fn told(kind: Kind, own: GoUndo, passage: Box<Passage>, undo: Option<ChanUndo>) -> Change
-    ensures { (operation : attempts.Operation) (reads writes : List Object) → IsReached operation reads writes (reached_by_passage passage.value)
+    ensures { (operation : attempts.Operation) (reads writes : List Object)
+        → IsReached operation reads writes (reached_by_passage passage.value)
         → Tells result kind (Some operation) reads writes own [] (listed (channel_in passage.value.contact.operation) undo) }
 {
     let mut passage = passage;
@@ -62,8 +66,8 @@ fn told_with(
     }
 }
 
-/// A goroutine leaves the queues of the channels of these names, after a change of a channel in the same step. Refused, that change
-/// is taken back.
+/// A goroutine leaves the queues of the channels of these names, after a change of a channel in the same step. Refused, that
+/// change is taken back.
 #[inline]
 fn leave_after(
     channels: &mut Channels,
@@ -103,6 +107,15 @@ pub(crate) struct Prepared {
     pub(crate) beyond: Box<Beyond>,
 }
 
+/// How two goroutines go past their communication: the kind of the step, and what arrives at the one that takes it and at the one
+/// that it meets.
+#[derive(Drop)]
+pub(crate) struct Crossing {
+    pub(crate) kind: Kind,
+    pub(crate) passes: Arrival,
+    pub(crate) meets: Arrival,
+}
+
 impl Objects {
     /// Makes all ready for a communication on a channel with a goroutine that waits there.
     pub(crate) fn prepare(
@@ -118,9 +131,7 @@ impl Objects {
             → IfOk result (λ r. IsPrepared (operation_of operation) reads writes channel.now go.now ws self.now r) }
     {
         let number = self.goroutines.number(go).unwrap();
-        let Some(goroutine) = self.goroutines.get(number) else {
-            unreachable!()
-        };
+        let goroutine = self.goroutines.at(number);
         let status = goroutine.status();
         let others = others_awaited(self.alloc, channel, status)?;
         let beyond = reached_with(self.alloc, operation, touched, go, &others)?;
@@ -134,27 +145,32 @@ impl Objects {
         })
     }
 
-    /// The goroutine with a number goes past its communication with nobody, after a change of its channel in the same step, if there
-    /// was one. Refused, that change is taken back.
+    /// The goroutine with a number goes past its communication with nobody, after a change of its channel in the same step, if
+    /// there was one. Refused, that change is taken back.
     pub(crate) fn pass(
         &mut self,
-        code: &Code,
-        event: &Event,
-        number: usize,
+        turn: &Turn<'_>,
         passes: Arrival,
         kind: Kind,
         passage: Box<Passage>,
         undo: Option<ChanUndo>,
     ) -> Result<Change, NoMemory>
-        requires { CanPass (program_code_of code.now) event.now number (arrival_of passes) (listed (channel_in passage.value.contact.operation) undo) self.old }
-        ensures ok { (operation : attempts.Operation) (reads writes : List Object) → IsReached operation reads writes (reached_by_passage passage.value)
-            → IfOk result (λ change. IsPass (program_code_of code.now) event.now.go (arrival_of passes) kind operation reads writes
+        requires { CanPass (code_for turn.now) (event_for turn.now) turn.now.number (arrival_of passes)
+            (listed (channel_in passage.value.contact.operation) undo) self.old }
+        ensures ok { (operation : attempts.Operation) (reads writes : List Object)
+            → IsReached operation reads writes (reached_by_passage passage.value)
+            → IfOk result (λ change. IsPass (code_for turn.now) (event_for turn.now).go
+            (arrival_of passes) kind operation reads writes
             (listed (channel_in passage.value.contact.operation) undo) change self.old self.new) }
         ensures err_goroutines { OnErr result (goroutines_of self.new.goroutines ≡ goroutines_of self.old.goroutines) }
-        ensures err_channels { OnErr result (TookBack (listed (channel_in passage.value.contact.operation) undo) self.old.channels self.new.channels) }
+        ensures err_channels { OnErr result
+            (TookBack (listed (channel_in passage.value.contact.operation) undo) self.old.channels self.new.channels) }
         ensures run { self.new.run ≡ self.old.run }
     {
-        match self.goroutines.deliver(number, code, passes) {
+        match self
+            .goroutines
+            .deliver(turn.number, &turn.listing.code, passes)
+        {
             Ok(own) => Ok(told(kind, own, passage, undo)),
             Err(error) => {
                 put_one_back(
@@ -171,30 +187,32 @@ impl Objects {
     #[inline(always)]
     fn both_arrive(
         &mut self,
-        code: &Code,
-        event: &Event,
-        number: usize,
+        turn: &Turn<'_>,
         passes: Arrival,
         go: &GoName,
         partner: usize,
         meets: Arrival,
     ) -> Result<(GoUndo, GoUndo), NoMemory>
-        requires named { name_at self.old.goroutines number ≡ Some event.now.go }
+        requires named { name_at self.old.goroutines turn.now.number ≡ Some (event_for turn.now).go }
         requires partner_named { name_at self.old.goroutines partner ≡ Some go.now }
-        requires apart { same_go go.now event.now.go ≡ false }
-        requires can { CanArriveAt (program_code_of code.now) (arrival_of passes) (goroutines_of self.old.goroutines event.now.go) }
-        requires partner_can { CanArriveAt (program_code_of code.now) (arrival_of meets) (goroutines_of self.old.goroutines go.now) }
-        ensures after { IfOk result (λ r. BothArrive (program_code_of code.now) event.now.go go.now (arrival_of passes) (arrival_of meets) r.0 r.1
+        requires apart { same_go go.now (event_for turn.now).go ≡ false }
+        requires can { CanArriveAt (code_for turn.now) (arrival_of passes)
+            (goroutines_of self.old.goroutines (event_for turn.now).go) }
+        requires partner_can { CanArriveAt (code_for turn.now) (arrival_of meets)
+            (goroutines_of self.old.goroutines go.now) }
+        ensures after { IfOk result (λ r. BothArrive (code_for turn.now) (event_for turn.now).go go.now (arrival_of passes)
+            (arrival_of meets) r.0 r.1
             (goroutines_of self.old.goroutines) (goroutines_of self.new.goroutines)) }
         ensures err { OnErr result (goroutines_of self.new.goroutines ≡ goroutines_of self.old.goroutines) }
         ensures channels { self.new.channels ≡ self.old.channels }
         ensures run { self.new.run ≡ self.old.run }
     {
-        let own = self.goroutines.deliver(number, code, passes)?;
+        let code = &*turn.listing.code;
+        let own = self.goroutines.deliver(turn.number, code, passes)?;
         match self.goroutines.deliver(partner, code, meets) {
             Ok(met) => Ok((own, met)),
             Err(error) => {
-                self.goroutines.undo(number, own).unwrap();
+                self.goroutines.undo(turn.number, own).unwrap();
                 Err(error)
             }
         }
@@ -204,19 +222,18 @@ impl Objects {
     /// of their channel. Refused, that change is taken back.
     pub(crate) fn exchange(
         &mut self,
-        code: &Code,
-        event: &Event,
-        number: usize,
+        turn: &Turn<'_>,
         prepared: Prepared,
-        kind: Kind,
         undo: ChanUndo,
-        passes: Arrival,
-        meets: Arrival,
+        crossing: Crossing,
     ) -> Result<Change, NoMemory>
-        requires { CanExchange (program_code_of code.now) event.now number prepared undo (arrival_of passes) (arrival_of meets) self.old }
-        ensures ok { (operation : attempts.Operation) (reads writes : List Object) → IsReached operation reads writes prepared.beyond.value
-            → IfOk result (λ change. IsExchange (program_code_of code.now) event.now.go prepared.go (arrival_of passes) (arrival_of meets)
-            prepared.names.items kind operation reads writes ((prepared.channel, undo) ∷ []) change self.old self.new) }
+        requires { CanExchange (code_for turn.now) (event_for turn.now) turn.now.number prepared undo
+            (arrival_of crossing.passes) (arrival_of crossing.meets) self.old }
+        ensures ok { (operation : attempts.Operation) (reads writes : List Object)
+            → IsReached operation reads writes prepared.beyond.value
+            → IfOk result (λ change. IsExchange (code_for turn.now) (event_for turn.now).go prepared.go
+            (arrival_of crossing.passes) (arrival_of crossing.meets)
+            prepared.names.items crossing.kind operation reads writes ((prepared.channel, undo) ∷ []) change self.old self.new) }
         ensures err_goroutines { OnErr result (goroutines_of self.new.goroutines ≡ goroutines_of self.old.goroutines) }
         ensures err_channels { OnErr result (TookBack ((prepared.channel, undo) ∷ []) self.old.channels self.new.channels) }
         ensures run { self.new.run ≡ self.old.run }
@@ -228,9 +245,14 @@ impl Objects {
             channel,
             beyond,
         } = prepared;
+        let Crossing {
+            kind,
+            passes,
+            meets,
+        } = crossing;
         let change = (channel, undo);
         let done = leave_after(&mut self.channels, self.alloc, change, &names, &go)?;
-        match self.both_arrive(code, event, number, passes, &go, partner, meets) {
+        match self.both_arrive(turn, passes, &go, partner, meets) {
             Ok((own, met)) => Ok(told_with(kind, own, beyond, (go, met), done)),
             Err(error) => {
                 put_back(&mut self.channels, done);

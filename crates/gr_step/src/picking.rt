@@ -3,8 +3,6 @@
 ghost use Rattle.std.specs.Prelude.{◌≡◌, Some, option_copied, option_map, IfOk, IfSome, OnErr};
 ghost use Rattle.std.specs.List.{list_any};
 ghost use Rattle.gr_base.specs.declared.events.Choice.TheVariants as choices;
-ghost use Rattle.gr_program.specs.TypeViews.{literal_of};
-ghost use Rattle.gr_rules.specs.Operands.{value_of};
 ghost use Rattle.gr_code.specs.CodeViews.{arm_of, arms_of};
 ghost use Rattle.gr_record.specs.Listings.{program_in, IsCoded};
 ghost use Rattle.gr_step.specs.Objects.{contents_in};
@@ -12,12 +10,14 @@ ghost use Rattle.gr_step.specs.Picks.{is_send, PicksArm, PicksReceive};
 ghost use Rattle.gr_step.specs.Possible.{arm_at};
 ghost use Rattle.gr_step.specs.Premises.{Acting};
 ghost use Rattle.gr_step.specs.Room.{HasRoom};
-ghost use Rattle.gr_step.specs.Stepping.{IsPossible, TakesStep};
+ghost use Rattle.gr_step.specs.Stepping.{MayAct, IsPossible, TakesStep, LeavesRoom, program_for, event_for};
 
 use crate::allowing::{arm_with, channel_at};
 use crate::objects::Objects;
+use crate::turn::{Meeting, Turn};
 use gr_base::{ChName, Choice, Event, NoMemory, Value};
 use gr_code::code::Arm;
+use gr_goros::value_of_literal;
 use gr_program::Literal;
 use gr_record::Listing;
 use gr_record::record::Change;
@@ -29,18 +29,6 @@ pub(crate) struct Picked {
     pub(crate) case: u32,
     pub(crate) channel: ChName,
     pub(crate) zero: Literal,
-}
-
-/// The value of a literal.
-fn value_of_literal(literal: Literal) -> Value
-    ensures { result ≡ value_of (literal_of literal) }
-{
-    match literal {
-        Literal::Number(n) => Value::Int(n),
-        Literal::Truth(b) => Value::Bool(b),
-        Literal::Empty => Value::Unit,
-        Literal::Nil => Value::Chan(None),
-    }
 }
 
 /// Whether a clause sends.
@@ -98,24 +86,17 @@ impl Objects {
     /// The clause that an event picks, which is possible, if it receives and no clause of the select sends, so that no value can
     /// be at fault.
     #[inline(always)]
-    pub(crate) fn picked(
-        &self,
-        listing: &Listing,
-        event: &Event,
-        number: usize,
-    ) -> Result<Option<Picked>, NoMemory>
-        requires coded { IsCoded listing.now }
-        requires acting { Acting (program_in listing.now) event.now number self.now }
-        requires possible { IsPossible listing.now event.now self.now }
-        ensures { IfOk result (λ picked. IfSome picked (λ x. PicksReceive (program_in listing.now) event.now (contents_in self.now) x)) }
+    pub(crate) fn picked(&self, turn: &Turn<'_>) -> Result<Option<Picked>, NoMemory>
+        requires may { MayAct turn.now self.now }
+        requires possible { IsPossible turn.now self.now }
+        ensures { IfOk result (λ picked. IfSome picked
+            (λ x. PicksReceive (program_for turn.now) (event_for turn.now) (contents_in self.now) x)) }
     {
-        let Choice::Pick(case) = event.choice else {
+        let Choice::Pick(case) = turn.event.choice else {
             return Ok(None);
         };
-        let Some(goroutine) = self.goroutines.get(number) else {
-            unreachable!()
-        };
-        let Some(arms) = goroutine.arms(&listing.code) else {
+        let goroutine = self.goroutines.at(turn.number);
+        let Some(arms) = goroutine.arms(&turn.listing.code) else {
             return Ok(None);
         };
         let Some(frame) = goroutine.frame(0) else {
@@ -128,17 +109,14 @@ impl Objects {
     #[inline(always)]
     pub(crate) fn receive_picked(
         &mut self,
-        listing: &Listing,
-        event: &Event,
-        number: usize,
+        turn: &Turn<'_>,
         picked: Picked,
     ) -> Result<Change, NoMemory>
-        requires coded { IsCoded listing.now }
-        requires acting { Acting (program_in listing.now) event.now number self.old }
-        requires possible { IsPossible listing.now event.now self.old }
-        requires picked { PicksReceive (program_in listing.now) event.now (contents_in self.old) picked }
-        ensures ok { IfOk result (TakesStep listing.now event.now self.old self.new) }
-        ensures room { IfOk result (λ change. HasRoom event.now.go change self.new) }
+        requires may { MayAct turn.now self.old }
+        requires possible { IsPossible turn.now self.old }
+        requires picked { PicksReceive (program_for turn.now) (event_for turn.now) (contents_in self.old) picked }
+        ensures ok { IfOk result (TakesStep turn.now self.old self.new) }
+        ensures room { IfOk result (LeavesRoom turn.now self.new) }
         ensures err { OnErr result (contents_in self.new ≡ contents_in self.old) }
     {
         let Picked {
@@ -147,7 +125,12 @@ impl Objects {
             zero,
         } = picked;
         let zero = value_of_literal(zero);
-        match self.receive(listing, event, number, Some(case), &channel, zero)? {
+        let meeting = Meeting {
+            turn: &*turn,
+            clause: Some(case),
+            channel: &channel,
+        };
+        match self.receive(&meeting, zero)? {
             Some(change) => Ok(change),
             None => unreachable!(),
         }

@@ -2,6 +2,7 @@
 
 ghost use Rattle.std.specs.Prelude.{◌≡◌, ◌∷◌, [], Some, None, IfOk, IfSome, OnOk, OnErr, option_map};
 ghost use Rattle.std.specs.Option.{option_to_list};
+ghost use Rattle.gr_base.specs.declared.values.Value as value;
 ghost use Rattle.gr_channels.specs.Channels.{each};
 ghost use Rattle.gr_channels.specs.Changes.{need};
 ghost use Rattle.gr_channels.specs.declared.changes.ChanUndo.TheVariants as undos;
@@ -26,7 +27,8 @@ fn wait_for(
     clause: Option<u32>,
     communication: &Clause,
 ) -> Result<Option<Wait>, NoMemory>
-    ensures { IfOk result (λ wait. option_to_list (option_map wait_of wait) ≡ rules.waits_for clause (communication_of communication.now)) }
+    ensures { IfOk result (λ wait. option_to_list (option_map wait_of wait)
+        ≡ rules.waits_for clause (communication_of communication.now)) }
 {
     match communication {
         Clause::Send {
@@ -69,7 +71,8 @@ pub(crate) fn queue_to_send(
     value: Value,
 ) -> Result<(), NoMemory>
     requires { AreMade ((None, Sending (Some channel.now) (gives value)) ∷ []) (contents_of channels.old) }
-    ensures contents { OnOk result (contents_of channels.new ≡ queued_for go.now (contents_of channels.old) (None, Sending (Some channel.now) (gives value))) }
+    ensures contents { OnOk result (contents_of channels.new
+        ≡ queued_for go.now (contents_of channels.old) (None, Sending (Some channel.now) (gives value))) }
     ensures back { OnOk result (GoesBack ((channel.now, undos.ParkedSender) ∷ []) channels.old channels.new) }
     ensures err { OnErr result (contents_of channels.new ≡ contents_of channels.old) }
 {
@@ -82,18 +85,18 @@ pub(crate) fn queue_to_send(
     Ok(())
 }
 
-/// .. of those that wait to receive from a channel, outside a select. Refused, no content has changed. The zero value matters for what
-/// the rules say of it alone.
+/// Puts a goroutine at the end of the queue of those that wait to receive from a channel, outside a select. Refused, no content
+/// has changed.
 #[inline(always)]
 pub(crate) fn queue_to_receive(
     channels: &mut Channels,
     alloc: Global,
     go: &GoName,
     channel: &ChName,
-    _zero: &Value,
 ) -> Result<(), NoMemory>
-    requires { AreMade ((None, Receiving (Some channel.now) _zero.now) ∷ []) (contents_of channels.old) }
-    ensures contents { OnOk result (contents_of channels.new ≡ queued_for go.now (contents_of channels.old) (None, Receiving (Some channel.now) _zero.now)) }
+    requires { (initial : value.Value) → AreMade ((None, Receiving (Some channel.now) initial) ∷ []) (contents_of channels.old) }
+    ensures contents { OnOk result ((initial : value.Value) → contents_of channels.new
+        ≡ queued_for go.now (contents_of channels.old) (None, Receiving (Some channel.now) initial)) }
     ensures back { OnOk result (GoesBack ((channel.now, undos.ParkedReceiver) ∷ []) channels.old channels.new) }
     ensures err { OnErr result (contents_of channels.new ≡ contents_of channels.old) }
 {
@@ -115,10 +118,12 @@ fn park_for(
     communication: &Clause,
 ) -> Result<Option<(ChName, ChanUndo)>, NoMemory>
     requires { AreMade ((clause, communication_of communication.now) ∷ []) (contents_of channels.old) }
-    ensures contents { OnOk result (contents_of channels.new ≡ queued_for go.now (contents_of channels.old) (clause, communication_of communication.now)) }
+    ensures contents { OnOk result (contents_of channels.new
+        ≡ queued_for go.now (contents_of channels.old) (clause, communication_of communication.now)) }
     ensures back { IfOk result (λ change. GoesBack (option_to_list change) channels.old channels.new) }
     ensures room { IfOk result (λ change. NeedNoRoom (option_to_list change)) }
-    ensures gate { IfOk result (λ change. AreAtGates (channels_awaited ((clause, communication_of communication.now) ∷ [])) (option_to_list change)) }
+    ensures gate { IfOk result (λ change. AreAtGates (channels_awaited ((clause, communication_of communication.now) ∷ []))
+        (option_to_list change)) }
     ensures err { OnErr result (contents_of channels.new ≡ contents_of channels.old) }
 {
     match communication {
@@ -160,7 +165,8 @@ fn park_for_all(
     pending: &[(Option<u32>, Clause)],
 ) -> Result<Vec<(ChName, ChanUndo)>, NoMemory>
     requires { AreMade (pending_of pending.now) (contents_of channels.old) }
-    ensures contents { OnOk result (contents_of channels.new ≡ queued go.now (pending_of pending.now) (contents_of channels.old)) }
+    ensures contents { OnOk result (contents_of channels.new
+        ≡ queued go.now (pending_of pending.now) (contents_of channels.old)) }
     ensures back { IfOk result (λ undos. GoesBack undos.items channels.old channels.new) }
     ensures gates { IfOk result (λ undos. AreAtGates (channels_awaited (pending_of pending.now)) undos.items) }
     ensures err { OnErr result (contents_of channels.new ≡ contents_of channels.old) }
@@ -190,7 +196,8 @@ pub(crate) fn park_for_few(
     pending: &[(Option<u32>, Clause)],
 ) -> Result<Few<(ChName, ChanUndo)>, NoMemory>
     requires { AreMade (pending_of pending.now) (contents_of channels.old) }
-    ensures contents { OnOk result (contents_of channels.new ≡ queued go.now (pending_of pending.now) (contents_of channels.old)) }
+    ensures contents { OnOk result (contents_of channels.new
+        ≡ queued go.now (pending_of pending.now) (contents_of channels.old)) }
     ensures back { IfOk result (λ undos. GoesBack (members undos) channels.old channels.new) }
     ensures gates { IfOk result (λ undos. AreAtGates (channels_awaited (pending_of pending.now)) (members undos)) }
     ensures err { OnErr result (contents_of channels.new ≡ contents_of channels.old) }

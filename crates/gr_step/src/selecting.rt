@@ -16,10 +16,10 @@ ghost use Rattle.gr_code.specs.CodeFrames.{CodeFrame, Wants};
 ghost use Rattle.gr_code.specs.CodeViews.{program_code_of};
 ghost use Rattle.gr_code.specs.Goroutines.{task_of, Passes};
 ghost use Rattle.gr_code.specs.Programs.{IsClause};
-ghost use Rattle.gr_contents.specs.Arriving.{HasClauseHere};
-ghost use Rattle.gr_contents.specs.Contents.{state_of};
-ghost use Rattle.gr_contents.specs.Looks.{Ends};
-ghost use Rattle.gr_contents.specs.Partners.{is_made_for};
+ghost use Rattle.gr_refine.specs.Arriving.{HasClauseHere};
+ghost use Rattle.gr_refine.specs.Contents.{state_of};
+ghost use Rattle.gr_refine.specs.Looks.{Ends};
+ghost use Rattle.gr_refine.specs.Partners.{is_made_for};
 ghost use Rattle.gr_goros.specs.Views.{communication_of, communications_of};
 ghost use Rattle.gr_lower.specs.Lowered.{lowered};
 ghost use Rattle.gr_tables.specs.NamedGoroutines.{At, Arrives, CanArrive, ChangesBy, seen_at};
@@ -31,11 +31,14 @@ ghost use Rattle.gr_step.specs.Room.{HasRoom};
 ghost use Rattle.gr_step.specs.Premises.{Acting, OfGoroutine, OfActor};
 ghost use Rattle.gr_record.specs.Taking.{Takes};
 ghost use Rattle.gr_step.specs.Communicating.{Chosen};
+ghost use Rattle.gr_step.specs.Stepping.{MayAct, OfItsGoroutine, AsksFor, TakesStep, HasChosen, LeavesRoom, program_for};
+ghost use Rattle.gr_step.specs.Stepping.{event_for};
 
 use crate::beyond::reached;
 use crate::clauses::{default_clause, first_fault, take_clause};
 use crate::objects::Objects;
 use crate::sides::{each_once, sides};
+use crate::turn::{Meeting, Turn};
 use gr_base::{Choice, Event, Fault, Kind, NoMemory, Object};
 use gr_goros::{Arrival, Clause};
 use gr_record::Listing;
@@ -50,45 +53,39 @@ fn reading(alloc: Global, reads: Vec<Object>) -> Result<Box<Beyond>, NoMemory>
 }
 
 impl Objects {
-    /// Takes the choice of the event, if it is possible here: a clause that can proceed, the default clause, or to wait where none
-    /// can proceed and there is no default clause. Refused, nothing has changed.
-    pub fn select(
+    /// Takes the choice of the event, if it is possible here: a clause that can proceed, the default clause, or to wait where
+    /// none can proceed and there is no default clause. Refused, nothing has changed.
+    pub(crate) fn select(
         &mut self,
-        listing: &Listing,
-        event: &Event,
-        number: usize,
+        turn: &Turn<'_>,
         clauses: Vec<Clause>,
     ) -> Result<Option<Change>, NoMemory>
-        requires coded { IsCoded listing.now }
-        requires acting { Acting (program_in listing.now) event.now number self.old }
-        requires task { OfGoroutine event.now (contents_in self.old) (λ g. task_of (lowered (program_in listing.now)) g ≡ gives (Wants (deeds.Chooses (communications_of clauses.items)))) }
-        ensures taken { IfOk result (λ change. Chosen (program_in listing.now) event.now (contents_in self.old) change (contents_in self.new)) }
-        ensures room { IfOk result (λ change. IfSome change (λ c. HasRoom event.now.go c self.new)) }
+        requires may { MayAct turn.now self.old }
+        requires task { AsksFor turn.now self.old (deeds.Chooses (communications_of clauses.items)) }
+        ensures taken { IfOk result (HasChosen turn.now self.old self.new) }
+        ensures room { IfOk result (λ change. IfSome change (LeavesRoom turn.now self.new)) }
         ensures err { OnErr result (contents_in self.new ≡ contents_in self.old) }
     {
-        match event.choice {
+        match turn.event.choice {
             Choice::Plain => Ok(None),
-            Choice::Pick(case) => self.pick(listing, event, number, case, clauses),
-            Choice::Default => self.take_default(listing, event, number, &clauses),
-            Choice::Park => self.wait_for_any(listing, event, number, clauses),
+            Choice::Pick(case) => self.pick(turn, case, clauses),
+            Choice::Default => self.take_default(turn, &clauses),
+            Choice::Park => self.wait_for_any(turn, clauses),
         }
     }
 
     /// Picks a clause, if it can proceed; a value to send that is at fault is a fault of the step. Refused, nothing has changed.
     fn pick(
         &mut self,
-        listing: &Listing,
-        event: &Event,
-        number: usize,
+        turn: &Turn<'_>,
         case: u32,
         clauses: Vec<Clause>,
     ) -> Result<Option<Change>, NoMemory>
-        requires coded { IsCoded listing.now }
-        requires acting { Acting (program_in listing.now) event.now number self.old }
-        requires task { OfGoroutine event.now (contents_in self.old) (λ g. task_of (lowered (program_in listing.now)) g ≡ gives (Wants (deeds.Chooses (communications_of clauses.items)))) }
-        requires choice { event.now.choice ≡ choices.Pick case }
-        ensures taken { IfOk result (λ change. Chosen (program_in listing.now) event.now (contents_in self.old) change (contents_in self.new)) }
-        ensures room { IfOk result (λ change. IfSome change (λ c. HasRoom event.now.go c self.new)) }
+        requires may { MayAct turn.now self.old }
+        requires task { AsksFor turn.now self.old (deeds.Chooses (communications_of clauses.items)) }
+        requires choice { (event_for turn.now).choice ≡ choices.Pick case }
+        ensures taken { IfOk result (HasChosen turn.now self.old self.new) }
+        ensures room { IfOk result (λ change. IfSome change (LeavesRoom turn.now self.new)) }
         ensures err { OnErr result (contents_in self.new ≡ contents_in self.old) }
     {
         let fault = first_fault(&clauses);
@@ -96,31 +93,32 @@ impl Objects {
             return Ok(None);
         };
         let Some(fault) = fault else {
-            return self.communicate(listing, event, number, case, clause);
+            return self.communicate(turn, case, clause);
         };
         if !self.can_proceed(&clause) {
             return Ok(None);
         }
-        let change = self.fail_at_select(listing, event, number, &[clause], fault)?;
+        let change = self.fail_at_select(turn, &[clause], fault)?;
         Ok(Some(change))
     }
 
-    /// Does the communication of a clause whose value to send, if it has one, is not at fault, if it can proceed. Refused, nothing has
-    /// changed.
+    /// Does the communication of a clause whose value to send, if it has one, is not at fault, if it can proceed. Refused,
+    /// nothing has changed.
     fn communicate(
         &mut self,
-        listing: &Listing,
-        event: &Event,
-        number: usize,
+        turn: &Turn<'_>,
         case: u32,
         clause: Clause,
     ) -> Result<Option<Change>, NoMemory>
-        requires coded { IsCoded listing.now }
-        requires acting { Acting (program_in listing.now) event.now number self.old }
-        requires clause { OfGoroutine event.now (contents_in self.old) (λ g. IsClause (Some case) × HasClauseHere (lowered (program_in listing.now)) g.frames (Some case)) }
-        requires step { OfActor (program_in listing.now) event.now (contents_in self.old) (λ a. Ends (frame_in (program_in listing.now)) (contents_in self.old) (attempt (program_in listing.now) event.now) (rules.communicate a (Some case) (communication_of clause) (refuse no_such_choice))) }
-        ensures taken { IfOk result (λ change. Chosen (program_in listing.now) event.now (contents_in self.old) change (contents_in self.new)) }
-        ensures room { IfOk result (λ change. IfSome change (λ c. HasRoom event.now.go c self.new)) }
+        requires may { MayAct turn.now self.old }
+        requires clause { OfItsGoroutine turn.now self.old (λ g. IsClause (Some case)
+            × HasClauseHere (lowered (program_for turn.now)) g.frames (Some case)) }
+        requires step { OfActor (program_for turn.now) (event_for turn.now) (contents_in self.old)
+            (λ a. Ends (frame_in (program_for turn.now)) (contents_in self.old)
+            (attempt (program_for turn.now) (event_for turn.now))
+            (rules.communicate a (Some case) (communication_of clause) (refuse no_such_choice))) }
+        ensures taken { IfOk result (HasChosen turn.now self.old self.new) }
+        ensures room { IfOk result (λ change. IfSome change (LeavesRoom turn.now self.new)) }
         ensures err { OnErr result (contents_in self.new ≡ contents_in self.old) }
     {
         match clause {
@@ -132,32 +130,39 @@ impl Objects {
                 let Ok(value) = value else {
                     return Ok(None);
                 };
-                self.send(listing, event, number, Some(case), &channel, value)
+                let meeting = Meeting {
+                    turn: &*turn,
+                    clause: Some(case),
+                    channel: &channel,
+                };
+                self.send(&meeting, value)
             }
             Clause::Receive { channel, zero } => {
                 let Some(channel) = channel else {
                     return Ok(None);
                 };
-                self.receive(listing, event, number, Some(case), &channel, zero)
+                let meeting = Meeting {
+                    turn: &*turn,
+                    clause: Some(case),
+                    channel: &channel,
+                };
+                self.receive(&meeting, zero)
             }
         }
     }
 
-    /// Takes the default clause, if there is one and no clause can proceed; a value to send that is at fault is a fault of the step.
-    /// Refused, nothing has changed.
+    /// Takes the default clause, if there is one and no clause can proceed; a value to send that is at fault is a fault of the
+    /// step. Refused, nothing has changed.
     fn take_default(
         &mut self,
-        listing: &Listing,
-        event: &Event,
-        number: usize,
+        turn: &Turn<'_>,
         clauses: &[Clause],
     ) -> Result<Option<Change>, NoMemory>
-        requires coded { IsCoded listing.now }
-        requires acting { Acting (program_in listing.now) event.now number self.old }
-        requires task { OfGoroutine event.now (contents_in self.old) (λ g. task_of (lowered (program_in listing.now)) g ≡ gives (Wants (deeds.Chooses (communications_of clauses.now)))) }
-        requires choice { event.now.choice ≡ choices.Default }
-        ensures taken { IfOk result (λ change. Chosen (program_in listing.now) event.now (contents_in self.old) change (contents_in self.new)) }
-        ensures room { IfOk result (λ change. IfSome change (λ c. HasRoom event.now.go c self.new)) }
+        requires may { MayAct turn.now self.old }
+        requires task { AsksFor turn.now self.old (deeds.Chooses (communications_of clauses.now)) }
+        requires choice { (event_for turn.now).choice ≡ choices.Default }
+        ensures taken { IfOk result (HasChosen turn.now self.old self.new) }
+        ensures room { IfOk result (λ change. IfSome change (LeavesRoom turn.now self.new)) }
         ensures err { OnErr result (contents_in self.new ≡ contents_in self.old) }
     {
         let Some(place) = default_clause(clauses) else {
@@ -167,32 +172,29 @@ impl Objects {
             return Ok(None);
         }
         if let Some(fault) = first_fault(clauses) {
-            let change = self.fail_at_select(listing, event, number, clauses, fault)?;
+            let change = self.fail_at_select(turn, clauses, fault)?;
             return Ok(Some(change));
         }
         let Ok(case) = u32::try_from(place) else {
             return Err(NoMemory);
         };
         let reads = self.looked_at(clauses)?;
-        let change = self.pass_default(listing, number, case, reads)?;
+        let change = self.pass_default(turn.listing, turn.number, case, reads)?;
         Ok(Some(change))
     }
 
-    /// Waits for any clause, if none can proceed and there is no default clause; a value to send that is at fault is a fault of the
-    /// step. Refused, nothing has changed.
+    /// Waits for any clause, if none can proceed and there is no default clause; a value to send that is at fault is a fault of
+    /// the step. Refused, nothing has changed.
     fn wait_for_any(
         &mut self,
-        listing: &Listing,
-        event: &Event,
-        number: usize,
+        turn: &Turn<'_>,
         clauses: Vec<Clause>,
     ) -> Result<Option<Change>, NoMemory>
-        requires coded { IsCoded listing.now }
-        requires acting { Acting (program_in listing.now) event.now number self.old }
-        requires task { OfGoroutine event.now (contents_in self.old) (λ g. task_of (lowered (program_in listing.now)) g ≡ gives (Wants (deeds.Chooses (communications_of clauses.items)))) }
-        requires choice { event.now.choice ≡ choices.Park }
-        ensures taken { IfOk result (λ change. Chosen (program_in listing.now) event.now (contents_in self.old) change (contents_in self.new)) }
-        ensures room { IfOk result (λ change. IfSome change (λ c. HasRoom event.now.go c self.new)) }
+        requires may { MayAct turn.now self.old }
+        requires task { AsksFor turn.now self.old (deeds.Chooses (communications_of clauses.items)) }
+        requires choice { (event_for turn.now).choice ≡ choices.Park }
+        ensures taken { IfOk result (HasChosen turn.now self.old self.new) }
+        ensures room { IfOk result (λ change. IfSome change (LeavesRoom turn.now self.new)) }
         ensures err { OnErr result (contents_in self.new ≡ contents_in self.old) }
     {
         if let Some(_) = default_clause(&clauses) {
@@ -202,42 +204,44 @@ impl Objects {
             return Ok(None);
         }
         if let Some(fault) = first_fault(&clauses) {
-            let change = self.fail_at_select(listing, event, number, &clauses, fault)?;
+            let change = self.fail_at_select(turn, &clauses, fault)?;
             return Ok(Some(change));
         }
-        let change = self.wait_in_select(listing, event, number, clauses)?;
+        let change = self.wait_in_select(turn, clauses)?;
         Ok(Some(change))
     }
 
     /// What it looks at to find whether these can proceed, each object once. Their channels are there.
     fn looked_at(&self, clauses: &[Clause]) -> Result<Vec<Object>, NoMemory>
         requires { list_all (is_made_for (contents_in self.now)) (communications_of clauses.now) ≡ true }
-        ensures { IfOk result (λ objects. (frame : CodeFrame → Frame) → objects.items ≡ laws.each_once [] (flat_map (touches.side (state_of frame (contents_in self.now))) (communications_of clauses.now))) }
+        ensures { IfOk result (λ objects. (frame : CodeFrame → Frame)
+            → objects.items ≡ laws.each_once []
+            (flat_map (touches.side (state_of frame (contents_in self.now))) (communications_of clauses.now))) }
     {
         let touched = sides(self.alloc, &self.channels, clauses)?;
         each_once(self.alloc, &[], &touched)
     }
 
-    /// The fault of a value to send stops the program, where the choice looks at these clauses, whose channels are there. Refused,
-    /// nothing has changed.
+    /// The fault of a value to send stops the program, where the choice looks at these clauses, whose channels are there.
+    /// Refused, nothing has changed.
     fn fail_at_select(
         &mut self,
-        listing: &Listing,
-        event: &Event,
-        number: usize,
+        turn: &Turn<'_>,
         clauses: &[Clause],
         fault: Fault,
     ) -> Result<Change, NoMemory>
-        requires acting { Acting (program_in listing.now) event.now number self.old }
+        requires acting { Acting (program_for turn.now) (event_for turn.now) turn.now.number self.old }
         requires made { list_all (is_made_for (contents_in self.old)) (communications_of clauses.now) ≡ true }
-        requires looks { OfGoroutine event.now (contents_in self.old) (LooksAt (program_in listing.now) event.now (communications_of clauses.now)) }
-        requires step { OfGoroutine event.now (contents_in self.old) (λ g. IsFaultOf (program_in listing.now) event.now (contents_in self.old) g fault) }
-        ensures ok { IfOk result (λ change. Takes (program_in listing.now) event.now (attempt (program_in listing.now) event.now) (contents_in self.old) change (contents_in self.new)) }
-        ensures room { IfOk result (λ change. HasRoom event.now.go change self.new) }
+        requires looks { OfItsGoroutine turn.now self.old
+            (LooksAt (program_for turn.now) (event_for turn.now) (communications_of clauses.now)) }
+        requires step { OfItsGoroutine turn.now self.old
+            (λ g. IsFaultOf (program_for turn.now) (event_for turn.now) (contents_in self.old) g fault) }
+        ensures ok { IfOk result (TakesStep turn.now self.old self.new) }
+        ensures room { IfOk result (LeavesRoom turn.now self.new) }
         ensures err { OnErr result (contents_in self.new ≡ contents_in self.old) }
     {
         let reads = self.looked_at(clauses)?;
-        self.fault(number, fault, None, reads)
+        self.fault(turn.number, fault, None, reads)
     }
 
     /// The goroutine with a number goes on in its default clause, having read these. Refused, nothing has changed.
@@ -248,8 +252,12 @@ impl Objects {
         case: u32,
         reads: Vec<Object>,
     ) -> Result<Change, NoMemory>
-        requires { At (CanArrive (program_code_of listing.now.code.value) (Passes (Some case) None)) (seen_at self.old.goroutines number) }
-        ensures ok { IfOk result (λ change. (change.kind ≡ kinds.Default) × ReachesBeyond None reads.items [] false change × ChangesObjects (ChangesBy number (Arrives (program_code_of listing.now.code.value) (Passes (Some case) None) change.own)) self.old.run self.old self.new) }
+        requires { At (CanArrive (program_code_of listing.now.code.value) (Passes (Some case) None))
+            (seen_at self.old.goroutines number) }
+        ensures ok { IfOk result (λ change. (change.kind ≡ kinds.Default) × ReachesBeyond None reads.items [] false change
+            × ChangesObjects (ChangesBy number
+            (Arrives (program_code_of listing.now.code.value)
+            (Passes (Some case) None) change.own)) self.old.run self.old self.new) }
         ensures err { OnErr result (contents_in self.new ≡ contents_in self.old) }
     {
         let beyond = reading(self.alloc, reads)?;

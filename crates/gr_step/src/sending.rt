@@ -6,7 +6,7 @@ ghost use Rattle.gr_base.specs.declared.kinds.Kind.TheVariants.{Pick};
 ghost use Rattle.gr_channels.specs.Objects.{has_any};
 ghost use Rattle.gr_rules.specs.Communications as rules;
 ghost use Rattle.gr_code.specs.Programs.{IsClause};
-ghost use Rattle.gr_contents.specs.Arriving.{HasClauseHere};
+ghost use Rattle.gr_refine.specs.Arriving.{HasClauseHere};
 ghost use Rattle.gr_lower.specs.Lowered.{lowered};
 ghost use Rattle.gr_tables.specs.NamedChannels.{At, contents_of};
 ghost use Rattle.gr_record.specs.Listings.{program_in, IsCoded};
@@ -14,10 +14,13 @@ ghost use Rattle.gr_step.specs.Objects.{contents_in};
 ghost use Rattle.gr_step.specs.Room.{HasRoom};
 ghost use Rattle.gr_step.specs.Premises.{Acting, OfGoroutine};
 ghost use Rattle.gr_step.specs.Communicating.{TrialIsSound, Tried};
+ghost use Rattle.gr_step.specs.Stepping.{LeavesRoom, MayMeet, to_send, MayTry, HasTried};
 
 use crate::beyond::passage;
 use crate::objects::Objects;
+use crate::partners::Crossing;
 use crate::touching::{entered, gate_written};
+use crate::turn::Meeting;
 use gr_base::{ChName, Event, Kind, NoMemory, Value};
 use gr_channels::Offered;
 use gr_goros::Arrival;
@@ -37,86 +40,66 @@ pub(crate) fn kind_by(clause: Option<u32>, kind: Kind) -> Kind
 impl Objects {
     /// Hands a value to the first goroutine that waits to receive it. Refused, nothing has changed.
     #[inline(always)]
-    pub(crate) fn hand(
-        &mut self,
-        listing: &Listing,
-        event: &Event,
-        number: usize,
-        clause: Option<u32>,
-        channel: &ChName,
-        value: Value,
-    ) -> Result<Change, NoMemory>
-        requires coded { IsCoded listing.now }
-        requires acting { Acting (program_in listing.now) event.now number self.old }
-        requires clause { OfGoroutine event.now (contents_in self.old) (λ g. IsClause clause × HasClauseHere (lowered (program_in listing.now)) g.frames clause) }
-        requires sound { TrialIsSound (program_in listing.now) event.now (contents_in self.old) (λ a otherwise. rules.send a clause channel.now value otherwise) }
-        requires waits { At (λ x. (x.closed ≡ false) × (has_any x.receivers ≡ true)) (contents_of self.old.channels channel.now) }
-        ensures ok { IfOk result (λ change. Tried (program_in listing.now) event.now (λ a otherwise. rules.send a clause channel.now value otherwise) (contents_in self.old) (Some change) (contents_in self.new)) }
-        ensures room { IfOk result (λ change. HasRoom event.now.go change self.new) }
+    pub(crate) fn hand(&mut self, meeting: &Meeting<'_>, value: Value) -> Result<Change, NoMemory>
+        requires may { MayMeet meeting.now self.old }
+        requires sound { MayTry meeting.now self.old (to_send meeting.now value) }
+        requires waits { At (λ x. (x.closed ≡ false)
+            × (has_any x.receivers ≡ true)) (contents_of self.old.channels meeting.now.channel.now) }
+        ensures ok { IfOk result (λ change. HasTried meeting.now (to_send meeting.now value) self.old (Some change) self.new) }
+        ensures room { IfOk result (LeavesRoom meeting.now.turn.now self.new) }
         ensures err { OnErr result (contents_in self.new ≡ contents_in self.old) }
     {
-        let Some(found) = self.channels.get(channel) else {
-            unreachable!()
-        };
+        let found = self.channels.at(meeting.channel);
         let Some(receiver) = found.receiver(0) else {
             unreachable!()
         };
         let case = receiver.case;
-        let operation = Operation::SendsOn(channel.copy(self.alloc)?);
+        let operation = Operation::SendsOn(meeting.channel.copy(self.alloc)?);
         let touched = gate_written();
-        let prepared = self.prepare(operation, touched, channel, &receiver.go)?;
-        let Ok(Offered::Handed(value, undo)) = self.channels.offer(channel, value) else {
+        let prepared = self.prepare(operation, touched, meeting.channel, &receiver.go)?;
+        let Ok(Offered::Handed(value, undo)) = self.channels.offer(meeting.channel, value) else {
             unreachable!()
         };
-        let kind = kind_by(clause, Kind::Hand);
-        let passes = Arrival::Passes { clause, got: None };
+        let kind = kind_by(meeting.clause, Kind::Hand);
+        let passes = Arrival::Passes {
+            clause: meeting.clause,
+            got: None,
+        };
         let got = Some((value, true));
         let meets = Arrival::IsMet { clause: case, got };
-        self.exchange(
-            &listing.code,
-            event,
-            number,
-            prepared,
+        let crossing = Crossing {
             kind,
-            undo,
             passes,
             meets,
-        )
+        };
+        self.exchange(meeting.turn, prepared, undo, crossing)
     }
+
     /// Puts a value into the buffer. Refused, nothing has changed.
     #[inline(always)]
-    pub(crate) fn buffer(
-        &mut self,
-        listing: &Listing,
-        event: &Event,
-        number: usize,
-        clause: Option<u32>,
-        channel: &ChName,
-        value: Value,
-    ) -> Result<Change, NoMemory>
-        requires coded { IsCoded listing.now }
-        requires acting { Acting (program_in listing.now) event.now number self.old }
-        requires clause { OfGoroutine event.now (contents_in self.old) (λ g. IsClause clause × HasClauseHere (lowered (program_in listing.now)) g.frames clause) }
-        requires sound { TrialIsSound (program_in listing.now) event.now (contents_in self.old) (λ a otherwise. rules.send a clause channel.now value otherwise) }
-        requires space { At (λ x. (x.closed ≡ false) × (x.receivers ≡ []) × (length x.items < x.capacity)) (contents_of self.old.channels channel.now) }
-        ensures ok { IfOk result (λ change. Tried (program_in listing.now) event.now (λ a otherwise. rules.send a clause channel.now value otherwise) (contents_in self.old) (Some change) (contents_in self.new)) }
-        ensures room { IfOk result (λ change. HasRoom event.now.go change self.new) }
+    pub(crate) fn buffer(&mut self, meeting: &Meeting<'_>, value: Value) -> Result<Change, NoMemory>
+        requires may { MayMeet meeting.now self.old }
+        requires sound { MayTry meeting.now self.old (to_send meeting.now value) }
+        requires space { At (λ x. (x.closed ≡ false) × (x.receivers ≡ [])
+            × (length x.items < x.capacity)) (contents_of self.old.channels meeting.now.channel.now) }
+        ensures ok { IfOk result (λ change. HasTried meeting.now (to_send meeting.now value) self.old (Some change) self.new) }
+        ensures room { IfOk result (LeavesRoom meeting.now.turn.now self.new) }
         ensures err { OnErr result (contents_in self.new ≡ contents_in self.old) }
     {
-        let Some(found) = self.channels.get(channel) else {
-            unreachable!()
-        };
+        let found = self.channels.at(meeting.channel);
         let contact = Contact {
-            operation: Operation::SendsOn(channel.copy(self.alloc)?),
+            operation: Operation::SendsOn(meeting.channel.copy(self.alloc)?),
             touched: entered(found),
         };
         let passage = passage(self.alloc, contact)?;
-        let Offered::Buffered(undo) = self.channels.offer(channel, value)? else {
+        let Offered::Buffered(undo) = self.channels.offer(meeting.channel, value)? else {
             unreachable!()
         };
-        let kind = kind_by(clause, Kind::Buffer);
-        let passes = Arrival::Passes { clause, got: None };
-        let code = &listing.code;
-        self.pass(code, event, number, passes, kind, passage, Some(undo))
+        let kind = kind_by(meeting.clause, Kind::Buffer);
+        let passes = Arrival::Passes {
+            clause: meeting.clause,
+            got: None,
+        };
+        self.pass(meeting.turn, passes, kind, passage, Some(undo))
     }
 }

@@ -7,8 +7,8 @@ ghost use Rattle.gr_rules.specs.States.{same};
 ghost use Rattle.gr_rules.specs.Touches as rules;
 ghost use Rattle.gr_laws.specs.Touched as laws;
 ghost use Rattle.gr_code.specs.CodeFrames.{CodeFrame};
-ghost use Rattle.gr_contents.specs.Contents.{state_of};
-ghost use Rattle.gr_contents.specs.Partners.{is_made_for};
+ghost use Rattle.gr_refine.specs.Contents.{state_of};
+ghost use Rattle.gr_refine.specs.Partners.{is_made_for};
 ghost use Rattle.gr_goros.specs.Views.{communication_of, communications_of};
 ghost use Rattle.gr_tables.specs.NamedChannels.{contents_of};
 ghost use Rattle.gr_step.specs.Parks.{with_channels};
@@ -55,7 +55,9 @@ pub(crate) fn side(
     communication: &Clause,
 ) -> Result<Vec<Object>, NoMemory>
     requires { is_made_for (with_channels (contents_of channels.now)) (communication_of communication.now) ≡ true }
-    ensures { IfOk result (λ touched. (frame : CodeFrame → Frame) → touched.items ≡ rules.side (state_of frame (with_channels (contents_of channels.now))) (communication_of communication.now)) }
+    ensures { IfOk result (λ touched. (frame : CodeFrame → Frame)
+        → touched.items ≡ rules.side (state_of frame (with_channels (contents_of channels.now)))
+        (communication_of communication.now)) }
 {
     match communication {
         Clause::Send {
@@ -77,7 +79,9 @@ pub(crate) fn sides(
     communications: &[Clause],
 ) -> Result<Vec<Object>, NoMemory>
     requires { list_all (is_made_for (with_channels (contents_of channels.now))) (communications_of communications.now) ≡ true }
-    ensures { IfOk result (λ touched. (frame : CodeFrame → Frame) → touched.items ≡ flat_map (rules.side (state_of frame (with_channels (contents_of channels.now)))) (communications_of communications.now)) }
+    ensures { IfOk result (λ touched. (frame : CodeFrame → Frame)
+        → touched.items ≡ flat_map (rules.side (state_of frame (with_channels (contents_of channels.now))))
+        (communications_of communications.now)) }
 {
     let mut touched = Vec::new(alloc);
     for communication in communications {

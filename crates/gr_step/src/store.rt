@@ -1,20 +1,22 @@
 //! The store of a running program.
 
-ghost use Rattle.std.specs.Prelude.{◌≡◌, ◌+◌, ◌-◌, ◌<◌, ◌^◌, min, option_copied, option_map, Some, None, IfOk, IfErr, IfSome, OnOk, OnErr, IsOk};
+ghost use Rattle.std.specs.Prelude.{◌≡◌, ◌+◌, ◌-◌, ◌<◌, ◌^◌, min, option_copied, option_map, Some, None, IfOk, IfErr, IfSome};
+ghost use Rattle.std.specs.Prelude.{OnOk, OnErr, IsOk};
 ghost use Rattle.gr_program.specs.Views.{program_of};
 ghost use Rattle.gr_code.specs.CodeViews.{program_code_of};
 ghost use Rattle.gr_code.specs.Goroutines.{CodeGoroutine};
 ghost use Rattle.gr_goros.specs.Undoing.{undone};
 ghost use Rattle.gr_rules.specs.Tells.{ready_clauses, usual_choice as usual_by_rules};
-ghost use Rattle.gr_step.specs.Choices.{HasManyClauses};
+ghost use Rattle.gr_step.specs.Choices.{HasManyClauses, usual_event};
 ghost use Rattle.gr_record.specs.Running.{IsChecked};
-ghost use Rattle.gr_step.specs.Premises.{CanCount};
+ghost use Rattle.gr_step.specs.Premises.{Acting, CanCount, OfGoroutine};
 ghost use Rattle.gr_record.specs.Taking.{IsRecord};
 ghost use Rattle.gr_step.specs.Refusals.{SaysWhy};
 ghost use Rattle.gr_record.specs.Records.{event_of, taken_back, CanGoBack};
 
 use crate::objects::{Objects, Run};
 use crate::refusal::StepRefused;
+use crate::turn::Turn;
 use gr_base::{ChName, Choice, Event, GoName, Kind, NoMemory, StepId};
 use gr_channels::Channel;
 use gr_code::code::Code;
@@ -64,9 +66,9 @@ impl Store {
         })
     }
 
-    /// Takes the step of an event, if it is one. Errors: the program is over; there is no such goroutine; it is done; it waits; the
-    /// choice is not possible here: the first of these that holds. Want of memory only where it is a step. Refused, nothing has
-    /// changed.
+    /// Takes the step of an event, if it is one. Errors: the program is over; there is no such goroutine; it is done; it waits;
+    /// the choice is not possible here: the first of these that holds. Want of memory only where it is a step. Refused, nothing
+    /// has changed.
     pub fn step(&mut self, event: Event) -> Result<Record, StepRefused>
         requires run { IsRun self.old }
         requires counted { CanCount (contents_at self.old) }
@@ -80,13 +82,64 @@ impl Store {
         ensures not_taken { OnErr result (taken_at self.new ≡ taken_at self.old) }
         ensures listing { SameListing self.old self.new }
     {
-        let ready = self.objects.ready(&event)?;
-        let change = self.objects.take(&self.listing, &event, ready.number)?;
+        let ready = self.objects.ready_goroutine(&event.go)?;
+        let (number, ordinal) = (ready.number, ready.goroutine.steps() + 1);
+        self.take(event, number, ordinal)
+    }
+
+    /// Takes the step of a goroutine with its usual choice: at a select the lowest clause that can proceed, else the default
+    /// clause, else to wait. Errors: the program is over; there is no such goroutine; it is done; it waits: the first of these
+    /// that holds. Want of memory only where it is a step, and at a select of 2^32 clauses or more. Refused, nothing has changed.
+    pub fn step_usual(&mut self, go: GoName) -> Result<Record, StepRefused>
+        requires run { IsRun self.old }
+        requires counted { CanCount (contents_at self.old) }
+        ensures step { IfOk result (λ r. IsRecord (program_at self.old) (contents_at self.old) r (contents_at self.new)) }
+        ensures event { IfOk result (λ r. event_of r ≡ usual_event (program_at self.old) (state_at self.old) go) }
+        ensures run { IsRun self.new }
+        ensures room { IfOk result (λ r. HasRoomFor r self.new) }
+        ensures why { IfErr result (SaysWhy (program_at self.old) (contents_at self.old)
+            (usual_event (program_at self.old) (state_at self.old) go)) }
+        ensures err { OnErr result (contents_at self.new ≡ contents_at self.old) }
+        ensures taken { OnOk result (taken_at self.new ≡ min (taken_at self.old + 1) (2 ^ 64 - 1)) }
+        ensures not_taken { OnErr result (taken_at self.new ≡ taken_at self.old) }
+        ensures listing { SameListing self.old self.new }
+    {
+        let ready = self.objects.ready_goroutine(&go)?;
+        let (number, ordinal) = (ready.number, ready.goroutine.steps() + 1);
+        let choice = self
+            .objects
+            .usual_choice_at(&self.listing, ready.goroutine)?;
+        self.take(Event { go, choice }, number, ordinal)
+    }
+
+    /// Takes the step of an event, whose goroutine is ready: its number, and the ordinal of its next step. Refused, nothing has
+    /// changed.
+    #[inline(always)]
+    fn take(&mut self, event: Event, number: usize, ordinal: u64) -> Result<Record, StepRefused>
+        requires run { IsRun self.old }
+        requires acting { Acting (program_at self.old) event number self.old.objects }
+        requires ordinal { OfGoroutine event (contents_at self.old) (λ g. ordinal ≡ g.steps + 1) }
+        ensures step { IfOk result (λ r. IsRecord (program_at self.old) (contents_at self.old) r (contents_at self.new)) }
+        ensures event { IfOk result (λ r. event_of r ≡ event) }
+        ensures run { IsRun self.new }
+        ensures room { IfOk result (λ r. HasRoomFor r self.new) }
+        ensures why { IfErr result (SaysWhy (program_at self.old) (contents_at self.old) event) }
+        ensures err { OnErr result (contents_at self.new ≡ contents_at self.old) }
+        ensures taken { OnOk result (taken_at self.new ≡ min (taken_at self.old + 1) (2 ^ 64 - 1)) }
+        ensures not_taken { OnErr result (taken_at self.new ≡ taken_at self.old) }
+        ensures listing { SameListing self.old self.new }
+    {
+        let turn = Turn {
+            listing: &self.listing,
+            event: &event,
+            number,
+        };
+        let change = self.objects.take(&turn)?;
         self.taken = self.taken.saturating_add(1);
         Ok(Record {
             id: StepId {
                 go: event.go,
-                n: ready.ordinal,
+                n: ordinal,
             },
             choice: event.choice,
             change,
@@ -95,7 +148,7 @@ impl Store {
 
     /// Takes the step of an event, if it is one over whole numbers alone; else nothing has changed, and the event is handed back.
     #[inline(always)]
-    pub fn count_step(&mut self, event: Event) -> Result<Record, Event>
+    pub fn step_ints(&mut self, event: Event) -> Result<Record, Event>
         requires run { IsRun self.old }
         requires counted { CanCount (contents_at self.old) }
         ensures step { IfOk result (λ r. IsRecord (program_at self.old) (contents_at self.old) r (contents_at self.new)) }
@@ -113,16 +166,13 @@ impl Store {
         let Choice::Plain = event.choice else {
             return Err(event);
         };
-        let Run::Live = self.objects.run else {
-            return Err(event);
-        };
-        let Some(number) = self.objects.goroutines.number(&event.go) else {
+        let Ok(number) = self.objects.number_of(&event.go) else {
             return Err(event);
         };
         let counted = self
             .objects
             .goroutines
-            .count_step(number, &self.listing.code);
+            .step_ints(number, &self.listing.code);
         let Some((ordinal, own)) = counted else {
             return Err(event);
         };
@@ -152,7 +202,7 @@ impl Store {
         ensures listing { SameListing self.old self.new }
     {
         let Record { id, choice, change } = step;
-        match self.objects.take_back(&id.go, change) {
+        match self.objects.undo_change(&id.go, change) {
             Ok(()) => Ok(Event { go: id.go, choice }),
             Err((change, error)) => Err((Record { id, choice, change }, error)),
         }
@@ -166,8 +216,8 @@ impl Store {
         self.objects.ready_cases(&self.listing, go)
     }
 
-    /// The choice of a goroutine where none is asked for: at a select the lowest clause that can proceed, else the default clause,
-    /// else to wait. It takes no memory, and is refused only at a select of 2^32 clauses or more.
+    /// The choice of a goroutine where none is asked for: at a select the lowest clause that can proceed, else the default
+    /// clause, else to wait. It takes no memory, and is refused only at a select of 2^32 clauses or more.
     pub fn usual_choice(&self, go: &GoName) -> Result<Choice, NoMemory>
         requires { IsRun self.now }
         ensures choice { IfOk result (λ choice. choice ≡ usual_by_rules (program_at self.now) (state_at self.now) go.now) }

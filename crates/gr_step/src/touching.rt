@@ -44,7 +44,8 @@ pub(crate) fn send_side(
     name: &ChName,
     channel: &Channel,
 ) -> Result<Vec<Object>, NoMemory>
-    ensures { IfOk result (λ touched. touched.items ≡ objects.Gate name.now ∷ objects.Tail name.now ∷ slot_numbered name.now channel.now.content.capacity (tail_of channel.now.content)) }
+    ensures { IfOk result (λ touched. touched.items ≡ objects.Gate name.now ∷ objects.Tail name.now
+        ∷ slot_numbered name.now channel.now.content.capacity (tail_of channel.now.content)) }
 {
     let mut touched = Vec::with_capacity(alloc, 3)?;
     touched.push(Object::Gate(name.copy(alloc)?))?;
@@ -65,7 +66,8 @@ pub(crate) fn receive_side(
     name: &ChName,
     channel: &Channel,
 ) -> Result<Vec<Object>, NoMemory>
-    ensures { IfOk result (λ touched. touched.items ≡ objects.Gate name.now ∷ objects.Head name.now ∷ slot_numbered name.now channel.now.content.capacity channel.now.content.head) }
+    ensures { IfOk result (λ touched. touched.items ≡ objects.Gate name.now ∷ objects.Head name.now
+        ∷ slot_numbered name.now channel.now.content.capacity channel.now.content.head) }
 {
     let mut touched = Vec::with_capacity(alloc, 3)?;
     touched.push(Object::Gate(name.copy(alloc)?))?;
@@ -107,16 +109,20 @@ fn slot(capacity: u32, number: u64) -> Option<u32>
 
 /// The place of the slot that the next value enters.
 fn slot_at_tail(channel: &Channel) -> Option<u32>
-    ensures alone { (c : ChName) → slot_before c result [] ≡ slot_numbered c channel.now.content.capacity (tail_of channel.now.content) }
-    ensures before { (c : ChName) (os : List Object) → slot_before c result os ≡ slot_numbered c channel.now.content.capacity (tail_of channel.now.content) ++ os }
+    ensures alone { (c : ChName) → slot_before c result []
+        ≡ slot_numbered c channel.now.content.capacity (tail_of channel.now.content) }
+    ensures before { (c : ChName) (os : List Object)
+        → slot_before c result os ≡ slot_numbered c channel.now.content.capacity (tail_of channel.now.content) ++ os }
 {
     slot(channel.capacity(), channel.tail())
 }
 
 /// The place of the slot of the front item.
 fn slot_at_head(channel: &Channel) -> Option<u32>
-    ensures alone { (c : ChName) → slot_before c result [] ≡ slot_numbered c channel.now.content.capacity channel.now.content.head }
-    ensures before { (c : ChName) (os : List Object) → slot_before c result os ≡ slot_numbered c channel.now.content.capacity channel.now.content.head ++ os }
+    ensures alone { (c : ChName) → slot_before c result []
+        ≡ slot_numbered c channel.now.content.capacity channel.now.content.head }
+    ensures before { (c : ChName) (os : List Object)
+        → slot_before c result os ≡ slot_numbered c channel.now.content.capacity channel.now.content.head ++ os }
 {
     slot(channel.capacity(), channel.head())
 }
@@ -145,7 +151,8 @@ pub(crate) fn gate_written() -> Touched
 
 /// What a send touches whose value enters the buffer: it writes the tail and its slot.
 pub(crate) fn entered(channel: &Channel) -> Touched
-    ensures { (c : ChName) → AreTouched result (Some c) (objects.Gate c ∷ []) (objects.Tail c ∷ slot_numbered c channel.now.content.capacity (tail_of channel.now.content)) }
+    ensures { (c : ChName) → AreTouched result (Some c) (objects.Gate c ∷ []) (objects.Tail c
+        ∷ slot_numbered c channel.now.content.capacity (tail_of channel.now.content)) }
 {
     Touched {
         read: Parts::Gate,
@@ -156,7 +163,8 @@ pub(crate) fn entered(channel: &Channel) -> Touched
 
 /// What a receive touches that takes the front item: it writes the head and its slot.
 pub(crate) fn left(channel: &Channel) -> Touched
-    ensures { (c : ChName) → AreTouched result (Some c) (objects.Gate c ∷ []) (objects.Head c ∷ slot_numbered c channel.now.content.capacity channel.now.content.head) }
+    ensures { (c : ChName) → AreTouched result (Some c) (objects.Gate c ∷ []) (objects.Head c
+        ∷ slot_numbered c channel.now.content.capacity channel.now.content.head) }
 {
     Touched {
         read: Parts::Gate,
@@ -167,7 +175,8 @@ pub(crate) fn left(channel: &Channel) -> Touched
 
 /// What a receive touches that takes the front item, into whose place a waiting sender's value moves: it writes all parts.
 pub(crate) fn moved(channel: &Channel) -> Touched
-    ensures { (c : ChName) → AreTouched result (Some c) [] (objects.Gate c ∷ objects.Head c ∷ objects.Tail c ∷ slot_numbered c channel.now.content.capacity channel.now.content.head) }
+    ensures { (c : ChName) → AreTouched result (Some c) [] (objects.Gate c ∷ objects.Head c ∷ objects.Tail c
+        ∷ slot_numbered c channel.now.content.capacity channel.now.content.head) }
 {
     Touched {
         read: Parts::Nothing,
@@ -178,7 +187,8 @@ pub(crate) fn moved(channel: &Channel) -> Touched
 
 /// What a send touches that waits: it writes the gate, and reads where the next value enters.
 pub(crate) fn entrance_read(channel: &Channel) -> Touched
-    ensures { (c : ChName) → AreTouched result (Some c) (objects.Tail c ∷ slot_numbered c channel.now.content.capacity (tail_of channel.now.content)) (objects.Gate c ∷ []) }
+    ensures { (c : ChName) → AreTouched result (Some c) (objects.Tail c
+        ∷ slot_numbered c channel.now.content.capacity (tail_of channel.now.content)) (objects.Gate c ∷ []) }
 {
     Touched {
         read: Parts::Entrance,
@@ -189,7 +199,8 @@ pub(crate) fn entrance_read(channel: &Channel) -> Touched
 
 /// What a receive touches that waits or meets a sender: it writes the gate, and reads where the front item is.
 pub(crate) fn exit_read(channel: &Channel) -> Touched
-    ensures { (c : ChName) → AreTouched result (Some c) (objects.Head c ∷ slot_numbered c channel.now.content.capacity channel.now.content.head) (objects.Gate c ∷ []) }
+    ensures { (c : ChName) → AreTouched result (Some c) (objects.Head c
+        ∷ slot_numbered c channel.now.content.capacity channel.now.content.head) (objects.Gate c ∷ []) }
 {
     Touched {
         read: Parts::Exit,
@@ -200,7 +211,8 @@ pub(crate) fn exit_read(channel: &Channel) -> Touched
 
 /// What a receive reads that finds a closed channel empty: the gate, and where the front item is.
 pub(crate) fn end_read(channel: &Channel) -> Touched
-    ensures { (c : ChName) → AreTouched result (Some c) (objects.Gate c ∷ objects.Head c ∷ slot_numbered c channel.now.content.capacity channel.now.content.head) [] }
+    ensures { (c : ChName) → AreTouched result (Some c) (objects.Gate c ∷ objects.Head c
+        ∷ slot_numbered c channel.now.content.capacity channel.now.content.head) [] }
 {
     Touched {
         read: Parts::GateAndExit,

@@ -131,7 +131,7 @@ impl Objects {
     /// Takes the step of a goroutine back, where what it wrote stands. It takes memory only where there is no room; refused,
     /// nothing has changed, and the change is handed back.
     #[inline]
-    pub(crate) fn take_back(
+    pub(crate) fn undo_change(
         &mut self,
         go: &GoName,
         change: Change,
@@ -207,7 +207,11 @@ impl Objects {
         beyond: Box<Beyond>,
     ) -> Result<(), (Change, NoMemory)>
         requires { CanGoBack go.now (record { kind = kind; own = own; beyond = Some beyond.value }) (contents_in self.old) }
-        ensures back { OnOk result (IsTakenBack go.now (record { kind = kind; own = own; beyond = Some beyond.value }) self.old self.new) }
+        ensures back { OnOk result (IsTakenBack go.now (record {
+          kind = kind;
+          own = own;
+          beyond = Some beyond.value;
+        }) self.old self.new) }
         ensures err { OnErr result (contents_in self.new ≡ contents_in self.old) }
         ensures returned { IfErr result (λ e. e.0 ≡ record { kind = kind; own = own; beyond = Some beyond.value }) }
         ensures succeeds { HasRoom go.now (record { kind = kind; own = own; beyond = Some beyond.value }) self.old → IsOk result }
@@ -220,13 +224,15 @@ impl Objects {
         Ok(())
     }
 
-    /// Takes back what a step did that reached beyond its goroutine, where no frame has to come back, and there is room for the rest.
+    /// Takes back what a step did that reached beyond its goroutine, where no frame has to come back, and there is room for the
+    /// rest.
     fn take_rest_back(&mut self, go: &GoName, own: GoUndo, beyond: Beyond)
         requires fits { GoesFit ((go.now, own) ∷ members beyond.met) (goroutines_of self.old.goroutines) }
         requires frames { NeedNoFrame ((go.now, own) ∷ members beyond.met) }
         requires channels { ChansFit (members beyond.channels) (contents_of self.old.channels) }
         requires room { HasRooms (members beyond.channels) (rooms_of self.old.channels) }
-        ensures goroutines { IsForgotten (begun_in beyond) (after_back ((go.now, own) ∷ members beyond.met) self.old.goroutines) self.new.goroutines }
+        ensures goroutines { IsForgotten (begun_in beyond)
+            (after_back ((go.now, own) ∷ members beyond.met) self.old.goroutines) self.new.goroutines }
         ensures channels { AreUndone (made_in beyond) (members beyond.channels) self.old.channels self.new.channels }
         ensures run { self.new.run ≡ (if beyond.stops then Run.Live else self.old.run) }
     {

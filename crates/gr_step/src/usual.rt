@@ -1,11 +1,12 @@
 //! The choice that is taken where none is asked for, found without memory (Go: Select statements).
 
-ghost use Rattle.std.specs.Prelude.{◌≡◌, ◌≤◌, ◌^◌, length, IfOk, OnErr};
+ghost use Rattle.std.specs.Prelude.{◌≡◌, ◌≤◌, ◌^◌, ℕ, List, length, IfOk, OnErr};
 ghost use Rattle.gr_code.specs.CodeViews.{arms_of};
 ghost use Rattle.gr_rules.specs.Tells.{usual_choice as usual_by_rules};
 ghost use Rattle.gr_record.specs.Listings.{program_in, state_in, IsCoded};
 ghost use Rattle.gr_step.specs.Objects.{contents_in};
 ghost use Rattle.gr_step.specs.Choices.{HasManyClauses};
+ghost use Rattle.gr_step.specs.Guard.{HasReady, IsSomeReady};
 ghost use Rattle.gr_step.specs.Possible.{usual_of as usual_by_arms};
 ghost use Rattle.gr_record.specs.Running.{Running};
 
@@ -13,6 +14,7 @@ use crate::allowing::{has_default, have_channels};
 use crate::objects::Objects;
 use gr_base::{Choice, GoName, NoMemory, Value};
 use gr_code::code::Arm;
+use gr_goros::Goroutine;
 use gr_record::Listing;
 
 impl Objects {
@@ -39,17 +41,24 @@ impl Objects {
         Ok(Choice::Park)
     }
 
-    /// The choice of a goroutine where none is asked for: at a select the lowest clause that can proceed, else the default
-    /// clause, else to wait. It takes no memory; want of memory stands for clauses whose number 32 bits do not hold.
-    pub fn usual_choice(&self, listing: &Listing, go: &GoName) -> Result<Choice, NoMemory>
+    /// The choice of a goroutine that is ready, where none is asked for: at a select the lowest clause that can proceed, else the
+    /// default clause, else to wait. It takes no memory; want of memory stands for clauses whose number 32 bits do not hold.
+    pub(crate) fn usual_choice_at(
+        &self,
+        listing: &Listing,
+        goroutine: &Goroutine,
+    ) -> Result<Choice, NoMemory>
         requires coded { IsCoded listing.now }
         requires running { Running (program_in listing.now) (contents_in self.now) }
-        ensures choice { IfOk result (λ choice. choice ≡ usual_by_rules (program_in listing.now) (state_in (program_in listing.now) (contents_in self.now)) go.now) }
-        ensures refused { OnErr result (HasManyClauses (program_in listing.now) (contents_in self.now) go.now) }
+        requires ready { IsSomeReady (contents_in self.now) goroutine.now.content }
+        ensures choice { IfOk result (λ choice. (n : List ℕ) → HasReady (contents_in self.now) n goroutine.now.content
+            → choice ≡ usual_by_rules (program_in listing.now) (state_in (program_in listing.now) (contents_in self.now)) n) }
+        ensures refused { OnErr result ((n : List ℕ) → HasReady (contents_in self.now) n goroutine.now.content
+            → HasManyClauses (program_in listing.now) (contents_in self.now) n) }
     {
-        let Some(goroutine) = self.at_select(listing, go) else {
+        if !goroutine.is_select(&listing.code) {
             return Ok(Choice::Plain);
-        };
+        }
         let Some(arms) = goroutine.arms(&listing.code) else {
             unreachable!()
         };
@@ -61,5 +70,19 @@ impl Objects {
             return Ok(Choice::Plain);
         }
         self.usual_of(cells, arms)
+    }
+
+    /// The choice of a goroutine where none is asked for: that which it has where it is ready, and else the plain one.
+    pub fn usual_choice(&self, listing: &Listing, go: &GoName) -> Result<Choice, NoMemory>
+        requires coded { IsCoded listing.now }
+        requires running { Running (program_in listing.now) (contents_in self.now) }
+        ensures choice { IfOk result (λ choice. choice
+            ≡ usual_by_rules (program_in listing.now) (state_in (program_in listing.now) (contents_in self.now)) go.now) }
+        ensures refused { OnErr result (HasManyClauses (program_in listing.now) (contents_in self.now) go.now) }
+    {
+        let Ok(ready) = self.ready_goroutine(go) else {
+            return Ok(Choice::Plain);
+        };
+        self.usual_choice_at(listing, ready.goroutine)
     }
 }

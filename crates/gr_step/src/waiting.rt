@@ -1,6 +1,7 @@
 //! The step of a goroutine that comes to wait (Go: Send statements, Receive operator, Select statements).
 
-ghost use Rattle.std.specs.Prelude.{◌≡◌, ◌∷◌, [], ◌++◌, true, false, Some, None, option_map, map, length, IfOk, IfErr, OnOk, OnErr, IsOk, List, Option};
+ghost use Rattle.std.specs.Prelude.{◌≡◌, ◌∷◌, [], ◌++◌, true, false, Some, None, option_map, map, length, IfOk, IfErr, OnOk};
+ghost use Rattle.std.specs.Prelude.{OnErr, IsOk, List, Option};
 ghost use Rattle.gr_base.specs.declared.events.Choice.TheVariants as choices;
 ghost use Rattle.gr_base.specs.declared.kinds.Kind.TheVariants as kinds;
 ghost use Rattle.gr_rules.specs.Outcomes.{gives, faults};
@@ -11,14 +12,15 @@ ghost use Rattle.gr_rules.specs.Steps.{attempt};
 ghost use Rattle.gr_rules.specs.Selects as rules_of_selects;
 ghost use Rattle.gr_code.specs.CodeFrames.{Wants};
 ghost use Rattle.gr_code.specs.Goroutines.{task_of, is_local};
-ghost use Rattle.gr_contents.specs.Leaves.{Refuses};
-ghost use Rattle.gr_contents.specs.Presence.{Sound};
+ghost use Rattle.gr_refine.specs.Leaves.{Refuses};
+ghost use Rattle.gr_refine.specs.Presence.{Sound};
 ghost use Rattle.gr_goros.specs.Views.{communication_of, communications_of, waits_of};
 ghost use Rattle.gr_goros.specs.Needs.{NeedIs};
 ghost use Rattle.gr_lower.specs.Lowered.{lowered};
 ghost use Rattle.gr_record.specs.Listings.{program_in, frame_in, state_in, IsCoded};
 ghost use Rattle.gr_step.specs.Objects.{contents_in};
 ghost use Rattle.gr_base.specs.declared.objects.Object.TheVariants as objects;
+ghost use Rattle.gr_base.specs.declared.values.Value as value;
 ghost use Rattle.gr_rules.specs.Actors as actors;
 ghost use Rattle.gr_tables.specs.NamedChannels.{contents_of};
 ghost use Rattle.gr_tables.specs.NamedGoroutines.{seen_at, At, CanPark};
@@ -30,13 +32,14 @@ ghost use Rattle.gr_laws.specs.Touched.{each_once as each_read};
 ghost use Rattle.gr_rules.specs.Touches.{side as side_by};
 ghost use Rattle.gr_rules.specs.Frames.{Frame};
 ghost use Rattle.gr_code.specs.CodeFrames.{CodeFrame};
-ghost use Rattle.gr_contents.specs.Contents.{state_of};
-ghost use Rattle.gr_contents.specs.Partners.{is_made_for};
+ghost use Rattle.gr_refine.specs.Contents.{state_of};
+ghost use Rattle.gr_refine.specs.Partners.{is_made_for};
 ghost use Rattle.gr_record.specs.Records.{operation_of};
 ghost use Rattle.gr_step.specs.Room.{HasRoom};
 ghost use Rattle.gr_step.specs.Premises.{Acting, OfGoroutine, OfActor};
 ghost use Rattle.gr_record.specs.Taking.{Takes};
 ghost use Rattle.gr_step.specs.Communicating.{HasValues};
+ghost use Rattle.gr_step.specs.Stepping.{MayAct, AsksFor, LeavesRoom, program_for, event_for};
 
 use crate::beyond::{reached, waited};
 use crate::channels_named::channels_but;
@@ -44,6 +47,7 @@ use crate::objects::Objects;
 use crate::queues::{all_waits, park_for_few, queue_to_receive, queue_to_send};
 use crate::sides::{each_once, sides};
 use crate::touching::{entrance_read, exit_read, push_gates, untouched};
+use crate::turn::Turn;
 use gr_base::{ChName, Event, Kind, NoMemory, Object, Value};
 use gr_goros::{Clause, Wait};
 use gr_record::Listing;
@@ -82,63 +86,69 @@ fn gates(alloc: Global, waits: &[Wait]) -> Result<Vec<Object>, NoMemory>
 fn touched_to_send(channels: &Channels, channel: &ChName, value: &Value) -> Touched
     requires { AreMade ((None, deeds.Sending (Some channel.now) (gives value.now)) ∷ []) (contents_of channels.now) }
     ensures { (frame : CodeFrame → Frame) → AreTouched result (Some channel.now)
-        (each_read (gates_of ((None, deeds.Sending (Some channel.now) (gives value.now)) ∷ [])) (side_by (state_of frame (with_channels (contents_of channels.now))) (deeds.Sending (Some channel.now) (gives value.now))))
+        (each_read (gates_of ((None, deeds.Sending (Some channel.now) (gives value.now)) ∷ []))
+        (side_by (state_of frame (with_channels (contents_of channels.now)))
+        (deeds.Sending (Some channel.now) (gives value.now))))
         (gates_of ((None, deeds.Sending (Some channel.now) (gives value.now)) ∷ [])) }
 {
     entrance_read(channels.get(channel).unwrap())
 }
 
-/// What a wait to receive touches of its channel, which is there: it writes the gate, and reads where the front item is. The zero
-/// value matters for what the rules say of it alone.
+/// What a wait to receive touches of its channel, which is there: it writes the gate, and reads where the front item is.
 #[inline(always)]
-fn touched_to_receive(channels: &Channels, channel: &ChName, _zero: &Value) -> Touched
-    requires { AreMade ((None, deeds.Receiving (Some channel.now) _zero.now) ∷ []) (contents_of channels.now) }
-    ensures { (frame : CodeFrame → Frame) → AreTouched result (Some channel.now)
-        (each_read (gates_of ((None, deeds.Receiving (Some channel.now) _zero.now) ∷ [])) (side_by (state_of frame (with_channels (contents_of channels.now))) (deeds.Receiving (Some channel.now) _zero.now)))
-        (gates_of ((None, deeds.Receiving (Some channel.now) _zero.now) ∷ [])) }
+fn touched_to_receive(channels: &Channels, channel: &ChName) -> Touched
+    requires { (initial : value.Value)
+        → AreMade ((None, deeds.Receiving (Some channel.now) initial) ∷ []) (contents_of channels.now) }
+    ensures { (frame : CodeFrame → Frame) (initial : value.Value) → AreTouched result (Some channel.now)
+        (each_read (gates_of ((None, deeds.Receiving (Some channel.now) initial) ∷ []))
+        (side_by (state_of frame (with_channels (contents_of channels.now))) (deeds.Receiving (Some channel.now) initial)))
+        (gates_of ((None, deeds.Receiving (Some channel.now) initial) ∷ [])) }
 {
     exit_read(channels.get(channel).unwrap())
 }
 
 impl Objects {
-    /// Begins to wait for these, each with the number of its clause where it is one of a select, which reaches what is given but for
-    /// its changes of channels. Refused, nothing has changed.
+    /// Begins to wait for these, each with the number of its clause where it is one of a select, which reaches what is given but
+    /// for its changes of channels. Refused, nothing has changed.
     fn begin_to_wait(
         &mut self,
-        event: &Event,
-        number: usize,
+        turn: &Turn<'_>,
         kind: Kind,
         beyond: Box<Beyond>,
         waits: Vec<Wait>,
         pending: &[(Option<u32>, Clause)],
     ) -> Result<Change, NoMemory>
-        requires parks { At CanPark (seen_at self.old.goroutines number) }
+        requires parks { At CanPark (seen_at self.old.goroutines turn.now.number) }
         requires made { AreMade (pending_of pending.now) (contents_of self.old.channels) }
         requires waits { waits_of waits.items ≡ rules.all_waits (pending_of pending.now) }
-        ensures ok { (operation : Option Operation) (sides : List Object) → Reaches operation (each_read (gates_of (pending_of pending.now)) sides) (gates_of (pending_of pending.now)) false beyond.value
-            → IfOk result (λ change. Parks event.now number kind operation sides (pending_of pending.now) change self.old self.new) }
+        ensures ok { (operation : Option Operation) (sides : List Object)
+            → Reaches operation (each_read (gates_of (pending_of pending.now)) sides)
+            (gates_of (pending_of pending.now)) false beyond.value
+            → IfOk result (λ change. Parks (event_for turn.now) turn.now.number kind operation sides
+            (pending_of pending.now) change self.old self.new) }
         ensures err { OnErr result (contents_in self.new ≡ contents_in self.old) }
     {
         let mut beyond = beyond;
-        beyond.channels = park_for_few(&mut self.channels, self.alloc, &event.go, pending)?;
-        let own = self.goroutines.park(number, waits);
+        beyond.channels = park_for_few(&mut self.channels, self.alloc, &turn.event.go, pending)?;
+        let own = self.goroutines.park(turn.number, waits);
         let form = Form::Further(kind, own, beyond);
         Ok(Change { form })
     }
 
-    /// Begins to wait for any of these, each with the number of its clause, after a look at the sides. Refused, nothing has changed.
+    /// Begins to wait for any of these, each with the number of its clause, after a look at the sides. Refused, nothing has
+    /// changed.
     fn wait_for(
         &mut self,
-        event: &Event,
-        number: usize,
+        turn: &Turn<'_>,
         kind: Kind,
         operation: Option<Operation>,
         sides: &[Object],
         pending: &[(Option<u32>, Clause)],
     ) -> Result<Change, NoMemory>
-        requires parks { At CanPark (seen_at self.old.goroutines number) }
+        requires parks { At CanPark (seen_at self.old.goroutines turn.now.number) }
         requires made { AreMade (pending_of pending.now) (contents_of self.old.channels) }
-        ensures ok { IfOk result (λ change. Parks event.now number kind operation sides.now (pending_of pending.now) change self.old self.new) }
+        ensures ok { IfOk result (λ change. Parks (event_for turn.now) turn.now.number kind operation sides.now
+            (pending_of pending.now) change self.old self.new) }
         ensures err { OnErr result (contents_in self.new ≡ contents_in self.old) }
     {
         let alloc = self.alloc;
@@ -146,49 +156,55 @@ impl Objects {
         let writes = gates(alloc, &waits)?;
         let reads = each_once(alloc, &writes, sides)?;
         let beyond = reached(alloc, operation, reads, writes, false)?;
-        self.begin_to_wait(event, number, kind, beyond, waits, pending)
+        self.begin_to_wait(turn, kind, beyond, waits, pending)
     }
 
     /// Begins to wait for a communication on nil, forever. Refused, nothing has changed.
     fn wait_on_nil(
         &mut self,
-        event: &Event,
-        number: usize,
+        turn: &Turn<'_>,
         kind: Kind,
         communication: Clause,
     ) -> Result<Change, NoMemory>
-        requires parks { At CanPark (seen_at self.old.goroutines number) }
+        requires parks { At CanPark (seen_at self.old.goroutines turn.now.number) }
         requires nil { channel_on (communication_of communication) ≡ None }
-        ensures ok { (frame : CodeFrame → Frame) → IfOk result (λ change. Parks event.now number kind None
+        ensures ok { (frame : CodeFrame → Frame) → IfOk result (λ change. Parks (event_for turn.now) turn.now.number kind None
             (side_by (state_of frame (with_channels (contents_of self.old.channels))) (communication_of communication))
             ((None, communication_of communication) ∷ []) change self.old self.new) }
         ensures err { OnErr result (contents_in self.new ≡ contents_in self.old) }
     {
         let beyond = waited(self.alloc, None, untouched())?;
         let waits = Vec::new(self.alloc);
-        self.begin_to_wait(event, number, kind, beyond, waits, &[(None, communication)])
+        self.begin_to_wait(turn, kind, beyond, waits, &[(None, communication)])
     }
 
     /// Begins to wait to send a value on a channel. Refused, nothing has changed.
     #[inline(always)]
     fn wait_for_receiver(
         &mut self,
-        event: &Event,
-        number: usize,
+        turn: &Turn<'_>,
         channel: ChName,
         value: Value,
     ) -> Result<Change, NoMemory>
-        requires parks { At CanPark (seen_at self.old.goroutines number) }
+        requires parks { At CanPark (seen_at self.old.goroutines turn.now.number) }
         requires made { AreMade ((None, deeds.Sending (Some channel) (gives value)) ∷ []) (contents_of self.old.channels) }
-        ensures ok { (frame : CodeFrame → Frame) → IfOk result (λ change. Parks event.now number kinds.SendWait (Some (operations.SendsOn channel))
-            (side_by (state_of frame (with_channels (contents_of self.old.channels))) (deeds.Sending (Some channel) (gives value)))
+        ensures ok { (frame : CodeFrame → Frame)
+            → IfOk result (λ change. Parks (event_for turn.now) turn.now.number kinds.SendWait (Some (operations.SendsOn channel))
+            (side_by (state_of frame (with_channels (contents_of self.old.channels)))
+            (deeds.Sending (Some channel) (gives value)))
             ((None, deeds.Sending (Some channel) (gives value)) ∷ []) change self.old self.new) }
         ensures err { OnErr result (contents_in self.new ≡ contents_in self.old) }
     {
         let name = channel.copy(self.alloc)?;
         let touched = touched_to_send(&self.channels, &channel, &value);
-        queue_to_send(&mut self.channels, self.alloc, &event.go, &channel, value)?;
-        let spot = self.goroutines.park_to_send(number, name);
+        queue_to_send(
+            &mut self.channels,
+            self.alloc,
+            &turn.event.go,
+            &channel,
+            value,
+        )?;
+        let spot = self.goroutines.park_to_send(turn.number, name);
         let operation = Operation::SendsOn(channel);
         let contact = Contact { operation, touched };
         let form = Form::Waits(Waiting { contact, spot });
@@ -199,22 +215,23 @@ impl Objects {
     #[inline(always)]
     fn wait_for_sender(
         &mut self,
-        event: &Event,
-        number: usize,
+        turn: &Turn<'_>,
         channel: ChName,
         zero: Value,
     ) -> Result<Change, NoMemory>
-        requires parks { At CanPark (seen_at self.old.goroutines number) }
+        requires parks { At CanPark (seen_at self.old.goroutines turn.now.number) }
         requires made { AreMade ((None, deeds.Receiving (Some channel) zero) ∷ []) (contents_of self.old.channels) }
-        ensures ok { (frame : CodeFrame → Frame) → IfOk result (λ change. Parks event.now number kinds.RecvWait (Some (operations.ReceivesFrom channel))
+        ensures ok { (frame : CodeFrame → Frame)
+            → IfOk result (λ change. Parks (event_for turn.now) turn.now.number kinds.RecvWait
+            (Some (operations.ReceivesFrom channel))
             (side_by (state_of frame (with_channels (contents_of self.old.channels))) (deeds.Receiving (Some channel) zero))
             ((None, deeds.Receiving (Some channel) zero) ∷ []) change self.old self.new) }
         ensures err { OnErr result (contents_in self.new ≡ contents_in self.old) }
     {
         let name = channel.copy(self.alloc)?;
-        let touched = touched_to_receive(&self.channels, &channel, &zero);
-        queue_to_receive(&mut self.channels, self.alloc, &event.go, &channel, &zero)?;
-        let spot = self.goroutines.park_to_receive(number, name);
+        let touched = touched_to_receive(&self.channels, &channel);
+        queue_to_receive(&mut self.channels, self.alloc, &turn.event.go, &channel)?;
+        let spot = self.goroutines.park_to_receive(turn.number, name);
         let operation = Operation::ReceivesFrom(channel);
         let contact = Contact { operation, touched };
         let form = Form::Waits(Waiting { contact, spot });
@@ -225,26 +242,27 @@ impl Objects {
     #[inline(always)]
     fn begin_to_send(
         &mut self,
-        event: &Event,
-        number: usize,
+        turn: &Turn<'_>,
         channel: Option<ChName>,
         value: Value,
     ) -> Result<Change, NoMemory>
-        requires parks { At CanPark (seen_at self.old.goroutines number) }
+        requires parks { At CanPark (seen_at self.old.goroutines turn.now.number) }
         requires made { AreMade ((None, deeds.Sending channel (gives value)) ∷ []) (contents_of self.old.channels) }
-        ensures ok { (frame : CodeFrame → Frame) → IfOk result (λ change. Parks event.now number kinds.SendWait (option_map operations.SendsOn channel)
+        ensures ok { (frame : CodeFrame → Frame)
+            → IfOk result (λ change. Parks (event_for turn.now) turn.now.number kinds.SendWait
+            (option_map operations.SendsOn channel)
             (side_by (state_of frame (with_channels (contents_of self.old.channels))) (deeds.Sending channel (gives value)))
             ((None, deeds.Sending channel (gives value)) ∷ []) change self.old self.new) }
         ensures err { OnErr result (contents_in self.new ≡ contents_in self.old) }
     {
         match channel {
-            Some(channel) => self.wait_for_receiver(event, number, channel, value),
+            Some(channel) => self.wait_for_receiver(turn, channel, value),
             None => {
                 let clause = Clause::Send {
                     channel: None,
                     value: Ok(value),
                 };
-                self.wait_on_nil(event, number, Kind::SendWait, clause)
+                self.wait_on_nil(turn, Kind::SendWait, clause)
             }
         }
     }
@@ -253,90 +271,99 @@ impl Objects {
     #[inline(always)]
     fn begin_to_receive(
         &mut self,
-        event: &Event,
-        number: usize,
+        turn: &Turn<'_>,
         channel: Option<ChName>,
         zero: Value,
     ) -> Result<Change, NoMemory>
-        requires parks { At CanPark (seen_at self.old.goroutines number) }
+        requires parks { At CanPark (seen_at self.old.goroutines turn.now.number) }
         requires made { AreMade ((None, deeds.Receiving channel zero) ∷ []) (contents_of self.old.channels) }
-        ensures ok { (frame : CodeFrame → Frame) → IfOk result (λ change. Parks event.now number kinds.RecvWait (option_map operations.ReceivesFrom channel)
+        ensures ok { (frame : CodeFrame → Frame)
+            → IfOk result (λ change. Parks (event_for turn.now) turn.now.number kinds.RecvWait
+            (option_map operations.ReceivesFrom channel)
             (side_by (state_of frame (with_channels (contents_of self.old.channels))) (deeds.Receiving channel zero))
             ((None, deeds.Receiving channel zero) ∷ []) change self.old self.new) }
         ensures err { OnErr result (contents_in self.new ≡ contents_in self.old) }
     {
         match channel {
-            Some(channel) => self.wait_for_sender(event, number, channel, zero),
+            Some(channel) => self.wait_for_sender(turn, channel, zero),
             None => {
                 let clause = Clause::Receive {
                     channel: None,
                     zero,
                 };
-                self.wait_on_nil(event, number, Kind::RecvWait, clause)
+                self.wait_on_nil(turn, Kind::RecvWait, clause)
             }
         }
     }
 
     /// Waits to send a value. Refused, nothing has changed.
-    pub fn wait_to_send(
+    pub(crate) fn wait_to_send(
         &mut self,
-        listing: &Listing,
-        event: &Event,
-        number: usize,
+        turn: &Turn<'_>,
         channel: Option<ChName>,
         value: Value,
     ) -> Result<Change, NoMemory>
-        requires coded { IsCoded listing.now }
-        requires acting { Acting (program_in listing.now) event.now number self.old }
-        requires sound { OfActor (program_in listing.now) event.now (contents_in self.old) (λ a. Sound (frame_in (program_in listing.now)) (contents_in self.old) (rules.wait a (option_map attempts.sends_on channel) kinds.SendWait ((None, deeds.Sending channel (gives value)) ∷ []))) }
-        ensures ok { IfOk result (λ change. OfActor (program_in listing.now) event.now (contents_in self.old) (λ a. Takes (program_in listing.now) event.now (rules.wait a (option_map attempts.sends_on channel) kinds.SendWait ((None, deeds.Sending channel (gives value)) ∷ [])) (contents_in self.old) change (contents_in self.new))) }
-        ensures room { IfOk result (λ change. HasRoom event.now.go change self.new) }
+        requires may { MayAct turn.now self.old }
+        requires sound { OfActor (program_for turn.now) (event_for turn.now) (contents_in self.old)
+            (λ a. Sound (frame_in (program_for turn.now)) (contents_in self.old)
+            (rules.wait a (option_map attempts.sends_on channel) kinds.SendWait ((None, deeds.Sending channel (gives value))
+            ∷ []))) }
+        ensures ok { IfOk result (λ change. OfActor (program_for turn.now) (event_for turn.now) (contents_in self.old)
+            (λ a. Takes (program_for turn.now) (event_for turn.now)
+            (rules.wait a (option_map attempts.sends_on channel) kinds.SendWait ((None, deeds.Sending channel (gives value))
+            ∷ [])) (contents_in self.old) change (contents_in self.new))) }
+        ensures room { IfOk result (LeavesRoom turn.now self.new) }
         ensures err { OnErr result (contents_in self.new ≡ contents_in self.old) }
     {
-        self.begin_to_send(event, number, channel, value)
+        self.begin_to_send(turn, channel, value)
     }
 
-    /// Waits to receive; the zero value matters where it is asked whether the clauses are those of the rules. Refused, nothing has
-    /// changed.
-    pub fn wait_to_receive(
+    /// Waits to receive; the zero value matters where it is asked whether the clauses are those of the rules. Refused, nothing
+    /// has changed.
+    pub(crate) fn wait_to_receive(
         &mut self,
-        listing: &Listing,
-        event: &Event,
-        number: usize,
+        turn: &Turn<'_>,
         channel: Option<ChName>,
         zero: Value,
     ) -> Result<Change, NoMemory>
-        requires coded { IsCoded listing.now }
-        requires acting { Acting (program_in listing.now) event.now number self.old }
-        requires sound { OfActor (program_in listing.now) event.now (contents_in self.old) (λ a. Sound (frame_in (program_in listing.now)) (contents_in self.old) (rules.wait a (option_map attempts.receives_from channel) kinds.RecvWait ((None, deeds.Receiving channel zero) ∷ []))) }
-        ensures ok { IfOk result (λ change. OfActor (program_in listing.now) event.now (contents_in self.old) (λ a. Takes (program_in listing.now) event.now (rules.wait a (option_map attempts.receives_from channel) kinds.RecvWait ((None, deeds.Receiving channel zero) ∷ [])) (contents_in self.old) change (contents_in self.new))) }
-        ensures room { IfOk result (λ change. HasRoom event.now.go change self.new) }
+        requires may { MayAct turn.now self.old }
+        requires sound { OfActor (program_for turn.now) (event_for turn.now) (contents_in self.old)
+            (λ a. Sound (frame_in (program_for turn.now)) (contents_in self.old)
+            (rules.wait a (option_map attempts.receives_from channel) kinds.RecvWait ((None, deeds.Receiving channel zero)
+            ∷ []))) }
+        ensures ok { IfOk result (λ change. OfActor (program_for turn.now) (event_for turn.now) (contents_in self.old)
+            (λ a. Takes (program_for turn.now) (event_for turn.now)
+            (rules.wait a (option_map attempts.receives_from channel) kinds.RecvWait ((None, deeds.Receiving channel zero) ∷ []))
+            (contents_in self.old) change (contents_in self.new))) }
+        ensures room { IfOk result (LeavesRoom turn.now self.new) }
         ensures err { OnErr result (contents_in self.new ≡ contents_in self.old) }
     {
-        self.begin_to_receive(event, number, channel, zero)
+        self.begin_to_receive(turn, channel, zero)
     }
 
     /// Waits for any clause of its select, none of whose values to send is at fault. Refused, nothing has changed.
-    pub fn wait_in_select(
+    pub(crate) fn wait_in_select(
         &mut self,
-        listing: &Listing,
-        event: &Event,
-        number: usize,
+        turn: &Turn<'_>,
         clauses: Vec<Clause>,
     ) -> Result<Change, NoMemory>
-        requires coded { IsCoded listing.now }
-        requires acting { Acting (program_in listing.now) event.now number self.old }
-        requires task { OfGoroutine event.now (contents_in self.old) (λ g. task_of (lowered (program_in listing.now)) g ≡ gives (Wants (deeds.Chooses (communications_of clauses.items)))) }
-        requires parks { event.now.choice ≡ choices.Park }
+        requires may { MayAct turn.now self.old }
+        requires task { AsksFor turn.now self.old (deeds.Chooses (communications_of clauses.items)) }
+        requires parks { (event_for turn.now).choice ≡ choices.Park }
         requires given { HasValues clauses.items }
-        requires sound { OfActor (program_in listing.now) event.now (contents_in self.old) (λ a. Sound (frame_in (program_in listing.now)) (contents_in self.old) (rules.wait a None kinds.SelectWait (rules_of_selects.numbered 1 (communications_of clauses.items)))) }
-        ensures ok { IfOk result (λ change. OfActor (program_in listing.now) event.now (contents_in self.old) (λ a. Takes (program_in listing.now) event.now (rules.wait a None kinds.SelectWait (rules_of_selects.numbered 1 (communications_of clauses.items))) (contents_in self.old) change (contents_in self.new))) }
-        ensures room { IfOk result (λ change. HasRoom event.now.go change self.new) }
+        requires sound { OfActor (program_for turn.now) (event_for turn.now) (contents_in self.old)
+            (λ a. Sound (frame_in (program_for turn.now)) (contents_in self.old)
+            (rules.wait a None kinds.SelectWait (rules_of_selects.numbered 1 (communications_of clauses.items)))) }
+        ensures ok { IfOk result (λ change. OfActor (program_for turn.now) (event_for turn.now) (contents_in self.old)
+            (λ a. Takes (program_for turn.now) (event_for turn.now)
+            (rules.wait a None kinds.SelectWait (rules_of_selects.numbered 1 (communications_of clauses.items)))
+            (contents_in self.old) change (contents_in self.new))) }
+        ensures room { IfOk result (LeavesRoom turn.now self.new) }
         ensures err { OnErr result (contents_in self.new ≡ contents_in self.old) }
     {
         let alloc = self.alloc;
         let sides = sides(alloc, &self.channels, &clauses)?;
         let pending = numbered(alloc, clauses)?;
-        self.wait_for(event, number, Kind::SelectWait, None, &sides, &pending)
+        self.wait_for(turn, Kind::SelectWait, None, &sides, &pending)
     }
 }

@@ -3,9 +3,11 @@
 ghost use Rattle.std.specs.Prelude.{◌≡◌, ◌≤◌, map, ◌∷◌, [], true, vec_len, vec_capacity, IfOk, OnOk, OnErr};
 ghost use Rattle.std.specs.List.{list_all};
 ghost use Rattle.gr_rules.specs.Actors as rules;
-ghost use Rattle.gr_tables.specs.NamedChannels.{contents_of, rooms_of, At, IsOpen, ChansFit, HasRooms, TookBack, Follows, GoesBack, AreAtGates, MoreAtGates};
+ghost use Rattle.gr_tables.specs.NamedChannels.{contents_of, rooms_of, At, IsOpen, ChansFit, HasRooms, TookBack, Follows};
+ghost use Rattle.gr_tables.specs.NamedChannels.{GoesBack, AreAtGates, MoreAtGates};
 ghost use Rattle.gr_tables.specs.NamedGoroutines.{goroutines_of};
-ghost use Rattle.gr_step.specs.Wakes.{waits_known, all_waits_known, left_by_close, without_each, is_live_there, with_one_woken, with_each_woken, IsShut, LeadsOver};
+ghost use Rattle.gr_step.specs.Wakes.{waits_known, all_waits_known, left_by_close, without_each, is_live_there, with_one_woken};
+ghost use Rattle.gr_step.specs.Wakes.{with_each_woken, IsShut, LeadsOver};
 
 use crate::channels_named::channels_awaited;
 use gr_base::{ChName, GoName, NoMemory};
@@ -23,7 +25,8 @@ fn channels_of(
     seen: &[ChName],
     go: &GoName,
 ) -> Result<Vec<ChName>, NoMemory>
-    ensures { IfOk result (λ names. names.items ≡ rules.channels_but seen.now (waits_known (goroutines_of goroutines.now go.now))) }
+    ensures { IfOk result (λ names. names.items
+        ≡ rules.channels_but seen.now (waits_known (goroutines_of goroutines.now go.now))) }
 {
     let Some(number) = goroutines.number(go) else {
         return Ok(Vec::new(alloc));
@@ -41,7 +44,8 @@ pub(crate) fn all_channels(
     channel: &ChName,
     names: &[GoName],
 ) -> Result<Vec<ChName>, NoMemory>
-    ensures { IfOk result (λ all. all.items ≡ channel.now ∷ rules.channels_but (channel.now ∷ []) (all_waits_known (goroutines_of goroutines.now) names.now)) }
+    ensures { IfOk result (λ all. all.items ≡ channel.now
+        ∷ rules.channels_but (channel.now ∷ []) (all_waits_known (goroutines_of goroutines.now) names.now)) }
 {
     let mut seen = Vec::new(alloc);
     seen.push(channel.copy(alloc)?)?;
@@ -64,9 +68,11 @@ fn withdraw_each(
 ) -> Result<Vec<(ChName, ChanUndo)>, NoMemory>
     requires fits { ChansFit done.items (contents_of channels.old) }
     requires room { HasRooms done.items (rooms_of channels.old) }
-    ensures contents { OnOk result (contents_of channels.new ≡ without_each but.now (goroutines_of goroutines.now) names.now (contents_of channels.old)) }
+    ensures contents { OnOk result (contents_of channels.new
+        ≡ without_each but.now (goroutines_of goroutines.now) names.now (contents_of channels.old)) }
     ensures back { IfOk result (λ undos. Follows done.items undos.items channels.old channels.new) }
-    ensures gates { IfOk result (λ undos. MoreAtGates (left_by_close but.now (goroutines_of goroutines.now) names.now) done.items undos.items) }
+    ensures gates { IfOk result (λ undos. MoreAtGates
+        (left_by_close but.now (goroutines_of goroutines.now) names.now) done.items undos.items) }
     ensures err { OnErr result (TookBack done.items channels.old channels.new) }
 {
     let mut undos = done;
@@ -92,9 +98,11 @@ pub(crate) fn shut(
     names: &[GoName],
 ) -> Result<Vec<(ChName, ChanUndo)>, NoMemory>
     requires { At IsOpen (contents_of channels.old channel.now) }
-    ensures contents { OnOk result (IsShut channel.now (goroutines_of goroutines.now) names.now (contents_of channels.old) (contents_of channels.new)) }
+    ensures contents { OnOk result (IsShut channel.now (goroutines_of goroutines.now) names.now (contents_of channels.old)
+        (contents_of channels.new)) }
     ensures back { IfOk result (λ undos. GoesBack undos.items channels.old channels.new) }
-    ensures gates { IfOk result (λ undos. AreAtGates (left_by_close channel.now (goroutines_of goroutines.now) names.now) undos.items) }
+    ensures gates { IfOk result (λ undos. AreAtGates
+        (left_by_close channel.now (goroutines_of goroutines.now) names.now) undos.items) }
     ensures err { OnErr result (contents_of channels.new ≡ contents_of channels.old) }
 {
     let mut done = Vec::with_capacity(alloc, 1)?;

@@ -12,31 +12,31 @@ use denote.Enum.Bare.{sameb, same_true}
 use Rattle.gr_tree.specs.declared.expr.UnaryOp.{UnaryOp}
 use Rattle.gr_tree.specs.declared.expr.BinaryOp.{BinaryOp}
 use Rattle.gr_syntax.specs.Grammar.{after_mark, binary_mark, unary_mark}
-use Rattle.gr_syntax.specs.Reading.{Fault, Wrong, High, Found, Reads, ◌>>=◌, Turn, Stop, Go, match_after, binary_of, unary_of, operator_at, name_at, need}
+use Rattle.gr_syntax.specs.Reading.{ReadError, Wrong, High, Found, Reads, ◌>>=◌, Turn, Stop, Go, match_after, binary_of, unary_of, operator_at, name_at, need}
 
-pub ok_inj : {A : Type 0} {x y : A} → ◌≡◌ {A = Result A Fault} (Ok x) (Ok y) → x ≡ y
+pub ok_inj : {A : Type 0} {x y : A} → ◌≡◌ {A = Result A ReadError} (Ok x) (Ok y) → x ≡ y
 ok_inj e = cc
 
-pub wrong≢ok : {A : Type 0} {Z : Type 0} (x : A) → ◌≡◌ {A = Result A Fault} (Err Wrong) (Ok x) → Z
+pub wrong≢ok : {A : Type 0} {Z : Type 0} (x : A) → ◌≡◌ {A = Result A ReadError} (Err Wrong) (Ok x) → Z
 wrong≢ok x e = absurd (cc)
 
 -- what a reading answered
-pub on_ok : {A B P : Type 0} (r : Result A Fault) (f : A → Result B Fault) (y : B) → (r >>= f) ≡ Ok y → ((x : A) → r ≡ Ok x → f x ≡ Ok y → P) → P
+pub on_ok : {A B P : Type 0} (r : Result A ReadError) (f : A → Result B ReadError) (y : B) → (r >>= f) ≡ Ok y → ((x : A) → r ≡ Ok x → f x ≡ Ok y → P) → P
 on_ok (Ok x) f y e k = k x refl e
 on_ok (Err d) f y e k = absurd (cc)
 
 -- which of two readings failed
-pub on_err : {A B P : Type 0} (r : Result A Fault) (f : A → Result B Fault) (d : Fault) → (r >>= f) ≡ Err d → (r ≡ Err d → P) → ((x : A) → r ≡ Ok x → f x ≡ Err d → P) → P
+pub on_err : {A B P : Type 0} (r : Result A ReadError) (f : A → Result B ReadError) (d : ReadError) → (r >>= f) ≡ Err d → (r ≡ Err d → P) → ((x : A) → r ≡ Ok x → f x ≡ Err d → P) → P
 on_err (Ok x) f d e k n = n x refl e
-on_err {A = A} (Err g) f d e k n = let same : ◌≡◌ {A = Result A Fault} (Err g) (Err d) = cc in k same
+on_err {A = A} (Err g) f d e k n = let same : ◌≡◌ {A = Result A ReadError} (Err g) (Err d) = cc in k same
 
 -- where a reading went wrong
-pub on_high : {A B P : Type 0} (r : Result A Fault) (f : A → Result B Fault) → (r >>= f) ≡ Err High → (r ≡ Err High → P) → ((x : A) → r ≡ Ok x → f x ≡ Err High → P) → P
+pub on_high : {A B P : Type 0} (r : Result A ReadError) (f : A → Result B ReadError) → (r >>= f) ≡ Err High → (r ≡ Err High → P) → ((x : A) → r ≡ Ok x → f x ≡ Err High → P) → P
 on_high (Ok x) f e k n = n x refl e
 on_high (Err Wrong) f e k n = absurd (cc)
 on_high (Err High) f e k n = k refl
 
-pub ok≢high : {A Z : Type 0} {x : A} → ◌≡◌ {A = Result A Fault} (Ok x) (Err High) → Z
+pub ok≢high : {A Z : Type 0} {x : A} → ◌≡◌ {A = Result A ReadError} (Ok x) (Err High) → Z
 ok≢high q = absurd (cc)
 
 -- the last turn of a loop gives no fault
@@ -44,10 +44,10 @@ pub stop_low : {A Z : Type 0} (next : Turn (Found A) → Reads A) (s : Found A) 
 stop_low next s t e n q = ok≢high (sym (n s) ∙ ap next e ∙ q)
 
 -- what a turn left
-pub go_inj : {A : Type 0} (s t : Found A) → ◌≡◌ {A = Result (Turn (Found A)) Fault} (Ok (Go s)) (Ok (Go t)) → s.2 ≡ t.2
+pub go_inj : {A : Type 0} (s t : Found A) → ◌≡◌ {A = Result (Turn (Found A)) ReadError} (Ok (Go s)) (Ok (Go t)) → s.2 ≡ t.2
 go_inj s t e = let same : s ≡ t = cc in ap (λ u. u.2) same
 
-pub stop≢go : {A : Type 0} {Z : Type 0} (s t : A) → ◌≡◌ {A = Result (Turn A) Fault} (Ok (Stop s)) (Ok (Go t)) → Z
+pub stop≢go : {A : Type 0} {Z : Type 0} (s t : A) → ◌≡◌ {A = Result (Turn A) ReadError} (Ok (Stop s)) (Ok (Go t)) → Z
 stop≢go s t e = absurd (cc)
 
 -- whether a look-up found something

@@ -14,7 +14,7 @@ use Rattle.gr_tree.specs.declared.stmt.Stmt.TheVariants as stmts
 use Rattle.gr_tree.specs.declared.stmt.Clause.TheVariants as clauses
 use Rattle.gr_tree.specs.Statements.{Comm, Statement, IfElseIf, Select, Statements, Clauses, default, case, if_of, comm_of, statement_of, row_statements, row_clauses, statements_of}
 use Rattle.gr_syntax.specs.Grammar.{after_mark}
-use Rattle.gr_syntax.specs.Reading.{Fault, Found, loop, need}
+use Rattle.gr_syntax.specs.Reading.{ReadError, Found, loop, need}
 use Rattle.gr_syntax.specs.SimpleReading.{stops_at}
 use Rattle.gr_syntax.specs.StatementReading.{past_semicolon, list_turn, comm_at, list_at, with_default, with_case, clause_body_at, clause_turn, statement_at}
 use Rattle.gr_syntax.specs.CodeViews.{clauses_of}
@@ -33,34 +33,34 @@ module _ (h : ℕ) (cs : Found Clauses) where
   unfolding clause_turn
   clauses_end m k = clause_step h cs ∙ rw (m, k) refl
 
-  pub case_err : (rest : List Tok) (f : Fault) → after_mark marks.Case cs.2 ≡ Some rest → comm_at h rest ≡ Err f → loop (clause_turn h (statement_at h)) cs ≡ Err f
+  pub case_err : (rest : List Tok) (f : ReadError) → after_mark marks.Case cs.2 ≡ Some rest → comm_at h rest ≡ Err f → loop (clause_turn h (statement_at h)) cs ≡ Err f
   unfolding clause_turn
   case_err rest f m q = clause_step h cs ∙ rw (m, q) refl
 
-  case_colon : (rest : List Tok) (c : Found Comm) (f : Fault) → after_mark marks.Case cs.2 ≡ Some rest → comm_at h rest ≡ Ok c → need marks.Colon c.2 ≡ Err f → loop (clause_turn h (statement_at h)) cs ≡ Err f
+  case_colon : (rest : List Tok) (c : Found Comm) (f : ReadError) → after_mark marks.Case cs.2 ≡ Some rest → comm_at h rest ≡ Ok c → need marks.Colon c.2 ≡ Err f → loop (clause_turn h (statement_at h)) cs ≡ Err f
   unfolding clause_turn
   case_colon rest c f m q e = clause_step h cs ∙ rw (m, q, e) refl
 
-  case_bad : (rest : List Tok) (c : Found Comm) (r : Place × List Tok) (f : Fault) → after_mark marks.Case cs.2 ≡ Some rest → comm_at h rest ≡ Ok c → need marks.Colon c.2 ≡ Ok r → list_at (statement_at h) r.1 ≡ Err f → loop (clause_turn h (statement_at h)) cs ≡ Err f
+  case_bad : (rest : List Tok) (c : Found Comm) (r : Place × List Tok) (f : ReadError) → after_mark marks.Case cs.2 ≡ Some rest → comm_at h rest ≡ Ok c → need marks.Colon c.2 ≡ Ok r → list_at (statement_at h) r.1 ≡ Err f → loop (clause_turn h (statement_at h)) cs ≡ Err f
   unfolding clause_turn
   case_bad rest c r f m q e l = clause_step h cs ∙ rw (m, q, e, l) refl
 
-  pub case_broken : (rest : List Tok) (c : Found Comm) (f : Fault) → after_mark marks.Case cs.2 ≡ Some rest → comm_at h rest ≡ Ok c → clause_body_at (statement_at h) c.2 ≡ Err f → loop (clause_turn h (statement_at h)) cs ≡ Err f
+  pub case_broken : (rest : List Tok) (c : Found Comm) (f : ReadError) → after_mark marks.Case cs.2 ≡ Some rest → comm_at h rest ≡ Ok c → clause_body_at (statement_at h) c.2 ≡ Err f → loop (clause_turn h (statement_at h)) cs ≡ Err f
   case_broken rest c f m q b = on_err (need marks.Colon c.2) _ f b (λ e. case_colon rest c f m q e) (λ r e l. case_bad rest c r f m q e l)
 
   case_go : (rest : List Tok) (c : Found Comm) (r : Place × List Tok) (ss : Found Statements) → after_mark marks.Case cs.2 ≡ Some rest → comm_at h rest ≡ Ok c → need marks.Colon c.2 ≡ Ok r → list_at (statement_at h) r.1 ≡ Ok ss → loop (clause_turn h (statement_at h)) cs ≡ loop (clause_turn h (statement_at h)) (with_case cs.0 c.0 ss.0, max cs.1 (max c.1 ss.1), ss.2)
   unfolding clause_turn
   case_go rest c r ss m q e l = clause_step h cs ∙ rw (m, q, e, l) refl
 
-  default_colon : (rest : List Tok) (f : Fault) → after_mark marks.Case cs.2 ≡ None → after_mark marks.Default cs.2 ≡ Some rest → need marks.Colon rest ≡ Err f → loop (clause_turn h (statement_at h)) cs ≡ Err f
+  default_colon : (rest : List Tok) (f : ReadError) → after_mark marks.Case cs.2 ≡ None → after_mark marks.Default cs.2 ≡ Some rest → need marks.Colon rest ≡ Err f → loop (clause_turn h (statement_at h)) cs ≡ Err f
   unfolding clause_turn
   default_colon rest f m k e = clause_step h cs ∙ rw (m, k, e) refl
 
-  default_bad : (rest : List Tok) (r : Place × List Tok) (f : Fault) → after_mark marks.Case cs.2 ≡ None → after_mark marks.Default cs.2 ≡ Some rest → need marks.Colon rest ≡ Ok r → list_at (statement_at h) r.1 ≡ Err f → loop (clause_turn h (statement_at h)) cs ≡ Err f
+  default_bad : (rest : List Tok) (r : Place × List Tok) (f : ReadError) → after_mark marks.Case cs.2 ≡ None → after_mark marks.Default cs.2 ≡ Some rest → need marks.Colon rest ≡ Ok r → list_at (statement_at h) r.1 ≡ Err f → loop (clause_turn h (statement_at h)) cs ≡ Err f
   unfolding clause_turn
   default_bad rest r f m k e l = clause_step h cs ∙ rw (m, k, e, l) refl
 
-  pub default_broken : (rest : List Tok) (f : Fault) → after_mark marks.Case cs.2 ≡ None → after_mark marks.Default cs.2 ≡ Some rest → clause_body_at (statement_at h) rest ≡ Err f → loop (clause_turn h (statement_at h)) cs ≡ Err f
+  pub default_broken : (rest : List Tok) (f : ReadError) → after_mark marks.Case cs.2 ≡ None → after_mark marks.Default cs.2 ≡ Some rest → clause_body_at (statement_at h) rest ≡ Err f → loop (clause_turn h (statement_at h)) cs ≡ Err f
   default_broken rest f m k b = on_err (need marks.Colon rest) _ f b (λ e. default_colon rest f m k e) (λ r e l. default_bad rest r f m k e l)
 
   default_go : (rest : List Tok) (r : Place × List Tok) (ss : Found Statements) → after_mark marks.Case cs.2 ≡ None → after_mark marks.Default cs.2 ≡ Some rest → need marks.Colon rest ≡ Ok r → list_at (statement_at h) r.1 ≡ Ok ss → loop (clause_turn h (statement_at h)) cs ≡ loop (clause_turn h (statement_at h)) (with_default cs.0 ss.0, max cs.1 ss.1, ss.2)

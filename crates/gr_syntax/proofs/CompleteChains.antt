@@ -8,7 +8,7 @@ use Rattle.gr_tree.specs.declared.expr.BinaryOp.{BinaryOp}
 use Rattle.gr_tree.specs.declared.expr.BinaryOp.TheVariants as binaries
 use Rattle.gr_tree.specs.Exprs.{Tree, Binary, height}
 use Rattle.gr_syntax.specs.Grammar.{level, after_mark, binary_mark}
-use Rattle.gr_syntax.specs.Reading.{Fault, Found, Reads, ◌>>=◌, Turn, Stop, Go, turned, loop, binary_of, operator_at, joined, chain_at, chain_turn, tight, expr_at, operand_at}
+use Rattle.gr_syntax.specs.Reading.{ReadError, Found, Reads, ◌>>=◌, Turn, Stop, Go, turned, loop, binary_of, operator_at, joined, chain_at, chain_turn, tight, expr_at, operand_at}
 use Rattle.gr_syntax.proofs.Bound.{bound, above, bound_bind, bound_suc, bound_max, bound_looser}
 use Rattle.gr_syntax.proofs.Loops.{loop_is}
 use Rattle.gr_syntax.proofs.Chains.{strength_of, strength, strength_low}
@@ -58,7 +58,7 @@ chain_goes : (h l : ℕ) (a b : Tree) (j k : ℕ) (p : Place) (op : BinaryOp) (m
 unfolding chain chain_turn
 chain_goes h l a b j k p op mid rest le e =
     let u : Found Tree = (a, j, At p (Sign (binary_mark op)) ∷ mid) in
-    let step : Found Tree → Result (Turn (Found Tree)) Fault = chain_turn (expr_at h) h l in
+    let step : Found Tree → Result (Turn (Found Tree)) ReadError = chain_turn (expr_at h) h l in
     loop_is step (chain_shrinks h l) u
     ∙ ap (λ o. chain_at (expr_at h) h l u o >>= turned (loop step)) (operator_symbol op p mid)
     ∙ ap (λ r. r >>= turned (loop step)) (chain_goes_at h l u op mid le)

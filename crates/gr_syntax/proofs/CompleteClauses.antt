@@ -8,7 +8,7 @@ use Rattle.gr_tree.specs.Statements.{Comm, Statements, Clauses, closed, default,
 use Rattle.gr_syntax.specs.Grammar.{after_mark}
 use Rattle.gr_syntax.specs.StatementGrammar as grammar
 use Rattle.gr_syntax.specs.StatementGrammar.{SpellsClauses}
-use Rattle.gr_syntax.specs.Reading.{Fault, Found, Reads, ◌>>=◌, Turn, turned, loop, need}
+use Rattle.gr_syntax.specs.Reading.{ReadError, Found, Reads, ◌>>=◌, Turn, turned, loop, need}
 use Rattle.gr_syntax.specs.Reading as reading
 use Rattle.gr_syntax.specs.SimpleReading.{stops_at}
 use Rattle.gr_syntax.specs.StatementReading.{comm_at, list_at, with_default, with_case, case_at, default_at, clause_turn, statement_at}
@@ -61,7 +61,7 @@ unfolding clause_turn after_mark need
 clauses_default h acc k p q ss cs ts mid rest r rs =
     let j : ℕ = body_height ss in
     let again : Turn (Found Clauses) → Reads Clauses = turned (loop (clause_turn h (statement_at h))) in
-    let f : Found Statements → Result (Turn (Found Clauses)) Fault = λ ss. Ok (reading.Go (with_default acc ss.0, max k ss.1, ss.2)) in
+    let f : Found Statements → Result (Turn (Found Clauses)) ReadError = λ ss. Ok (reading.Go (with_default acc ss.0, max k ss.1, ss.2)) in
     let high : max (max k j) (clauses_height cs) ≡ max k (max j (clauses_height cs)) = omega arith in
     clause_step h (acc, k, At p (Sign marks.Default) ∷ At q (Sign marks.Colon) ∷ ts)
     ∙ ap (λ r. (r >>= f) >>= again) r
@@ -76,8 +76,8 @@ clauses_case h acc k p q c ss cs ts body mid rest rc r rs =
     let i : ℕ = comm_height c in
     let j : ℕ = body_height ss in
     let again : Turn (Found Clauses) → Reads Clauses = turned (loop (clause_turn h (statement_at h))) in
-    let f : Found Statements → Result (Turn (Found Clauses)) Fault = λ ss. Ok (reading.Go (with_case acc c ss.0, max k (max i ss.1), ss.2)) in
-    let g : Found Comm → Result (Turn (Found Clauses)) Fault = λ c. need marks.Colon c.2 >>= λ r. list_at (statement_at h) r.1 >>= λ ss. Ok (reading.Go (with_case acc c.0 ss.0, max k (max c.1 ss.1), ss.2)) in
+    let f : Found Statements → Result (Turn (Found Clauses)) ReadError = λ ss. Ok (reading.Go (with_case acc c ss.0, max k (max i ss.1), ss.2)) in
+    let g : Found Comm → Result (Turn (Found Clauses)) ReadError = λ c. need marks.Colon c.2 >>= λ r. list_at (statement_at h) r.1 >>= λ ss. Ok (reading.Go (with_case acc c.0 ss.0, max k (max c.1 ss.1), ss.2)) in
     let high : max (max k (max i j)) (clauses_height cs) ≡ max k (max (max i j) (clauses_height cs)) = omega arith in
     clause_step h (acc, k, At p (Sign marks.Case) ∷ ts)
     ∙ ap (λ r. (r >>= g) >>= again) rc

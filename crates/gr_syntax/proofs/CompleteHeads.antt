@@ -10,7 +10,7 @@ use Rattle.gr_tree.specs.Statements.{Heading, Heads, IfHead, Test, Target, Nothi
 use Rattle.gr_syntax.specs.Grammar.{SpellsExpr, alone, name, after_mark}
 use Rattle.gr_syntax.specs.StatementGrammar as grammar
 use Rattle.gr_syntax.specs.StatementGrammar.{SpellsSimple, SpellsHeading, heads, SpellsPart, missing, there, SpellsIfHead, SpellsPost, SpellsForHead, defines}
-use Rattle.gr_syntax.specs.Reading.{Fault, Found, Reads, ◌>>=◌, match_after, binary_of, need, expr_at}
+use Rattle.gr_syntax.specs.Reading.{ReadError, Found, Reads, ◌>>=◌, match_after, binary_of, need, expr_at}
 use Rattle.gr_syntax.specs.SimpleReading.{place_at, bare}
 use Rattle.gr_syntax.specs.StatementReading.{heading_after, tested, if_after, if_head_at, ranged, condition_at, post_at, parts_at, target_at, for_init, for_named, for_after, for_head_at}
 use Rattle.gr_syntax.proofs.Bound.{bound, within, bound_bind, bound_max}
@@ -62,9 +62,9 @@ unfolding need after_mark
 need_semicolon p ts = refl
 
 -- a heading and its semicolon, and what goes on from there
-heading_then : {B : Type 0} (h : ℕ) (p q : Place) (s : _) (ts mid : List Tok) (d : First s ts (At q (Sign marks.Semicolon) ∷ mid)) (k : Option Heading → ℕ → List Tok → Result B Fault) → (heading_after h true p (d.e, height d.e, d.mid) >>= λ i. need marks.Semicolon i.2 >>= λ r. k (Some i.0) i.1 r.1) ≡ bound h (simple_height s) (k (Some (Heads p s)) (simple_height s) mid)
+heading_then : {B : Type 0} (h : ℕ) (p q : Place) (s : _) (ts mid : List Tok) (d : First s ts (At q (Sign marks.Semicolon) ∷ mid)) (k : Option Heading → ℕ → List Tok → Result B ReadError) → (heading_after h true p (d.e, height d.e, d.mid) >>= λ i. need marks.Semicolon i.2 >>= λ r. k (Some i.0) i.1 r.1) ≡ bound h (simple_height s) (k (Some (Heads p s)) (simple_height s) mid)
 heading_then {B} h p q s ts mid d k =
-    let f : Found Heading → Result B Fault = λ i. need marks.Semicolon i.2 >>= λ r. k (Some i.0) i.1 r.1 in
+    let f : Found Heading → Result B ReadError = λ i. need marks.Semicolon i.2 >>= λ r. k (Some i.0) i.1 r.1 in
     ap (λ r. r >>= f) (heading_goes h true p s ts (At q (Sign marks.Semicolon) ∷ mid) d (λ e. absurd (cc)))
     ∙ bound_bind h (simple_height s) (Ok (Heads p s, simple_height s, At q (Sign marks.Semicolon) ∷ mid)) f
     ∙ ap (λ r. bound h (simple_height s) (r >>= λ (r : Place × List Tok). k (Some (Heads p s)) (simple_height s) r.1)) (need_semicolon q mid)

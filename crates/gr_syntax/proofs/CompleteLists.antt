@@ -8,7 +8,7 @@ use Rattle.gr_tree.specs.declared.expr.UnaryOp.{UnaryOp}
 use Rattle.gr_tree.specs.declared.expr.UnaryOp.TheVariants as unaries
 use Rattle.gr_tree.specs.Exprs.{Tree, Trees, none, more, height, heights}
 use Rattle.gr_syntax.specs.Grammar.{after_mark, unary_mark, SpellsUnary, SpellsExpr, SpellsExprs, number, text, name, unit, paren, call_none, call, call_comma, make, make_comma, make_sized, make_sized_comma, unary, alone, binary, last_expr, comma_expr}
-use Rattle.gr_syntax.specs.Reading.{Fault, Found, Reads, ◌>>=◌, Turn, Stop, Go, turned, loop, binary_of, need, snoc, ends_at, exprs_after, exprs_turn, exprs_at, arguments_at, expr_at}
+use Rattle.gr_syntax.specs.Reading.{ReadError, Found, Reads, ◌>>=◌, Turn, Stop, Go, turned, loop, binary_of, need, snoc, ends_at, exprs_after, exprs_turn, exprs_at, arguments_at, expr_at}
 use Rattle.gr_syntax.proofs.Bound.{bound, bound_bind, bound_max}
 use Rattle.gr_syntax.proofs.Loops.{loop_is}
 use Rattle.gr_syntax.proofs.Chains.{Quiet}
@@ -81,7 +81,7 @@ ExprsTo h t acc k es ts rest = loop (exprs_turn (expr_at h) t) (acc, k, ts) ≡ 
 one_expr : (h : ℕ) (t : Bool) (acc : Trees) (k : ℕ) (e : Tree) (ts after : List Tok) → expr_at h 1 ts ≡ bound h (height e) (Ok (e, height e, after)) → loop (exprs_turn (expr_at h) t) (acc, k, ts) ≡ bound h (height e) (exprs_after t (acc, k, ts) (e, height e, after) after >>= turned (loop (exprs_turn (expr_at h) t)))
 unfolding exprs_turn
 one_expr h t acc k e ts after r =
-    let step : Found Trees → Result (Turn (Found Trees)) Fault = exprs_turn (expr_at h) t in
+    let step : Found Trees → Result (Turn (Found Trees)) ReadError = exprs_turn (expr_at h) t in
     loop_is step (exprs_shrinks h t) (acc, k, ts)
     ∙ ap (λ r. (r >>= λ (e : Found Tree). exprs_after t (acc, k, ts) e e.2) >>= turned (loop step)) r
     ∙ ap (λ r. r >>= turned (loop step)) (bound_bind h (height e) (Ok (e, height e, after)) (λ (e : Found Tree). exprs_after t (acc, k, ts) e e.2))

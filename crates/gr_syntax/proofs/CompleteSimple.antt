@@ -17,7 +17,7 @@ use Rattle.gr_tree.specs.Statements.{Simple, Eval, Send, Assign, Define, Update,
 use Rattle.gr_syntax.specs.Grammar.{SpellsUnary, SpellsExpr, SpellsExprs, SpellsNames, number, text, name, unit, paren, call_none, call, call_comma, make, make_comma, make_sized, make_sized_comma, unary, alone, binary, last_expr, comma_expr, last_name, comma_name, after_mark, unary_mark}
 use Rattle.gr_syntax.specs.StatementGrammar as grammar
 use Rattle.gr_syntax.specs.StatementGrammar.{update_mark, SpellsSimple, SpellsHeading, heads, defines}
-use Rattle.gr_syntax.specs.Reading.{Fault, Found, Reads, ◌>>=◌, match_after, binary_of, operator_at, need, expr_at, exprs_at}
+use Rattle.gr_syntax.specs.Reading.{ReadError, Found, Reads, ◌>>=◌, match_after, binary_of, operator_at, need, expr_at, exprs_at}
 use Rattle.gr_syntax.specs.SimpleReading.{up_to, keyword_of, joint_of, done_at, stops_at, place_at, bare, define_at, values_at, names_from, update_at, joined_at, alone_at, simple_named, sent_at, simple_after}
 use Rattle.gr_syntax.specs.StatementReading.{heading_after, target_at}
 use Rattle.gr_syntax.proofs.Bound.{bound, within, above, bound_bind}
@@ -26,11 +26,11 @@ use Rattle.gr_syntax.proofs.Names.{names_whole}
 use Rattle.gr_syntax.proofs.CompleteExprs.{expr_whole, exprs_whole}
 
 -- an outer limit that asks for less
-pub absorb : {B : Type 0} (j k h m : ℕ) (x : Result B Fault) → (j < k → h < m) → bound j k (bound h m x) ≡ bound h m x
+pub absorb : {B : Type 0} (j k h m : ℕ) (x : Result B ReadError) → (j < k → h < m) → bound j k (bound h m x) ≡ bound h m x
 absorb j k h m x f = ⊎_elim (λ lt. above j k _ lt ∙ sym (above h m x (f lt))) (λ le. within j k _ le) (cases_lt j k)
 
 -- a reading that is known, and what goes on from there to a height that is no less
-pub goes_on : {A B : Type 0} (j k h m : ℕ) (r : Result A Fault) (x : A) (f : A → Result B Fault) (y : Result B Fault) → r ≡ bound j k (Ok x) → (k ≤ j → f x ≡ bound h m y) → (j < k → h < m) → (r >>= f) ≡ bound h m y
+pub goes_on : {A B : Type 0} (j k h m : ℕ) (r : Result A ReadError) (x : A) (f : A → Result B ReadError) (y : Result B ReadError) → r ≡ bound j k (Ok x) → (k ≤ j → f x ≡ bound h m y) → (j < k → h < m) → (r >>= f) ≡ bound h m y
 goes_on j k h m r x f y e g le =
     ap (λ r. r >>= f) e ∙ bound_bind j k (Ok x) f
     ∙ ⊎_elim (λ lt. above j k _ lt ∙ sym (above h m y (le lt))) (λ fit. within j k _ fit ∙ g fit) (cases_lt j k)
@@ -324,7 +324,7 @@ simple_first (grammar.increment {p = p} {q = q} {x = x} {rest = rest}) o = step_
 simple_first (grammar.decrement {p = p} {q = q} {x = x} {rest = rest}) o = back_first p q x rest
 
 -- where the first expression is read, and what goes on from there is no lower
-pub from_first : {B : Type 0} (h : ℕ) (e : Tree) (ts mid : List Tok) (f : Found Tree → Result B Fault) (m : ℕ) (y : Result B Fault) → SpellsExpr 1 e ts mid → Quiet mid → height e ≤ m → (height e ≤ h → f (e, height e, mid) ≡ bound h m y) → (expr_at h 1 ts >>= f) ≡ bound h m y
+pub from_first : {B : Type 0} (h : ℕ) (e : Tree) (ts mid : List Tok) (f : Found Tree → Result B ReadError) (m : ℕ) (y : Result B ReadError) → SpellsExpr 1 e ts mid → Quiet mid → height e ≤ m → (height e ≤ h → f (e, height e, mid) ≡ bound h m y) → (expr_at h 1 ts >>= f) ≡ bound h m y
 from_first h e ts mid f m y d n le g = goes_on h (height e) h m (expr_at h 1 ts) (e, height e, mid) f y (expr_whole d n h) g (λ lt. omega arith)
 
 pub heading_goes : (h : ℕ) (may : Bool) (p : Place) (s : Simple) (ts rest : List Tok) (d : First s ts rest) → (may ≡ false → defines (Heads p s) ≡ false) → heading_after h may p (d.e, height d.e, d.mid) ≡ bound h (simple_height s) (Ok (Heads p s, simple_height s, rest))

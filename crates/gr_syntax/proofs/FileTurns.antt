@@ -14,7 +14,7 @@ use Rattle.gr_tree.specs.declared.file.Func as code_func
 use Rattle.gr_tree.specs.Exprs.{WrittenType, type_of, names_of}
 use Rattle.gr_tree.specs.Files.{GroupOf, Function, groups_of, function_of, functions_of}
 use Rattle.gr_syntax.specs.Grammar.{after_mark}
-use Rattle.gr_syntax.specs.Reading.{Fault, Found, ◌>>=◌, Go, turned, loop, names_at, type_at, need, ends_at}
+use Rattle.gr_syntax.specs.Reading.{ReadError, Found, ◌>>=◌, Go, turned, loop, names_at, type_at, need, ends_at}
 use Rattle.gr_syntax.specs.FileReading.{groups_turn, function_at, functions_more, functions_from, functions_turn}
 use Rattle.gr_syntax.proofs.Groups.{Groups, groups_step}
 use Rattle.gr_syntax.proofs.Turns.{tokens_length}
@@ -41,10 +41,10 @@ goes_on ts m = rw m refl
 
 -- one turn over groups
 module _ (h : ℕ) (gs : Found Groups) where
-  pub groups_unnamed : (f : Fault) → names_at gs.2 ≡ Err f → loop (groups_turn h) gs ≡ Err f
+  pub groups_unnamed : (f : ReadError) → names_at gs.2 ≡ Err f → loop (groups_turn h) gs ≡ Err f
   groups_unnamed f q = groups_step h gs ∙ rw q refl
 
-  pub groups_untyped : (xs : Found (List (List ℕ))) (f : Fault) → names_at gs.2 ≡ Ok xs → type_at h xs.2 ≡ Err f → loop (groups_turn h) gs ≡ Err f
+  pub groups_untyped : (xs : Found (List (List ℕ))) (f : ReadError) → names_at gs.2 ≡ Ok xs → type_at h xs.2 ≡ Err f → loop (groups_turn h) gs ≡ Err f
   groups_untyped xs f q e = groups_step h gs ∙ rw (q, e) refl
 
   pub groups_last : (xs : Found (List (List ℕ))) (t : Found WrittenType) → names_at gs.2 ≡ Ok xs → type_at h xs.2 ≡ Ok t → after_mark marks.Comma t.2 ≡ None → loop (groups_turn h) gs ≡ Ok (gs.0 ++ (GroupOf xs.0 t.0 ∷ []), 0, t.2)
@@ -69,10 +69,10 @@ module _ (h : ℕ) (fs : Found (List Function)) where
   unfolding functions_more
   functions_next t ts e = functions_step h fs ∙ ap (λ ts. functions_from h fs ts >>= turned (loop (functions_turn h))) e
 
-  pub functions_err : (t : Tok) (ts : List Tok) (f : Fault) → fs.2 ≡ t ∷ ts → function_at h fs.2 ≡ Err f → loop (functions_turn h) fs ≡ Err f
+  pub functions_err : (t : Tok) (ts : List Tok) (f : ReadError) → fs.2 ≡ t ∷ ts → function_at h fs.2 ≡ Err f → loop (functions_turn h) fs ≡ Err f
   functions_err t ts f e q = functions_next t ts e ∙ rw q refl
 
-  pub functions_unended : (t : Tok) (ts : List Tok) (x : Found Function) (f : Fault) → fs.2 ≡ t ∷ ts → function_at h fs.2 ≡ Ok x → need marks.Semicolon x.2 ≡ Err f → loop (functions_turn h) fs ≡ Err f
+  pub functions_unended : (t : Tok) (ts : List Tok) (x : Found Function) (f : ReadError) → fs.2 ≡ t ∷ ts → function_at h fs.2 ≡ Ok x → need marks.Semicolon x.2 ≡ Err f → loop (functions_turn h) fs ≡ Err f
   functions_unended t ts x f e q m = functions_next t ts e ∙ rw (q, m) refl
 
   pub functions_go : (t : Tok) (ts : List Tok) (x : Found Function) (r : Place × List Tok) → fs.2 ≡ t ∷ ts → function_at h fs.2 ≡ Ok x → need marks.Semicolon x.2 ≡ Ok r → loop (functions_turn h) fs ≡ loop (functions_turn h) (fs.0 ++ (x.0 ∷ []), 0, r.1)

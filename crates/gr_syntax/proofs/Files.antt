@@ -11,7 +11,7 @@ use Rattle.gr_tree.specs.Files.{Function, functions_height, FileTree, FileOf, fi
 use Rattle.gr_syntax.specs.Grammar.{after_mark}
 use Rattle.gr_syntax.specs.FileGrammar.{SpellsFile, file, IsTreeOf}
 use Rattle.gr_syntax.specs.Refused.{IsNoFile, IsTooHigh}
-use Rattle.gr_syntax.specs.Reading.{Fault, Wrong, High, Found, ◌>>=◌, name_at, need}
+use Rattle.gr_syntax.specs.Reading.{ReadError, Wrong, High, Found, ◌>>=◌, name_at, need}
 use Rattle.gr_syntax.specs.FileReading.{functions_at, file_at}
 use Rattle.gr_syntax.proofs.Bound.{bound, within, bound_bind}
 use Rattle.gr_syntax.proofs.Cases.{ok_inj, on_ok, on_test, name_is, need_is}
@@ -42,20 +42,20 @@ file_sound h ts f q =
 pub file_whole : {f : FileTree} {ts : List Tok} → SpellsFile f ts → (h : ℕ) → file_at h ts ≡ bound h (file_height f) (Ok f)
 unfolding file_at need name_at after_mark
 file_whole (file {p = p} {x = x} {fs = fs} d) h =
-    let f : Found (List Function) → Result FileTree Fault = λ fs. Ok (FileOf p x fs.0) in
+    let f : Found (List Function) → Result FileTree ReadError = λ fs. Ok (FileOf p x fs.0) in
     ap (λ r. r >>= f) (functions_whole d h) ∙ bound_bind h (functions_height fs) (Ok (fs, 0, [])) f
 
 -- what a fault says of a file
-err_inj : {A : Type 0} {d e : Fault} → ◌≡◌ {A = Result A Fault} (Err d) (Err e) → d ≡ e
+err_inj : {A : Type 0} {d e : ReadError} → ◌≡◌ {A = Result A ReadError} (Err d) (Err e) → d ≡ e
 err_inj q = cc
 
-ok≢err : {A : Type 0} {Z : Type 0} (x : A) (d : Fault) → ◌≡◌ {A = Result A Fault} (Ok x) (Err d) → Z
+ok≢err : {A : Type 0} {Z : Type 0} (x : A) (d : ReadError) → ◌≡◌ {A = Result A ReadError} (Ok x) (Err d) → Z
 ok≢err x d q = absurd (cc)
 
 wrong≢high : Wrong ≡ High → ⊥
 wrong≢high q = cc
 
-fault_is : {f : FileTree} {ts : List Tok} {d : Fault} → SpellsFile f ts → (h : ℕ) → file_at h ts ≡ Err d → (d ≡ High) × (h < file_height f)
+fault_is : {f : FileTree} {ts : List Tok} {d : ReadError} → SpellsFile f ts → (h : ℕ) → file_at h ts ≡ Err d → (d ≡ High) × (h < file_height f)
 fault_is {f} {ts} {d} t h q =
     on_test (nat_lt h (file_height f)) (Err High) (Ok f) (Err d) (sym (file_whole t h) ∙ q)
     (λ lt e. let high : High ≡ d = err_inj e in (sym high, omega (arith, ltb-true h (file_height f) lt)))

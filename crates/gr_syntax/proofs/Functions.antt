@@ -11,7 +11,7 @@ use Rattle.gr_tree.specs.Files.{Group, groups_height, Function, FunctionOf, func
 use Rattle.gr_syntax.specs.Grammar.{after_mark, SpellsType}
 use Rattle.gr_syntax.specs.StatementGrammar.{SpellsPart, SpellsBlock, braces}
 use Rattle.gr_syntax.specs.FileGrammar.{SpellsParameters, SpellsFunction, function, SpellsFunctions, no_function, one_function}
-use Rattle.gr_syntax.specs.Reading.{Fault, Found, Reads, ◌>>=◌, Turn, Go, turned, turns, loop, name_at, need}
+use Rattle.gr_syntax.specs.Reading.{ReadError, Found, Reads, ◌>>=◌, Turn, Go, turned, turns, loop, name_at, need}
 use Rattle.gr_syntax.specs.StatementReading.{statement_at, block_at}
 use Rattle.gr_syntax.specs.FileReading.{parameters_at, result_at, function_at, functions_more, functions_from, functions_turn, functions_at}
 use Rattle.gr_syntax.proofs.Bound.{bound, within, bound_bind, bound_max}
@@ -163,7 +163,7 @@ past p mid = refl
 functions_go : (h : ℕ) (acc : Functions) (f : Function) (fs : Functions) (p : Place) (ts mid : List Tok) → SpellsFunction f ts (At p (Sign marks.Semicolon) ∷ mid) → FunctionsTo h (acc ++ (f ∷ [])) fs mid → FunctionsTo h acc (f ∷ fs) ts
 unfolding functions_more
 functions_go h acc f fs p ts mid d ih =
-    let k : Found Function → Result (Turn (Found Functions)) Fault = λ f. need marks.Semicolon f.2 >>= λ r. Ok (Go (acc ++ (f.0 ∷ []), 0, r.1)) in
+    let k : Found Function → Result (Turn (Found Functions)) ReadError = λ f. need marks.Semicolon f.2 >>= λ r. Ok (Go (acc ++ (f.0 ∷ []), 0, r.1)) in
     let again : Turn (Found Functions) → Reads Functions = turned (loop (functions_turn h)) in
     let after : List Tok = At p (Sign marks.Semicolon) ∷ mid in
     functions_step h (acc, 0, ts)

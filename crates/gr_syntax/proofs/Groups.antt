@@ -10,7 +10,7 @@ use Rattle.gr_tree.specs.Files.{Group, GroupOf, groups_height}
 use Rattle.gr_syntax.specs.Grammar.{after_mark, SpellsType, type_name, type_unit, type_chan, type_send, type_receive, type_paren, SpellsNames, last_name, comma_name}
 use Rattle.gr_syntax.specs.StatementGrammar.{SpellsPart, missing, there}
 use Rattle.gr_syntax.specs.FileGrammar.{SpellsGroups, last_group, comma_group, SpellsParameters, no_parameters, parameters, parameters_comma}
-use Rattle.gr_syntax.specs.Reading.{Fault, Found, Reads, ◌>>=◌, Turn, Stop, Go, turned, turns, loop, need, names_at, type_at, ends_at}
+use Rattle.gr_syntax.specs.Reading.{ReadError, Found, Reads, ◌>>=◌, Turn, Stop, Go, turned, turns, loop, need, names_at, type_at, ends_at}
 use Rattle.gr_syntax.specs.FileReading.{groups_after, groups_turn, groups_at, parameters_at, result_at}
 use Rattle.gr_syntax.proofs.Bound.{bound, within, bound_bind, bound_max}
 use Rattle.gr_syntax.proofs.Loops.{Shrinks, loop_is}
@@ -144,7 +144,7 @@ groups_shrinks h s v q =
     (λ b q. omega (arith, n, d, ap length (after_is marks.Comma t.2 rest m).is, ap length (go_inj (s.0 ++ (GroupOf xs.0 t.0 ∷ []), 0, rest) v q))))
     (λ m q. stop≢go (s.0 ++ (GroupOf xs.0 t.0 ∷ []), 0, t.2) v q)))
 
-abbrev pub groups_from : ℕ → Found Groups → Result (Turn (Found Groups)) Fault
+abbrev pub groups_from : ℕ → Found Groups → Result (Turn (Found Groups)) ReadError
 groups_from h gs = names_at gs.2 >>= λ xs. type_at h xs.2 >>= λ t. groups_after (gs.0 ++ (GroupOf xs.0 t.0 ∷ [])) t.2
 
 pub groups_step : (h : ℕ) (gs : Found Groups) → loop (groups_turn h) gs ≡ (groups_from h gs >>= turned (loop (groups_turn h)))
@@ -170,7 +170,7 @@ GroupsTo h acc gs ts rest = loop (groups_turn h) (acc, 0, ts) ≡ bound h (group
 
 one_group : (h : ℕ) (acc : Groups) (xs : List (List ℕ)) (t : WrittenType) (ts mid after : List Tok) → SpellsNames xs ts mid → SpellsType t mid after → loop (groups_turn h) (acc, 0, ts) ≡ bound h (type_height t) (groups_after (acc ++ (GroupOf xs t ∷ [])) after >>= turned (loop (groups_turn h)))
 one_group h acc xs t ts mid after n d =
-    let f : Found WrittenType → Result (Turn (Found Groups)) Fault = λ t. groups_after (acc ++ (GroupOf xs t.0 ∷ [])) t.2 in
+    let f : Found WrittenType → Result (Turn (Found Groups)) ReadError = λ t. groups_after (acc ++ (GroupOf xs t.0 ∷ [])) t.2 in
     let again : Turn (Found Groups) → Reads Groups = turned (loop (groups_turn h)) in
     groups_step h (acc, 0, ts)
     ∙ ap (λ r. (r >>= λ (xs : Found (List (List ℕ))). type_at h xs.2 >>= λ t. groups_after (acc ++ (GroupOf xs.0 t.0 ∷ [])) t.2) >>= again) (names_whole n (type_begins d).comma)

@@ -13,7 +13,7 @@ use Rattle.gr_syntax.specs.declared.opening.Keyword.TheVariants as keywords
 use Rattle.gr_syntax.specs.Grammar.{after_mark}
 use Rattle.gr_syntax.specs.StatementGrammar as grammar
 use Rattle.gr_syntax.specs.StatementGrammar.{SpellsSimple, SpellsAct, SpellsIfHead, SpellsForHead, SpellsComm, SpellsStatement, SpellsIf, SpellsList, SpellsBlock, SpellsClauses}
-use Rattle.gr_syntax.specs.Reading.{Fault, Found, Reads, ◌>>=◌, Turn, turned, turns, loop, match_after, operator_at, need, expr_at}
+use Rattle.gr_syntax.specs.Reading.{ReadError, Found, Reads, ◌>>=◌, Turn, turned, turns, loop, match_after, operator_at, need, expr_at}
 use Rattle.gr_syntax.specs.Reading as reading
 use Rattle.gr_syntax.specs.SimpleReading.{keyword_of, done_at, stops_at, place_at, bare, simple_after, var_at, go_at, return_at, jump_at}
 use Rattle.gr_syntax.specs.StatementReading.{if_head_at, for_head_at, comm_at, past_semicolon, added, list_more, list_turn, list_at, block_at, else_at, if_at, for_at, with_default, with_case, case_at, default_at, clause_turn, clauses_at, select_at, placed, labelled_at, plain_after, name_open, open_after, open_at, braced_at, keyed_at, tier_at, statement_at}

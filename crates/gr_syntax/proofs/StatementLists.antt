@@ -6,7 +6,7 @@ use Rattle.gr_scan.specs.declared.token.Mark.TheVariants as marks
 use Rattle.gr_scan.specs.Tokens.{Tok, At, Sign}
 use Rattle.gr_tree.specs.Statements.{Statement, Statements, end, then, statement_height, body_height}
 use Rattle.gr_syntax.specs.Grammar.{after_mark}
-use Rattle.gr_syntax.specs.Reading.{Fault, Found, Reads, ◌>>=◌, Turn, turned, loop, need}
+use Rattle.gr_syntax.specs.Reading.{ReadError, Found, Reads, ◌>>=◌, Turn, turned, loop, need}
 use Rattle.gr_syntax.specs.Reading as reading
 use Rattle.gr_syntax.specs.SimpleReading.{stops_at}
 use Rattle.gr_syntax.specs.StatementReading.{past_semicolon, added, list_turn, list_at, block_at, tier_at, statement_at}
@@ -33,7 +33,7 @@ module _ (h : ℕ) where
   abbrev rec : List Tok → Reads Statement
   rec = statement_at h
 
-  abbrev after_one : Found Statements → Found Statement → Result (Turn (Found Statements)) Fault
+  abbrev after_one : Found Statements → Found Statement → Result (Turn (Found Statements)) ReadError
   after_one ss s = past_semicolon s.2 >>= λ rest. Ok (reading.Go (added ss.0 s.0, max ss.1 s.1, rest))
 
   pub list_shrinks : Shrinks (list_turn rec)
@@ -78,7 +78,7 @@ list_empty h acc k ss p ts rest r = turn_empty h (acc, k, At p (Sign marks.Semic
 pub list_statement : (h : ℕ) (acc : Statements) (k : ℕ) (s : Statement) (ts after rest : List Tok) → Starts ts → StatementReads h s ts after → past_semicolon after ≡ Ok rest → loop (list_turn (statement_at h)) (acc, k, ts) ≡ bound h (statement_height s) (loop (list_turn (statement_at h)) (added acc s, max k (statement_height s), rest))
 list_statement h acc k s ts after rest o r e =
     let j : ℕ = statement_height s in
-    let f : Found Statement → Result (Turn (Found Statements)) Fault = after_one h (acc, k, ts) in
+    let f : Found Statement → Result (Turn (Found Statements)) ReadError = after_one h (acc, k, ts) in
     let again : Turn (Found Statements) → Reads Statements = turned (loop (list_turn (statement_at h))) in
     turn_statement h (acc, k, ts) o.stops o.semicolon
     ∙ ap (λ r. (r >>= f) >>= again) r

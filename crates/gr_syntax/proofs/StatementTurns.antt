@@ -6,7 +6,7 @@ use Rattle.gr_scan.specs.declared.token.Mark.TheVariants as marks
 use Rattle.gr_scan.specs.Tokens.{Tok, tokens_of}
 use Rattle.gr_tree.specs.Statements.{Statement, Statements}
 use Rattle.gr_syntax.specs.Grammar.{after_mark}
-use Rattle.gr_syntax.specs.Reading.{Fault, Found, loop}
+use Rattle.gr_syntax.specs.Reading.{ReadError, Found, loop}
 use Rattle.gr_syntax.specs.SimpleReading.{stops_at}
 use Rattle.gr_syntax.specs.StatementReading.{past_semicolon, added, list_turn, statement_at}
 use Rattle.gr_syntax.proofs.Turns.{tokens_length}
@@ -19,10 +19,10 @@ statement_shorter h ts rest s k q = omega (arith, tokens_length ts, tokens_lengt
 
 -- the turns that read a statement
 module _ (h : ℕ) (ss : Found Statements) (m : stops_at ss.2 ≡ false) (k : after_mark marks.Semicolon ss.2 ≡ None) where
-  pub list_err : (f : Fault) → statement_at h ss.2 ≡ Err f → loop (list_turn (statement_at h)) ss ≡ Err f
+  pub list_err : (f : ReadError) → statement_at h ss.2 ≡ Err f → loop (list_turn (statement_at h)) ss ≡ Err f
   list_err f q = turn_statement h ss m k ∙ rw q refl
 
-  pub list_bad : (s : Found Statement) (f : Fault) → statement_at h ss.2 ≡ Ok s → past_semicolon s.2 ≡ Err f → loop (list_turn (statement_at h)) ss ≡ Err f
+  pub list_bad : (s : Found Statement) (f : ReadError) → statement_at h ss.2 ≡ Ok s → past_semicolon s.2 ≡ Err f → loop (list_turn (statement_at h)) ss ≡ Err f
   list_bad s f q e = turn_statement h ss m k ∙ rw (q, e) refl
 
   pub list_go : (s : Found Statement) (rest : List Tok) → statement_at h ss.2 ≡ Ok s → past_semicolon s.2 ≡ Ok rest → loop (list_turn (statement_at h)) ss ≡ loop (list_turn (statement_at h)) (added ss.0 s.0, max ss.1 s.1, rest)

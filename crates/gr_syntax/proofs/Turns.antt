@@ -11,10 +11,10 @@ use Rattle.gr_tree.specs.declared.expr.Expr.{Expr, Row_of-Expr, end_of-Expr, mor
 use Rattle.gr_tree.specs.declared.expr.Expr.TheBlock.{hidden-the_row-Expr-0}
 use Rattle.gr_tree.specs.declared.expr.Expr.TheVariants as exprs
 use Rattle.gr_tree.specs.Exprs.{WrittenType, Tree, Call, tree_of, row_trees, Trees, trees_of, more, names_of}
-use Rattle.gr_syntax.specs.declared.look.Fault as code_fault
-use Rattle.gr_syntax.specs.declared.look.Fault.TheVariants as faults
+use Rattle.gr_syntax.specs.declared.look.ReadError as code_fault
+use Rattle.gr_syntax.specs.declared.look.ReadError.TheVariants as faults
 use Rattle.gr_syntax.specs.Grammar.{level, after_mark, is_make}
-use Rattle.gr_syntax.specs.Reading.{Fault, Wrong, High, Found, Reads, ◌>>=◌, turned, loop, binary_of, operator_at, joined, chain_at, chain_turn, expr_at, snoc, ends_at, exprs_after, exprs_turn, arguments_at, call_at, named_at, name_at, names_turn}
+use Rattle.gr_syntax.specs.Reading.{ReadError, Wrong, High, Found, Reads, ◌>>=◌, turned, loop, binary_of, operator_at, joined, chain_at, chain_turn, expr_at, snoc, ends_at, exprs_after, exprs_turn, arguments_at, call_at, named_at, name_at, names_turn}
 use Rattle.gr_syntax.specs.Views.{Fails, Sees}
 use Rattle.gr_syntax.proofs.Loops.{loop_is}
 use Rattle.gr_syntax.proofs.Sizes.{chain_shrinks, expr_reads, exprs_shrinks}
@@ -28,7 +28,7 @@ pub expr_shorter : (h l : ℕ) (ts rest : List Token) (e : Tree) (k : ℕ) → 0
 expr_shorter h l ts rest e k pos q = omega (arith, tokens_length ts, tokens_length rest, expr_reads h l (tokens_of ts) (e, k, tokens_of rest) pos q)
 
 -- the exit of a `?`
-pub fails_on : {X Y : Type 0} (f : code_fault.Fault) (r : Result X Fault) (s : Result Y Fault) → ((d : Fault) → r ≡ Err d → s ≡ Err d) → Fails f r → Fails f s
+pub fails_on : {X Y : Type 0} (f : code_fault.ReadError) (r : Result X ReadError) (s : Result Y ReadError) → ((d : ReadError) → r ≡ Err d → s ≡ Err d) → Fails f r → Fails f s
 fails_on (faults.Wrong left) r s h q = h Wrong q
 fails_on (faults.TooHigh left) r s h q = h High q
 fails_on faults.Memory r s h q = tt
@@ -48,7 +48,7 @@ module _ (h l : ℕ) (a : Found Tree) where
   pub chain_high : (op : BinaryOp) (mid : List Tok) → operator_at binary_of a.2 ≡ Some (op, mid) → l ≤ level op → h < a.1 → loop (chain_turn (expr_at h) h l) a ≡ Err High
   chain_high op mid e le lt = chain_step h l a ∙ ap (λ o. chain_at (expr_at h) h l a o >>= turned (loop (chain_turn (expr_at h) h l))) e ∙ rw (le-ltb (level op) l le, lt-ltb h a.1 lt) refl
 
-  pub chain_err : (op : BinaryOp) (mid : List Tok) (f : Fault) → operator_at binary_of a.2 ≡ Some (op, mid) → l ≤ level op → a.1 ≤ h → expr_at h (level op + 1) mid ≡ Err f → loop (chain_turn (expr_at h) h l) a ≡ Err f
+  pub chain_err : (op : BinaryOp) (mid : List Tok) (f : ReadError) → operator_at binary_of a.2 ≡ Some (op, mid) → l ≤ level op → a.1 ≤ h → expr_at h (level op + 1) mid ≡ Err f → loop (chain_turn (expr_at h) h l) a ≡ Err f
   chain_err op mid f e le fit q = chain_step h l a ∙ ap (λ o. chain_at (expr_at h) h l a o >>= turned (loop (chain_turn (expr_at h) h l))) e ∙ rw (le-ltb (level op) l le, le-ltb h a.1 fit, q) refl
 
   pub chain_go : (op : BinaryOp) (mid : List Tok) (b : Found Tree) → operator_at binary_of a.2 ≡ Some (op, mid) → l ≤ level op → a.1 ≤ h → expr_at h (level op + 1) mid ≡ Ok b → loop (chain_turn (expr_at h) h l) a ≡ loop (chain_turn (expr_at h) h l) (joined op a b)
@@ -60,7 +60,7 @@ exprs_step h t es = loop_is (exprs_turn (expr_at h) t) (exprs_shrinks h t) es
 
 -- one turn of a list of expressions
 module _ (h : ℕ) (t : Bool) (es : Found Trees) where
-  pub exprs_err : (f : Fault) → expr_at h 1 es.2 ≡ Err f → loop (exprs_turn (expr_at h) t) es ≡ Err f
+  pub exprs_err : (f : ReadError) → expr_at h 1 es.2 ≡ Err f → loop (exprs_turn (expr_at h) t) es ≡ Err f
   exprs_err f q = exprs_step h t es ∙ rw q refl
 
   pub exprs_last : (e : Found Tree) → expr_at h 1 es.2 ≡ Ok e → after_mark marks.Comma e.2 ≡ None → loop (exprs_turn (expr_at h) t) es ≡ Ok (snoc es.0 e.0, max es.1 e.1, e.2)
@@ -78,7 +78,7 @@ trees_push (y ∷ xs) x = ap (more (tree_of y)) (trees_push xs x)
 
 -- one turn of a list of names
 module _ (xs : Found (List (List ℕ))) where
-  pub names_err : (f : Fault) → name_at xs.2 ≡ Err f → loop names_turn xs ≡ Err f
+  pub names_err : (f : ReadError) → name_at xs.2 ≡ Err f → loop names_turn xs ≡ Err f
   names_err f q = names_step xs ∙ rw q refl
 
   pub names_last : (x : List ℕ × List Tok) → name_at xs.2 ≡ Ok x → after_mark marks.Comma x.1 ≡ None → loop names_turn xs ≡ Ok (xs.0 ++ (x.0 ∷ []), 0, x.1)

@@ -15,19 +15,19 @@ use Rattle.gr_tree.specs.Exprs.{WrittenType, TypeName, UnitType, Chan, ParenType
 use Rattle.gr_syntax.specs.Grammar.{level, after_mark, is_make}
 
 -- why nothing is read: no tree begins so, or it is too high
-pub data Fault : Type 0 where
-  Wrong : Fault
-  High : Fault
+pub data ReadError : Type 0 where
+  Wrong : ReadError
+  High : ReadError
 
 -- what is read, its height, and the tokens after it
 abbrev pub Found : Type 0 → Type 0
 Found A = A × ℕ × List Tok
 
 abbrev pub Reads : Type 0 → Type 0
-Reads A = Result (Found A) Fault
+Reads A = Result (Found A) ReadError
 
 infixl 10 ◌>>=◌
-abbrev pub ◌>>=◌ : {A B : Type 0} → Result A Fault → (A → Result B Fault) → Result B Fault
+abbrev pub ◌>>=◌ : {A B : Type 0} → Result A ReadError → (A → Result B ReadError) → Result B ReadError
 (Ok x) >>= f = f x
 (Err e) >>= f = Err e
 
@@ -36,17 +36,17 @@ pub data Turn (S : Type 0) : Type 0 where
   Stop : S → Turn S
   Go : S → Turn S
 
-abbrev pub turned : {S : Type 0} → (S → Result S Fault) → Turn S → Result S Fault
+abbrev pub turned : {S : Type 0} → (S → Result S ReadError) → Turn S → Result S ReadError
 turned again (Stop s) = Ok s
 turned again (Go s) = again s
 
 -- at most n turns
-abbrev pub turns : {S : Type 0} → (S → Result (Turn S) Fault) → ℕ → S → Result S Fault
+abbrev pub turns : {S : Type 0} → (S → Result (Turn S) ReadError) → ℕ → S → Result S ReadError
 turns step zero s = Err Wrong
 turns step (suc n) s = step s >>= turned (turns step n)
 
 -- as many turns as there are tokens
-unfoldable pub loop : {A : Type 0} → (Found A → Result (Turn (Found A)) Fault) → Found A → Reads A
+unfoldable pub loop : {A : Type 0} → (Found A → Result (Turn (Found A)) ReadError) → Found A → Reads A
 loop step s = turns step (suc (length s.2)) s
 
 abbrev pub match_after : {A B : Type 0} → Option A → (A → B) → B → B
@@ -91,21 +91,21 @@ operator_at of (At p (words.Number n) ∷ ts) = None
 operator_at of (At p (words.Text s) ∷ ts) = None
 operator_at of (At p (Sign m) ∷ ts) = match_after (of m) (λ op. Some (op, ts)) None
 
-unfoldable pub need : Mark → List Tok → Result (Place × List Tok) Fault
+unfoldable pub need : Mark → List Tok → Result (Place × List Tok) ReadError
 need m [] = Err Wrong
 need m (At p w ∷ ts) = match_after (after_mark m (At p w ∷ ts)) (λ rest. Ok (p, rest)) (Err Wrong)
 
-unfoldable pub name_at : List Tok → Result (List ℕ × List Tok) Fault
+unfoldable pub name_at : List Tok → Result (List ℕ × List Tok) ReadError
 name_at [] = Err Wrong
 name_at (At p (words.Name x) ∷ ts) = Ok (x, ts)
 name_at (At p (words.Number n) ∷ ts) = Err Wrong
 name_at (At p (words.Text s) ∷ ts) = Err Wrong
 name_at (At p (Sign m) ∷ ts) = Err Wrong
 
-abbrev pub names_after : List (List ℕ) → List Tok → Result (Turn (Found (List (List ℕ)))) Fault
+abbrev pub names_after : List (List ℕ) → List Tok → Result (Turn (Found (List (List ℕ)))) ReadError
 names_after xs ts = match_after (after_mark marks.Comma ts) (λ rest. Ok (Go (xs, 0, rest))) (Ok (Stop (xs, 0, ts)))
 
-unfoldable pub names_turn : Found (List (List ℕ)) → Result (Turn (Found (List (List ℕ)))) Fault
+unfoldable pub names_turn : Found (List (List ℕ)) → Result (Turn (Found (List (List ℕ)))) ReadError
 names_turn xs = name_at xs.2 >>= λ x. names_after (xs.0 ++ (x.0 ∷ [])) x.1
 
 -- names with commas between them
@@ -149,12 +149,12 @@ abbrev pub joined : BinaryOp → Found Tree → Found Tree → Found Tree
 joined op a b = (Binary op a.0 b.0, max a.1 b.1 + 1, b.2)
 
 -- one more operator, where it binds at least as strongly as l
-abbrev pub chain_at : (ℕ → List Tok → Reads Tree) → ℕ → ℕ → Found Tree → Option (BinaryOp × List Tok) → Result (Turn (Found Tree)) Fault
+abbrev pub chain_at : (ℕ → List Tok → Reads Tree) → ℕ → ℕ → Found Tree → Option (BinaryOp × List Tok) → Result (Turn (Found Tree)) ReadError
 chain_at rec h l a None = Ok (Stop a)
 chain_at rec h l a (Some o) =
     if nat_lt (level o.0) l then Ok (Stop a) else (if nat_lt h a.1 then Err High else (rec (level o.0 + 1) o.1 >>= λ b. Ok (Go (joined o.0 a b))))
 
-unfoldable pub chain_turn : (ℕ → List Tok → Reads Tree) → ℕ → ℕ → Found Tree → Result (Turn (Found Tree)) Fault
+unfoldable pub chain_turn : (ℕ → List Tok → Reads Tree) → ℕ → ℕ → Found Tree → Result (Turn (Found Tree)) ReadError
 chain_turn rec h l a = chain_at rec h l a (operator_at binary_of a.2)
 
 abbrev pub snoc : Trees → Tree → Trees
@@ -167,12 +167,12 @@ ends_at false ts = false
 ends_at true ts = match_after (after_mark marks.RightParen ts) (λ rest. true) false
 
 -- what follows an expression of a list
-abbrev pub exprs_after : Bool → Found Trees → Found Tree → List Tok → Result (Turn (Found Trees)) Fault
+abbrev pub exprs_after : Bool → Found Trees → Found Tree → List Tok → Result (Turn (Found Trees)) ReadError
 exprs_after trailing es e ts = match_after (after_mark marks.Comma ts)
     (λ rest. if ends_at trailing rest then Ok (Stop (snoc es.0 e.0, max es.1 e.1, rest)) else Ok (Go (snoc es.0 e.0, max es.1 e.1, rest)))
     (Ok (Stop (snoc es.0 e.0, max es.1 e.1, ts)))
 
-unfoldable pub exprs_turn : (ℕ → List Tok → Reads Tree) → Bool → Found Trees → Result (Turn (Found Trees)) Fault
+unfoldable pub exprs_turn : (ℕ → List Tok → Reads Tree) → Bool → Found Trees → Result (Turn (Found Trees)) ReadError
 exprs_turn rec trailing es = rec 1 es.2 >>= λ e. exprs_after trailing es e e.2
 
 -- expressions with commas between them, and one after them where `trailing` and a `)` follows
@@ -190,7 +190,7 @@ unfoldable pub call_at : (ℕ → List Tok → Reads Tree) → List ℕ → List
 call_at rec x ts = arguments_at rec ts >>= λ es. Ok (Call x es.0, es.1 + 1, es.2)
 
 -- a `)`, perhaps after a comma
-unfoldable pub close_at : List Tok → Result (List Tok) Fault
+unfoldable pub close_at : List Tok → Result (List Tok) ReadError
 close_at ts = match_after (after_mark marks.Comma ts) (λ rest. need marks.RightParen rest >>= λ r. Ok r.1) (need marks.RightParen ts >>= λ r. Ok r.1)
 
 -- the size in a make of this type, after the comma before it

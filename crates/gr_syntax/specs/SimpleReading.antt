@@ -15,7 +15,7 @@ use Rattle.gr_syntax.specs.declared.opening.Keyword.TheVariants as keywords
 use Rattle.gr_syntax.specs.declared.opening.Joint.{Joint}
 use Rattle.gr_syntax.specs.declared.opening.Joint.TheVariants as joints
 use Rattle.gr_syntax.specs.Grammar.{after_mark, is_make}
-use Rattle.gr_syntax.specs.Reading.{Fault, Wrong, High, Found, Reads, ◌>>=◌, match_after, operator_at, name_at, need, names_at, type_at, expr_at, exprs_at, arguments_at}
+use Rattle.gr_syntax.specs.Reading.{ReadError, Wrong, High, Found, Reads, ◌>>=◌, match_after, operator_at, name_at, need, names_at, type_at, expr_at, exprs_at, arguments_at}
 
 -- what was found, where its height is allowed
 abbrev pub up_to : {A : Type 0} → ℕ → Found A → Reads A
@@ -87,7 +87,7 @@ first_name (At p (words.Number n) ∷ ts) = None
 first_name (At p (words.Text s) ∷ ts) = None
 first_name (At p (Sign m) ∷ ts) = None
 
-unfoldable pub place_at : List Tok → Result Place Fault
+unfoldable pub place_at : List Tok → Result Place ReadError
 place_at [] = Err Wrong
 place_at (At p w ∷ ts) = Ok p
 

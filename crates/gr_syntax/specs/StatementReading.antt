@@ -10,7 +10,7 @@ use Rattle.gr_tree.specs.Statements.{Act, Plain, Break, Continue, Heading, Heads
 use Rattle.gr_syntax.specs.declared.opening.Keyword.{Keyword}
 use Rattle.gr_syntax.specs.declared.opening.Keyword.TheVariants as keywords
 use Rattle.gr_syntax.specs.Grammar.{after_mark}
-use Rattle.gr_syntax.specs.Reading.{Fault, Wrong, High, Found, Reads, ◌>>=◌, Turn, loop, match_after, operator_at, name_at, need, expr_at, operand_at}
+use Rattle.gr_syntax.specs.Reading.{ReadError, Wrong, High, Found, Reads, ◌>>=◌, Turn, loop, match_after, operator_at, name_at, need, expr_at, operand_at}
 use Rattle.gr_syntax.specs.Reading as reading
 use Rattle.gr_syntax.specs.SimpleReading.{keyword_of, done_at, stops_at, place_at, bare, simple_after, var_at, go_at, return_at, jump_at}
 
@@ -129,19 +129,19 @@ unfoldable pub comm_at : ℕ → List Tok → Reads Comm
 comm_at h ts = expr_at h 1 ts >>= λ e. comm_after h e
 
 -- past the semicolon that ends a statement; none is needed before `}`
-unfoldable pub past_semicolon : List Tok → Result (List Tok) Fault
+unfoldable pub past_semicolon : List Tok → Result (List Tok) ReadError
 past_semicolon ts = match_after (after_mark marks.RightBrace ts) (λ rest. Ok ts) (need marks.Semicolon ts >>= λ r. Ok r.1)
 
 abbrev pub added : Statements → Statement → Statements
 added end x = (then) x end
 added ((then) s ss) x = (then) s (added ss x)
 
-abbrev pub list_more : (List Tok → Reads Statement) → Found Statements → Result (Turn (Found Statements)) Fault
+abbrev pub list_more : (List Tok → Reads Statement) → Found Statements → Result (Turn (Found Statements)) ReadError
 list_more rec ss = match_after (after_mark marks.Semicolon ss.2)
     (λ rest. Ok (reading.Go (ss.0, ss.1, rest)))
     (rec ss.2 >>= λ s. past_semicolon s.2 >>= λ rest. Ok (reading.Go (added ss.0 s.0, max ss.1 s.1, rest)))
 
-unfoldable pub list_turn : (List Tok → Reads Statement) → Found Statements → Result (Turn (Found Statements)) Fault
+unfoldable pub list_turn : (List Tok → Reads Statement) → Found Statements → Result (Turn (Found Statements)) ReadError
 list_turn rec ss = if stops_at ss.2 then Ok (reading.Stop ss) else list_more rec ss
 
 -- statements up to a `}` or to the next clause of a select
@@ -182,13 +182,13 @@ with_case (case comm body others) c ss = case comm body (with_case others c ss)
 abbrev pub clause_body_at : (List Tok → Reads Statement) → List Tok → Reads Statements
 clause_body_at rec ts = need marks.Colon ts >>= λ r. list_at rec r.1
 
-abbrev pub case_at : ℕ → (List Tok → Reads Statement) → Found Clauses → List Tok → Result (Turn (Found Clauses)) Fault
+abbrev pub case_at : ℕ → (List Tok → Reads Statement) → Found Clauses → List Tok → Result (Turn (Found Clauses)) ReadError
 case_at h rec cs ts = comm_at h ts >>= λ c. need marks.Colon c.2 >>= λ r. list_at rec r.1 >>= λ ss. Ok (reading.Go (with_case cs.0 c.0 ss.0, max cs.1 (max c.1 ss.1), ss.2))
 
-abbrev pub default_at : (List Tok → Reads Statement) → Found Clauses → List Tok → Result (Turn (Found Clauses)) Fault
+abbrev pub default_at : (List Tok → Reads Statement) → Found Clauses → List Tok → Result (Turn (Found Clauses)) ReadError
 default_at rec cs ts = need marks.Colon ts >>= λ r. list_at rec r.1 >>= λ ss. Ok (reading.Go (with_default cs.0 ss.0, max cs.1 ss.1, ss.2))
 
-unfoldable pub clause_turn : ℕ → (List Tok → Reads Statement) → Found Clauses → Result (Turn (Found Clauses)) Fault
+unfoldable pub clause_turn : ℕ → (List Tok → Reads Statement) → Found Clauses → Result (Turn (Found Clauses)) ReadError
 clause_turn h rec cs = match_after (after_mark marks.Case cs.2)
     (λ rest. case_at h rec cs rest)
     (match_after (after_mark marks.Default cs.2)

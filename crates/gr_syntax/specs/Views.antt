@@ -5,18 +5,18 @@ use Rattle.gr_scan.specs.declared.token.Token.{Token}
 use Rattle.gr_scan.specs.Tokens.{Tok, token_of, tokens_of}
 use Rattle.gr_tree.specs.declared.expr.Expr.{Expr}
 use Rattle.gr_tree.specs.Exprs.{Tree, tree_of}
-use Rattle.gr_syntax.specs.declared.look.Fault as code_fault
-use Rattle.gr_syntax.specs.declared.look.Fault.TheVariants as faults
+use Rattle.gr_syntax.specs.declared.look.ReadError as code_fault
+use Rattle.gr_syntax.specs.declared.look.ReadError.TheVariants as faults
 use Rattle.gr_syntax.specs.declared.look.Found as code
-use Rattle.gr_syntax.specs.Reading.{Fault, Wrong, High, Found}
+use Rattle.gr_syntax.specs.Reading.{ReadError, Wrong, High, Found}
 
 -- What a function returned, seen by view, is what reading gives, unless memory ran out.
-abbrev pub Fails : {Y : Type 0} → code_fault.Fault → Result Y Fault → Type 0
+abbrev pub Fails : {Y : Type 0} → code_fault.ReadError → Result Y ReadError → Type 0
 Fails (faults.Wrong left) read = read ≡ Err Wrong
 Fails (faults.TooHigh left) read = read ≡ Err High
 Fails faults.Memory read = Unit {0}
 
-abbrev pub Gives : {X Y : Type 0} → (X → Y) → Result X code_fault.Fault → Result Y Fault → Type 0
+abbrev pub Gives : {X Y : Type 0} → (X → Y) → Result X code_fault.ReadError → Result Y ReadError → Type 0
 Gives view (Ok x) read = read ≡ Ok (view x)
 Gives view (Err e) read = Fails e read
 
@@ -25,23 +25,23 @@ abbrev pub found_of : {X Y : Type 0} → (X → Y) → code.Found X → Found Y
 found_of view f = (view f.value, f.height, tokens_of f.rest.now)
 
 -- what a function found in these tokens is what reading them gives, unless memory ran out
-abbrev pub Finds : {X Y : Type 0} → (X → Y) → List Token → Result (code.Found X) code_fault.Fault → (List Tok → Result (Found Y) Fault) → Type 0
+abbrev pub Finds : {X Y : Type 0} → (X → Y) → List Token → Result (code.Found X) code_fault.ReadError → (List Tok → Result (Found Y) ReadError) → Type 0
 Finds view tokens result read = Gives (found_of view) result (read (tokens_of tokens))
 
 -- the same of what goes on from this expression
-abbrev pub Continues : {X Y : Type 0} → (X → Y) → code.Found Expr → Result (code.Found X) code_fault.Fault → (Found Tree → Result (Found Y) Fault) → Type 0
+abbrev pub Continues : {X Y : Type 0} → (X → Y) → code.Found Expr → Result (code.Found X) code_fault.ReadError → (Found Tree → Result (Found Y) ReadError) → Type 0
 Continues view first result read = Gives (found_of view) result (read (found_of tree_of first))
 
 -- what was found is no higher than this
-abbrev pub AtMost : {X : Type 0} → ℕ → Result (code.Found X) code_fault.Fault → Type 0
+abbrev pub AtMost : {X : Type 0} → ℕ → Result (code.Found X) code_fault.ReadError → Type 0
 AtMost limit result = IfOk result (λ f. f.height ≤ limit)
 
 -- fewer tokens are left after it than these
-abbrev pub Shorter : {X : Type 0} → List Token → Result (code.Found X) code_fault.Fault → Type 0
+abbrev pub Shorter : {X : Type 0} → List Token → Result (code.Found X) code_fault.ReadError → Type 0
 Shorter tokens result = IfOk result (λ f. length f.rest.now < length tokens)
 
 -- no more tokens are left after it than these
-abbrev pub NoLonger : {X : Type 0} → List Token → Result (code.Found X) code_fault.Fault → Type 0
+abbrev pub NoLonger : {X : Type 0} → List Token → Result (code.Found X) code_fault.ReadError → Type 0
 NoLonger tokens result = IfOk result (λ f. length f.rest.now ≤ length tokens)
 
 -- the first token and the others

@@ -7,7 +7,7 @@ ghost use Rattle.gr_syntax.specs.SimpleReading.{var_typed, var_after, var_at, go
 ghost use Rattle.gr_syntax.specs.Views.{Finds, AtMost, NoLonger};
 
 use crate::expression::{arguments, expr, exprs};
-use crate::look::{Fault, Found, abandon, after, copy, is_the_make, name, names, needed};
+use crate::look::{Found, ReadError, abandon, after, copy, is_the_make, name, names, needed};
 use crate::opening::{ends, first_name};
 use crate::types::type_tree;
 use gr_scan::token::{Mark, Token};
@@ -23,16 +23,17 @@ fn typed<'a>(
     type_tree: TypeTree,
     height: u32,
     tokens: &'a [Token],
-) -> Result<Found<'a, Action>, Fault>
+) -> Result<Found<'a, Action>, ReadError>
     requires limit { limit < 2 ^ 30 }
     requires fits { height ≤ limit }
-    ensures gives { Finds act_of tokens.now result (λ ts. var_typed limit (names_of names.items) (type_of type_tree, height, ts)) }
+    ensures gives { Finds act_of tokens.now result
+        (λ ts. var_typed limit (names_of names.items) (type_of type_tree, height, ts)) }
     ensures fits { AtMost limit result }
     ensures rest { NoLonger tokens.now result }
 {
     let Some(rest) = after(Mark::Assign, tokens) else {
         if height + 1 > limit {
-            return abandon(type_tree, Fault::TooHigh { left: tokens.len() });
+            return abandon(type_tree, ReadError::TooHigh { left: tokens.len() });
         }
         return Ok(Found {
             value: Action::Var(names, type_tree),
@@ -46,7 +47,7 @@ fn typed<'a>(
     };
     let height = height.max(values.height) + 1;
     if height > limit {
-        return abandon(type_tree, Fault::TooHigh { left: tokens.len() });
+        return abandon(type_tree, ReadError::TooHigh { left: tokens.len() });
     }
     Ok(Found {
         value: Action::VarValues(names, Some(type_tree), values.value),
@@ -62,7 +63,7 @@ fn declared<'a>(
     limit: u32,
     names: Vec<Vec<u8>>,
     tokens: &'a [Token],
-) -> Result<Found<'a, Action>, Fault>
+) -> Result<Found<'a, Action>, ReadError>
     requires { limit < 2 ^ 30 }
     ensures gives { Finds act_of tokens.now result (var_after limit (names_of names.items)) }
     ensures fits { AtMost limit result }
@@ -74,7 +75,7 @@ fn declared<'a>(
     };
     let values = exprs(alloc, limit, false, rest)?;
     if values.height + 1 > limit {
-        return Err(Fault::TooHigh { left: rest.len() });
+        return Err(ReadError::TooHigh { left: rest.len() });
     }
     Ok(Found {
         value: Action::VarValues(names, None, values.value),
@@ -85,7 +86,11 @@ fn declared<'a>(
 
 /// A declaration, after `var`.
 #[tactic(auto, unfolding(crate::specs::SimpleReading::var_at))]
-pub(crate) fn var(alloc: Global, limit: u32, tokens: &[Token]) -> Result<Found<'_, Action>, Fault>
+pub(crate) fn var(
+    alloc: Global,
+    limit: u32,
+    tokens: &[Token],
+) -> Result<Found<'_, Action>, ReadError>
     requires { limit < 2 ^ 30 }
     ensures gives { Finds act_of tokens.now result (var_at limit) }
     ensures fits { AtMost limit result }
@@ -97,7 +102,11 @@ pub(crate) fn var(alloc: Global, limit: u32, tokens: &[Token]) -> Result<Found<'
 
 /// A call for a new goroutine, after `go`.
 #[tactic(auto, unfolding(crate::specs::SimpleReading::go_at))]
-pub(crate) fn go(alloc: Global, limit: u32, tokens: &[Token]) -> Result<Found<'_, Action>, Fault>
+pub(crate) fn go(
+    alloc: Global,
+    limit: u32,
+    tokens: &[Token],
+) -> Result<Found<'_, Action>, ReadError>
     requires { limit < 2 ^ 30 }
     ensures gives { Finds act_of tokens.now result (go_at limit) }
     ensures fits { AtMost limit result }
@@ -105,12 +114,12 @@ pub(crate) fn go(alloc: Global, limit: u32, tokens: &[Token]) -> Result<Found<'_
 {
     let (function, rest) = name(tokens)?;
     if is_the_make(function) {
-        return Err(Fault::Wrong { left: tokens.len() });
+        return Err(ReadError::Wrong { left: tokens.len() });
     }
     let (_, rest) = needed(Mark::LeftParen, rest)?;
     let arguments = arguments(alloc, limit, rest)?;
     if arguments.height + 2 > limit {
-        return Err(Fault::TooHigh { left: rest.len() });
+        return Err(ReadError::TooHigh { left: rest.len() });
     }
     Ok(Found {
         value: Action::Go(copy(function)?, arguments.value),
@@ -125,7 +134,7 @@ pub(crate) fn returned(
     alloc: Global,
     limit: u32,
     tokens: &[Token],
-) -> Result<Found<'_, Action>, Fault>
+) -> Result<Found<'_, Action>, ReadError>
     requires limit { limit < 2 ^ 30 }
     requires positive { 0 < limit }
     ensures gives { Finds act_of tokens.now result (return_at limit) }
@@ -141,7 +150,7 @@ pub(crate) fn returned(
     }
     let value = expr(alloc, 1, limit, tokens)?;
     if value.height + 1 > limit {
-        return abandon(value, Fault::TooHigh { left: tokens.len() });
+        return abandon(value, ReadError::TooHigh { left: tokens.len() });
     }
     Ok(Found {
         value: Action::Return(Some(value.value)),
@@ -152,7 +161,7 @@ pub(crate) fn returned(
 
 /// A break, after its keyword.
 #[tactic(auto, unfolding(crate::specs::SimpleReading::jump_at))]
-pub(crate) fn break_from(tokens: &[Token]) -> Result<Found<'_, Action>, Fault>
+pub(crate) fn break_from(tokens: &[Token]) -> Result<Found<'_, Action>, ReadError>
     ensures gives { Finds act_of tokens.now result (jump_at Break) }
     ensures high { IfOk result (λ f. f.height ≡ 1) }
     ensures rest { NoLonger tokens.now result }
@@ -173,7 +182,7 @@ pub(crate) fn break_from(tokens: &[Token]) -> Result<Found<'_, Action>, Fault>
 
 /// A continue, after its keyword.
 #[tactic(auto, unfolding(crate::specs::SimpleReading::jump_at))]
-pub(crate) fn continue_from(tokens: &[Token]) -> Result<Found<'_, Action>, Fault>
+pub(crate) fn continue_from(tokens: &[Token]) -> Result<Found<'_, Action>, ReadError>
     ensures gives { Finds act_of tokens.now result (jump_at Continue) }
     ensures high { IfOk result (λ f. f.height ≡ 1) }
     ensures rest { NoLonger tokens.now result }

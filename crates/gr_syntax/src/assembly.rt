@@ -1,12 +1,13 @@
 //! Statements made of their parts.
 
 ghost use Rattle.std.specs.Prelude.{◌≡◌, ◌<◌, ◌≤◌, ◌^◌};
-ghost use Rattle.gr_tree.specs.Statements.{Block, If, IfElse, IfElseIf, For, Select, act_of, if_of, for_of, statement_of, statements_of};
+ghost use Rattle.gr_tree.specs.Statements.{Block, If, IfElse, IfElseIf, For, Select, act_of, if_of, for_of, statement_of};
+ghost use Rattle.gr_tree.specs.Statements.{statements_of};
 ghost use Rattle.gr_syntax.specs.StatementReading.{plain_after, placed};
 ghost use Rattle.gr_syntax.specs.CodeViews.{clauses_of};
 ghost use Rattle.gr_syntax.specs.Views.{Continues, found_of, AtMost};
 
-use crate::look::{Fault, Found};
+use crate::look::{Found, ReadError};
 use crate::simple::simple;
 use gr_scan::token::Place;
 use gr_tree::{Action, Clause, Expr, ForHead, IfHead, Stmt};
@@ -72,7 +73,7 @@ pub(crate) fn plain<'a>(
     limit: u32,
     place: Place,
     first: Found<'a, Expr>,
-) -> Result<Found<'a, Stmt>, Fault>
+) -> Result<Found<'a, Stmt>, ReadError>
     requires limit { limit < 2 ^ 30 }
     requires fits { first.height ≤ limit }
     ensures gives { Continues statement_of first.entry result (plain_after limit place) }

@@ -3,11 +3,12 @@
 ghost use Rattle.std.specs.Prelude.{◌≡◌, ◌<◌, ◌≤◌, IfOk, ◌^◌};
 ghost use Rattle.gr_tree.specs.Exprs.{tree_of, names_of};
 ghost use Rattle.gr_tree.specs.Statements.{comm_of};
-ghost use Rattle.gr_syntax.specs.StatementReading.{is_receive, receive_at, received_at, comm_names, comm_alone, comm_sent, comm_at};
+ghost use Rattle.gr_syntax.specs.StatementReading.{is_receive, receive_at, received_at, comm_names, comm_alone, comm_sent};
+ghost use Rattle.gr_syntax.specs.StatementReading.{comm_at};
 ghost use Rattle.gr_syntax.specs.Views.{Finds, Continues, found_of, AtMost};
 
 use crate::expression::{expr, operand};
-use crate::look::{Fault, Found, abandon, after, boxed, copy, name, needed};
+use crate::look::{Found, ReadError, abandon, after, boxed, copy, name, needed};
 use gr_scan::token::{Mark, Token};
 use gr_tree::{Communication, Expr, UnaryOp};
 use std::alloc::Global;
@@ -25,13 +26,13 @@ fn is_receive(value: &Expr) -> bool
 
 /// A receive of at most this height, in parentheses or not.
 #[tactic(auto, unfolding(crate::specs::StatementReading::receive_at))]
-fn receive(alloc: Global, limit: u32, tokens: &[Token]) -> Result<Found<'_, Expr>, Fault>
+fn receive(alloc: Global, limit: u32, tokens: &[Token]) -> Result<Found<'_, Expr>, ReadError>
     requires { limit < 2 ^ 30 }
     ensures gives { Finds tree_of tokens.now result (receive_at limit) }
     ensures fits { AtMost limit result }
 {
     if limit == 0 {
-        return Err(Fault::TooHigh { left: tokens.len() });
+        return Err(ReadError::TooHigh { left: tokens.len() });
     }
     if let Some(rest) = after(Mark::LeftParen, tokens) {
         let inner = receive(alloc, limit - 1, rest)?;
@@ -43,7 +44,7 @@ fn receive(alloc: Global, limit: u32, tokens: &[Token]) -> Result<Found<'_, Expr
         });
     }
     let Some(_) = after(Mark::Arrow, tokens) else {
-        return Err(Fault::Wrong { left: tokens.len() });
+        return Err(ReadError::Wrong { left: tokens.len() });
     };
     operand(alloc, limit - 1, tokens)
 }
@@ -55,7 +56,7 @@ fn received<'a>(
     limit: u32,
     names: Vec<Vec<u8>>,
     tokens: &'a [Token],
-) -> Result<Found<'a, Communication>, Fault>
+) -> Result<Found<'a, Communication>, ReadError>
     requires { limit < 2 ^ 30 }
     ensures gives { Finds comm_of tokens.now result (received_at limit (names_of names.items)) }
     ensures fits { AtMost limit result }
@@ -84,7 +85,7 @@ fn named<'a>(
     limit: u32,
     first: Vec<u8>,
     tokens: &'a [Token],
-) -> Result<Found<'a, Communication>, Fault>
+) -> Result<Found<'a, Communication>, ReadError>
     requires { limit < 2 ^ 30 }
     ensures gives { Finds comm_of tokens.now result (comm_names limit first.items) }
     ensures fits { AtMost limit result }
@@ -98,7 +99,7 @@ fn named<'a>(
 }
 
 /// This expression, which has to be a receive.
-fn alone(value: Found<'_, Expr>) -> Result<Found<'_, Communication>, Fault>
+fn alone(value: Found<'_, Expr>) -> Result<Found<'_, Communication>, ReadError>
     ensures gives { Continues comm_of value.entry result comm_alone }
     ensures fits { IfOk result (λ f. f.height ≡ value.entry.height) }
 {
@@ -110,7 +111,7 @@ fn alone(value: Found<'_, Expr>) -> Result<Found<'_, Communication>, Fault>
         });
     }
     let left = value.rest.len();
-    abandon(value, Fault::Wrong { left })
+    abandon(value, ReadError::Wrong { left })
 }
 
 /// A send on this channel, after its `<-`.
@@ -119,7 +120,7 @@ fn send<'a>(
     limit: u32,
     channel: Found<'a, Expr>,
     tokens: &'a [Token],
-) -> Result<Found<'a, Communication>, Fault>
+) -> Result<Found<'a, Communication>, ReadError>
     requires limit { limit < 2 ^ 30 }
     requires fits { channel.height ≤ limit }
     ensures gives { Finds comm_of tokens.now result (comm_sent limit (found_of tree_of channel.entry)) }
@@ -142,7 +143,7 @@ pub(crate) fn communication(
     alloc: Global,
     limit: u32,
     tokens: &[Token],
-) -> Result<Found<'_, Communication>, Fault>
+) -> Result<Found<'_, Communication>, ReadError>
     requires { limit < 2 ^ 30 }
     ensures gives { Finds comm_of tokens.now result (comm_at limit) }
     ensures fits { AtMost limit result }

@@ -4,11 +4,12 @@ ghost use Rattle.std.specs.Prelude.{◌≡◌, ◌+◌, ◌<◌, ◌≤◌, IfOk
 ghost use Rattle.gr_scan.specs.Tokens.{tokens_of};
 ghost use Rattle.gr_tree.specs.Exprs.{tree_of, trees_of, type_of};
 ghost use Rattle.gr_syntax.specs.Grammar.{level};
-ghost use Rattle.gr_syntax.specs.Reading.{joined, size_at, ends_at, exprs_at, arguments_at, call_at, close_at, make_at, named_at, unit_at, paren_at, word_at, unary_at, type_at, expr_at};
+ghost use Rattle.gr_syntax.specs.Reading.{joined, size_at, ends_at, exprs_at, arguments_at, call_at, close_at, make_at, named_at};
+ghost use Rattle.gr_syntax.specs.Reading.{unit_at, paren_at, word_at, unary_at, type_at, expr_at};
 ghost use Rattle.gr_syntax.specs.Views.{Gives, Finds, found_of, AtMost, Shorter, NoLonger};
 
 use crate::look::{
-    Fault, Found, abandon, after, binary, boxed, boxed_copy, copy, fitted, is_the_make, needed,
+    Found, ReadError, abandon, after, binary, boxed, boxed_copy, copy, fitted, is_the_make, needed,
     next, unary,
 };
 use crate::types::type_tree;
@@ -46,7 +47,7 @@ const TIGHT: u32 = 6;
 
 /// `{}{}`, after `struct`.
 #[tactic(auto, unfolding(crate::specs::Reading::unit_at))]
-fn unit(tokens: &[Token]) -> Result<Found<'_, Expr>, Fault>
+fn unit(tokens: &[Token]) -> Result<Found<'_, Expr>, ReadError>
     ensures gives { Finds tree_of tokens.now result unit_at }
     ensures fits { IfOk result (λ f. f.height ≡ 1) }
     ensures shorter { Shorter tokens.now result }
@@ -64,7 +65,7 @@ fn unit(tokens: &[Token]) -> Result<Found<'_, Expr>, Fault>
 
 /// The tokens after a `)`, before which a comma may stand.
 #[tactic(auto, unfolding(crate::specs::Reading::close_at))]
-fn close(tokens: &[Token]) -> Result<&[Token], Fault>
+fn close(tokens: &[Token]) -> Result<&[Token], ReadError>
     ensures gives { Gives (λ rest. tokens_of rest.now) result (close_at (tokens_of tokens.now)) }
     ensures shorter { IfOk result (λ rest. length rest.now < length tokens.now) }
 {
@@ -84,7 +85,7 @@ fn sized<'a>(
     below: u32,
     made: Found<'a, TypeTree>,
     tokens: &'a [Token],
-) -> Result<Found<'a, Expr>, Fault>
+) -> Result<Found<'a, Expr>, ReadError>
     requires limit { below < 2 ^ 31 }
     requires fits { made.height ≤ below }
     ensures gives { Finds tree_of tokens.now result (size_at (expr_at below) (found_of type_of made.entry)) }
@@ -101,10 +102,10 @@ fn sized<'a>(
     };
     let height = made.height.max(size.height) + 1;
     let Ok(type_tree) = boxed(alloc, made.value) else {
-        return abandon(size, Fault::Memory);
+        return abandon(size, ReadError::Memory);
     };
     let Ok(size) = boxed(alloc, size.value) else {
-        return abandon(type_tree, Fault::Memory);
+        return abandon(type_tree, ReadError::Memory);
     };
     Ok(Found {
         value: Expr::MakeSized(type_tree, size),
@@ -116,7 +117,7 @@ fn sized<'a>(
 /// A make, after its `(`; its type and its size are of at most this height.
 #[cycle(parser)]
 #[tactic(auto, unfolding(crate::specs::Reading::make_at, crate::specs::Reading::make_after))]
-fn make(alloc: Global, below: u32, tokens: &[Token]) -> Result<Found<'_, Expr>, Fault>
+fn make(alloc: Global, below: u32, tokens: &[Token]) -> Result<Found<'_, Expr>, ReadError>
     requires { below < 2 ^ 31 }
     ensures gives { Finds tree_of tokens.now result (make_at (type_at below) (expr_at below)) }
     ensures fits { AtMost (below + 1) result }
@@ -152,7 +153,7 @@ fn named<'a>(
     below: u32,
     name: &Vec<u8>,
     tokens: &'a [Token],
-) -> Result<Found<'a, Expr>, Fault>
+) -> Result<Found<'a, Expr>, ReadError>
     requires { below < 2 ^ 31 }
     ensures gives { Finds tree_of tokens.now result (named_at (type_at below) (expr_at below) name.now.items) }
     ensures fits { AtMost (below + 1) result }
@@ -179,7 +180,7 @@ fn named<'a>(
 /// A number, a string, or what begins with a name; its parts are of at most this height.
 #[cycle(parser)]
 #[tactic(auto, unfolding(crate::specs::Reading::word_at))]
-fn word(alloc: Global, below: u32, tokens: &[Token]) -> Result<Found<'_, Expr>, Fault>
+fn word(alloc: Global, below: u32, tokens: &[Token]) -> Result<Found<'_, Expr>, ReadError>
     requires { below < 2 ^ 31 }
     ensures gives { Finds tree_of tokens.now result (word_at (type_at below) (expr_at below)) }
     ensures fits { AtMost (below + 1) result }
@@ -187,13 +188,13 @@ fn word(alloc: Global, below: u32, tokens: &[Token]) -> Result<Found<'_, Expr>, 
 {
     let left = tokens.len();
     let Some((token, rest)) = next(tokens) else {
-        return Err(Fault::Wrong { left });
+        return Err(ReadError::Wrong { left });
     };
     let value = match &token.kind {
         Kind::Name(name) => return named(alloc, below, name, rest),
         Kind::Number(number) => Expr::Number(*number),
         Kind::Text(bytes) => Expr::Text(copy(bytes)?),
-        Kind::Mark(_) => return Err(Fault::Wrong { left }),
+        Kind::Mark(_) => return Err(ReadError::Wrong { left }),
     };
     Ok(Found {
         value,
@@ -205,7 +206,7 @@ fn word(alloc: Global, below: u32, tokens: &[Token]) -> Result<Found<'_, Expr>, 
 /// An expression in parentheses, after the first of them; the inner expression is of at most this height.
 #[cycle(parser)]
 #[tactic(auto, unfolding(crate::specs::Reading::paren_at))]
-fn paren(alloc: Global, below: u32, tokens: &[Token]) -> Result<Found<'_, Expr>, Fault>
+fn paren(alloc: Global, below: u32, tokens: &[Token]) -> Result<Found<'_, Expr>, ReadError>
     requires { below < 2 ^ 31 }
     ensures gives { Finds tree_of tokens.now result (paren_at (expr_at below)) }
     ensures fits { AtMost (below + 1) result }
@@ -223,7 +224,11 @@ fn paren(alloc: Global, below: u32, tokens: &[Token]) -> Result<Found<'_, Expr>,
 /// What no binary operator joins (Go: Operands, Unary operators); its parts are of at most this height.
 #[cycle(parser)]
 #[tactic(auto, unfolding(crate::specs::Reading::unary_at))]
-pub(crate) fn operand(alloc: Global, below: u32, tokens: &[Token]) -> Result<Found<'_, Expr>, Fault>
+pub(crate) fn operand(
+    alloc: Global,
+    below: u32,
+    tokens: &[Token],
+) -> Result<Found<'_, Expr>, ReadError>
     requires { below < 2 ^ 31 }
     ensures gives { Finds tree_of tokens.now result (unary_at (type_at below) (expr_at below)) }
     ensures fits { AtMost (below + 1) result }
@@ -255,7 +260,8 @@ fn join<'a>(
 ) -> Result<Found<'a, Expr>, AllocError>
     requires left { left.height < 2 ^ 31 }
     requires right { right.height < 2 ^ 31 }
-    ensures joined { IfOk result (λ f. found_of tree_of f ≡ joined op (found_of tree_of left.entry) (found_of tree_of right.entry)) }
+    ensures joined { IfOk result (λ f. found_of tree_of f
+        ≡ joined op (found_of tree_of left.entry) (found_of tree_of right.entry)) }
     ensures rest { IfOk result (λ f. length f.rest.now ≡ length right.entry.rest.now) }
 {
     let height = left.height.max(right.height) + 1;
@@ -281,7 +287,7 @@ pub(crate) fn expr(
     level: u32,
     limit: u32,
     tokens: &[Token],
-) -> Result<Found<'_, Expr>, Fault>
+) -> Result<Found<'_, Expr>, ReadError>
     requires limit { limit < 2 ^ 31 }
     requires level { 0 < level }
     ensures gives { Finds tree_of tokens.now result (expr_at limit level) }
@@ -289,7 +295,7 @@ pub(crate) fn expr(
     ensures shorter { Shorter tokens.now result }
 {
     if limit == 0 {
-        return Err(Fault::TooHigh { left: tokens.len() });
+        return Err(ReadError::TooHigh { left: tokens.len() });
     }
     let below = limit - 1;
     let mut left = operand(alloc, below, tokens)?;
@@ -298,7 +304,7 @@ pub(crate) fn expr(
             break;
         }
         if left.height > below {
-            return abandon(left, Fault::TooHigh { left: tokens.len() });
+            return abandon(left, ReadError::TooHigh { left: tokens.len() });
         }
         let right = expr(alloc, precedence(op) + 1, below, rest)?;
         let joined = join(alloc, op, left, right)?;
@@ -327,7 +333,7 @@ pub(crate) fn exprs(
     limit: u32,
     trailing: bool,
     tokens: &[Token],
-) -> Result<Found<'_, Vec<Expr>>, Fault>
+) -> Result<Found<'_, Vec<Expr>>, ReadError>
     requires { limit < 2 ^ 31 }
     ensures gives { Finds (λ v. trees_of v.items) tokens.now result (exprs_at (expr_at limit) trailing) }
     ensures fits { AtMost limit result }
@@ -366,7 +372,7 @@ pub(crate) fn arguments(
     alloc: Global,
     limit: u32,
     tokens: &[Token],
-) -> Result<Found<'_, Vec<Expr>>, Fault>
+) -> Result<Found<'_, Vec<Expr>>, ReadError>
     requires { limit < 2 ^ 31 }
     ensures gives { Finds (λ v. trees_of v.items) tokens.now result (arguments_at (expr_at limit)) }
     ensures fits { AtMost limit result }

@@ -5,10 +5,11 @@ ghost use Rattle.gr_scan.specs.Tokens.{tokens_of};
 ghost use Rattle.gr_tree.specs.Exprs.{type_of};
 ghost use Rattle.gr_tree.specs.Statements.{optional};
 ghost use Rattle.gr_tree.specs.Files.{groups_of, function_of, functions_of, file_of};
-ghost use Rattle.gr_syntax.specs.FileReading.{groups_at, parameters_at, result_at, function_at, functions_more, functions_at, file_at};
+ghost use Rattle.gr_syntax.specs.FileReading.{groups_at, parameters_at, result_at, function_at, functions_more, functions_at};
+ghost use Rattle.gr_syntax.specs.FileReading.{file_at};
 ghost use Rattle.gr_syntax.specs.Views.{Gives, Finds, Shorter, NoLonger};
 
-use crate::look::{Fault, Found, after, copy, name, names, needed};
+use crate::look::{Found, ReadError, after, copy, name, names, needed};
 use crate::statement::block;
 use crate::types::type_tree;
 use gr_scan::token::{Mark, Token};
@@ -22,7 +23,7 @@ const LIMIT: u32 = HEIGHT_LIMIT as u32;
 
 /// Groups of parameters with commas between them, with types of at most this height; one more comma may stand before a `)`.
 #[tactic(auto, unfolding(crate::specs::FileReading::groups_at))]
-fn groups(alloc: Global, limit: u32, tokens: &[Token]) -> Result<Found<'_, Vec<Group>>, Fault>
+fn groups(alloc: Global, limit: u32, tokens: &[Token]) -> Result<Found<'_, Vec<Group>>, ReadError>
     requires { limit < 2 ^ 29 }
     ensures gives { Finds (λ v. groups_of v.items) tokens.now result (groups_at limit) }
     ensures shorter { Shorter tokens.now result }
@@ -57,7 +58,11 @@ fn groups(alloc: Global, limit: u32, tokens: &[Token]) -> Result<Found<'_, Vec<G
 
 /// The parameters of a function, with their parentheses (Go: Function types).
 #[tactic(auto, unfolding(crate::specs::FileReading::parameters_at))]
-fn parameters(alloc: Global, limit: u32, tokens: &[Token]) -> Result<Found<'_, Vec<Group>>, Fault>
+fn parameters(
+    alloc: Global,
+    limit: u32,
+    tokens: &[Token],
+) -> Result<Found<'_, Vec<Group>>, ReadError>
     requires { limit < 2 ^ 29 }
     ensures gives { Finds (λ v. groups_of v.items) tokens.now result (parameters_at limit) }
     ensures shorter { Shorter tokens.now result }
@@ -81,7 +86,11 @@ fn parameters(alloc: Global, limit: u32, tokens: &[Token]) -> Result<Found<'_, V
 
 /// The type of a function's result, if one stands before the `{`.
 #[tactic(auto, unfolding(crate::specs::FileReading::result_at))]
-fn result(alloc: Global, limit: u32, tokens: &[Token]) -> Result<Found<'_, Option<TypeTree>>, Fault>
+fn result(
+    alloc: Global,
+    limit: u32,
+    tokens: &[Token],
+) -> Result<Found<'_, Option<TypeTree>>, ReadError>
     requires { limit < 2 ^ 29 }
     ensures gives { Finds (optional type_of) tokens.now result (result_at limit) }
     ensures shorter { NoLonger tokens.now result }
@@ -103,7 +112,7 @@ fn result(alloc: Global, limit: u32, tokens: &[Token]) -> Result<Found<'_, Optio
 
 /// A function, with types and statements of at most this height (Go: Function declarations).
 #[tactic(auto, unfolding(crate::specs::FileReading::function_at))]
-fn function(alloc: Global, limit: u32, tokens: &[Token]) -> Result<Found<'_, Func>, Fault>
+fn function(alloc: Global, limit: u32, tokens: &[Token]) -> Result<Found<'_, Func>, ReadError>
     requires { limit < 2 ^ 29 }
     ensures { Finds function_of tokens.now result (function_at limit) }
 {
@@ -130,7 +139,7 @@ fn function(alloc: Global, limit: u32, tokens: &[Token]) -> Result<Found<'_, Fun
 
 /// The functions up to the end, each with its semicolon, with types and statements of at most this height.
 #[tactic(auto, unfolding(crate::specs::FileReading::functions_at))]
-fn functions(alloc: Global, limit: u32, tokens: &[Token]) -> Result<Found<'_, Vec<Func>>, Fault>
+fn functions(alloc: Global, limit: u32, tokens: &[Token]) -> Result<Found<'_, Vec<Func>>, ReadError>
     requires { limit < 2 ^ 29 }
     ensures { Finds (λ v. functions_of v.items) tokens.now result (functions_at limit) }
 {
@@ -151,7 +160,7 @@ fn functions(alloc: Global, limit: u32, tokens: &[Token]) -> Result<Found<'_, Ve
 
 /// A whole file (Go: Source file organization).
 #[tactic(auto, unfolding(crate::specs::FileReading::file_at))]
-pub(crate) fn file(alloc: Global, tokens: &[Token]) -> Result<File, Fault>
+pub(crate) fn file(alloc: Global, tokens: &[Token]) -> Result<File, ReadError>
     ensures { Gives file_of result (file_at 200 (tokens_of tokens.now)) }
 {
     let (place, rest) = needed(Mark::Package, tokens)?;

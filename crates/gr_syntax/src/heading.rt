@@ -5,12 +5,13 @@ ghost use Rattle.gr_scan.specs.Tokens.{tokens_of};
 ghost use Rattle.gr_tree.specs.Exprs.{Name, tree_of};
 ghost use Rattle.gr_tree.specs.Statements.{heading_of, if_of, for_of, target_of, optional};
 ghost use Rattle.gr_syntax.specs.SimpleReading.{place_at};
-ghost use Rattle.gr_syntax.specs.StatementReading.{heading_after, tested, if_after, if_head_at, ranged, condition_at, post_at, parts_at, target_at, for_init, for_named, for_after, for_head_at};
+ghost use Rattle.gr_syntax.specs.StatementReading.{heading_after, tested, if_after, if_head_at, ranged, condition_at, post_at};
+ghost use Rattle.gr_syntax.specs.StatementReading.{parts_at, target_at, for_init, for_named, for_after, for_head_at};
 ghost use Rattle.gr_syntax.specs.Views.{Gives, Finds, Continues, AtMost};
 ghost use Rattle.gr_syntax.specs.StatementViews.{SeesRange};
 
 use crate::expression::expr;
-use crate::look::{Fault, Found, abandon, after, boxed, needed, next};
+use crate::look::{Found, ReadError, abandon, after, boxed, needed, next};
 use crate::simple::simple;
 use gr_scan::token::{Mark, Place, Token};
 use gr_tree::{Expr, ForHead, Header, IfHead, RangeTarget};
@@ -18,11 +19,11 @@ use std::alloc::Global;
 
 /// The place of the first token.
 #[tactic(auto, unfolding(crate::specs::SimpleReading::place_at))]
-pub(crate) fn place(tokens: &[Token]) -> Result<Place, Fault>
+pub(crate) fn place(tokens: &[Token]) -> Result<Place, ReadError>
     ensures { Gives (λ p. p) result (place_at (tokens_of tokens.now)) }
 {
     let Some((token, _)) = next(tokens) else {
-        return Err(Fault::Wrong { left: 0 });
+        return Err(ReadError::Wrong { left: 0 });
     };
     Ok(token.place())
 }
@@ -35,7 +36,7 @@ fn heading<'a>(
     may_define: bool,
     place: Place,
     first: Found<'a, Expr>,
-) -> Result<Found<'a, Box<Header>>, Fault>
+) -> Result<Found<'a, Box<Header>>, ReadError>
     requires limit { limit < 2 ^ 30 }
     requires fits { first.height ≤ limit }
     ensures gives { Continues heading_of first.entry result (heading_after limit may_define place) }
@@ -61,7 +62,7 @@ fn condition_of_if<'a>(
     init: Option<Box<Header>>,
     height: u32,
     tokens: &'a [Token],
-) -> Result<Found<'a, IfHead>, Fault>
+) -> Result<Found<'a, IfHead>, ReadError>
     requires limit { limit < 2 ^ 30 }
     requires fits { height ≤ limit }
     ensures gives { Finds if_of tokens.now result (tested limit (optional heading_of init) height) }
@@ -88,7 +89,7 @@ fn if_from<'a>(
     limit: u32,
     place: Place,
     first: Found<'a, Expr>,
-) -> Result<Found<'a, IfHead>, Fault>
+) -> Result<Found<'a, IfHead>, ReadError>
     requires limit { limit < 2 ^ 30 }
     requires fits { first.height ≤ limit }
     ensures gives { Continues if_of first.entry result (if_after limit place) }
@@ -118,7 +119,7 @@ pub(crate) fn if_head(
     alloc: Global,
     limit: u32,
     tokens: &[Token],
-) -> Result<Found<'_, IfHead>, Fault>
+) -> Result<Found<'_, IfHead>, ReadError>
     requires { limit < 2 ^ 30 }
     ensures gives { Finds if_of tokens.now result (if_head_at limit) }
     ensures fits { AtMost limit result }
@@ -138,7 +139,7 @@ fn range<'a>(
     limit: u32,
     target: RangeTarget,
     tokens: &'a [Token],
-) -> Result<Found<'a, ForHead>, Fault>
+) -> Result<Found<'a, ForHead>, ReadError>
     requires { limit < 2 ^ 30 }
     ensures gives { Finds for_of tokens.now result (ranged limit (target_of target)) }
     ensures fits { AtMost limit result }
@@ -157,7 +158,7 @@ fn condition_of_for(
     alloc: Global,
     limit: u32,
     tokens: &[Token],
-) -> Result<Found<'_, Option<Expr>>, Fault>
+) -> Result<Found<'_, Option<Expr>>, ReadError>
     requires { limit < 2 ^ 30 }
     ensures gives { Finds (optional tree_of) tokens.now result (condition_at limit) }
     ensures fits { AtMost limit result }
@@ -183,7 +184,7 @@ fn post(
     alloc: Global,
     limit: u32,
     tokens: &[Token],
-) -> Result<Found<'_, Option<Box<Header>>>, Fault>
+) -> Result<Found<'_, Option<Box<Header>>>, ReadError>
     requires { limit < 2 ^ 30 }
     ensures gives { Finds (optional heading_of) tokens.now result (post_at limit) }
     ensures fits { AtMost limit result }
@@ -213,7 +214,7 @@ fn parts<'a>(
     init: Option<Box<Header>>,
     height: u32,
     tokens: &'a [Token],
-) -> Result<Found<'a, ForHead>, Fault>
+) -> Result<Found<'a, ForHead>, ReadError>
     requires limit { limit < 2 ^ 30 }
     requires fits { height ≤ limit }
     ensures gives { Finds for_of tokens.now result (parts_at limit (optional heading_of init) height) }
@@ -265,7 +266,7 @@ fn for_parts<'a>(
     limit: u32,
     place: Place,
     first: Found<'a, Expr>,
-) -> Result<Found<'a, ForHead>, Fault>
+) -> Result<Found<'a, ForHead>, ReadError>
     requires limit { limit < 2 ^ 30 }
     requires fits { first.height ≤ limit }
     ensures gives { Continues for_of first.entry result (for_init limit place) }
@@ -288,7 +289,7 @@ fn for_name<'a>(
     name: Vec<u8>,
     height: u32,
     tokens: &'a [Token],
-) -> Result<Found<'a, ForHead>, Fault>
+) -> Result<Found<'a, ForHead>, ReadError>
     requires limit { limit < 2 ^ 30 }
     requires fits { height ≤ limit }
     ensures gives { Finds for_of tokens.now result (λ ts. for_named limit place (Name name.items, height, ts) name.items) }
@@ -317,7 +318,7 @@ fn for_from<'a>(
     limit: u32,
     place: Place,
     first: Found<'a, Expr>,
-) -> Result<Found<'a, ForHead>, Fault>
+) -> Result<Found<'a, ForHead>, ReadError>
     requires limit { limit < 2 ^ 30 }
     requires fits { first.height ≤ limit }
     ensures gives { Continues for_of first.entry result (for_after limit place) }
@@ -356,7 +357,7 @@ pub(crate) fn for_head(
     alloc: Global,
     limit: u32,
     tokens: &[Token],
-) -> Result<Found<'_, ForHead>, Fault>
+) -> Result<Found<'_, ForHead>, ReadError>
     requires { limit < 2 ^ 30 }
     ensures gives { Finds for_of tokens.now result (for_head_at limit) }
     ensures fits { AtMost limit result }

@@ -6,7 +6,7 @@ ghost use Rattle.gr_tree.specs.Exprs.{names_of};
 ghost use Rattle.gr_syntax.specs.Grammar.{after_mark, is_make};
 ghost use Rattle.gr_syntax.specs.Reading.{binary_of, unary_of, operator_at, need, name_at, names_at};
 ghost use Rattle.gr_syntax.specs.Views.{Gives, Finds, Shorter, Splits, Sees, SeesOperator};
-ghost use Rattle.gr_syntax.specs.declared.look.Fault.TheVariants as faults;
+ghost use Rattle.gr_syntax.specs.declared.look.ReadError.TheVariants as faults;
 
 use gr_scan::token::{Kind, Mark, Place, Token};
 use gr_tree::{BinaryOp, UnaryOp};
@@ -14,7 +14,7 @@ use std::alloc::{AllocError, AllocFailed, Global};
 
 /// Why reading stopped, and how many tokens were left there.
 #[derive(Debug, Drop)]
-pub(crate) enum Fault {
+pub(crate) enum ReadError {
     /// No file goes on with the first of them.
     Wrong { left: usize },
     /// What begins there, or before, is too high.
@@ -22,19 +22,19 @@ pub(crate) enum Fault {
     Memory,
 }
 
-impl From<AllocError> for Fault {
+impl From<AllocError> for ReadError {
     ghost from_gives = { λ _ e. e ≡ faults.Memory };
 
     fn from(_: AllocError) -> Self {
-        Fault::Memory
+        ReadError::Memory
     }
 }
 
-impl<T: Drop> From<AllocFailed<T>> for Fault {
+impl<T: Drop> From<AllocFailed<T>> for ReadError {
     ghost from_gives = { λ _ e. e ≡ faults.Memory };
 
     fn from(_: AllocFailed<T>) -> Self {
-        Fault::Memory
+        ReadError::Memory
     }
 }
 
@@ -179,34 +179,34 @@ pub(crate) fn unary(tokens: &[Token]) -> Option<(UnaryOp, &[Token])>
 
 /// The place of this mark and the tokens after it; refused where another token comes first.
 #[tactic(auto, unfolding(crate::specs::Reading::need))]
-pub(crate) fn needed(mark: Mark, tokens: &[Token]) -> Result<(Place, &[Token]), Fault>
+pub(crate) fn needed(mark: Mark, tokens: &[Token]) -> Result<(Place, &[Token]), ReadError>
     ensures gives { Gives (λ p. (p.0, tokens_of p.1.now)) result (need mark (tokens_of tokens.now)) }
     ensures shorter { IfOk result (λ p. length p.1.now < length tokens.now) }
 {
     let Some((token, _)) = next(tokens) else {
-        return Err(Fault::Wrong { left: 0 });
+        return Err(ReadError::Wrong { left: 0 });
     };
     let Some(rest) = after(mark, tokens) else {
-        return Err(Fault::Wrong { left: tokens.len() });
+        return Err(ReadError::Wrong { left: tokens.len() });
     };
     Ok((token.place(), rest))
 }
 
 /// The name that comes first, and the tokens after it.
 #[tactic(auto, unfolding(crate::specs::Reading::name_at))]
-pub(crate) fn name(tokens: &[Token]) -> Result<(&Vec<u8>, &[Token]), Fault>
+pub(crate) fn name(tokens: &[Token]) -> Result<(&Vec<u8>, &[Token]), ReadError>
     ensures gives { Gives (λ p. (p.0.now.items, tokens_of p.1.now)) result (name_at (tokens_of tokens.now)) }
     ensures shorter { IfOk result (λ p. length p.1.now < length tokens.now) }
 {
     let left = tokens.len();
     let Some((token, rest)) = next(tokens) else {
-        return Err(Fault::Wrong { left });
+        return Err(ReadError::Wrong { left });
     };
     match &token.kind {
         Kind::Name(name) => Ok((name, rest)),
-        Kind::Number(_) => Err(Fault::Wrong { left }),
-        Kind::Text(_) => Err(Fault::Wrong { left }),
-        Kind::Mark(_) => Err(Fault::Wrong { left }),
+        Kind::Number(_) => Err(ReadError::Wrong { left }),
+        Kind::Text(_) => Err(ReadError::Wrong { left }),
+        Kind::Mark(_) => Err(ReadError::Wrong { left }),
     }
 }
 
@@ -233,7 +233,7 @@ pub(crate) fn is_the_make(name: &Vec<u8>) -> bool
 
 /// Names with commas between them; they count nothing for the height.
 #[tactic(auto, unfolding(crate::specs::Reading::names_at))]
-pub(crate) fn names(alloc: Global, tokens: &[Token]) -> Result<Found<'_, Vec<Vec<u8>>>, Fault>
+pub(crate) fn names(alloc: Global, tokens: &[Token]) -> Result<Found<'_, Vec<Vec<u8>>>, ReadError>
     ensures gives { Finds (λ v. names_of v.items) tokens.now result names_at }
     ensures shorter { Shorter tokens.now result }
 {

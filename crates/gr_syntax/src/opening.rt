@@ -8,7 +8,7 @@ ghost use Rattle.gr_syntax.specs.StatementReading.{past_semicolon};
 ghost use Rattle.gr_syntax.specs.StatementViews.{SeesName};
 ghost use Rattle.gr_syntax.specs.Views.{Gives, SeesOperator};
 
-use crate::look::{Fault, after, needed, next};
+use crate::look::{ReadError, after, needed, next};
 use gr_scan::token::{Kind, Mark, Token};
 use gr_tree::BinaryOp;
 
@@ -156,7 +156,7 @@ pub(crate) fn first_name(tokens: &[Token]) -> Option<(&Vec<u8>, &[Token])>
 
 /// The tokens after the semicolon that ends a statement; none is needed before a `}`.
 #[tactic(auto, unfolding(crate::specs::StatementReading::past_semicolon))]
-pub(crate) fn past_semicolon(tokens: &[Token]) -> Result<&[Token], Fault>
+pub(crate) fn past_semicolon(tokens: &[Token]) -> Result<&[Token], ReadError>
     ensures gives { Gives (λ rest. tokens_of rest.now) result (past_semicolon (tokens_of tokens.now)) }
     ensures rest { IfOk result (λ rest. length rest.now ≤ length tokens.now) }
 {

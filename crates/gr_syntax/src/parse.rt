@@ -8,7 +8,7 @@ ghost use Rattle.gr_syntax.specs.FileGrammar.{SpellsFile, IsTreeOf};
 ghost use Rattle.gr_syntax.specs.Refused.{is_left_out, left_out, HasNoTree};
 
 use crate::function::file;
-use crate::look::Fault;
+use crate::look::ReadError;
 use gr_scan::token::{Kind, Mark, Token};
 use gr_tree::File;
 use std::alloc::Global;
@@ -69,7 +69,7 @@ fn token_is_left_out(token: usize, tokens: &[Token]) -> bool
 
 /// The tree of the file that the tokens spell (Go: Source file organization).
 ///
-/// Of tokens that are no file and too high besides, either may be said. The time is linear in the number of tokens, also
+/// Where tokens are no file and too high besides, either may be said. The time is linear in the number of tokens, also
 /// where they are refused, and a recursion goes no deeper than `gr_tree::HEIGHT_LIMIT`.
 pub fn parse(alloc: Global, tokens: &[Token]) -> Result<File, ParseError>
     // The tokens spell the answer, which is low enough.
@@ -81,7 +81,7 @@ pub fn parse(alloc: Global, tokens: &[Token]) -> Result<File, ParseError>
     let count = tokens.len();
     match file(alloc, tokens) {
         Ok(file) => Ok(file),
-        Err(Fault::Wrong { left }) => {
+        Err(ReadError::Wrong { left }) => {
             let token = count.saturating_sub(left);
             if token_is_left_out(token, tokens) {
                 Err(ParseError::LeftOut { token })
@@ -89,10 +89,10 @@ pub fn parse(alloc: Global, tokens: &[Token]) -> Result<File, ParseError>
                 Err(ParseError::NoFile { token })
             }
         }
-        Err(Fault::TooHigh { left }) => Err(ParseError::TooHigh {
+        Err(ReadError::TooHigh { left }) => Err(ParseError::TooHigh {
             token: count.saturating_sub(left),
         }),
-        Err(Fault::Memory) => Err(ParseError::Memory),
+        Err(ReadError::Memory) => Err(ParseError::Memory),
     }
 }
 

@@ -4,11 +4,12 @@ ghost use Rattle.std.specs.Prelude.{[], ◌<◌, ◌≤◌, IfSome, ◌^◌, len
 ghost use Rattle.gr_scan.specs.Tokens.{tokens_of};
 ghost use Rattle.gr_tree.specs.Exprs.{Name, tree_of, names_of};
 ghost use Rattle.gr_tree.specs.Statements.{simple_of};
-ghost use Rattle.gr_syntax.specs.SimpleReading.{up_to, define_at, values_at, names_from, update_at, alone_at, sent_at, joined_at, simple_named, simple_after};
+ghost use Rattle.gr_syntax.specs.SimpleReading.{up_to, define_at, values_at, names_from, update_at, alone_at, sent_at, joined_at};
+ghost use Rattle.gr_syntax.specs.SimpleReading.{simple_named, simple_after};
 ghost use Rattle.gr_syntax.specs.Views.{Finds, Continues, AtMost, Shorter, NoLonger, Sees};
 
 use crate::expression::{expr, exprs};
-use crate::look::{Fault, Found, abandon, after, fitted, names, needed};
+use crate::look::{Found, ReadError, abandon, after, fitted, names, needed};
 use crate::opening::{Joint, first_joint};
 use gr_scan::token::{Mark, Token};
 use gr_tree::{BinaryOp, Expr, Simple};
@@ -35,7 +36,7 @@ fn values<'a>(
     may_define: bool,
     names: Vec<Vec<u8>>,
     tokens: &'a [Token],
-) -> Result<Found<'a, Simple>, Fault>
+) -> Result<Found<'a, Simple>, ReadError>
     requires { limit < 2 ^ 30 }
     ensures gives { Finds simple_of tokens.now result (values_at limit may_define (names_of names.items)) }
     ensures fits { AtMost limit result }
@@ -44,7 +45,7 @@ fn values<'a>(
     if let Some(rest) = define(may_define, tokens) {
         let values = exprs(alloc, limit, false, rest)?;
         if values.height + 1 > limit {
-            return Err(Fault::TooHigh { left: rest.len() });
+            return Err(ReadError::TooHigh { left: rest.len() });
         }
         return Ok(Found {
             value: Simple::Define(fitted(names), values.value),
@@ -55,7 +56,7 @@ fn values<'a>(
     let (_, rest) = needed(Mark::Assign, tokens)?;
     let values = exprs(alloc, limit, false, rest)?;
     if values.height + 1 > limit {
-        return Err(Fault::TooHigh { left: rest.len() });
+        return Err(ReadError::TooHigh { left: rest.len() });
     }
     Ok(Found {
         value: Simple::Assign(fitted(names), values.value),
@@ -70,7 +71,7 @@ fn names_from<'a>(
     alloc: Global,
     first: Vec<u8>,
     tokens: &'a [Token],
-) -> Result<Found<'a, Vec<Vec<u8>>>, Fault>
+) -> Result<Found<'a, Vec<Vec<u8>>>, ReadError>
     ensures gives { Finds (λ v. names_of v.items) tokens.now result (names_from first.items) }
     ensures shorter { Shorter tokens.now result }
 {
@@ -92,7 +93,7 @@ fn update<'a>(
     name: Vec<u8>,
     op: BinaryOp,
     tokens: &'a [Token],
-) -> Result<Found<'a, Simple>, Fault>
+) -> Result<Found<'a, Simple>, ReadError>
     requires { limit < 2 ^ 30 }
     ensures gives { Finds simple_of tokens.now result (update_at limit name.items op) }
     ensures fits { AtMost limit result }
@@ -100,7 +101,7 @@ fn update<'a>(
 {
     let value = expr(alloc, 1, limit, tokens)?;
     if value.height + 1 > limit {
-        return abandon(value, Fault::TooHigh { left: tokens.len() });
+        return abandon(value, ReadError::TooHigh { left: tokens.len() });
     }
     Ok(Found {
         value: Simple::Update(name, op, value.value),
@@ -110,7 +111,7 @@ fn update<'a>(
 }
 
 /// This expression as a statement.
-fn alone(limit: u32, value: Found<'_, Expr>) -> Result<Found<'_, Simple>, Fault>
+fn alone(limit: u32, value: Found<'_, Expr>) -> Result<Found<'_, Simple>, ReadError>
     requires limit { limit < 2 ^ 30 }
     requires fits { value.height ≤ limit }
     ensures gives { Continues simple_of value.entry result (alone_at limit) }
@@ -119,7 +120,7 @@ fn alone(limit: u32, value: Found<'_, Expr>) -> Result<Found<'_, Simple>, Fault>
 {
     if value.height + 1 > limit {
         let left = value.rest.len();
-        return abandon(value, Fault::TooHigh { left });
+        return abandon(value, ReadError::TooHigh { left });
     }
     Ok(Found {
         value: Simple::Eval(value.value),
@@ -135,7 +136,7 @@ fn send<'a>(
     channel: Expr,
     height: u32,
     tokens: &'a [Token],
-) -> Result<Found<'a, Simple>, Fault>
+) -> Result<Found<'a, Simple>, ReadError>
     requires limit { limit < 2 ^ 30 }
     requires fits { height ≤ limit }
     ensures gives { Finds simple_of tokens.now result (sent_at limit (tree_of channel, height, [])) }
@@ -148,7 +149,7 @@ fn send<'a>(
     };
     let height = height.max(value.height) + 1;
     if height > limit {
-        return abandon((channel, value), Fault::TooHigh { left: tokens.len() });
+        return abandon((channel, value), ReadError::TooHigh { left: tokens.len() });
     }
     Ok(Found {
         value: Simple::Send(channel, value.value),
@@ -158,13 +159,13 @@ fn send<'a>(
 }
 
 /// This statement, which has no parts.
-fn leaf(limit: u32, value: Simple, tokens: &[Token]) -> Result<Found<'_, Simple>, Fault>
+fn leaf(limit: u32, value: Simple, tokens: &[Token]) -> Result<Found<'_, Simple>, ReadError>
     ensures gives { Finds simple_of tokens.now result (λ ts. up_to limit (simple_of value, 1, ts)) }
     ensures fits { AtMost limit result }
     ensures rest { NoLonger tokens.now result }
 {
     if limit == 0 {
-        return abandon(value, Fault::TooHigh { left: tokens.len() });
+        return abandon(value, ReadError::TooHigh { left: tokens.len() });
     }
     Ok(Found {
         value,
@@ -183,7 +184,7 @@ fn joined<'a>(
     joint: Joint,
     from: &'a [Token],
     tokens: &'a [Token],
-) -> Result<Found<'a, Simple>, Fault>
+) -> Result<Found<'a, Simple>, ReadError>
     requires limit { limit < 2 ^ 30 }
     requires rest { length tokens.now < length from.now }
     ensures gives { Finds simple_of tokens.now result (joined_at limit may_define name.items joint (tokens_of from.now)) }
@@ -211,10 +212,11 @@ fn named<'a>(
     name: Vec<u8>,
     height: u32,
     tokens: &'a [Token],
-) -> Result<Found<'a, Simple>, Fault>
+) -> Result<Found<'a, Simple>, ReadError>
     requires limit { limit < 2 ^ 30 }
     requires fits { height ≤ limit }
-    ensures gives { Finds simple_of tokens.now result (λ ts. simple_named limit may_define (Name name.items, height, ts) name.items) }
+    ensures gives { Finds simple_of tokens.now result
+        (λ ts. simple_named limit may_define (Name name.items, height, ts) name.items) }
     ensures fits { AtMost limit result }
     ensures rest { NoLonger tokens.now result }
 {
@@ -238,7 +240,7 @@ pub(crate) fn simple<'a>(
     limit: u32,
     may_define: bool,
     first: Found<'a, Expr>,
-) -> Result<Found<'a, Simple>, Fault>
+) -> Result<Found<'a, Simple>, ReadError>
     requires limit { limit < 2 ^ 30 }
     requires fits { first.height ≤ limit }
     ensures gives { Continues simple_of first.entry result (simple_after limit may_define) }

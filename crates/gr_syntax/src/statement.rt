@@ -4,7 +4,9 @@ ghost use Rattle.std.specs.Prelude.{◌+◌, ◌<◌, ◌≤◌, ◌^◌};
 ghost use Rattle.gr_scan.specs.Tokens.{tokens_of};
 ghost use Rattle.gr_tree.specs.Exprs.{Name};
 ghost use Rattle.gr_tree.specs.Statements.{if_of, statement_of, statements_of};
-ghost use Rattle.gr_syntax.specs.StatementReading.{name_open, labelled_at, list_at, block_at, else_at, if_at, for_at, clause_body_at, clauses_at, select_at, braced_at, open_at, keyed_at, statement_at};
+ghost use Rattle.gr_syntax.specs.StatementReading.{name_open, labelled_at, list_at, block_at, else_at, if_at, for_at};
+ghost use Rattle.gr_syntax.specs.StatementReading.{clause_body_at, clauses_at, select_at, braced_at, open_at, keyed_at};
+ghost use Rattle.gr_syntax.specs.StatementReading.{statement_at};
 ghost use Rattle.gr_syntax.specs.CodeViews.{clauses_of};
 ghost use Rattle.gr_syntax.specs.StatementViews.{closed_of};
 ghost use Rattle.gr_syntax.specs.Views.{Finds, found_of, AtMost};
@@ -16,7 +18,7 @@ use crate::assembly::{
 use crate::communication::communication;
 use crate::expression::expr;
 use crate::heading::{for_head, if_head, place};
-use crate::look::{Fault, Found, abandon, after, boxed, fitted, needed, push};
+use crate::look::{Found, ReadError, abandon, after, boxed, fitted, needed, push};
 use crate::opening::{Keyword, ends, first_keyword, past_semicolon, stops};
 use gr_scan::token::{Mark, Place, Token};
 use gr_tree::{Clause, Expr, IfHead, Stmt};
@@ -31,7 +33,7 @@ fn labelled<'a>(
     place: Place,
     name: Vec<u8>,
     tokens: &'a [Token],
-) -> Result<Found<'a, Stmt>, Fault>
+) -> Result<Found<'a, Stmt>, ReadError>
     requires { below < 2 ^ 29 }
     ensures gives { Finds statement_of tokens.now result (labelled_at (statement_at below) place name.items) }
     ensures fits { AtMost (below + 1) result }
@@ -61,10 +63,11 @@ fn named<'a>(
     name: Vec<u8>,
     height: u32,
     tokens: &'a [Token],
-) -> Result<Found<'a, Stmt>, Fault>
+) -> Result<Found<'a, Stmt>, ReadError>
     requires limit { below < 2 ^ 29 }
     requires fits { height ≤ below + 1 }
-    ensures gives { Finds statement_of tokens.now result (λ ts. name_open (below + 1) (statement_at below) place (Name name.items, height, ts) name.items) }
+    ensures gives { Finds statement_of tokens.now result
+        (λ ts. name_open (below + 1) (statement_at below) place (Name name.items, height, ts) name.items) }
     ensures fits { AtMost (below + 1) result }
 {
     match after(Mark::Colon, tokens) {
@@ -90,7 +93,7 @@ fn opened(
     below: u32,
     place: Place,
     tokens: &[Token],
-) -> Result<Found<'_, Stmt>, Fault>
+) -> Result<Found<'_, Stmt>, ReadError>
     requires { below < 2 ^ 29 }
     ensures gives { Finds statement_of tokens.now result (open_at (below + 1) (statement_at below) place) }
     ensures fits { AtMost (below + 1) result }
@@ -118,7 +121,7 @@ fn opened(
 /// The statements up to a `}` or to the next clause of a select, each of at most this height.
 #[cycle(statement)]
 #[tactic(auto, unfolding(crate::specs::StatementReading::list_at))]
-fn list(alloc: Global, limit: u32, tokens: &[Token]) -> Result<Found<'_, Vec<Stmt>>, Fault>
+fn list(alloc: Global, limit: u32, tokens: &[Token]) -> Result<Found<'_, Vec<Stmt>>, ReadError>
     requires { limit < 2 ^ 29 }
     ensures gives { Finds (λ v. statements_of v.items) tokens.now result (list_at (statement_at limit)) }
     ensures fits { AtMost limit result }
@@ -150,7 +153,7 @@ pub(crate) fn block(
     alloc: Global,
     limit: u32,
     tokens: &[Token],
-) -> Result<Found<'_, (Vec<Stmt>, Place)>, Fault>
+) -> Result<Found<'_, (Vec<Stmt>, Place)>, ReadError>
     requires { limit < 2 ^ 29 }
     ensures gives { Finds closed_of tokens.now result (block_at (statement_at limit)) }
     ensures fits { AtMost limit result }
@@ -176,7 +179,7 @@ fn braced(
     below: u32,
     place: Place,
     tokens: &[Token],
-) -> Result<Found<'_, Stmt>, Fault>
+) -> Result<Found<'_, Stmt>, ReadError>
     requires { below < 2 ^ 29 }
     ensures gives { Finds statement_of tokens.now result (braced_at (statement_at below) place) }
     ensures fits { AtMost (below + 1) result }
@@ -199,11 +202,12 @@ fn otherwise<'a>(
     head: Found<'a, IfHead>,
     body: Found<'a, (Vec<Stmt>, Place)>,
     tokens: &'a [Token],
-) -> Result<Found<'a, Stmt>, Fault>
+) -> Result<Found<'a, Stmt>, ReadError>
     requires limit { below < 2 ^ 29 }
     requires head { head.height ≤ below }
     requires body { body.height ≤ below }
-    ensures gives { Finds statement_of tokens.now result (else_at (statement_at below) place (found_of if_of head.entry) (found_of closed_of body.entry)) }
+    ensures gives { Finds statement_of tokens.now result
+        (else_at (statement_at below) place (found_of if_of head.entry) (found_of closed_of body.entry)) }
     ensures fits { AtMost (below + 1) result }
 {
     if after(Mark::If, tokens).is_some() {
@@ -212,7 +216,7 @@ fn otherwise<'a>(
             Err(fault) => return abandon((head, body), fault),
         };
         let Ok(otherwise) = boxed(alloc, inner.value) else {
-            return abandon((head, body), Fault::Memory);
+            return abandon((head, body), ReadError::Memory);
         };
         return Ok(Found {
             value: if_else_if(place, head.value, body.value.0, otherwise),
@@ -239,7 +243,7 @@ fn branch(
     below: u32,
     place: Place,
     tokens: &[Token],
-) -> Result<Found<'_, Stmt>, Fault>
+) -> Result<Found<'_, Stmt>, ReadError>
     requires { below < 2 ^ 29 }
     ensures gives { Finds statement_of tokens.now result (if_at below (statement_at below) place) }
     ensures fits { AtMost (below + 1) result }
@@ -267,7 +271,7 @@ fn looped(
     below: u32,
     place: Place,
     tokens: &[Token],
-) -> Result<Found<'_, Stmt>, Fault>
+) -> Result<Found<'_, Stmt>, ReadError>
     requires { below < 2 ^ 29 }
     ensures gives { Finds statement_of tokens.now result (for_at below (statement_at below) place) }
     ensures fits { AtMost (below + 1) result }
@@ -286,7 +290,11 @@ fn looped(
 
 /// What a clause of a select does, from its colon on; its statements are of at most this height.
 #[cycle(statement)]
-fn clause_body(alloc: Global, limit: u32, tokens: &[Token]) -> Result<Found<'_, Vec<Stmt>>, Fault>
+fn clause_body(
+    alloc: Global,
+    limit: u32,
+    tokens: &[Token],
+) -> Result<Found<'_, Vec<Stmt>>, ReadError>
     requires { limit < 2 ^ 29 }
     ensures gives { Finds (λ v. statements_of v.items) tokens.now result (clause_body_at (statement_at limit)) }
     ensures fits { AtMost limit result }
@@ -298,7 +306,7 @@ fn clause_body(alloc: Global, limit: u32, tokens: &[Token]) -> Result<Found<'_, 
 /// The clauses of a select; what they wait for and their statements are of at most this height.
 #[cycle(statement)]
 #[tactic(auto, unfolding(crate::specs::StatementReading::clauses_at))]
-fn clauses(alloc: Global, limit: u32, tokens: &[Token]) -> Result<Found<'_, Vec<Clause>>, Fault>
+fn clauses(alloc: Global, limit: u32, tokens: &[Token]) -> Result<Found<'_, Vec<Clause>>, ReadError>
     requires { limit < 2 ^ 29 }
     ensures gives { Finds (λ v. clauses_of v.items) tokens.now result (clauses_at limit (statement_at limit)) }
     ensures fits { AtMost limit result }
@@ -340,7 +348,7 @@ fn select(
     below: u32,
     place: Place,
     tokens: &[Token],
-) -> Result<Found<'_, Stmt>, Fault>
+) -> Result<Found<'_, Stmt>, ReadError>
     requires { below < 2 ^ 29 }
     ensures gives { Finds statement_of tokens.now result (select_at below (statement_at below) place) }
     ensures fits { AtMost (below + 1) result }
@@ -368,9 +376,10 @@ fn keyed<'a>(
     keyword: Keyword,
     from: &'a [Token],
     tokens: &'a [Token],
-) -> Result<Found<'a, Stmt>, Fault>
+) -> Result<Found<'a, Stmt>, ReadError>
     requires { below < 2 ^ 29 }
-    ensures gives { Finds statement_of tokens.now result (keyed_at below (statement_at below) place keyword (tokens_of from.now)) }
+    ensures gives { Finds statement_of tokens.now result
+        (keyed_at below (statement_at below) place keyword (tokens_of from.now)) }
     ensures fits { AtMost (below + 1) result }
 {
     match keyword {
@@ -393,13 +402,13 @@ pub(crate) fn statement(
     alloc: Global,
     limit: u32,
     tokens: &[Token],
-) -> Result<Found<'_, Stmt>, Fault>
+) -> Result<Found<'_, Stmt>, ReadError>
     requires { limit < 2 ^ 29 }
     ensures gives { Finds statement_of tokens.now result (statement_at limit) }
     ensures fits { AtMost limit result }
 {
     if limit == 0 {
-        return Err(Fault::TooHigh { left: tokens.len() });
+        return Err(ReadError::TooHigh { left: tokens.len() });
     }
     let below = limit - 1;
     let place = place(tokens)?;

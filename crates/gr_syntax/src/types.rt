@@ -5,14 +5,14 @@ ghost use Rattle.gr_tree.specs.Exprs.{type_of};
 ghost use Rattle.gr_syntax.specs.Reading.{channel_at, both_at, paren_type_at, plain_type_at, type_at};
 ghost use Rattle.gr_syntax.specs.Views.{Finds, AtMost, Shorter};
 
-use crate::look::{Fault, Found, after, boxed, copy, name, needed};
+use crate::look::{Found, ReadError, after, boxed, copy, name, needed};
 use gr_scan::token::{Mark, Token};
 use gr_tree::{Direction, TypeTree};
 use std::alloc::Global;
 
 /// A name, or `struct{}`.
 #[tactic(auto, unfolding(crate::specs::Reading::plain_type_at))]
-fn plain_type(tokens: &[Token]) -> Result<Found<'_, TypeTree>, Fault>
+fn plain_type(tokens: &[Token]) -> Result<Found<'_, TypeTree>, ReadError>
     ensures gives { Finds type_of tokens.now result plain_type_at }
     ensures fits { IfOk result (λ f. f.height ≡ 1) }
     ensures shorter { Shorter tokens.now result }
@@ -42,7 +42,7 @@ fn channel(
     below: u32,
     direction: Direction,
     tokens: &[Token],
-) -> Result<Found<'_, TypeTree>, Fault>
+) -> Result<Found<'_, TypeTree>, ReadError>
     requires { below < 2 ^ 31 }
     ensures gives { Finds type_of tokens.now result (channel_at (type_at below) direction) }
     ensures fits { AtMost (below + 1) result }
@@ -59,7 +59,7 @@ fn channel(
 /// A type in parentheses, after the first of them; the inner type is of at most this height.
 #[cycle(types)]
 #[tactic(auto, unfolding(crate::specs::Reading::paren_type_at))]
-fn paren_type(alloc: Global, below: u32, tokens: &[Token]) -> Result<Found<'_, TypeTree>, Fault>
+fn paren_type(alloc: Global, below: u32, tokens: &[Token]) -> Result<Found<'_, TypeTree>, ReadError>
     requires { below < 2 ^ 31 }
     ensures gives { Finds type_of tokens.now result (paren_type_at (type_at below)) }
     ensures fits { AtMost (below + 1) result }
@@ -81,14 +81,14 @@ pub(crate) fn type_tree(
     alloc: Global,
     limit: u32,
     tokens: &[Token],
-) -> Result<Found<'_, TypeTree>, Fault>
+) -> Result<Found<'_, TypeTree>, ReadError>
     requires { limit < 2 ^ 31 }
     ensures gives { Finds type_of tokens.now result (type_at limit) }
     ensures fits { AtMost limit result }
     ensures shorter { Shorter tokens.now result }
 {
     if limit == 0 {
-        return Err(Fault::TooHigh { left: tokens.len() });
+        return Err(ReadError::TooHigh { left: tokens.len() });
     }
     let below = limit - 1;
     if let Some(rest) = after(Mark::Chan, tokens) {

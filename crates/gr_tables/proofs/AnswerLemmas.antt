@@ -71,10 +71,10 @@ module _ {name : ChName} {a b : Seen} (old new : Channels) (s : Sets name a b ol
   take_goes_back taken.Closed h k = same_seen s (seen_is a b h.3 k)
   take_goes_back taken.Empty h k = same_seen s (seen_is a b h.3 k)
 
-  pub take_back : {E : Type 0} (r : Result Taken E) → IfOk r (λ x. TakeRule a.content x b.content) → IfOk r (λ x. TakeUndone x a b)
+  pub undo_all : {E : Type 0} (r : Result Taken E) → IfOk r (λ x. TakeRule a.content x b.content) → IfOk r (λ x. TakeUndone x a b)
       → IfOk r (λ x. TakeGoesBack name x old new)
-  take_back (Ok x) h k = take_goes_back x h k
-  take_back (Err e) h k = tt
+  undo_all (Ok x) h k = take_goes_back x h k
+  undo_all (Err e) h k = tt
 
   pub changes_at : {T E : Type 0} (f : Content → Content) (r : Result T E) → OnOk r (b.content ≡ f a.content) → OnOk r (ChangesAt name f old new)
   changes_at f (Ok x) h = (a.content, subst (λ y. Becomes name a.content y old new) h (becomes old new s))

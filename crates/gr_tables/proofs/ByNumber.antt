@@ -204,3 +204,16 @@ on_ok (Err e) P Q f h = h
 pub on_err : {A E : Type 0} (r : Result A E) (P Q : Type 0) → (P → Q) → OnErr r P → OnErr r Q
 on_err (Ok x) P Q f h = h
 on_err (Err e) P Q f h = f h
+
+-- two facts of a result
+pub both_ok : {A E : Type 0} (r : Result A E) (P Q : A → Type 0) → IfOk r P → IfOk r Q → IfOk r (λ x. P x × Q x)
+both_ok (Ok x) P Q p q = (p, q)
+both_ok (Err e) P Q p q = p
+
+pub both_done : {A E : Type 0} (r : Result A E) (P Q : Type 0) → OnOk r P → OnOk r Q → OnOk r (P × Q)
+both_done (Ok x) P Q p q = (p, q)
+both_done (Err e) P Q p q = p
+
+pub both_err : {A E : Type 0} (r : Result A E) (P Q : Type 0) → OnErr r P → OnErr r Q → OnErr r (P × Q)
+both_err (Ok x) P Q p q = p
+both_err (Err e) P Q p q = (p, q)

@@ -6,3 +6,5 @@ pub mod AreChannels
 pub mod NamedGoroutines
 pub mod Slots
 pub mod Counting
+pub use Rattle.gr_goros.specs.declared.undo.GoUndo
+pub use Rattle.gr_goros.specs.Undoing

@@ -29,7 +29,8 @@ pub struct Channels {
 
 impl Channels {
     ghost use Rattle.gr_tables.specs.NamedChannels.{seen_of, contents_of, rooms_of, fresh, At, IsOpen, GoesBack, KeepsRooms};
-    ghost use Rattle.gr_tables.specs.NamedChannels.{OfferAt, OfferGoesBack, TakeAt, TakeGoesBack, ChangesAt, with_sender, with_receiver, once_closed};
+    ghost use Rattle.gr_tables.specs.NamedChannels.{OfferAt, OfferGoesBack, TakeAt, TakeGoesBack, ChangesAt, with_sender};
+    ghost use Rattle.gr_tables.specs.NamedChannels.{with_receiver, once_closed};
 
     /// No channel.
     pub fn new(alloc: Global) -> Channels
@@ -48,6 +49,18 @@ impl Channels {
         self.map.get(name)
     }
 
+    /// The channel of a name, which is there.
+    #[inline(always)]
+    pub fn at(&self, name: &ChName) -> &Channel
+        requires { ¬ (None ≡ seen_of self.now name.now) }
+        ensures { Some result.now ≡ seen_of self.now name.now }
+    {
+        match self.map.get(name) {
+            Some(channel) => channel,
+            None => unreachable!(),
+        }
+    }
+
     /// The content of each channel is one that a channel can have.
     pub fn are_channels(&self)
         ensures { (name : ChName) (x : Content) → contents_of self.now name ≡ Some x → IsChannel x }
@@ -56,7 +69,8 @@ impl Channels {
     /// A new channel, under a name that no channel has. Refused, nothing has changed.
     pub fn add(&mut self, name: ChName, capacity: u32) -> Result<(), NoMemory>
         requires { contents_of self.old name ≡ None }
-        ensures contents { OnOk result (contents_of self.new ≡ updated same_channel (contents_of self.old) name (Some (fresh capacity))) }
+        ensures contents { OnOk result (contents_of self.new
+            ≡ updated same_channel (contents_of self.old) name (Some (fresh capacity))) }
         ensures rooms { OnOk result (KeepsRooms self.old self.new) }
         ensures err { OnErr result (seen_of self.new ≡ seen_of self.old) }
     {

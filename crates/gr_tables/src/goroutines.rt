@@ -1,6 +1,7 @@
 //! The goroutines of a store, by name and by number.
 
-ghost use Rattle.std.specs.Prelude.{◌≡◌, ◌≤◌, ◌<◌, ℕ, List, [], length, true, is_some, Some, None, option_copied, IfSome, IsSome, IsTrue, IsOk, IfOk, OnOk, OnErr};
+ghost use Rattle.std.specs.Prelude.{◌≡◌, ◌≤◌, ◌<◌, ℕ, List, [], length, true, is_some, Some, None, option_copied, IfSome, IsSome};
+ghost use Rattle.std.specs.Prelude.{IsTrue, IsOk, IfOk, OnOk, OnErr};
 ghost use Rattle.gr_rules.specs.States.{same_go};
 ghost use Rattle.indexmap.specs.IndexMap.{IsUnique};
 ghost use Rattle.std.proofs.Props.{props};
@@ -104,6 +105,19 @@ impl Goroutines {
     {
         let (_, goroutine) = self.map.get_index(number)?;
         goroutine.as_ref()
+    }
+
+    /// The goroutine with a number, which is there.
+    #[inline(always)]
+    pub fn at(&self, number: usize) -> &Goroutine
+        requires { ¬ (None ≡ seen_at self.now number) }
+        ensures value { Some result.now ≡ seen_at self.now number }
+        ensures named { (name : List ℕ) → name_at self.now number ≡ Some name → Some result.now ≡ seen_of self.now name }
+    {
+        match self.get(number) {
+            Some(goroutine) => goroutine,
+            None => unreachable!(),
+        }
     }
 
     /// Makes a name known, and answers its number. One that is known takes no memory. Refused, nothing has changed.

@@ -5,3 +5,5 @@
 pub mod channel_laws;
 pub mod channels;
 pub mod goroutines;
+
+pub use gr_goros::{GoUndo, Spot};

@@ -1,9 +1,11 @@
 -- Touches that are added for one object or for some, and then for others; what a refusal in between takes away.
-use Rattle.std.proofs.Common.{◌≡◌, ℕ, Bool, true, false, if◌then◌else◌, List, [], ◌∷◌, ◌++◌, Option, Some, None, refl, sym, ap, subst, ◌∙◌, append_assoc, append-nil, arith}
-use Rattle.std.specs.Prelude.{option_map}
+use Rattle.std.proofs.Common.{◌≡◌, ℕ, Bool, true, false, if◌then◌else◌, List, [], ◌∷◌, ◌++◌, Option, Some, None, Result, Ok, Err, refl, sym, ap, subst, ◌∙◌, append_assoc}
+use Rattle.std.specs.Prelude.{option_map, OnOk, OnErr, IsOk}
+use Rattle.indexmap.specs.IndexMap.{get}
 use Rattle.gr_base.specs.declared.names.ChName.{ChName}
 use Rattle.gr_base.specs.declared.objects.Object.{Object}
 use Rattle.gr_base.specs.declared.objects.Object.TheVariants.{Run, Go, Gate, Tail, Head}
+use Rattle.gr_rules.specs.States.{same}
 use Rattle.gr_record.specs.declared.record.Beyond.{Beyond}
 use Rattle.gr_record.specs.declared.record.Operation.{Operation}
 use Rattle.gr_record.specs.declared.record.Parts.{Parts}
@@ -14,30 +16,15 @@ use Rattle.gr_record.specs.Parts.{channel_in, parts_before, partner_before, slot
 use Rattle.gr_touches.specs.declared.touch.Touch.{Touch}
 use Rattle.gr_touches.specs.declared.lanes.Lanes.{Lanes}
 use Rattle.gr_touches.specs.Touches.{touches_for, kept_for}
-use Rattle.gr_touches.specs.Lists.{list_of, Adds, AddsFor, TakesBack, TakesFor, KeepsLists}
-use Rattle.gr_touches.specs.Room.{Fits, FitsFor, KeepsRoom}
-use Rattle.gr_touches.proofs.NoteLemmas.{one_added, one_taken}
+use Rattle.gr_touches.specs.Lists.{list_of, AddsFor, TakesFor, KeepsLists}
+use Rattle.gr_touches.specs.Room.{Fits, FitsFor, KeepsRoom, Notes, NotesFor, NotesStep}
+use Rattle.gr_touches.proofs.NoteLemmas.{touches_both, added_both}
 use Rattle.gr_touches.proofs.ToldLemmas.{no_channel}
-use Rattle.gr_touches.proofs.RoomLemmas.{fits_less, fits_next, touches_both}
+use Rattle.gr_touches.proofs.RoomLemmas.{fits_less, fits_written, no_room}
 
--- a touch that fits for all of these objects fits for the first
-pub first_fits : (a : Lanes) (t : Touch) (o : Object) (os : List Object) → FitsFor (o ∷ os) t a → FitsFor (o ∷ []) t a
-first_fits a t o os fits = fits_next a a t (o ∷ os) 0 o (omega arith) refl (λ q. sym (append-nil (list_of a q))) (λ lists had. had) fits
-
--- what was added for one object is taken away again
-pub keeps_one : (a b c d : Lanes) (t : Touch) (o : Object) → Adds o t a b → KeepsLists b c → TakesBack o c d → KeepsLists a d
-keeps_one a b c d t o adds kept takes = one_taken o c d takes t (list_of a) (λ q. kept q ∙ one_added o a b t adds q)
-
--- .. and for several
+-- what was added is taken away again
 pub keeps_all : (a b c d : Lanes) (t : Touch) (os : List Object) → AddsFor os t a b → KeepsLists b c → TakesFor os c d → KeepsLists a d
 keeps_all a b c d t os adds kept takes = takes (list_of a) t (λ q. kept q ∙ adds q)
-
--- a list of objects, and an equal one
-pub as_listed : (a b : Lanes) (t : Touch) (os ps : List Object) → os ≡ ps → AddsFor os t a b → AddsFor ps t a b
-as_listed a b t os ps is = subst (λ (l : List Object). AddsFor l t a b) is
-
-pub fits_as : (a : Lanes) (t : Touch) (os ps : List Object) → os ≡ ps → FitsFor ps t a → FitsFor os t a
-fits_as a t os ps is = subst (λ (l : List Object). FitsFor l t a) (sym is)
 
 module _ (a : Lanes) (t : Touch) (xs ys : List Object) where
   cut : (q : Object) → (list_of a q ++ touches_for q t xs) ++ touches_for q t ys ≡ list_of a q ++ touches_for q t (xs ++ ys)
@@ -52,9 +39,6 @@ module _ (a : Lanes) (t : Touch) (xs ys : List Object) where
   end_fits b done room fits =
       room (λ q. list_of b q ++ touches_for q t ys)
       (subst (Fits a) (λ i q. (sym (cut q) ∙ ap (λ l. l ++ touches_for q t ys) (sym (done q))) i) fits)
-
-  pub added_both : (b c : Lanes) → AddsFor xs t a b → AddsFor ys t b c → AddsFor (xs ++ ys) t a c
-  added_both b c first second q = second q ∙ ap (λ l. l ++ touches_for q t ys) (first q) ∙ cut q
 
 -- parts of a channel come before whatever else there is
 pub slot_split : (c : ChName) (slot : Option ℕ) (os : List Object) → slot_before c slot [] ++ os ≡ slot_before c slot os
@@ -113,11 +97,14 @@ reads_told b os more = ap (parts_before b.touched.read b.touched.slot (option_ma
 pub reads_going : (b : Beyond) → b.stops ≡ false → Run ∷ reads_in b ≡ reads_with_run b
 reads_going b on = ap (λ (s : Bool). if s then reads_in b else Run ∷ reads_in b) (sym on)
 
+pub reads_stopping : (b : Beyond) → b.stops ≡ true → reads_in b ≡ reads_with_run b
+reads_stopping b stop = ap (λ (s : Bool). if s then reads_in b else Run ∷ reads_in b) (sym stop)
+
 -- what fits of a step fits of what it read
 pub fits_read : (a : Lanes) (place : ℕ) (r : Record) (rs : List Object) → read_by r ≡ rs → Fits a (λ q. list_of a q ++ kept_for q place r)
     → FitsFor rs (record { place = place; writes = false }) a
 fits_read a place r rs read fits =
-    fits_as a (record { place = place; writes = false }) rs (read_by r) (sym read)
+    subst (λ (os : List Object). FitsFor os (record { place = place; writes = false }) a) read
     (fits_less a (λ q. list_of a q ++ touches_for q (record { place = place; writes = false }) (read_by r)) (λ q. list_of a q ++ kept_for q place r)
     (λ q. (touches_for q (record { place = place; writes = true }) (written_by r), append_assoc (list_of a q) _ _)) fits)
 
@@ -131,3 +118,97 @@ both_kept a b c place r rs ws read wrote first second q =
     second q ∙ ap (λ l. l ++ touches_for q writing ws) (first q) ∙ append_assoc (list_of a q) (touches_for q reading rs) (touches_for q writing ws)
     ∙ ap (λ l. list_of a q ++ (touches_for q reading l ++ touches_for q writing ws)) (sym read)
     ∙ ap (λ l. list_of a q ++ (touches_for q reading (read_by r) ++ touches_for q writing l)) (sym wrote)
+
+was_err : {A E : Type 0} (r : Result A E) (e : E) (P : Type 0) → r ≡ Err e → OnErr r P → P
+was_err (Err x) e P is h = h
+was_err (Ok x) e P is h = absurd (let no : Ok x ≡ Err e = is in cc)
+
+not_ok : {A E : Type 0} (r : Result A E) (e : E) → r ≡ Err e → IsOk r → ⊥
+not_ok (Err x) e is h = let no : false ≡ true = h in absurd (let never : false ≡ true = no in cc)
+not_ok (Ok x) e is h = absurd (let no : Ok x ≡ Err e = is in cc)
+
+was_ok : {A E : Type 0} (r : Result A E) (x : A) (P : Type 0) → r ≡ Ok x → OnOk r P → P
+was_ok (Ok y) x P is h = h
+was_ok (Err e) x P is h = absurd (let no : Err e ≡ Ok x = is in cc)
+
+-- a refusal, and a success
+refused : {A E : Type 0} (r : Result A E) (e : E) (done fits : Type 0) (a b : Lanes) → r ≡ Err e → KeepsLists a b → (fits → ⊥) → KeepsRoom a b
+    → Notes r done fits a b
+refused (Err x) e done fits a b is kept never room = record { ok = tt; err = kept; succeeds = λ h. absurd (never h); room = room }
+refused (Ok x) e done fits a b is kept never room = absurd (let no : Ok x ≡ Err e = is in cc)
+
+noted : {A E : Type 0} (r : Result A E) (x : A) (done fits : Type 0) (a b : Lanes) → r ≡ Ok x → done → KeepsRoom a b → Notes r done fits a b
+noted (Ok y) x done fits a b is has room = record { ok = has; err = tt; succeeds = λ h. refl; room = room }
+noted (Err e) x done fits a b is has room = absurd (let no : Err e ≡ Ok x = is in cc)
+
+then_room : (a b c : Lanes) → KeepsRoom a b → KeepsRoom b c → KeepsRoom a c
+then_room a b c first second lists fits = second lists (first lists fits)
+
+-- a list of objects, and an equal one
+pub noted_as : {A E : Type 0} {r : Result A E} (a b : Lanes) (t : Touch) (os ps : List Object) → os ≡ ps → NotesFor r os t a b → NotesFor r ps t a b
+noted_as {r = r} a b t os ps is = subst (λ (l : List Object). NotesFor r l t a b) is
+
+-- a touch for the first objects, and then for the others: refused for the first, refused for the others, or noted for all
+pub first_refused : {A B E F : Type 0} {q : Result A E} {e : E} {r : Result B F} {f : F} (a b : Lanes) (t : Touch) (xs ys : List Object)
+    → q ≡ Err e → r ≡ Err f → NotesFor q xs t a b → NotesFor r (xs ++ ys) t a b
+first_refused {q = q} {e = e} {r = r} {f = f} a b t xs ys was is first =
+    refused r f (AddsFor (xs ++ ys) t a b) (FitsFor (xs ++ ys) t a) a b is (was_err q e (KeepsLists a b) was first.err)
+    (λ fits. not_ok q e was (first.succeeds (start_fits a t xs ys fits))) first.room
+
+pub second_refused : {A B C E F G : Type 0} {p : Result A E} {x : A} {q : Result B F} {e : F} {r : Result C G} {f : G} (a b c d : Lanes) (t : Touch) (xs ys : List Object)
+    → p ≡ Ok x → q ≡ Err e → r ≡ Err f → NotesFor p xs t a b → NotesFor q ys t b c → TakesFor xs c d → KeepsRoom c d → NotesFor r (xs ++ ys) t a d
+second_refused {p = p} {x = x} {q = q} {e = e} {r = r} {f = f} a b c d t xs ys had was is first second takes keeps =
+    let done = was_ok p x (AddsFor xs t a b) had first.ok in
+    refused r f (AddsFor (xs ++ ys) t a d) (FitsFor (xs ++ ys) t a) a d is
+    (keeps_all a b c d t xs done (was_err q e (KeepsLists b c) was second.err) takes)
+    (λ fits. not_ok q e was (second.succeeds (end_fits a t xs ys b done first.room fits)))
+    (then_room a c d (then_room a b c first.room second.room) keeps)
+
+pub both_noted : {A B C E F G : Type 0} {p : Result A E} {x : A} {q : Result B F} {y : B} {r : Result C G} {z : C} (a b c : Lanes) (t : Touch) (xs ys : List Object)
+    → p ≡ Ok x → q ≡ Ok y → r ≡ Ok z → NotesFor p xs t a b → NotesFor q ys t b c → NotesFor r (xs ++ ys) t a c
+both_noted {p = p} {x = x} {q = q} {y = y} {r = r} {z = z} a b c t xs ys had has is first second =
+    noted r z (AddsFor (xs ++ ys) t a c) (FitsFor (xs ++ ys) t a) a c is
+    (added_both a b c xs ys t (was_ok p x (AddsFor xs t a b) had first.ok) (was_ok q y (AddsFor ys t b c) has second.ok))
+    (then_room a b c first.room second.room)
+
+-- an object without a lane has no room
+pub none_refused : {A E : Type 0} {r : Result A E} {e : E} (a : Lanes) (t : Touch) (o : Object) → same Run o ≡ false → get same a.map o ≡ None
+    → r ≡ Err e → NotesFor r (o ∷ []) t a a
+none_refused {r = r} {e = e} a t o other absent is =
+    refused r e (AddsFor (o ∷ []) t a a) (FitsFor (o ∷ []) t a) a a is (λ q. refl) (no_room a o other absent t) (λ lists fits. fits)
+
+-- the same for what a step read, and then for what it wrote
+module _ (place : ℕ) (s : Record) (rs ws : List Object) (read : read_by s ≡ rs) (wrote : written_by s ≡ ws) where
+  abbrev reading : Touch
+  reading = record { place = place; writes = false }
+
+  abbrev writing : Touch
+  writing = record { place = place; writes = true }
+
+  abbrev Kept : Lanes → Lanes → Type 0
+  Kept a b = (q : Object) → list_of b q ≡ list_of a q ++ kept_for q place s
+
+  abbrev FitsStep : Lanes → Type 0
+  FitsStep a = Fits a (λ q. list_of a q ++ kept_for q place s)
+
+  pub read_refused : {A B E F : Type 0} {q : Result A E} {e : E} {r : Result B F} {f : F} (a b : Lanes)
+      → q ≡ Err e → r ≡ Err f → NotesFor q rs reading a b → NotesStep r place s a b
+  read_refused {q = q} {e = e} {r = r} {f = f} a b was is first =
+      refused r f (Kept a b) (FitsStep a) a b is (was_err q e (KeepsLists a b) was first.err)
+      (λ fits. not_ok q e was (first.succeeds (fits_read a place s rs read fits))) first.room
+
+  pub write_refused : {A B C E F G : Type 0} {p : Result A E} {x : A} {q : Result B F} {e : F} {r : Result C G} {f : G} (a b c d : Lanes)
+      → p ≡ Ok x → q ≡ Err e → r ≡ Err f → NotesFor p rs reading a b → NotesFor q ws writing b c → TakesFor rs c d → KeepsRoom c d → NotesStep r place s a d
+  write_refused {p = p} {x = x} {q = q} {e = e} {r = r} {f = f} a b c d had was is first second takes keeps =
+      let done = was_ok p x (AddsFor rs reading a b) had first.ok in
+      refused r f (Kept a d) (FitsStep a) a d is
+      (keeps_all a b c d reading rs done (was_err q e (KeepsLists b c) was second.err) takes)
+      (λ fits. not_ok q e was (second.succeeds (fits_written a b place s rs ws read wrote done first.room fits)))
+      (then_room a c d (then_room a b c first.room second.room) keeps)
+
+  pub step_noted : {A B C E F G : Type 0} {p : Result A E} {x : A} {q : Result B F} {y : B} {r : Result C G} {z : C} (a b c : Lanes)
+      → p ≡ Ok x → q ≡ Ok y → r ≡ Ok z → NotesFor p rs reading a b → NotesFor q ws writing b c → NotesStep r place s a c
+  step_noted {p = p} {x = x} {q = q} {y = y} {r = r} {z = z} a b c had has is first second =
+      noted r z (Kept a c) (FitsStep a) a c is
+      (both_kept a b c place s rs ws read wrote (was_ok p x (AddsFor rs reading a b) had first.ok) (was_ok q y (AddsFor ws writing b c) has second.ok))
+      (then_room a b c first.room second.room)

@@ -1,7 +1,7 @@
 -- Lists of touches by the number and by the object.
 use Rattle.std.proofs.Common.{◌≡◌, ◌<◌, ℕ, zero, suc, Bool, true, false, cond, if◌then◌else◌, List, [], ◌∷◌, length, map, filter, slice_get, slice_index_or, Option, Some, None, refl, sym, ap, subst, ◌∙◌, ◌+◌, inl, inr, arith}
 use Rattle.std.specs.Option.{option_map_or, unwrap_or}
-use Rattle.std.specs.Prelude.{Result, Ok, Err, IfSome, IfNone, OnOk, OnErr}
+use Rattle.std.specs.Prelude.{Result, Ok, Err, IfSome, OnOk, OnErr}
 use Rattle.std.specs.Borrow.{Bor}
 use Rattle.std.specs.List.{position, IsDistinct}
 use Rattle.std.specs.Map.{lookup}
@@ -16,51 +16,51 @@ use Rattle.gr_base.specs.declared.objects.Object.{Object}
 use Rattle.gr_base.specs.declared.objects.Object.TheVariants as objects
 use Rattle.gr_rules.specs.States.{same}
 use Rattle.gr_laws.proofs.CellLemmas.{same_is, same_self}
-use Rattle.gr_touches.specs.declared.key.Key.{Key}
 use Rattle.gr_touches.specs.declared.touch.Touch.{Touch}
 use Rattle.gr_touches.specs.declared.lanes.Lanes.{Lanes}
-use Rattle.gr_touches.specs.declared.key.ObjectRef.{ObjectRef}
-use Rattle.gr_touches.specs.declared.key.ObjectRef.TheVariants as refs
-use Rattle.gr_touches.specs.Keys.{key_of, object_of, same_key, seen}
+use Rattle.gr_touches.specs.declared.object_ref.ObjectRef.{ObjectRef}
+use Rattle.gr_touches.specs.declared.object_ref.ObjectRef.TheVariants as refs
+use Rattle.gr_touches.specs.declared.marks.Wanted.{Wanted}
+use Rattle.gr_touches.specs.declared.marks.Wanted.TheVariants as which_are
+use Rattle.gr_touches.specs.ObjectRefs.{seen}
 use Rattle.gr_touches.specs.Lists.{LaneSeen, nothing, list_of, list_numbered, IsNumbered}
 use Rattle.gr_touches.specs.Marks.{wanted}
-use Rattle.gr_touches.proofs.KeyLemmas.{same_key_equiv, key_is, key_back, object_back, same_keys, same_sym}
+use Rattle.gr_touches.proofs.SameLemmas.{same_equiv}
 
 abbrev pub Table : Type 0 → Type 0
-Table S = IndexMap Key LaneSeen S
+Table S = IndexMap Object LaneSeen S
 
 some_inj : {X : Type 0} {x y : X} → Some x ≡ Some y → x ≡ y
 some_inj {X} {x} h = ap (λ o. unwrap_or o x) h
 
 -- the key and the value of the entry with a number
-pub key_at : {X : Type 0} (es : List (Key × X)) (i : ℕ) (k : Key) (v : X) → slice_get es i ≡ Some (k, v) → slice_get (map (λ e. e.0) es) i ≡ Some k
+pub key_at : {X : Type 0} (es : List (Object × X)) (i : ℕ) (k : Object) (v : X) → slice_get es i ≡ Some (k, v) → slice_get (map (λ e. e.0) es) i ≡ Some k
 key_at [] i k v h = cc
 key_at (e ∷ es) zero k v h = ap (λ p. Some (p.0)) (some_inj h)
 key_at (e ∷ es) (suc i) k v h = key_at es i k v h
 
-pub value_at : {X : Type 0} (es : List (Key × X)) (i : ℕ) (k : Key) (v : X) → slice_get es i ≡ Some (k, v) → slice_get (map (λ e. e.1) es) i ≡ Some v
+pub value_at : {X : Type 0} (es : List (Object × X)) (i : ℕ) (k : Object) (v : X) → slice_get es i ≡ Some (k, v) → slice_get (map (λ e. e.1) es) i ≡ Some v
 value_at [] i k v h = cc
 value_at (e ∷ es) zero k v h = ap (λ p. Some (p.1)) (some_inj h)
 value_at (e ∷ es) (suc i) k v h = value_at es i k v h
 
-entry_at : {X : Type 0} (es : List (Key × X)) (i : ℕ) (k : Key) → slice_get (map (λ e. e.0) es) i ≡ Some k → (v : X) × (slice_get es i ≡ Some (k, v))
+entry_at : {X : Type 0} (es : List (Object × X)) (i : ℕ) (k : Object) → slice_get (map (λ e. e.0) es) i ≡ Some k → (v : X) × (slice_get es i ≡ Some (k, v))
 entry_at [] i k h = cc
 entry_at (e ∷ es) zero k h = (e.1, ap (λ n. Some (n, e.1)) (some_inj h))
 entry_at (e ∷ es) (suc i) k h = entry_at es i k h
 
-same_value : {X : Type 0} (es : List (Key × X)) (i : ℕ) (k : Key) (v : X) → slice_get es i ≡ Some (k, v) → set_value_at es i v ≡ es
+same_value : {X : Type 0} (es : List (Object × X)) (i : ℕ) (k : Object) (v : X) → slice_get es i ≡ Some (k, v) → set_value_at es i v ≡ es
 same_value [] i k v h = refl
 same_value (e ∷ es) zero k v h = ap (λ p. (e.0, p.1) ∷ es) (sym (some_inj h))
 same_value (e ∷ es) (suc i) k v h = ap (λ l. e ∷ l) (same_value es i k v h)
 
--- a key that was found stands there
-pub found_key : (ks : List Key) (k : Key) (i : ℕ) → position (same_key k) ks ≡ Some i → slice_get ks i ≡ Some k
+-- an object that was found stands there
+pub found_key : (ks : List Object) (k : Object) (i : ℕ) → position (same k) ks ≡ Some i → slice_get ks i ≡ Some k
 found_key ks k i found =
-    let at = position-Some (same_key k) ks i k found in
-    slice_get-get_or ks i k at.0
-    ∙ ap Some (key_is (slice_index_or ks i k) (object_of k) (sym (same_sym (object_of k) (object_of (slice_index_or ks i k))) ∙ at.1) ∙ key_back k)
+    let at = position-Some (same k) ks i k found in
+    slice_get-get_or ks i k at.0 ∙ ap Some (sym (same_is k (slice_index_or ks i k) at.1))
 
-module _ {S : Type 0} (m : Table S) (unique : IsUnique same_key m) (i : ℕ) (k : Key) (here : slice_get (keys m) i ≡ Some k) where
+module _ {S : Type 0} (m : Table S) (unique : IsUnique same m) (i : ℕ) (k : Object) (here : slice_get (keys m) i ≡ Some k) where
   abbrev own : LaneSeen
   own = (entry_at m.entries i k here).0
 
@@ -68,32 +68,32 @@ module _ {S : Type 0} (m : Table S) (unique : IsUnique same_key m) (i : ℕ) (k 
   at = (entry_at m.entries i k here).1
 
   -- what the key has is what stands at its number
-  pub named : slice_get (values m) i ≡ get same_key m k
+  pub named : slice_get (values m) i ≡ get same m k
   named =
-      let written = (updates-with_value_at m i own same_key_equiv unique k own at).1 in
+      let written = (updates-with_value_at m i own same_equiv unique k own at).1 in
       value_at m.entries i k own at
-      ∙ sym (subst (λ es. lookup (same_key k) es ≡ Some own) (same_value m.entries i k own at) written)
+      ∙ sym (subst (λ es. lookup (same k) es ≡ Some own) (same_value m.entries i k own at) written)
 
-  pub has : (v : LaneSeen) → slice_get (values m) i ≡ Some v → get same_key m k ≡ Some v
+  pub has : (v : LaneSeen) → slice_get (values m) i ≡ Some v → get same m k ≡ Some v
   has v is = sym named ∙ is
 
   -- a write by number changes what this key has, and nothing else
-  pub written : (w : LaneSeen) (q : Key) → get same_key (with_value_at m i w) q ≡ cond (same_key k q) (Some w) (get same_key m q)
-  written w q = (updates-with_value_at m i w same_key_equiv unique k own at).0 q
+  pub written : (w : LaneSeen) (q : Object) → get same (with_value_at m i w) q ≡ cond (same k q) (Some w) (get same m q)
+  written w q = (updates-with_value_at m i w same_equiv unique k own at).0 q
 
 -- and leaves the keys, of which no two are one
-pub written_unique : {S : Type 0} (m : Table S) (i : ℕ) (w : LaneSeen) → IsUnique same_key m → IsUnique same_key (with_value_at m i w)
-written_unique m i w unique = subst (IsDistinct same_key) (sym (keys-with_value_at m i w)) unique
+pub written_unique : {S : Type 0} (m : Table S) (i : ℕ) (w : LaneSeen) → IsUnique same m → IsUnique same (with_value_at m i w)
+written_unique m i w unique = subst (IsDistinct same) (sym (keys-with_value_at m i w)) unique
 
--- the entry with a number has the key of this object
-pub is_key_at : {X : Type 0} (es : List (Key × X)) (i : ℕ) (k : Key) (v : X) (o : Object) (b : Bool) → slice_get es i ≡ Some (k, v) → b ≡ same (object_of k) o
-    → ((b ≡ true → slice_get (map (λ e. e.0) es) i ≡ Some (key_of o)) × (slice_get (map (λ e. e.0) es) i ≡ Some (key_of o) → b ≡ true))
+-- the entry with a number has this object as its key
+pub is_key_at : {X : Type 0} (es : List (Object × X)) (i : ℕ) (k : Object) (v : X) (o : Object) (b : Bool) → slice_get es i ≡ Some (k, v) → b ≡ same o k
+    → ((b ≡ true → slice_get (map (λ e. e.0) es) i ≡ Some o) × (slice_get (map (λ e. e.0) es) i ≡ Some o → b ≡ true))
 is_key_at es i k v o b at is = (
-  λ t. key_at es i k v at ∙ ap Some (key_is k o (sym is ∙ t)),
-  λ t. is ∙ ap (λ l. same (object_of l) o) (some_inj (sym (key_at es i k v at) ∙ t)) ∙ ap (λ p. same p o) (object_back o) ∙ same_self o,
+  λ t. key_at es i k v at ∙ ap Some (sym (same_is o k (sym is ∙ t))),
+  λ t. is ∙ ap (same o) (some_inj (sym (key_at es i k v at) ∙ t)) ∙ same_self o,
 )
 
-pub no_key_at : {X : Type 0} (es : List (Key × X)) (i : ℕ) (k : Key) → None ≡ slice_get es i → slice_get (map (λ e. e.0) es) i ≡ Some k → false ≡ true
+pub no_key_at : {X : Type 0} (es : List (Object × X)) (i : ℕ) (k : Object) → None ≡ slice_get es i → slice_get (map (λ e. e.0) es) i ≡ Some k → false ≡ true
 no_key_at [] i k none some = cc
 no_key_at (e ∷ es) zero k none some = cc
 no_key_at (e ∷ es) (suc i) k none some = no_key_at es i k none some
@@ -102,10 +102,10 @@ no_key_at (e ∷ es) (suc i) k none some = no_key_at es i k none some
 abbrev by_value : Lanes → Option LaneSeen → List Touch
 by_value l o = option_map_or (λ k. k.0) o l.run.items
 
-pub numbered_there : (l : Lanes) (i : ℕ) (k : Key) (v : LaneSeen) → slice_get l.map.entries i ≡ Some (k, v) → v.0 ≡ list_numbered l i
+pub numbered_there : (l : Lanes) (i : ℕ) (k : Object) (v : LaneSeen) → slice_get l.map.entries i ≡ Some (k, v) → v.0 ≡ list_numbered l i
 numbered_there l i k v h = sym (ap (by_value l) (value_at l.map.entries i k v h))
 
-none_there : {X : Type 0} (es : List (Key × X)) (i : ℕ) → slice_get es i ≡ None → slice_get (map (λ e. e.1) es) i ≡ None
+none_there : {X : Type 0} (es : List (Object × X)) (i : ℕ) → slice_get es i ≡ None → slice_get (map (λ e. e.1) es) i ≡ None
 none_there [] i h = refl
 none_there (e ∷ es) zero h = absurd (let f : Some e ≡ None = h in cc)
 none_there (e ∷ es) (suc i) h = none_there es i h
@@ -113,36 +113,24 @@ none_there (e ∷ es) (suc i) h = none_there es i h
 pub run_is_last : (l : Lanes) (i : ℕ) → slice_get l.map.entries i ≡ None → list_numbered l i ≡ l.run.items
 run_is_last l i h = ap (by_value l) (none_there l.map.entries i h)
 
--- no entry has a key that no number has
-pub nowhere : {X : Type 0} (es : List (Key × X)) (k : Key) → ((i : ℕ) → i < length es → slice_get (map (λ e. e.0) es) i ≡ Some k → ⊥) → lookup (same_key k) es ≡ None
-nowhere [] k h = refl
-nowhere (e ∷ es) k h =
-    elim (cases_Bool (same_key k e.0)) [
-      | inl t ↦ absurd (h 0 (omega arith) (ap Some (sym (same_key_is k e.0 t))))
-      | inr f ↦ rw f (nowhere es k (λ i w. h (suc i) (omega arith)))
-    ]
-  where
-    same_key_is : (a b : Key) → same_key a b ≡ true → a ≡ b
-    same_key_is a b t = key_is a (object_of b) t ∙ key_back b
-
 -- what is told of each object, by what is told of Run and by the table
 abbrev pub parts : {S X : Type 0} → (LaneSeen → X) → X → Table S → Object → X
-parts part run m q = if same objects.Run q then run else part (unwrap_or (get same_key m (key_of q)) nothing)
+parts part run m q = if same objects.Run q then run else part (unwrap_or (get same m q) nothing)
 
 -- where the table changes at one key alone, so does what is told
 module _ {S X : Type 0} (part : LaneSeen → X) (run : X) (old new : Table S) (f : X → X) (o : Object) (other : same objects.Run o ≡ false)
-    (v w : LaneSeen) (was : unwrap_or (get same_key old (key_of o)) nothing ≡ v) (is : part w ≡ f (part v))
-    (all : (q : Key) → get same_key new q ≡ cond (same_key (key_of o) q) (Some w) (get same_key old q)) where
+    (v w : LaneSeen) (was : unwrap_or (get same old o) nothing ≡ v) (is : part w ≡ f (part v))
+    (all : (q : Object) → get same new q ≡ cond (same o q) (Some w) (get same old q)) where
   here : parts part run new o ≡ f (parts part run old o)
   here =
       rw other
-      (ap (λ x. part (unwrap_or x nothing)) (all (key_of o) ∙ ap (λ b. cond b (Some w) (get same_key old (key_of o))) (same_keys o o ∙ same_self o))
+      (ap (λ x. part (unwrap_or x nothing)) (all o ∙ ap (λ b. cond b (Some w) (get same old o)) (same_self o))
       ∙ is ∙ ap (λ k. f (part k)) (sym was))
 
   elsewhere : (q : Object) → same o q ≡ false → parts part run new q ≡ parts part run old q
   elsewhere q e =
       ap (λ x. if same objects.Run q then run else part (unwrap_or x nothing))
-      (all (key_of q) ∙ ap (λ b. cond b (Some w) (get same_key old (key_of q))) (same_keys o q ∙ e))
+      (all q ∙ ap (λ b. cond b (Some w) (get same old q)) e)
 
   pub changed : (q : Object) → parts part run new q ≡ (if same o q then f (parts part run old q) else parts part run old q)
   changed q = by (same o q) refl
@@ -152,13 +140,13 @@ module _ {S X : Type 0} (part : LaneSeen → X) (run : X) (old new : Table S) (f
       by false e = elsewhere q e
 
 -- a write by number
-module _ {S X : Type 0} (part : LaneSeen → X) (run : X) (m : Table S) (unique : IsUnique same_key m) (o : Object) (other : same objects.Run o ≡ false)
-    (i : ℕ) (at : slice_get (keys m) i ≡ Some (key_of o)) (v w : LaneSeen) (value : Some v ≡ slice_get (values m) i) where
-  pub had : unwrap_or (get same_key m (key_of o)) nothing ≡ v
-  had = ap (λ x. unwrap_or x nothing) (sym (named m unique i (key_of o) at) ∙ sym value)
+module _ {S X : Type 0} (part : LaneSeen → X) (run : X) (m : Table S) (unique : IsUnique same m) (o : Object) (other : same objects.Run o ≡ false)
+    (i : ℕ) (at : slice_get (keys m) i ≡ Some o) (v w : LaneSeen) (value : Some v ≡ slice_get (values m) i) where
+  pub had : unwrap_or (get same m o) nothing ≡ v
+  had = ap (λ x. unwrap_or x nothing) (sym (named m unique i o at) ∙ sym value)
 
   pub wrote : (f : X → X) → part w ≡ f (part v) → (q : Object) → parts part run (with_value_at m i w) q ≡ (if same o q then f (parts part run m q) else parts part run m q)
-  wrote f is = changed part run m (with_value_at m i w) f o other v w had is (written m unique i (key_of o) at w)
+  wrote f is = changed part run m (with_value_at m i w) f o other v w had is (written m unique i o at w)
 
   pub wrote_nothing : part w ≡ part v → (q : Object) → parts part run (with_value_at m i w) q ≡ parts part run m q
   wrote_nothing is q = wrote (λ ts. ts) is q ∙ either (same o q)
@@ -166,10 +154,6 @@ module _ {S X : Type 0} (part : LaneSeen → X) (run : X) (m : Table S) (unique 
       either : (b : Bool) → (if b then parts part run m q else parts part run m q) ≡ parts part run m q
       either true = refl
       either false = refl
-
-pub if_found : (ks : List Key) (k l : Key) (r : Option ℕ) → k ≡ l → r ≡ position (same_key k) ks → IfSome r (λ i. slice_get ks i ≡ Some l)
-if_found ks k l None same is = tt
-if_found ks k l (Some i) same is = subst (λ x. slice_get ks i ≡ Some x) same (found_key ks k i (sym is))
 
 pub on_ok : {A E : Type 0} (r : Result A E) (P Q : Type 0) → (P → Q) → OnOk r P → OnOk r Q
 on_ok (Ok x) P Q f h = f h
@@ -188,22 +172,22 @@ seen_other (refs.Head c) h = refl
 seen_other (refs.Slot c i) h = refl
 
 -- the list of an object that is not Run, by the number of its lane
-pub list_by_number : (l : Lanes) (o : Object) → same objects.Run o ≡ false → (i : ℕ) → slice_get (keys l.map) i ≡ Some (key_of o) → list_numbered l i ≡ list_of l o
+pub list_by_number : (l : Lanes) (o : Object) → same objects.Run o ≡ false → (i : ℕ) → slice_get (keys l.map) i ≡ Some o → list_numbered l i ≡ list_of l o
 list_by_number l o other i at =
-    let own = entry_at l.map.entries i (key_of o) at in
-    let value : slice_get (values l.map) i ≡ Some own.0 = value_at l.map.entries i (key_of o) own.0 own.1 in
-    rw other (ap (by_value l) value ∙ ap (λ x. (unwrap_or x nothing).0) (sym value ∙ named l.map l.unique i (key_of o) at))
+    let own = entry_at l.map.entries i o at in
+    let value : slice_get (values l.map) i ≡ Some own.0 = value_at l.map.entries i o own.0 own.1 in
+    rw other (ap (by_value l) value ∙ ap (λ x. (unwrap_or x nothing).0) (sym value ∙ named l.map l.unique i o at))
 
-pub within_keys : (ks : List Key) (i : ℕ) (k : Key) → slice_get ks i ≡ Some k → i < length ks
+pub within_keys : (ks : List Object) (i : ℕ) (k : Object) → slice_get ks i ≡ Some k → i < length ks
 within_keys [] i k h = cc
 within_keys (x ∷ xs) zero k h = omega arith
 within_keys (x ∷ xs) (suc i) k h = let rest = within_keys xs i k h in omega (arith, rest)
 
-pub all_wanted : (ts : List Touch) → wanted true ts ≡ ts
+pub all_wanted : (ts : List Touch) → wanted which_are.All ts ≡ ts
 all_wanted [] = refl
 all_wanted (t ∷ ts) = ap (λ r. t ∷ r) (all_wanted ts)
 
-none_behind : {X : Type 0} (es : List (Key × X)) (n : ℕ) → n ≡ length es → slice_get es n ≡ None
+none_behind : {X : Type 0} (es : List (Object × X)) (n : ℕ) → n ≡ length es → slice_get es n ≡ None
 none_behind [] n is = refl
 none_behind (e ∷ es) zero is = absurd (omega (arith, is))
 none_behind (e ∷ es) (suc n) is = none_behind es n (omega (arith, is))
@@ -216,43 +200,43 @@ run_at l n is = (
 )
 
 -- Run has a number, and all its touches
-pub whole_run_numbered : (l : Lanes) (o : Object) (all : Bool) (n : ℕ) (ts : List Touch) → o ≡ objects.Run → n ≡ length l.map.entries → ts ≡ l.run.items → IsNumbered l o all n ts
-whole_run_numbered l o all n ts run last is = subst (λ q. IsNumbered l q all n ts) (sym run) record {
+pub whole_run_numbered : (l : Lanes) (o : Object) (which : Wanted) (n : ℕ) (ts : List Touch) → o ≡ objects.Run → n ≡ length l.map.entries → ts ≡ l.run.items → IsNumbered l o which n ts
+whole_run_numbered l o which n ts run last is = subst (λ q. IsNumbered l q which n ts) (sym run) record {
   below = (run_at l n last).0;
   list = (run_at l n last).1;
-  part = true;
+  part = which_are.All;
   is_part = is ∙ sym (all_wanted l.run.items);
-  touches = ap (wanted all) is;
+  touches = ap (wanted which) is;
 }
 
 -- a lane has a number, and all its touches
-pub other_numbered : (l : Lanes) (o : Object) (all : Bool) → same objects.Run o ≡ false → (i : ℕ) → slice_get (keys l.map) i ≡ Some (key_of o)
-    → (ts : List Touch) → ts ≡ list_numbered l i → IsNumbered l o all i ts
-other_numbered l o all other i at ts is = record {
-  below = let within = within_keys (keys l.map) i (key_of o) at in omega (arith, within);
+pub other_numbered : (l : Lanes) (o : Object) (which : Wanted) → same objects.Run o ≡ false → (i : ℕ) → slice_get (keys l.map) i ≡ Some o
+    → (ts : List Touch) → ts ≡ list_numbered l i → IsNumbered l o which i ts
+other_numbered l o which other i at ts is = record {
+  below = let within = within_keys (keys l.map) i o at in omega (arith, within);
   list = list_by_number l o other i at;
-  part = true;
+  part = which_are.All;
   is_part = is ∙ list_by_number l o other i at ∙ sym (all_wanted (list_of l o));
-  touches = ap (wanted all) (is ∙ list_by_number l o other i at);
+  touches = ap (wanted which) (is ∙ list_by_number l o other i at);
 }
 
 -- a lane's touches serve whichever are wanted
-abbrev pub if_numbered : Lanes → Object → Bool → Option (ℕ × Bor (List Touch)) → Type 0
-if_numbered l o all r = IfSome r (λ list. IsNumbered l o all list.0 list.1.now)
+abbrev pub if_numbered : Lanes → Object → Wanted → Option (ℕ × Bor (List Touch)) → Type 0
+if_numbered l o which r = IfSome r (λ list. IsNumbered l o which list.0 list.1.now)
 
-pub if_wanted : (l : Lanes) (o : Object) (all : Bool) (r : Option (ℕ × Bor (List Touch))) → IfSome r (λ list. (b : Bool) → IsNumbered l o b list.0 list.1.now)
-    → if_numbered l o all r
-if_wanted l o all (Some list) some = some all
-if_wanted l o all None some = tt
+pub if_wanted : (l : Lanes) (o : Object) (which : Wanted) (r : Option (ℕ × Bor (List Touch))) → IfSome r (λ list. (w : Wanted) → IsNumbered l o w list.0 list.1.now)
+    → if_numbered l o which r
+if_wanted l o which (Some list) some = some which
+if_wanted l o which None some = tt
 
 -- the touches that wrote Run are those that are wanted where writes are
-pub run_numbered : (l : Lanes) (o : Object) (n : ℕ) (ts : List Touch) → o ≡ objects.Run → n ≡ length l.map.entries → ts ≡ l.stops.items → IsNumbered l o false n ts
-run_numbered l o n ts run last is = subst (λ q. IsNumbered l q false n ts) (sym run) record {
+pub run_numbered : (l : Lanes) (o : Object) (n : ℕ) (ts : List Touch) → o ≡ objects.Run → n ≡ length l.map.entries → ts ≡ l.stops.items → IsNumbered l o which_are.Writes n ts
+run_numbered l o n ts run last is = subst (λ q. IsNumbered l q which_are.Writes n ts) (sym run) record {
   below = (run_at l n last).0;
   list = (run_at l n last).1;
-  part = false;
+  part = which_are.Writes;
   is_part = is ∙ l.writers;
-  touches = ap (wanted false) (is ∙ l.writers) ∙ once_more (λ t. t.writes) l.run.items;
+  touches = ap (wanted which_are.Writes) (is ∙ l.writers) ∙ once_more (λ t. t.writes) l.run.items;
 }
   where
     once_more : {A : Type 0} (p : A → Bool) (xs : List A) → filter p (filter p xs) ≡ filter p xs
@@ -261,9 +245,6 @@ run_numbered l o n ts run last is = subst (λ q. IsNumbered l q false n ts) (sym
       | inl w ↦ rw (w, w) (ap (λ r. x ∷ r) (once_more p xs))
       | inr n ↦ rw n (once_more p xs)
     ]
-
-pub if_absent : {X : Type 0} (es : List (Key × X)) (k l : Key) (r : Option ℕ) → k ≡ l → IfNone r (lookup (same_key k) es ≡ None) → IfNone r (lookup (same_key l) es ≡ None)
-if_absent es k l r same = subst (λ x. IfNone r (lookup (same_key x) es ≡ None)) same
 
 -- .. where Run has what it had
 pub with_run : (old new : Lanes) (f : List Touch → List Touch) (o : Object) → new.run ≡ old.run

@@ -1,4 +1,4 @@
-pub mod KeyLemmas
+pub mod SameLemmas
 pub mod LaneLemmas
 pub mod NoteLemmas
 pub mod ToldLemmas

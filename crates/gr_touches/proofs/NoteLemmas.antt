@@ -9,7 +9,7 @@ use Rattle.gr_touches.specs.declared.lanes.Lanes.{Lanes}
 use Rattle.gr_record.specs.declared.record.Record.{Record}
 use Rattle.gr_record.specs.Conflicts.{read_by, written_by}
 use Rattle.gr_touches.specs.Touches.{without_last, touches_for, kept_for}
-use Rattle.gr_touches.specs.Lists.{list_of, Adds, TakesBack, AddsFor, TakesFor}
+use Rattle.gr_touches.specs.Lists.{list_of, AddsFor, TakesFor}
 
 -- without its last, the list is as it was before it was added
 pub last_gone : {A : Type 0} (xs : List A) (x : A) → without_last (xs ++ x ∷ []) ≡ xs
@@ -25,61 +25,58 @@ first_more q t o os = by (same o q)
     by true = refl
     by false = refl
 
-pub last_more : (q : Object) (t : Touch) (os : List Object) (o : Object) → touches_for q t (os ++ o ∷ []) ≡ touches_for q t os ++ one_for q t o
-last_more q t [] o = first_more q t o [] ∙ append-nil (one_for q t o)
-last_more q t (p ∷ os) o =
-    first_more q t p (os ++ o ∷ []) ∙ ap (λ l. one_for q t p ++ l) (last_more q t os o)
-    ∙ sym (append_assoc (one_for q t p) (touches_for q t os) (one_for q t o)) ∙ ap (λ l. l ++ one_for q t o) (sym (first_more q t p os))
+pub touches_both : (q : Object) (t : Touch) (xs ys : List Object) → touches_for q t (xs ++ ys) ≡ touches_for q t xs ++ touches_for q t ys
+touches_both q t [] ys = refl
+touches_both q t (x ∷ xs) ys =
+    first_more q t x (xs ++ ys) ∙ ap (λ l. one_for q t x ++ l) (touches_both q t xs ys)
+    ∙ sym (append_assoc (one_for q t x) (touches_for q t xs) (touches_for q t ys)) ∙ ap (λ l. l ++ touches_for q t ys) (sym (first_more q t x xs))
 
-module _ (o : Object) (a b : Lanes) where
-  pub one_added : (t : Touch) → Adds o t a b → (q : Object) → list_of b q ≡ list_of a q ++ one_for q t o
+module _ (o : Object) (old new : Object → List Touch) where
+  -- a touch that is added to one list
+  pub one_added : (t : Touch) → ((q : Object) → new q ≡ (if same o q then old q ++ t ∷ [] else old q)) → (q : Object) → new q ≡ old q ++ touches_for q t (o ∷ [])
   one_added t adds q = adds q ∙ by (same o q)
     where
-      by : (k : Bool) → (if k then list_of a q ++ t ∷ [] else list_of a q) ≡ list_of a q ++ (if k then t ∷ [] else [])
+      by : (k : Bool) → (if k then old q ++ t ∷ [] else old q) ≡ old q ++ (if k then t ∷ [] else [])
       by true = refl
-      by false = sym (append-nil (list_of a q))
+      by false = sym (append-nil (old q))
 
   -- what was added last is taken away
-  pub one_taken : TakesBack o a b → (t : Touch) (before : Object → List Touch) → ((q : Object) → list_of a q ≡ before q ++ one_for q t o)
-      → (q : Object) → list_of b q ≡ before q
-  one_taken takes t before is q = takes q ∙ ap (λ l. if same o q then without_last l else l) (is q) ∙ by (same o q)
+  pub one_taken : ((q : Object) → new q ≡ (if same o q then without_last (old q) else old q)) → (before : Object → List Touch) (t : Touch)
+      → ((q : Object) → old q ≡ before q ++ touches_for q t (o ∷ [])) → (q : Object) → new q ≡ before q
+  one_taken takes before t is q = takes q ∙ ap (λ l. if same o q then without_last l else l) (is q) ∙ by (same o q)
     where
       by : (k : Bool) → (if k then without_last (before q ++ (if k then t ∷ [] else [])) else before q ++ (if k then t ∷ [] else [])) ≡ before q
       by true = last_gone (before q) t
       by false = append-nil (before q)
 
-module _ (a b c : Lanes) (t : Touch) where
-  pub added_next : (os : List Object) (o : Object) → AddsFor os t a b → Adds o t b c → AddsFor (os ++ o ∷ []) t a c
-  added_next os o done adds q =
-      one_added o b c t adds q ∙ ap (λ l. l ++ one_for q t o) (done q)
-      ∙ append_assoc (list_of a q) (touches_for q t os) (one_for q t o) ∙ ap (λ l. list_of a q ++ l) (sym (last_more q t os o))
+module _ (a b c : Lanes) (xs ys : List Object) where
+  pub added_both : (t : Touch) → AddsFor xs t a b → AddsFor ys t b c → AddsFor (xs ++ ys) t a c
+  added_both t first second q =
+      second q ∙ ap (λ l. l ++ touches_for q t ys) (first q) ∙ append_assoc (list_of a q) (touches_for q t xs) (touches_for q t ys)
+      ∙ ap (λ l. list_of a q ++ l) (sym (touches_both q t xs ys))
 
-  pub added_after : (o : Object) (os : List Object) → Adds o t a b → AddsFor os t b c → AddsFor (o ∷ os) t a c
-  added_after o os adds rest q =
-      rest q ∙ ap (λ l. l ++ touches_for q t os) (one_added o a b t adds q)
-      ∙ append_assoc (list_of a q) (one_for q t o) (touches_for q t os) ∙ ap (λ l. list_of a q ++ l) (sym (first_more q t o os))
+  -- what was added for these objects is taken away, the last of them first
+  pub taken_both : TakesFor ys a b → TakesFor xs b c → TakesFor (xs ++ ys) a c
+  taken_both second first before t had =
+      first before t
+      (second (λ q. before q ++ touches_for q t xs) t
+      (λ q. had q ∙ ap (λ l. before q ++ l) (touches_both q t xs ys) ∙ sym (append_assoc (before q) (touches_for q t xs) (touches_for q t ys))))
 
--- one more of the objects
-pub added_more : (a b c : Lanes) (t : Touch) (os : List Object) (i : ℕ) (o : Object) → i < length os → o ≡ get_or os i o
-    → AddsFor (take i os) t a b → Adds o t b c → AddsFor (take (i + 1) os) t a c
-added_more a b c t os i o below is done adds =
-    subst (λ l. AddsFor l t a c) (ap (λ x. take i os ++ x ∷ []) is ∙ sym (take_more os i o below)) (added_next a b c t (take i os) o done adds)
+module _ (os : List Object) (i : ℕ) (o : Object) (below : i < length os) (is : o ≡ get_or os i o) where
+  one_more : take i os ++ o ∷ [] ≡ take (i + 1) os
+  one_more = ap (λ x. take i os ++ x ∷ []) is ∙ sym (take_more os i o below)
 
--- the last of those that are left is taken
-pub taken_more : (a b : Lanes) (t : Touch) (os : List Object) (i : ℕ) (o : Object) → i < length os → o ≡ get_or os i o → (before : Object → List Touch)
-    → ((q : Object) → list_of a q ≡ before q ++ touches_for q t (take (i + 1) os)) → TakesBack o a b
-    → (q : Object) → list_of b q ≡ before q ++ touches_for q t (take i os)
-taken_more a b t os i o below is before had takes =
-    one_taken o a b takes t (λ q. before q ++ touches_for q t (take i os))
-    (λ q. had q ∙ ap (λ l. before q ++ touches_for q t l) (take_more os i o below ∙ ap (λ x. take i os ++ x ∷ []) (sym is))
-    ∙ ap (λ l. before q ++ l) (last_more q t (take i os) o) ∙ sym (append_assoc (before q) (touches_for q t (take i os)) (one_for q t o)))
+  -- one more of the objects
+  pub added_more : (a b c : Lanes) (t : Touch) → AddsFor (take i os) t a b → AddsFor (o ∷ []) t b c → AddsFor (take (i + 1) os) t a c
+  added_more a b c t done adds = subst (λ (l : List Object). AddsFor l t a c) one_more (added_both a b c (take i os) (o ∷ []) t done adds)
 
--- what was added for objects is taken away, and then what was added for the one before them
-pub taken_after : (a b c : Lanes) (o : Object) (os : List Object) → TakesFor os a b → TakesBack o b c → TakesFor (o ∷ os) a c
-taken_after a b c o os rest takes before t had =
-    one_taken o b c takes t before
-    (rest (λ q. before q ++ one_for q t o) t
-    (λ q. had q ∙ ap (λ l. before q ++ l) (first_more q t o os) ∙ sym (append_assoc (before q) (one_for q t o) (touches_for q t os))))
+  -- the last of those that are left is taken
+  pub taken_more : (a b : Lanes) (t : Touch) (before : Object → List Touch) → ((q : Object) → list_of a q ≡ before q ++ touches_for q t (take (i + 1) os))
+      → TakesFor (o ∷ []) a b → (q : Object) → list_of b q ≡ before q ++ touches_for q t (take i os)
+  taken_more a b t before had takes =
+      takes (λ q. before q ++ touches_for q t (take i os)) t
+      (λ q. had q ∙ ap (λ l. before q ++ touches_for q t l) (sym one_more) ∙ ap (λ l. before q ++ l) (touches_both q t (take i os) (o ∷ []))
+      ∙ sym (append_assoc (before q) (touches_for q t (take i os)) (touches_for q t (o ∷ []))))
 
 pub taken_none : (before : Object → List Touch) (t : Touch) (os : List Object) (n : ℕ) → n ≡ 0 → (q : Object) → before q ++ touches_for q t (take n os) ≡ before q
 taken_none before t os n none q = ap (λ i. before q ++ touches_for q t (take i os)) none ∙ append-nil (before q)

@@ -1,23 +1,24 @@
 -- Room is kept by what changes the lists, and it is there for what was said to fit.
-use Rattle.std.proofs.Common.{◌≡◌, ◌<◌, ◌≤◌, ◌+◌, ◌-◌, ℕ, suc, Bool, true, false, if◌then◌else◌, List, [], ◌∷◌, ◌++◌, length, filter, slice_get, Some, None, get_or, take, drop, vec_capacity, refl, sym, ap, subst, ◌∙◌, append_assoc, arith, inl, inr}
+use Rattle.std.proofs.Common.{◌≡◌, ◌<◌, ◌≤◌, ◌+◌, ◌-◌, ℕ, suc, Bool, true, false, if◌then◌else◌, List, [], ◌∷◌, ◌++◌, length, filter, slice_get, Result, Ok, Err, Some, None, cond, get_or, take, drop, vec_capacity, refl, sym, ap, subst, ◌∙◌, append_assoc, arith, inl, inr}
 use Rattle.std.proofs.lemmas.Bool.{cases_Bool}
 use Rattle.std.proofs.lemmas.List.{take_more, length-append, take-append-drop}
+use Rattle.std.specs.Prelude.{OnOk, OnErr}
+use Rattle.std.specs.Map.{lookup}
 use Rattle.std.specs.Option.{unwrap_or}
 use Rattle.indexmap.specs.IndexMap.{get, keys, values, with_value_at, IsUnique}
 use Rattle.gr_base.specs.declared.objects.Object.{Object}
 use Rattle.gr_base.specs.declared.objects.Object.TheVariants as objects
 use Rattle.gr_rules.specs.States.{same}
-use Rattle.gr_laws.proofs.CellLemmas.{same_self}
+use Rattle.gr_laws.proofs.CellLemmas.{same_is, same_self}
 use Rattle.gr_record.specs.declared.record.Record.{Record}
 use Rattle.gr_record.specs.Conflicts.{read_by, written_by, touched_by}
 use Rattle.gr_touches.specs.declared.touch.Touch.{Touch}
 use Rattle.gr_touches.specs.declared.lanes.Lanes.{Lanes}
-use Rattle.gr_touches.specs.Keys.{key_of, same_key}
 use Rattle.gr_touches.specs.Touches.{touch_at, touches_in, none_twice, touches_for, kept_for}
-use Rattle.gr_touches.specs.Lists.{LaneSeen, nothing, list_of, Adds, AddsFor}
+use Rattle.gr_touches.specs.Lists.{LaneSeen, nothing, list_of, AddsFor, TakesFor}
 use Rattle.gr_touches.specs.Room.{size_of, capacity_of, Fits, FitsFor, KeepsRoom}
 use Rattle.gr_touches.proofs.LaneLemmas.{Table, parts, had, wrote}
-use Rattle.gr_touches.proofs.NoteLemmas.{one_for, first_more, one_added}
+use Rattle.gr_touches.proofs.NoteLemmas.{touches_both}
 use Rattle.gr_touches.proofs.TouchLemmas.{with_step}
 
 pub keeps_room : (old new : Lanes) → ((q : Object) → capacity_of old q ≤ capacity_of new q) → vec_capacity old.stops ≤ vec_capacity new.stops → KeepsRoom old new
@@ -27,8 +28,8 @@ keeps_room old new each stops lists fits = record {
 }
 
 -- a lane that is written by number grows, and no other changes
-pub grown : {S : Type 0} (run : ℕ) (m : Table S) (unique : IsUnique same_key m) (o : Object) (other : same objects.Run o ≡ false) (i : ℕ)
-    (at : slice_get (keys m) i ≡ Some (key_of o)) (v w : LaneSeen) (value : Some v ≡ slice_get (values m) i)
+pub grown : {S : Type 0} (run : ℕ) (m : Table S) (unique : IsUnique same m) (o : Object) (other : same objects.Run o ≡ false) (i : ℕ)
+    (at : slice_get (keys m) i ≡ Some o) (v w : LaneSeen) (value : Some v ≡ slice_get (values m) i)
     → size_of v ≤ size_of w → (q : Object) → parts size_of run m q ≤ parts size_of run (with_value_at m i w) q
 grown run m unique o other i at v w value more q =
     let added : size_of w ≡ size_of v + (size_of w - size_of v) = omega (arith, more) in
@@ -41,7 +42,7 @@ grown run m unique o other i at v w value more q =
     by false n d = omega arith
 
 -- a lane has room for a touch that fits
-pub has_room : (l : Lanes) (o : Object) (other : same objects.Run o ≡ false) (i : ℕ) (at : slice_get (keys l.map) i ≡ Some (key_of o)) (v : LaneSeen)
+pub has_room : (l : Lanes) (o : Object) (other : same objects.Run o ≡ false) (i : ℕ) (at : slice_get (keys l.map) i ≡ Some o) (v : LaneSeen)
     (value : Some v ≡ slice_get (values l.map) i) (t : Touch) → FitsFor (o ∷ []) t l → 0 < v.1
 has_room l o other i at v value t fits =
     let is = had size_of 0 l.map l.unique o other i at v v value in
@@ -53,7 +54,7 @@ has_room l o other i at v value t fits =
     omega (arith, all, length-append v.0 (t ∷ []))
 
 -- an object without a lane has no room
-pub no_room : (l : Lanes) (o : Object) → same objects.Run o ≡ false → get same_key l.map (key_of o) ≡ None → (t : Touch) → FitsFor (o ∷ []) t l → ⊥
+pub no_room : (l : Lanes) (o : Object) → same objects.Run o ≡ false → get same l.map o ≡ None → (t : Touch) → FitsFor (o ∷ []) t l → ⊥
 no_room l o other absent t fits =
     let list : list_of l o ≡ [] = rw other (ap (λ x. (unwrap_or x nothing).0) absent) in
     let size : capacity_of l o ≡ 0 = rw other (ap (λ x. size_of (unwrap_or x nothing)) absent) in
@@ -61,6 +62,46 @@ no_room l o other absent t fits =
     let all : length (t ∷ []) ≤ 0 =
     subst (λ n. length (t ∷ []) ≤ n) size (subst (λ (ts : List Touch). length ts ≤ capacity_of l o) (λ j. list j ++ one j) (fits.each o)) in
     omega (arith, all)
+
+-- .. and no touch that could be taken
+pub none_taken : (l : Lanes) (o : Object) → same objects.Run o ≡ false → get same l.map o ≡ None → TakesFor (o ∷ []) l l
+none_taken l o other absent before t had q =
+    let list : list_of l o ≡ [] = rw other (ap (λ x. (unwrap_or x nothing).0) absent) in
+    let one : touches_for o t (o ∷ []) ≡ t ∷ [] = rw (same_self o) refl in
+    let all : [] ≡ before o ++ t ∷ [] = sym list ∙ had o ∙ ap (λ l. before o ++ l) one in
+    let count : 0 ≡ length (before o ++ t ∷ []) = ap length all in
+    absurd (omega (arith, count, length-append (before o) (t ∷ [])))
+
+-- a lane for an object that had none leaves the room of all others
+module _ (a b : Lanes) (k : Object) (w : LaneSeen) (absent : get same a.map k ≡ None) (run : b.run ≡ a.run) (stops : b.stops ≡ a.stops) where
+  abbrev size_at : Lanes → Object → ℕ
+  size_at l q = size_of (unwrap_or (get same l.map q) nothing)
+
+  none_less : ((q : Object) → size_at a q ≤ size_at b q) → KeepsRoom a b
+  none_less more = keeps_room a b each (let e = ap vec_capacity stops in omega (arith, e))
+    where
+      each : (q : Object) → capacity_of a q ≤ capacity_of b q
+      each q = elim (cases_Bool (same objects.Run q)) [
+        | inl t ↦ rw t (let e = ap vec_capacity run in omega (arith, e))
+        | inr f ↦ rw f (more q)
+      ]
+
+  pub room_after_insert : {A E : Type 0} (r : Result A E) → OnOk r ((q : Object) → get same b.map q ≡ cond (same k q) (Some w) (get same a.map q))
+      → OnErr r (b.map.entries ≡ a.map.entries) → KeepsRoom a b
+  room_after_insert (Ok x) all same_entries = none_less more
+    where
+      more : (q : Object) → size_at a q ≤ size_at b q
+      more q = elim (cases_Bool (same k q)) [
+        | inl t ↦
+            let none : size_at a q ≡ 0 = ap (λ o. size_of (unwrap_or o nothing)) (sym (ap (get same a.map) (same_is k q t)) ∙ absent) in
+            omega (arith, none)
+        | inr f ↦
+            let e : size_at b q ≡ size_at a q = ap (λ o. size_of (unwrap_or o nothing)) (all q ∙ ap (λ c. cond c (Some w) (get same a.map q)) f) in
+            omega (arith, e)
+      ]
+  room_after_insert (Err e) all same_entries = none_less (λ q.
+      let e : size_at b q ≡ size_at a q = ap (λ es. size_of (unwrap_or (lookup (same q) es) nothing)) same_entries in
+      omega (arith, e))
 
 pub run_has_room : (l : Lanes) (t : Touch) → FitsFor (objects.Run ∷ []) t l → length l.run.items + 1 ≤ vec_capacity l.run
 run_has_room l t fits =
@@ -87,12 +128,6 @@ fits_less l less more cut fits = record {
       (filter_both (λ t. t.writes) (less objects.Run) run.0 ∙ ap (filter (λ t. t.writes)) run.1) fits.stops;
 }
 
-pub touches_both : (q : Object) (t : Touch) (xs ys : List Object) → touches_for q t (xs ++ ys) ≡ touches_for q t xs ++ touches_for q t ys
-touches_both q t [] ys = refl
-touches_both q t (x ∷ xs) ys =
-    first_more q t x (xs ++ ys) ∙ ap (λ l. one_for q t x ++ l) (touches_both q t xs ys)
-    ∙ sym (append_assoc (one_for q t x) (touches_for q t xs) (touches_for q t ys)) ∙ ap (λ l. l ++ touches_for q t ys) (sym (first_more q t x xs))
-
 -- while touches are added for objects, the next one fits
 pub fits_next : (a b : Lanes) (t : Touch) (os : List Object) (i : ℕ) (o : Object) → i < length os → o ≡ get_or os i o
     → AddsFor (take i os) t a b → KeepsRoom a b → FitsFor os t a → FitsFor (o ∷ []) t b
@@ -109,15 +144,6 @@ fits_next a b t os i o below is done room fits =
         ∙ ap (λ l. l ++ touches_for q t (drop (i + 1) os)) (append_assoc (list_of a q) _ _ ∙ ap (λ l. list_of a q ++ l) (next q))
         ∙ append_assoc (list_of a q) _ _
         ∙ ap (λ l. list_of a q ++ l) (sym (touches_both q t (take (i + 1) os) (drop (i + 1) os)) ∙ ap (touches_for q t) (take-append-drop (i + 1) os))
-
--- with the first added, the others fit
-pub fits_rest : (a b : Lanes) (t : Touch) (o : Object) (os : List Object) → Adds o t a b → KeepsRoom a b → FitsFor (o ∷ os) t a → FitsFor os t b
-fits_rest a b t o os adds room fits = room (λ q. list_of b q ++ touches_for q t os) (subst (Fits a) (λ i q. all q i) fits)
-  where
-    all : (q : Object) → list_of a q ++ touches_for q t (o ∷ os) ≡ list_of b q ++ touches_for q t os
-    all q =
-        ap (λ l. list_of a q ++ l) (first_more q t o os) ∙ sym (append_assoc (list_of a q) _ _)
-        ∙ ap (λ l. l ++ touches_for q t os) (sym (one_added o a b t adds q))
 
 -- with what a step read added, what it wrote fits
 pub fits_written : (a b : Lanes) (place : ℕ) (r : Record) (reads writes : List Object) → read_by r ≡ reads → written_by r ≡ writes

@@ -9,7 +9,6 @@ use Rattle.gr_rules.specs.States.{same}
 use Rattle.gr_laws.proofs.CellLemmas.{same_is}
 use Rattle.gr_touches.specs.declared.touch.Touch.{Touch}
 use Rattle.gr_touches.specs.declared.lanes.Lanes.{Lanes}
-use Rattle.gr_touches.specs.Keys.{key_of, same_key}
 use Rattle.gr_touches.specs.Lists.{nothing, list_of}
 use Rattle.gr_touches.specs.Touches.{stretch, own_touches}
 use Rattle.gr_touches.proofs.LaneLemmas.{parts}
@@ -61,7 +60,7 @@ own_added go place count before b run wrote read q = elim (cases_Bool (same Run 
 
     by_name : same Run q ≡ false → parts (λ k. k.0) run b.map q ≡ before q ++ own_touches go place count q
     by_name f =
-        ap (λ (c : Bool). if c then run else (unwrap_or (get same_key b.map (key_of q)) nothing).0) f
-        ∙ ap (λ (c : Bool). if c then b.run.items else (unwrap_or (get same_key b.map (key_of q)) nothing).0) (sym f)
+        ap (λ (c : Bool). if c then run else (unwrap_or (get same b.map q) nothing).0) f
+        ∙ ap (λ (c : Bool). if c then b.run.items else (unwrap_or (get same b.map q) nothing).0) (sym f)
         ∙ wrote q ∙ by (same (Go go) q) (before q)
         ∙ ap (λ (c : Bool). before q ++ (if c then stretch false place count else if same (Go go) q then stretch true place count else [])) (sym f)

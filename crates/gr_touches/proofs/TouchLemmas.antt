@@ -11,7 +11,7 @@ use Rattle.gr_record.specs.declared.record.Record.{Record}
 use Rattle.gr_record.specs.Conflicts.{written_by, read_by, touched_by}
 use Rattle.gr_touches.specs.declared.touch.Touch.{Touch}
 use Rattle.gr_touches.specs.Touches.{is_among, touch_at, touches_in, none_twice, touches_for, kept_for}
-use Rattle.gr_touches.proofs.KeyLemmas.{same_sym}
+use Rattle.gr_touches.proofs.SameLemmas.{same_sym}
 
 -- the touches of a log with a step at its end
 pub touches_last : (o : Object) (place : ℕ) (rs : List Record) (r : Record) → touches_in o place (rs ++ r ∷ []) ≡ touches_in o place rs ++ touch_at o (place + length rs) r

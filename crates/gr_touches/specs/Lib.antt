@@ -1,5 +1,6 @@
 -- The touches of each object, and the marks that are set by them.
-pub mod Keys
+pub mod ObjectRefs
+pub mod Hashes
 pub mod Touches
 pub mod Told
 pub mod Marks

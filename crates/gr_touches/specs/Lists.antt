@@ -1,5 +1,5 @@
 -- The lists of touches that are kept for the objects.
-use Rattle.std.specs.Prelude.{◌≡◌, ◌<◌, ◌+◌, length, ◌++◌, ℕ, Bool, if◌then◌else◌, List, [], ◌∷◌, slice_get}
+use Rattle.std.specs.Prelude.{◌≡◌, ◌<◌, ◌+◌, length, ◌++◌, ℕ, if◌then◌else◌, List, [], slice_get}
 use Rattle.std.specs.Option.{option_map_or, unwrap_or}
 use Rattle.indexmap.specs.IndexMap.{get, values, keys}
 use Rattle.gr_base.specs.declared.objects.Object.{Object}
@@ -7,9 +7,9 @@ use Rattle.gr_base.specs.declared.objects.Object.TheVariants as objects
 use Rattle.gr_rules.specs.States.{same}
 use Rattle.gr_touches.specs.declared.touch.Touch.{Touch}
 use Rattle.gr_touches.specs.declared.lanes.Lanes.{Lanes}
-use Rattle.gr_touches.specs.Keys.{key_of, same_key}
+use Rattle.gr_touches.specs.declared.marks.Wanted.{Wanted}
 use Rattle.gr_touches.specs.Marks.{wanted}
-use Rattle.gr_touches.specs.Touches.{without_last, touches_for}
+use Rattle.gr_touches.specs.Touches.{touches_for}
 
 -- what a lane has: its touches, and for how many more there is room
 abbrev pub LaneSeen : Type 0
@@ -21,7 +21,7 @@ nothing = ([], 0)
 
 -- the list of an object
 abbrev pub list_of : Lanes → Object → List Touch
-list_of l o = if same objects.Run o then l.run.items else (unwrap_or (get same_key l.map (key_of o)) nothing).0
+list_of l o = if same objects.Run o then l.run.items else (unwrap_or (get same l.map o) nothing).0
 
 -- the list with a number: those of the other objects, and behind them that of Run
 abbrev pub list_numbered : Lanes → ℕ → List Touch
@@ -31,21 +31,13 @@ list_numbered l i = option_map_or (λ k. k.0) (slice_get (values l.map) i) l.run
 abbrev pub KeepsLists : Lanes → Lanes → Type 0
 KeepsLists old new = (q : Object) → list_of new q ≡ list_of old q
 
--- the touch is added to the list of this object, and all others are as they were
-abbrev pub Adds : Object → Touch → Lanes → Lanes → Type 0
-Adds o t old new = (q : Object) → list_of new q ≡ (if same o q then list_of old q ++ t ∷ [] else list_of old q)
-
--- the last touch is taken from the list of this object, and all others are as they were
-abbrev pub TakesBack : Object → Lanes → Lanes → Type 0
-TakesBack o old new = (q : Object) → list_of new q ≡ (if same o q then without_last (list_of old q) else list_of old q)
-
 -- the number is that of the list of the object, and these touches are a part of the list that has those that are wanted
-pub record IsNumbered (l : Lanes) (o : Object) (all : Bool) (number : ℕ) (ts : List Touch) : Type 0 where
+pub record IsNumbered (l : Lanes) (o : Object) (which : Wanted) (number : ℕ) (ts : List Touch) : Type 0 where
   pub below : number < length (keys l.map) + 1
   pub list : list_numbered l number ≡ list_of l o
-  pub part : Bool
+  pub part : Wanted
   pub is_part : ts ≡ wanted part (list_of l o)
-  pub touches : wanted all ts ≡ wanted all (list_of l o)
+  pub touches : wanted which ts ≡ wanted which (list_of l o)
 
 -- the touch is added for each of these objects
 abbrev pub AddsFor : List Object → Touch → Lanes → Lanes → Type 0

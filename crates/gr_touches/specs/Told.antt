@@ -4,15 +4,15 @@ use Rattle.std.specs.Option.{option_map_or}
 use Rattle.gr_base.specs.declared.objects.Object.{Object}
 use Rattle.gr_base.specs.declared.objects.Object.TheVariants.{Gate, Tail, Head, Slot}
 use Rattle.gr_record.specs.Parts.{partner_before}
-use Rattle.gr_touches.specs.declared.objects.Objects.{Objects}
-use Rattle.gr_touches.specs.Keys.{seen}
+use Rattle.gr_touches.specs.declared.objects.TouchedObjects.{TouchedObjects}
+use Rattle.gr_touches.specs.ObjectRefs.{seen}
 
 -- an object of that name, if there is one, and then these
 abbrev pub named : {N : Type 0} → (N → Object) → Option N → List Object → List Object
 named object o os = option_map_or (λ n. object n ∷ os) o os
 
 -- the objects, in their order
-abbrev pub seen_in : Objects → List Object
+abbrev pub seen_in : TouchedObjects → List Object
 seen_in o = named seen o.front (named Gate (option_copied o.gate) (named Head (option_copied o.head) (named Tail (option_copied o.tail)
     (named (λ s. Slot s.0.now s.1) o.slot (partner_before (option_copied o.partner) o.others.now)))))
 
@@ -20,5 +20,5 @@ seen_in o = named seen o.front (named Gate (option_copied o.gate) (named Head (o
 abbrev pub one_of : {N : Type 0} → Option N → ℕ
 one_of o = option_map_or (λ n. 1) o 0
 
-abbrev pub count_in : Objects → ℕ
+abbrev pub count_in : TouchedObjects → ℕ
 count_in o = one_of o.front + one_of o.gate + one_of o.head + one_of o.tail + one_of o.slot + one_of o.partner

@@ -1,11 +1,13 @@
 -- Lists that are walked for marks.
-use Rattle.std.specs.Prelude.{◌≡◌, ◌<◌, ◌≤◌, ◌+◌, ◌||◌, ℕ, Bool, true, false, List, length}
+use Rattle.std.specs.Prelude.{◌≡◌, ◌<◌, ◌≤◌, ◌+◌, ◌||◌, ℕ, Bool, true, List, length}
 use Rattle.std.specs.List.{list_any}
 use Rattle.gr_base.specs.declared.objects.Object.{Object}
 use Rattle.gr_record.specs.declared.record.Record.{Record}
 use Rattle.gr_record.specs.Conflicts.{read_by, written_by}
 use Rattle.gr_touches.specs.declared.lanes.Lanes.{Lanes}
 use Rattle.gr_touches.specs.declared.marks.Origin.{Origin}
+use Rattle.gr_touches.specs.declared.marks.Wanted.{Wanted}
+use Rattle.gr_touches.specs.declared.marks.Wanted.TheVariants as which_are
 use Rattle.gr_touches.specs.Lists.{list_of, list_numbered}
 use Rattle.gr_touches.specs.Marks.{hits, is_beyond, IsAscending, InReach, has_mark}
 
@@ -15,17 +17,17 @@ pub record AreInReach (l : Lanes) (origin : Origin) (count : ℕ) : Type 0 where
   pub reach : (o : Object) → InReach origin count (list_of l o)
 
 -- of the lists that were walked, all that is wanted on the side of the origin is marked
-abbrev pub AreWalked : Lanes → Origin → Bool → List Bool → List Bool → Type 0
-AreWalked l origin all walked marks = (n : ℕ) → has_mark walked n ≡ true → (j : ℕ) → j < length marks → is_beyond origin (origin.base + j) ≡ true
-    → hits all (list_numbered l n) (origin.base + j) ≡ true → has_mark marks j ≡ true
+abbrev pub AreWalked : Lanes → Origin → Wanted → List Bool → List Bool → Type 0
+AreWalked l origin which walked marks = (n : ℕ) → has_mark walked n ≡ true → (j : ℕ) → j < length marks → is_beyond origin (origin.base + j) ≡ true
+    → hits which (list_numbered l n) (origin.base + j) ≡ true → has_mark marks j ≡ true
 
 -- whether a wanted touch of one of these objects is at the place
-abbrev pub hits_any : Lanes → Bool → List Object → ℕ → Bool
-hits_any l all os p = list_any (λ o. hits all (list_of l o) p) os
+abbrev pub hits_any : Lanes → Wanted → List Object → ℕ → Bool
+hits_any l which os p = list_any (λ o. hits which (list_of l o) p) os
 
 -- whether the step at the place wrote what this one read, or touched what it wrote
 abbrev pub meets_step : Lanes → Record → ℕ → Bool
-meets_step l r p = hits_any l false (read_by r) p || hits_any l true (written_by r) p
+meets_step l r p = hits_any l which_are.Writes (read_by r) p || hits_any l which_are.All (written_by r) p
 
 -- there is a mark for each place of a log of this length that is on the side of the origin
 abbrev pub HasMarks : Origin → ℕ → ℕ → Type 0

@@ -4,9 +4,9 @@ ghost use Rattle.std.specs.Prelude.{◌≡◌, ◌++◌, List, ℕ, None};
 ghost use Rattle.gr_touches.specs.Told.{seen_in};
 ghost use Rattle.gr_touches.specs.Touches.{kept_for};
 
-use crate::key::ObjectRef;
 use crate::lanes::Lanes;
-use crate::objects::{Objects, reads, writes};
+use crate::object_ref::ObjectRef;
+use crate::objects::{TouchedObjects, reads, writes};
 use gr_base::Object;
 use gr_record::Record;
 use gr_record::record::Form;
@@ -20,7 +20,9 @@ impl Lanes {
     /// Takes the touches of the last step from the lists. It takes no memory.
     #[inline]
     pub fn forget(&mut self, step: &Record)
-        ensures lists { (before : Object → List Touch) (place : ℕ) → ((q : Object) → list_of self.old q ≡ before q ++ kept_for q place step.now) → (q : Object) → list_of self.new q ≡ before q }
+        ensures lists { (before : Object → List Touch) (place : ℕ)
+            → ((q : Object) → list_of self.old q ≡ before q ++ kept_for q place step.now) → (q : Object)
+            → list_of self.new q ≡ before q }
         ensures room { KeepsRoom self.old self.new }
     {
         match step.change.form() {
@@ -29,20 +31,24 @@ impl Lanes {
         }
     }
 
-    /// The same of a step that reached no further than its goroutine.
+    /// Takes the touches of the last step from the lists: of a step that reached no further than its goroutine.
     #[inline]
     fn forget_alone(&mut self, step: &Record)
         requires { step.now.change.beyond ≡ None }
-        ensures lists { (before : Object → List Touch) (place : ℕ) → ((q : Object) → list_of self.old q ≡ before q ++ kept_for q place step.now) → (q : Object) → list_of self.new q ≡ before q }
+        ensures lists { (before : Object → List Touch) (place : ℕ)
+            → ((q : Object) → list_of self.old q ≡ before q ++ kept_for q place step.now) → (q : Object)
+            → list_of self.new q ≡ before q }
         ensures room { KeepsRoom self.old self.new }
     {
         self.take_from_lane(&step.id.go);
         self.take_from_run();
     }
 
-    /// The same of a step that reached further.
+    /// Takes the touches of the last step from the lists: of a step that reached further.
     fn forget_beyond(&mut self, step: &Record)
-        ensures lists { (before : Object → List Touch) (place : ℕ) → ((q : Object) → list_of self.old q ≡ before q ++ kept_for q place step.now) → (q : Object) → list_of self.new q ≡ before q }
+        ensures lists { (before : Object → List Touch) (place : ℕ)
+            → ((q : Object) → list_of self.old q ≡ before q ++ kept_for q place step.now) → (q : Object)
+            → list_of self.new q ≡ before q }
         ensures room { KeepsRoom self.old self.new }
     {
         self.forget_list(&mut writes(step));
@@ -50,7 +56,7 @@ impl Lanes {
     }
 
     /// Takes the last touch from the list of each of these objects. It takes no memory.
-    pub(crate) fn forget_list(&mut self, objects: &mut Objects<'_>)
+    pub(crate) fn forget_list(&mut self, objects: &mut TouchedObjects<'_>)
         ensures lists { TakesFor (seen_in objects.old) self.old self.new }
         ensures room { KeepsRoom self.old self.new }
     {
@@ -58,10 +64,10 @@ impl Lanes {
             return self.forget_all(objects.others);
         };
         self.forget_list(objects);
-        self.take_back(&first);
+        self.retract(&first);
     }
 
-    /// The same for a slice.
+    /// Takes the last touch from the list of each object of a slice. It takes no memory.
     pub(crate) fn forget_all(&mut self, objects: &[Object])
         ensures lists { TakesFor objects.now self.old self.new }
         ensures room { KeepsRoom self.old self.new }
@@ -69,7 +75,7 @@ impl Lanes {
         let mut left = objects.len();
         while left > 0 {
             left -= 1;
-            self.take_back(&ObjectRef::of(&objects[left]));
+            self.retract(&ObjectRef::of(&objects[left]));
         }
     }
 }

@@ -2,7 +2,7 @@
 
 ghost use Rattle.std.specs.Prelude.{◌<◌};
 
-use crate::key::ObjectRef;
+use crate::object_ref::ObjectRef;
 use gr_base::GoName;
 use std::array;
 use std::cell::Cell;

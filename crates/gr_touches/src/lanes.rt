@@ -1,17 +1,19 @@
 //! The touches of each object.
 
-ghost use Rattle.std.specs.Prelude.{◌≡◌, ◌≤◌, ◌+◌, ◌^◌, [], ◌∷◌, ◌++◌, if◌then◌else◌, OnOk, OnErr, IfSome, IfNone, IsOk, IsTrue, Some, None, true, false, Bool, ◌↔◌, cond, position, slice_get, length, filter, ◌<◌};
+ghost use Rattle.std.specs.Prelude.{◌≡◌, ◌≤◌, ◌+◌, ◌^◌, [], ◌∷◌, ◌++◌, if◌then◌else◌, OnOk, OnErr, IfSome, IfNone, IsTrue};
+ghost use Rattle.std.specs.Prelude.{Some, None, true, false, Bool, ◌↔◌, cond, position, slice_get, length, filter, ◌<◌};
 ghost use Rattle.std.proofs.Props.{props};
 ghost use Rattle.gr_rules.specs.States.{same};
-ghost use Rattle.gr_touches.specs.Keys.{same_key, key_of, seen};
+ghost use Rattle.gr_touches.specs.ObjectRefs.{seen};
 ghost use Rattle.gr_touches.specs.Touches.{own_touches, stretch};
 ghost use Rattle.indexmap.specs.IndexMap.{IsUnique, keys, get};
 
 use crate::guesses::Guesses;
-use crate::key::{Key, Named, ObjectRef};
 use crate::lane::{Lane, extend};
+use crate::marks::Wanted;
+use crate::object_ref::{Named, ObjectRef};
 use crate::touch::Touch;
-use gr_base::{GoName, NoMemory};
+use gr_base::{GoName, NoMemory, Object};
 use indexmap::IndexMap;
 use std::alloc::Global;
 use std::cell::Cell;
@@ -23,20 +25,20 @@ pub struct Lanes {
     /// The touches of `Run` that wrote it.
     stops: Vec<Touch>,
     /// The touches of each other object.
-    map: IndexMap<Key, Lane>,
+    map: IndexMap<Object, Lane>,
     alloc: Global,
     /// The number of the lane that was asked for last.
     last: Cell<usize>,
     guesses: Guesses,
-    ghost unique: { IsUnique same_key map } by { Prim.hlevel props },
+    ghost unique: { IsUnique same map } by { Prim.hlevel props },
     ghost writers: { stops.items ≡ filter (λ t. t.writes) run.items },
 }
 
 impl Lanes {
-    ghost use Rattle.gr_touches.specs.Lists.{list_of, list_numbered, IsNumbered, Adds, TakesBack, KeepsLists};
-    ghost use Rattle.gr_touches.specs.Room.{FitsFor, KeepsRoom};
+    ghost use Rattle.gr_touches.specs.Lists.{list_of, list_numbered, IsNumbered, KeepsLists, TakesFor};
+    ghost use Rattle.gr_touches.specs.Room.{KeepsRoom, NotesFor};
     ghost use Rattle.gr_base.specs.declared.objects.Object.{Object};
-    ghost use Rattle.gr_touches.specs.declared.key.Key.{Key};
+    ghost use Rattle.gr_touches.specs.declared.marks.Wanted.{Wanted as WantedSeen};
     ghost use Rattle.gr_base.specs.declared.objects.Object.TheVariants as objects;
 
     /// No touches. It takes no memory.
@@ -56,8 +58,8 @@ impl Lanes {
     /// The number of the lane of an object, if it has one, by the guess for objects like this.
     #[inline(always)]
     fn number<N: Named>(&self, object: &N) -> Option<usize>
-        ensures named { IfSome result (λ i. slice_get (keys self.now.map) i ≡ Some (key_of (N.object object.now))) }
-        ensures absent { IfNone result (get same_key self.now.map (key_of (N.object object.now)) ≡ None) }
+        ensures named { IfSome result (λ i. slice_get (keys self.now.map) i ≡ Some (N.object object.now)) }
+        ensures absent { IfNone result (get same self.now.map (N.object object.now) ≡ None) }
     {
         let guess = object.guess(&self.guesses);
         if self.is_at(object, guess) {
@@ -70,8 +72,8 @@ impl Lanes {
     /// The number of the lane of an object, by a second guess: the lane that came last after the one that was asked for before.
     #[inline(never)]
     fn look_further(&self, object: &ObjectRef<'_>) -> Option<usize>
-        ensures named { IfSome result (λ i. slice_get (keys self.now.map) i ≡ Some (key_of (seen object.now))) }
-        ensures absent { IfNone result (get same_key self.now.map (key_of (seen object.now)) ≡ None) }
+        ensures named { IfSome result (λ i. slice_get (keys self.now.map) i ≡ Some (seen object.now)) }
+        ensures absent { IfNone result (get same self.now.map (seen object.now) ≡ None) }
     {
         let before = self.last.get();
         let next = match self.map.get_index(before) {
@@ -89,21 +91,21 @@ impl Lanes {
     /// Whether the lane with a number is that of an object.
     #[inline(always)]
     fn is_at<N: Named>(&self, object: &N, number: usize) -> bool
-        ensures { IsTrue result ↔ (slice_get (keys self.now.map) number ≡ Some (key_of (N.object object.now))) }
+        ensures { IsTrue result ↔ (slice_get (keys self.now.map) number ≡ Some (N.object object.now)) }
     {
         match self.map.get_index(number) {
-            Some((key, _)) => object.has_key(key),
+            Some((key, _)) => object.names(key),
             None => false,
         }
     }
 
-    /// The number of the lane of an object, found by its key. It becomes the guess for objects like this, and after the lane
+    /// The number of the lane of an object, found by its names. It becomes the guess for objects like this, and after the lane
     /// that was asked for before.
     fn look_up(&self, object: &ObjectRef<'_>, before: usize) -> Option<usize>
-        ensures named { IfSome result (λ i. slice_get (keys self.now.map) i ≡ Some (key_of (seen object.now))) }
-        ensures absent { IfNone result (get same_key self.now.map (key_of (seen object.now)) ≡ None) }
+        ensures named { IfSome result (λ i. slice_get (keys self.now.map) i ≡ Some (seen object.now)) }
+        ensures absent { IfNone result (get same self.now.map (seen object.now) ≡ None) }
     {
-        let number = self.find(object)?;
+        let number = self.map.get_index_of(*object)?;
         if let Some((_, lane)) = self.map.get_index(before) {
             lane.guess_next(number);
         }
@@ -112,43 +114,11 @@ impl Lanes {
         Some(number)
     }
 
-    /// The number of the lane of an object, found by its key, or one after the other where a key cannot be had.
-    fn find(&self, object: &ObjectRef<'_>) -> Option<usize>
-        ensures named { IfSome result (λ i. slice_get (keys self.now.map) i ≡ Some (key_of (seen object.now))) }
-        ensures absent { IfNone result (get same_key self.now.map (key_of (seen object.now)) ≡ None) }
-    {
-        match Key::of(self.alloc, object) {
-            Ok(key) => self.number_of_key(&key),
-            Err(_) => self.search(object),
-        }
-    }
-
-    /// The number of the lane with a key.
-    fn number_of_key(&self, key: &Key) -> Option<usize>
-        ensures number { result ≡ position (same_key key.now) (keys self.now.map) }
-        ensures absent { IfNone result (get same_key self.now.map key.now ≡ None) }
-    {
-        self.map.get_index_of(key)
-    }
-
-    /// The number of the lane of an object, found by going over all of them.
-    fn search(&self, object: &ObjectRef<'_>) -> Option<usize>
-        ensures named { IfSome result (λ i. slice_get (keys self.now.map) i ≡ Some (key_of (seen object.now))) }
-        ensures absent { IfNone result (get same_key self.now.map (key_of (seen object.now)) ≡ None) }
-    {
-        for number in 0..self.map.len() {
-            if self.is_at(object, number) {
-                return Some(number);
-            }
-        }
-        None
-    }
-
     /// The touches of an object.
     pub fn list(&self, object: &ObjectRef<'_>) -> &[Touch]
         ensures { result.now ≡ list_of self.now (seen object.now) }
     {
-        match self.numbered(object, true) {
+        match self.numbered(object, Wanted::All) {
             Some((_, touches)) => touches,
             None => &[],
         }
@@ -172,32 +142,38 @@ impl Lanes {
         }
     }
 
-    /// The number of the list of an object, and touches among which are those of the list that are wanted: all of them, or
-    /// those that wrote.
-    pub(crate) fn numbered(&self, object: &ObjectRef<'_>, all: bool) -> Option<(usize, &[Touch])>
-        ensures some { IfSome result (λ list. IsNumbered self.now (seen object.now) all list.0 list.1.now) }
+    /// The number of the list of an object, and touches among which are those of the list that are wanted.
+    pub(crate) fn numbered(
+        &self,
+        object: &ObjectRef<'_>,
+        wanted: Wanted,
+    ) -> Option<(usize, &[Touch])>
+        ensures some { IfSome result (λ list. IsNumbered self.now (seen object.now) wanted list.0 list.1.now) }
         ensures none { IfNone result (list_of self.now (seen object.now) ≡ []) }
     {
         match object {
-            ObjectRef::Run if all => Some((self.map.len(), self.run.as_slice())),
-            ObjectRef::Run => Some(self.stops()),
+            ObjectRef::Run => Some(self.numbered_run(wanted)),
             _ => self.numbered_lane(object),
         }
     }
 
-    /// The same of `Run`, of whose touches those are wanted that wrote it.
+    /// The number of the list of `Run`, and those of its touches that are wanted.
     #[inline]
-    pub(crate) fn stops(&self) -> (usize, &[Touch])
-        ensures { IsNumbered self.now objects.Run false result.0 result.1.now }
+    pub(crate) fn numbered_run(&self, wanted: Wanted) -> (usize, &[Touch])
+        ensures { IsNumbered self.now objects.Run wanted result.0 result.1.now }
     {
-        (self.map.len(), self.stops.as_slice())
+        match wanted {
+            Wanted::All => (self.map.len(), self.run.as_slice()),
+            Wanted::Writes => (self.map.len(), self.stops.as_slice()),
+        }
     }
 
-    /// The same of an object that is not `Run`.
+    /// The number of the list of an object that is not `Run`, and all its touches.
     #[inline]
     pub(crate) fn numbered_lane<N: Named>(&self, object: &N) -> Option<(usize, &[Touch])>
         requires { same objects.Run (N.object object.now) ≡ false }
-        ensures some { IfSome result (λ list. (all : Bool) → IsNumbered self.now (N.object object.now) all list.0 list.1.now) }
+        ensures some { IfSome result (λ list. (wanted : WantedSeen)
+            → IsNumbered self.now (N.object object.now) wanted list.0 list.1.now) }
         ensures none { IfNone result (list_of self.now (N.object object.now) ≡ []) }
     {
         let number = self.number(object)?;
@@ -206,10 +182,7 @@ impl Lanes {
 
     /// Adds a touch to the list of an object. Refused, all lists are as before.
     pub(crate) fn add(&mut self, object: &ObjectRef<'_>, touch: Touch) -> Result<(), NoMemory>
-        ensures ok { OnOk result (Adds (seen object.now) touch self.old self.new) }
-        ensures err { OnErr result (KeepsLists self.old self.new) }
-        ensures succeeds { FitsFor (seen object.now ∷ []) touch self.old → IsOk result }
-        ensures room { KeepsRoom self.old self.new }
+        ensures { NotesFor result (seen object.now ∷ []) touch self.old self.new }
     {
         match object {
             ObjectRef::Run => self.add_to_run(touch),
@@ -220,10 +193,7 @@ impl Lanes {
     /// Adds a touch to the list of `Run`.
     #[inline(always)]
     pub(crate) fn add_to_run(&mut self, touch: Touch) -> Result<(), NoMemory>
-        ensures ok { OnOk result (Adds objects.Run touch self.old self.new) }
-        ensures err { OnErr result (KeepsLists self.old self.new) }
-        ensures succeeds { FitsFor (objects.Run ∷ []) touch self.old → IsOk result }
-        ensures room { KeepsRoom self.old self.new }
+        ensures { NotesFor result (objects.Run ∷ []) touch self.old self.new }
     {
         self.run.reserve(1)?;
         if touch.writes {
@@ -237,10 +207,7 @@ impl Lanes {
     #[inline(always)]
     pub(crate) fn add_to_lane<N: Named>(&mut self, object: &N, touch: Touch) -> Result<(), NoMemory>
         requires { same objects.Run (N.object object.now) ≡ false }
-        ensures ok { OnOk result (Adds (N.object object.now) touch self.old self.new) }
-        ensures err { OnErr result (KeepsLists self.old self.new) }
-        ensures succeeds { FitsFor (N.object object.now ∷ []) touch self.old → IsOk result }
-        ensures room { KeepsRoom self.old self.new }
+        ensures { NotesFor result (N.object object.now ∷ []) touch self.old self.new }
     {
         match self.number(object) {
             Some(number) => self.map.get_index_mut(number).unwrap().push(touch),
@@ -252,12 +219,10 @@ impl Lanes {
     #[inline(never)]
     fn add_lane(&mut self, object: &ObjectRef<'_>, touch: Touch) -> Result<(), NoMemory>
         requires other { same objects.Run (seen object.now) ≡ false }
-        requires absent { get same_key self.old.map (key_of (seen object.now)) ≡ None }
-        ensures ok { OnOk result (Adds (seen object.now) touch self.old self.new) }
-        ensures err { OnErr result (KeepsLists self.old self.new) }
-        ensures room { KeepsRoom self.old self.new }
+        requires absent { get same self.old.map (seen object.now) ≡ None }
+        ensures { NotesFor result (seen object.now ∷ []) touch self.old self.new }
     {
-        let key = Key::of(self.alloc, object)?;
+        let key = object.to_object(self.alloc)?;
         let mut lane = Lane::new(self.alloc);
         lane.push(touch)?;
         self.insert(key, lane)
@@ -279,7 +244,9 @@ impl Lanes {
     /// Adds their touches to the list of the goroutine.
     fn note_writes(&mut self, go: &GoName, place: u32, count: usize) -> Result<(), NoMemory>
         requires { place + count ≤ 2 ^ 32 }
-        ensures ok { OnOk result ((q : Object) → list_of self.new q ≡ (if same (objects.Go go.now) q then list_of self.old q ++ stretch true place count else list_of self.old q)) }
+        ensures ok { OnOk result ((q : Object)
+            → list_of self.new q ≡ (if same (objects.Go go.now) q then list_of self.old q
+            ++ stretch true place count else list_of self.old q)) }
         ensures err { OnErr result (KeepsLists self.old self.new) }
         ensures run { self.new.run ≡ self.old.run }
     {
@@ -293,31 +260,34 @@ impl Lanes {
     #[inline(never)]
     fn note_first_writes(&mut self, go: &GoName, place: u32, count: usize) -> Result<(), NoMemory>
         requires places { place + count ≤ 2 ^ 32 }
-        requires absent { get same_key self.old.map (key_of (objects.Go go.now)) ≡ None }
-        ensures ok { OnOk result ((q : Object) → list_of self.new q ≡ (if same (objects.Go go.now) q then list_of self.old q ++ stretch true place count else list_of self.old q)) }
+        requires absent { get same self.old.map (objects.Go go.now) ≡ None }
+        ensures ok { OnOk result ((q : Object)
+            → list_of self.new q ≡ (if same (objects.Go go.now) q then list_of self.old q
+            ++ stretch true place count else list_of self.old q)) }
         ensures err { OnErr result (KeepsLists self.old self.new) }
         ensures run { self.new.run ≡ self.old.run }
     {
-        let key = Key::of(self.alloc, &ObjectRef::Go(go))?;
+        let key = Object::Go(go.copy(self.alloc)?);
         let mut lane = Lane::new(self.alloc);
         lane.extend(place, count)?;
         self.insert(key, lane)
     }
 
-    /// Gives a key a lane.
-    fn insert(&mut self, key: Key, lane: Lane) -> Result<(), NoMemory>
-        ensures ok { OnOk result ((other : Key) → get same_key self.new.map other ≡ cond (same_key key other) (Some lane) (get same_key self.old.map other)) }
+    /// Gives an object a lane.
+    fn insert(&mut self, object: Object, lane: Lane) -> Result<(), NoMemory>
+        ensures ok { OnOk result ((other : Object)
+            → get same self.new.map other ≡ cond (same object other) (Some lane) (get same self.old.map other)) }
         ensures run { self.new.run ≡ self.old.run }
         ensures stops { self.new.stops ≡ self.old.stops }
         ensures err { OnErr result (self.new.map.entries ≡ self.old.map.entries) }
     {
-        self.map.insert(key, lane)?;
+        self.map.insert(object, lane)?;
         Ok(())
     }
 
     /// Takes the last touch from the list of an object. It takes no memory.
-    pub(crate) fn take_back(&mut self, object: &ObjectRef<'_>)
-        ensures lists { TakesBack (seen object.now) self.old self.new }
+    pub(crate) fn retract(&mut self, object: &ObjectRef<'_>)
+        ensures lists { TakesFor (seen object.now ∷ []) self.old self.new }
         ensures room { KeepsRoom self.old self.new }
     {
         match object {
@@ -326,10 +296,10 @@ impl Lanes {
         }
     }
 
-    /// The same of `Run`.
+    /// Takes the last touch from the list of `Run`. It takes no memory.
     #[inline]
     pub(crate) fn take_from_run(&mut self)
-        ensures lists { TakesBack objects.Run self.old self.new }
+        ensures lists { TakesFor (objects.Run ∷ []) self.old self.new }
         ensures room { KeepsRoom self.old self.new }
     {
         if let Some(touch) = self.run.pop() {
@@ -339,11 +309,11 @@ impl Lanes {
         }
     }
 
-    /// The same of an object that is not `Run`.
+    /// Takes the last touch from the list of an object that is not `Run`. It takes no memory.
     #[inline]
     pub(crate) fn take_from_lane<N: Named>(&mut self, object: &N)
         requires { same objects.Run (N.object object.now) ≡ false }
-        ensures lists { TakesBack (N.object object.now) self.old self.new }
+        ensures lists { TakesFor (N.object object.now ∷ []) self.old self.new }
         ensures room { KeepsRoom self.old self.new }
     {
         if let Some(number) = self.number(object) {

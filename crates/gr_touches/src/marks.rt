@@ -1,13 +1,13 @@
 //! Marks for places of a log, set by touches.
 
 ghost use Rattle.std.specs.Prelude.{◌≡◌, ◌<◌, ◌≤◌, ◌+◌, ◌||◌, ◌&&◌, ◌==◌, ℕ, List, length, slice_index_or, false, true, All};
-ghost use Rattle.gr_touches.specs.Marks.{is_beyond, IsAscending, hits, InReach, Marks};
+ghost use Rattle.gr_touches.specs.Marks.{takes, is_beyond, IsAscending, hits, InReach, Marks};
 
 use crate::touch::Touch;
 
 /// On which side of a place of the log.
 #[derive(Clone, Copy)]
-pub enum Side {
+pub enum Direction {
     Later,
     Earlier,
 }
@@ -15,30 +15,53 @@ pub enum Side {
 /// From which place of the log on, and to which side, touches are marked.
 #[derive(Clone, Copy)]
 pub struct Origin {
-    pub side: Side,
+    pub direction: Direction,
     pub place: usize,
     /// The place of the first mark.
     pub base: usize,
 }
 
-/// Sets the mark of a touch, if all are wanted or it wrote.
+/// Which touches of an object are wanted.
+#[derive(Clone, Copy)]
+pub enum Wanted {
+    All,
+    /// Those that wrote it.
+    Writes,
+}
+
+impl Wanted {
+    /// Whether a touch is wanted.
+    #[inline]
+    fn takes(self, touch: Touch) -> bool
+        ensures { result ≡ takes self touch.writes }
+    {
+        match self {
+            Wanted::All => true,
+            Wanted::Writes => touch.writes,
+        }
+    }
+}
+
+/// Sets the mark of a touch, if it is wanted.
 #[inline]
-fn mark(marks: &mut [bool], base: usize, touch: Touch, all: bool)
+fn mark(marks: &mut [bool], base: usize, touch: Touch, wanted: Wanted)
     requires from { base ≤ touch.place }
     requires below { touch.place < base + length marks.old }
-    ensures { (j : ℕ) → j < length marks.old → slice_index_or marks.new j false ≡ (slice_index_or marks.old j false || ((all || touch.writes) && (touch.place == base + j))) }
+    ensures { (j : ℕ) → j < length marks.old
+        → slice_index_or marks.new j false
+        ≡ (slice_index_or marks.old j false || (takes wanted touch.writes && (touch.place == base + j))) }
 {
-    if all || touch.writes {
+    if wanted.takes(touch) {
         marks[touch.place as usize - base] = true;
     }
 }
 
-/// Sets the marks of the touches later than a place.
-fn mark_later(marks: &mut [bool], origin: Origin, touches: &[Touch], all: bool)
-    requires later { origin.side ≡ Side.Later }
+/// Sets the marks of the touches later than a place that are wanted.
+fn mark_later(marks: &mut [bool], origin: Origin, touches: &[Touch], wanted: Wanted)
+    requires later { origin.direction ≡ Direction.Later }
     requires ascending { IsAscending 0 touches.now }
     requires reach { InReach origin (length marks.old) touches.now }
-    ensures { Marks origin (hits all touches.now) marks.old marks.new }
+    ensures { Marks origin (hits wanted touches.now) marks.old marks.new }
 {
     let mut left = touches.len();
     while left > 0 {
@@ -47,35 +70,34 @@ fn mark_later(marks: &mut [bool], origin: Origin, touches: &[Touch], all: bool)
         if touch.place as usize <= origin.place {
             return;
         }
-        mark(marks, origin.base, touch, all);
+        mark(marks, origin.base, touch, wanted);
     }
 }
 
-/// Sets the marks of the touches earlier than a place.
-fn mark_earlier(marks: &mut [bool], origin: Origin, touches: &[Touch], all: bool)
-    requires earlier { origin.side ≡ Side.Earlier }
+/// Sets the marks of the touches earlier than a place that are wanted.
+fn mark_earlier(marks: &mut [bool], origin: Origin, touches: &[Touch], wanted: Wanted)
+    requires earlier { origin.direction ≡ Direction.Earlier }
     requires ascending { IsAscending 0 touches.now }
     requires reach { InReach origin (length marks.old) touches.now }
-    ensures { Marks origin (hits all touches.now) marks.old marks.new }
+    ensures { Marks origin (hits wanted touches.now) marks.old marks.new }
 {
     for i in 0..touches.len() {
         let touch = touches[i];
         if touch.place as usize >= origin.place {
             return;
         }
-        mark(marks, origin.base, touch, all);
+        mark(marks, origin.base, touch, wanted);
     }
 }
 
-/// Sets the marks of the touches on one side of a place: of all of them, or of those that wrote. The time is that of the
-/// touches on that side.
-pub(crate) fn mark_list(marks: &mut [bool], origin: Origin, touches: &[Touch], all: bool)
+/// Sets the marks of those touches on one side of a place that are wanted. The time is that of the touches on that side.
+pub(crate) fn mark_list(marks: &mut [bool], origin: Origin, touches: &[Touch], wanted: Wanted)
     requires ascending { IsAscending 0 touches.now }
     requires reach { InReach origin (length marks.old) touches.now }
-    ensures { Marks origin (hits all touches.now) marks.old marks.new }
+    ensures { Marks origin (hits wanted touches.now) marks.old marks.new }
 {
-    match origin.side {
-        Side::Later => mark_later(marks, origin, touches, all),
-        Side::Earlier => mark_earlier(marks, origin, touches, all),
+    match origin.direction {
+        Direction::Later => mark_later(marks, origin, touches, wanted),
+        Direction::Earlier => mark_earlier(marks, origin, touches, wanted),
     }
 }

@@ -1,14 +1,16 @@
 //! The objects that a step touched, by its record.
 
-ghost use Rattle.std.specs.Prelude.{◌≡◌, ◌∷◌, ◌<◌, [], List, Some, None, if◌then◌else◌, MatchOption, IfSome, option_copied, option_map};
+ghost use Rattle.std.specs.Prelude.{◌≡◌, ◌∷◌, ◌<◌, [], List, Some, None, if◌then◌else◌, MatchOption, IfSome, option_copied};
+ghost use Rattle.std.specs.Prelude.{option_map};
 ghost use Rattle.gr_base.specs.declared.objects.Object.TheVariants as variants;
 ghost use Rattle.gr_record.specs.Conflicts.{written_by, read_by};
 ghost use Rattle.gr_record.specs.Effects.{reached_on};
-ghost use Rattle.gr_record.specs.Parts.{channel_in, parts_before, partner_before, slot_before, read_by_more, written_by_more, reads_in, writes_in};
-ghost use Rattle.gr_touches.specs.Keys.{seen};
+ghost use Rattle.gr_record.specs.Parts.{channel_in, parts_before, partner_before, slot_before, read_by_more, written_by_more};
+ghost use Rattle.gr_record.specs.Parts.{reads_in, writes_in};
+ghost use Rattle.gr_touches.specs.ObjectRefs.{seen};
 ghost use Rattle.gr_touches.specs.Told.{named, seen_in, count_in};
 
-use crate::key::ObjectRef;
+use crate::object_ref::ObjectRef;
 use gr_base::{ChName, GoName, Object};
 use gr_record::Record;
 use gr_record::record::{Beyond, Contact, Form, Parts};
@@ -16,7 +18,7 @@ use gr_record::record::{Beyond, Contact, Form, Parts};
 /// Objects that a step read, or that it wrote, by their names where they are: `Run` or its goroutine, parts of one channel, a
 /// goroutine that it met, and others, in this order.
 #[derive(Clone, Copy)]
-pub struct Objects<'a> {
+pub struct TouchedObjects<'a> {
     front: Option<ObjectRef<'a>>,
     gate: Option<&'a ChName>,
     head: Option<&'a ChName>,
@@ -36,16 +38,16 @@ fn slot_at(channel: &ChName, place: Option<u32>) -> Option<(&ChName, u32)>
     }
 }
 
-impl<'a> Objects<'a> {
+impl<'a> TouchedObjects<'a> {
     /// Those that belong to no channel.
     fn without_channel(
         front: Option<ObjectRef<'a>>,
         partner: Option<&'a GoName>,
         others: &'a [Object],
-    ) -> Objects<'a>
+    ) -> TouchedObjects<'a>
         ensures { seen_in result ≡ named seen front.entry (partner_before (option_copied partner.entry) others.now) }
     {
-        Objects {
+        TouchedObjects {
             front,
             gate: None,
             head: None,
@@ -64,12 +66,12 @@ impl<'a> Objects<'a> {
         place: Option<u32>,
         partner: Option<&'a GoName>,
         others: &'a [Object],
-    ) -> Objects<'a>
-        ensures { seen_in result ≡ named seen front.entry (parts_before parts place (Some channel.now) (partner_before (option_copied partner.entry) others.now)) }
+    ) -> TouchedObjects<'a>
+        ensures { seen_in result ≡ named seen front.entry
+            (parts_before parts place (Some channel.now) (partner_before (option_copied partner.entry) others.now)) }
     {
-        let named = Some(channel);
-        let slot = slot_at(channel, place);
-        let rest = Objects {
+        let (named, slot) = (Some(channel), slot_at(channel, place));
+        let rest = TouchedObjects {
             front,
             gate: None,
             head: None,
@@ -80,27 +82,27 @@ impl<'a> Objects<'a> {
         };
         match parts {
             Parts::Nothing => rest,
-            Parts::Gate => Objects {
+            Parts::Gate => TouchedObjects {
                 gate: named,
                 ..rest
             },
-            Parts::Entrance => Objects {
+            Parts::Entrance => TouchedObjects {
                 tail: named,
                 slot,
                 ..rest
             },
-            Parts::Exit => Objects {
+            Parts::Exit => TouchedObjects {
                 head: named,
                 slot,
                 ..rest
             },
-            Parts::GateAndExit => Objects {
+            Parts::GateAndExit => TouchedObjects {
                 gate: named,
                 head: named,
                 slot,
                 ..rest
             },
-            Parts::All => Objects {
+            Parts::All => TouchedObjects {
                 gate: named,
                 head: named,
                 tail: named,
@@ -113,7 +115,8 @@ impl<'a> Objects<'a> {
     /// Takes the first of them off; none where only the others are left.
     #[inline]
     pub(crate) fn next(&mut self) -> Option<ObjectRef<'a>>
-        ensures first { MatchOption result (seen_in self.old ≡ self.new.others.now) (λ first. seen_in self.old ≡ seen first ∷ seen_in self.new) }
+        ensures first { MatchOption result (seen_in self.old ≡ self.new.others.now) (λ first. seen_in self.old ≡ seen first
+            ∷ seen_in self.new) }
         ensures fewer { IfSome result (λ _. count_in self.new < count_in self.old) }
         ensures others { self.new.others ≡ self.old.others }
     {
@@ -144,8 +147,9 @@ impl<'a> Objects<'a> {
 
     /// The first of them, and the rest; none where only the others are left.
     #[inline]
-    pub fn split_first(self) -> Option<(ObjectRef<'a>, Objects<'a>)>
-        ensures first { MatchOption result (seen_in self.entry ≡ self.entry.others.now) (λ r. seen_in self.entry ≡ seen r.0 ∷ seen_in r.1) }
+    pub fn split_first(self) -> Option<(ObjectRef<'a>, TouchedObjects<'a>)>
+        ensures first { MatchOption result (seen_in self.entry ≡ self.entry.others.now) (λ r. seen_in self.entry ≡ seen r.0
+            ∷ seen_in r.1) }
         ensures fewer { IfSome result (λ r. count_in r.1 < count_in self.entry) }
     {
         let mut rest = self;
@@ -191,42 +195,46 @@ fn told<'a>(
     parts: Parts,
     partner: Option<&'a GoName>,
     others: &'a [Object],
-) -> Objects<'a>
-    ensures { seen_in result ≡ named seen front.entry (parts_before parts beyond.now.touched.slot (option_map channel_in beyond.now.operation) (partner_before (option_copied partner.entry) others.now)) }
+) -> TouchedObjects<'a>
+    ensures { seen_in result ≡ named seen front.entry
+        (parts_before parts beyond.now.touched.slot (option_map channel_in beyond.now.operation)
+        (partner_before (option_copied partner.entry) others.now)) }
 {
     let Some(operation) = &beyond.operation else {
-        return Objects::without_channel(front, partner, others);
+        return TouchedObjects::without_channel(front, partner, others);
     };
     let place = beyond.touched.slot;
-    Objects::with_channel(front, parts, operation.channel(), place, partner, others)
+    TouchedObjects::with_channel(front, parts, operation.channel(), place, partner, others)
 }
 
 /// Parts of a channel.
-pub(crate) fn parts_of(channel: &ChName, parts: Parts, slot: Option<u32>) -> Objects<'_>
+pub(crate) fn parts_of(channel: &ChName, parts: Parts, slot: Option<u32>) -> TouchedObjects<'_>
     ensures { seen_in result ≡ parts_before parts slot (Some channel.now) [] }
 {
-    Objects::with_channel(None, parts, channel, slot, None, &[])
+    TouchedObjects::with_channel(None, parts, channel, slot, None, &[])
 }
 
 /// The parts of its channel that a step wrote.
-pub(crate) fn parts_written(beyond: &Beyond) -> Objects<'_>
-    ensures { seen_in result ≡ parts_before beyond.now.touched.written beyond.now.touched.slot (option_map channel_in beyond.now.operation) [] }
+pub(crate) fn parts_written(beyond: &Beyond) -> TouchedObjects<'_>
+    ensures { seen_in result ≡ parts_before beyond.now.touched.written beyond.now.touched.slot
+        (option_map channel_in beyond.now.operation) [] }
 {
     told(None, beyond, beyond.touched.written, None, &[])
 }
 
 /// These parts of the channel with which a step did something, that touched no other.
-fn in_contact<'a>(front: ObjectRef<'a>, contact: &'a Contact, parts: Parts) -> Objects<'a>
-    ensures { seen_in result ≡ seen front.entry ∷ parts_before parts contact.now.touched.slot (Some (channel_in contact.now.operation)) [] }
+fn in_contact<'a>(front: ObjectRef<'a>, contact: &'a Contact, parts: Parts) -> TouchedObjects<'a>
+    ensures { seen_in result ≡ seen front.entry
+        ∷ parts_before parts contact.now.touched.slot (Some (channel_in contact.now.operation)) [] }
 {
     let channel = contact.operation.channel();
     let place = contact.touched.slot;
-    Objects::with_channel(Some(front), parts, channel, place, None, &[])
+    TouchedObjects::with_channel(Some(front), parts, channel, place, None, &[])
 }
 
 /// What a step read that did something with one channel, and touched no other.
 #[inline]
-pub(crate) fn read_in(contact: &Contact) -> Objects<'_>
+pub(crate) fn read_in(contact: &Contact) -> TouchedObjects<'_>
     ensures { seen_in result ≡ variants.Run ∷ reads_in (reached_on contact.now None) }
 {
     in_contact(ObjectRef::Run, contact, contact.touched.read)
@@ -234,37 +242,42 @@ pub(crate) fn read_in(contact: &Contact) -> Objects<'_>
 
 /// What a step wrote of which this is the goroutine, that did something with one channel, and met nobody.
 #[inline]
-fn written_in<'a>(own: ObjectRef<'a>, contact: &'a Contact) -> Objects<'a>
+fn written_in<'a>(own: ObjectRef<'a>, contact: &'a Contact) -> TouchedObjects<'a>
     ensures { seen_in result ≡ seen own.entry ∷ writes_in (reached_on contact.now None) }
 {
     in_contact(own, contact, contact.touched.written)
 }
 
+/// What a step read and did not write that reached further.
+pub(crate) fn read_beyond(beyond: &Beyond) -> TouchedObjects<'_>
+    ensures { seen_in result ≡ (if beyond.now.stops then reads_in beyond.now else variants.Run ∷ reads_in beyond.now) }
+{
+    let front = run_unless(beyond.stops);
+    let parts = beyond.touched.read;
+    told(front, beyond, parts, None, others_read(beyond))
+}
+
 /// What a step read and did not write.
 #[inline]
-pub fn reads(step: &Record) -> Objects<'_>
+pub fn reads(step: &Record) -> TouchedObjects<'_>
     ensures { seen_in result ≡ read_by step.now }
 {
     match step.change.form() {
-        Form::Alone(_, _) => Objects::without_channel(Some(ObjectRef::Run), None, &[]),
+        Form::Alone(_, _) => TouchedObjects::without_channel(Some(ObjectRef::Run), None, &[]),
         Form::Waits(waiting) => read_in(&waiting.contact),
         Form::Passes(_, _, passage) => read_in(&passage.contact),
-        Form::Further(_, _, beyond) => {
-            let front = run_unless(beyond.stops);
-            let parts = beyond.touched.read;
-            told(front, beyond, parts, None, others_read(beyond))
-        }
+        Form::Further(_, _, beyond) => read_beyond(beyond),
     }
 }
 
 /// What a step wrote.
 #[inline]
-pub fn writes(step: &Record) -> Objects<'_>
+pub fn writes(step: &Record) -> TouchedObjects<'_>
     ensures { seen_in result ≡ written_by step.now }
 {
     let own = ObjectRef::Go(&step.id.go);
     match step.change.form() {
-        Form::Alone(_, _) => Objects::without_channel(Some(own), None, &[]),
+        Form::Alone(_, _) => TouchedObjects::without_channel(Some(own), None, &[]),
         Form::Waits(waiting) => written_in(own, &waiting.contact),
         Form::Passes(_, _, passage) => written_in(own, &passage.contact),
         Form::Further(_, _, beyond) => {

@@ -1,17 +1,17 @@
 //! Marks for the steps that conflict with one.
 
-ghost use Rattle.std.specs.Prelude.{◌≡◌, ◌+◌, length, true, false, None};
+ghost use Rattle.std.specs.Prelude.{◌≡◌, ◌+◌, length, None};
 ghost use Rattle.indexmap.specs.IndexMap.{keys};
 ghost use Rattle.gr_base.specs.declared.objects.Object.{Object};
 ghost use Rattle.gr_base.specs.declared.objects.Object.TheVariants.{Run, Go};
-ghost use Rattle.gr_touches.specs.Keys.{seen};
+ghost use Rattle.gr_touches.specs.ObjectRefs.{seen};
 ghost use Rattle.gr_touches.specs.Marks.{hits, Marks};
 ghost use Rattle.gr_touches.specs.Told.{seen_in};
 
-use crate::key::ObjectRef;
 use crate::lanes::Lanes;
-use crate::marks::{Origin, mark_list};
-use crate::objects::{Objects, reads, writes};
+use crate::marks::{Origin, Wanted, mark_list};
+use crate::object_ref::ObjectRef;
+use crate::objects::{TouchedObjects, reads, writes};
 use crate::touch::Touch;
 use gr_base::{GoName, Object};
 use gr_record::Record;
@@ -32,12 +32,12 @@ impl Lanes {
     )
         requires reach { AreInReach self.now origin (length marks.old) }
         requires read_count { length read.old ≡ length (keys self.now.map) + 1 }
-        requires read_walked { AreWalked self.now origin false read.old marks.old }
+        requires read_walked { AreWalked self.now origin Wanted.Writes read.old marks.old }
         requires written_count { length written.old ≡ length (keys self.now.map) + 1 }
-        requires written_walked { AreWalked self.now origin true written.old marks.old }
+        requires written_walked { AreWalked self.now origin Wanted.All written.old marks.old }
         ensures marks { Marks origin (meets_step self.now step.now) marks.old marks.new }
-        ensures read_walked { AreWalked self.now origin false read.new marks.new }
-        ensures written_walked { AreWalked self.now origin true written.new marks.new }
+        ensures read_walked { AreWalked self.now origin Wanted.Writes read.new marks.new }
+        ensures written_walked { AreWalked self.now origin Wanted.All written.new marks.new }
     {
         match step.change.form() {
             Form::Alone(_, _) => self.mark_alone(origin, step, read, written, marks),
@@ -45,7 +45,7 @@ impl Lanes {
         }
     }
 
-    /// The same of a step that reached no further than its goroutine.
+    /// Sets those marks for a step that reached no further than its goroutine.
     fn mark_alone(
         &self,
         origin: Origin,
@@ -57,12 +57,12 @@ impl Lanes {
         requires alone { step.now.change.beyond ≡ None }
         requires reach { AreInReach self.now origin (length marks.old) }
         requires read_count { length read.old ≡ length (keys self.now.map) + 1 }
-        requires read_walked { AreWalked self.now origin false read.old marks.old }
+        requires read_walked { AreWalked self.now origin Wanted.Writes read.old marks.old }
         requires written_count { length written.old ≡ length (keys self.now.map) + 1 }
-        requires written_walked { AreWalked self.now origin true written.old marks.old }
+        requires written_walked { AreWalked self.now origin Wanted.All written.old marks.old }
         ensures marks { Marks origin (meets_step self.now step.now) marks.old marks.new }
-        ensures read_walked { AreWalked self.now origin false read.new marks.new }
-        ensures written_walked { AreWalked self.now origin true written.new marks.new }
+        ensures read_walked { AreWalked self.now origin Wanted.Writes read.new marks.new }
+        ensures written_walked { AreWalked self.now origin Wanted.All written.new marks.new }
     {
         self.mark_run(origin, read, marks);
         self.mark_go(origin, &step.id.go, written, marks);
@@ -73,12 +73,12 @@ impl Lanes {
     fn mark_run(&self, origin: Origin, walked: &mut [bool], marks: &mut [bool])
         requires reach { AreInReach self.now origin (length marks.old) }
         requires count { length walked.old ≡ length (keys self.now.map) + 1 }
-        requires walked { AreWalked self.now origin false walked.old marks.old }
-        ensures marks { Marks origin (hits false (list_of self.now Run)) marks.old marks.new }
-        ensures walked { AreWalked self.now origin false walked.new marks.new }
+        requires walked { AreWalked self.now origin Wanted.Writes walked.old marks.old }
+        ensures marks { Marks origin (hits Wanted.Writes (list_of self.now Run)) marks.old marks.new }
+        ensures walked { AreWalked self.now origin Wanted.Writes walked.new marks.new }
     {
-        let (number, touches) = self.stops();
-        self.mark_numbered(origin, number, touches, false, walked, marks);
+        let (number, touches) = self.numbered_run(Wanted::Writes);
+        self.mark_numbered(origin, number, touches, Wanted::Writes, walked, marks);
     }
 
     /// Sets the marks of the touches of a goroutine.
@@ -86,42 +86,42 @@ impl Lanes {
     fn mark_go(&self, origin: Origin, go: &GoName, walked: &mut [bool], marks: &mut [bool])
         requires reach { AreInReach self.now origin (length marks.old) }
         requires count { length walked.old ≡ length (keys self.now.map) + 1 }
-        requires walked { AreWalked self.now origin true walked.old marks.old }
-        ensures marks { Marks origin (hits true (list_of self.now (Go go.now))) marks.old marks.new }
-        ensures walked { AreWalked self.now origin true walked.new marks.new }
+        requires walked { AreWalked self.now origin Wanted.All walked.old marks.old }
+        ensures marks { Marks origin (hits Wanted.All (list_of self.now (Go go.now))) marks.old marks.new }
+        ensures walked { AreWalked self.now origin Wanted.All walked.new marks.new }
     {
         if let Some((number, touches)) = self.numbered_lane(go) {
-            self.mark_numbered(origin, number, touches, true, walked, marks);
+            self.mark_numbered(origin, number, touches, Wanted::All, walked, marks);
         }
     }
 
-    /// Sets the marks of those touches in a list that are wanted, of all of them or of those that wrote, which are among these
-    /// touches. A list is walked once.
+    /// Sets the marks of those touches in a list that are wanted, which are among these. A list is walked once.
     #[inline]
     fn mark_numbered(
         &self,
         origin: Origin,
         number: usize,
         touches: &[Touch],
-        all: bool,
+        wanted: Wanted,
         walked: &mut [bool],
         marks: &mut [bool],
     )
-        requires numbered { (o : Object) × IsNumbered self.now o all number touches.now }
+        requires numbered { (o : Object) × IsNumbered self.now o wanted number touches.now }
         requires reach { AreInReach self.now origin (length marks.old) }
         requires count { length walked.old ≡ length (keys self.now.map) + 1 }
-        requires walked { AreWalked self.now origin all walked.old marks.old }
-        ensures marks { (o : Object) → IsNumbered self.now o all number touches.now → Marks origin (hits all (list_of self.now o)) marks.old marks.new }
-        ensures walked { AreWalked self.now origin all walked.new marks.new }
+        requires walked { AreWalked self.now origin wanted walked.old marks.old }
+        ensures marks { (o : Object) → IsNumbered self.now o wanted number touches.now
+            → Marks origin (hits wanted (list_of self.now o)) marks.old marks.new }
+        ensures walked { AreWalked self.now origin wanted walked.new marks.new }
     {
         if walked[number] {
             return;
         }
         walked[number] = true;
-        mark_list(marks, origin, touches, all);
+        mark_list(marks, origin, touches, wanted);
     }
 
-    /// The same of a step that reached further.
+    /// Sets those marks for a step that reached further.
     fn mark_beyond(
         &self,
         origin: Origin,
@@ -132,77 +132,77 @@ impl Lanes {
     )
         requires reach { AreInReach self.now origin (length marks.old) }
         requires read_count { length read.old ≡ length (keys self.now.map) + 1 }
-        requires read_walked { AreWalked self.now origin false read.old marks.old }
+        requires read_walked { AreWalked self.now origin Wanted.Writes read.old marks.old }
         requires written_count { length written.old ≡ length (keys self.now.map) + 1 }
-        requires written_walked { AreWalked self.now origin true written.old marks.old }
+        requires written_walked { AreWalked self.now origin Wanted.All written.old marks.old }
         ensures marks { Marks origin (meets_step self.now step.now) marks.old marks.new }
-        ensures read_walked { AreWalked self.now origin false read.new marks.new }
-        ensures written_walked { AreWalked self.now origin true written.new marks.new }
+        ensures read_walked { AreWalked self.now origin Wanted.Writes read.new marks.new }
+        ensures written_walked { AreWalked self.now origin Wanted.All written.new marks.new }
     {
-        self.mark_each(origin, &mut reads(step), false, read, marks);
-        self.mark_each(origin, &mut writes(step), true, written, marks);
+        self.mark_each(origin, &mut reads(step), Wanted::Writes, read, marks);
+        self.mark_each(origin, &mut writes(step), Wanted::All, written, marks);
     }
 
-    /// Sets the marks of touches of these objects.
+    /// Sets the marks of those touches of these objects that are wanted.
     fn mark_each(
         &self,
         origin: Origin,
-        objects: &mut Objects<'_>,
-        all: bool,
+        objects: &mut TouchedObjects<'_>,
+        wanted: Wanted,
         walked: &mut [bool],
         marks: &mut [bool],
     )
         requires reach { AreInReach self.now origin (length marks.old) }
         requires count { length walked.old ≡ length (keys self.now.map) + 1 }
-        requires walked { AreWalked self.now origin all walked.old marks.old }
-        ensures marks { Marks origin (hits_any self.now all (seen_in objects.old)) marks.old marks.new }
-        ensures walked { AreWalked self.now origin all walked.new marks.new }
+        requires walked { AreWalked self.now origin wanted walked.old marks.old }
+        ensures marks { Marks origin (hits_any self.now wanted (seen_in objects.old)) marks.old marks.new }
+        ensures walked { AreWalked self.now origin wanted walked.new marks.new }
     {
         let Some(first) = objects.next() else {
-            return self.mark_all(origin, objects.others, all, walked, marks);
+            return self.mark_all(origin, objects.others, wanted, walked, marks);
         };
-        self.mark_object(origin, &first, all, walked, marks);
-        self.mark_each(origin, objects, all, walked, marks);
+        self.mark_object(origin, &first, wanted, walked, marks);
+        self.mark_each(origin, objects, wanted, walked, marks);
     }
 
-    /// The same for a slice.
+    /// Sets the marks of those touches that are wanted, for a slice of objects.
     fn mark_all(
         &self,
         origin: Origin,
         objects: &[Object],
-        all: bool,
+        wanted: Wanted,
         walked: &mut [bool],
         marks: &mut [bool],
     )
         requires reach { AreInReach self.now origin (length marks.old) }
         requires count { length walked.old ≡ length (keys self.now.map) + 1 }
-        requires walked { AreWalked self.now origin all walked.old marks.old }
-        ensures marks { Marks origin (hits_any self.now all objects.now) marks.old marks.new }
-        ensures walked { AreWalked self.now origin all walked.new marks.new }
+        requires walked { AreWalked self.now origin wanted walked.old marks.old }
+        ensures marks { Marks origin (hits_any self.now wanted objects.now) marks.old marks.new }
+        ensures walked { AreWalked self.now origin wanted walked.new marks.new }
     {
         for i in 0..objects.len() {
             let object = ObjectRef::of(&objects[i]);
-            self.mark_object(origin, &object, all, walked, marks);
+            self.mark_object(origin, &object, wanted, walked, marks);
         }
     }
 
-    /// Sets the marks of touches of an object, of all of them or of those that wrote.
+    /// Sets the marks of those touches of an object that are wanted.
     fn mark_object(
         &self,
         origin: Origin,
         object: &ObjectRef<'_>,
-        all: bool,
+        wanted: Wanted,
         walked: &mut [bool],
         marks: &mut [bool],
     )
         requires reach { AreInReach self.now origin (length marks.old) }
         requires count { length walked.old ≡ length (keys self.now.map) + 1 }
-        requires walked { AreWalked self.now origin all walked.old marks.old }
-        ensures marks { Marks origin (hits all (list_of self.now (seen object.now))) marks.old marks.new }
-        ensures walked { AreWalked self.now origin all walked.new marks.new }
+        requires walked { AreWalked self.now origin wanted walked.old marks.old }
+        ensures marks { Marks origin (hits wanted (list_of self.now (seen object.now))) marks.old marks.new }
+        ensures walked { AreWalked self.now origin wanted walked.new marks.new }
     {
-        if let Some((number, touches)) = self.numbered(object, all) {
-            self.mark_numbered(origin, number, touches, all, walked, marks);
+        if let Some((number, touches)) = self.numbered(object, wanted) {
+            self.mark_numbered(origin, number, touches, wanted, walked, marks);
         }
     }
 }

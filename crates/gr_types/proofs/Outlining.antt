@@ -4,10 +4,10 @@ use Rattle.std.specs.Prelude.{Option, Some, None}
 use Rattle.std.proofs.lemmas.List.{drop_all, nil_from_length}
 use Rattle.gr_tree.specs.Files as files
 use Rattle.gr_tree.specs.declared.file.Func.{Func}
-use Rattle.gr_exprs.specs.declared.fault.Fault.{Fault}
-use Rattle.gr_exprs.specs.declared.fault.Fault.TheVariants as faults
-use Rattle.gr_types.specs.declared.fault.CheckError.{CheckError}
-use Rattle.gr_types.specs.declared.fault.CheckError.TheVariants as errors
+use Rattle.gr_exprs.specs.declared.refusal.RuleError.{RuleError}
+use Rattle.gr_exprs.specs.declared.refusal.RuleError.TheVariants as faults
+use Rattle.gr_types.specs.declared.refusal.CheckError.{CheckError}
+use Rattle.gr_types.specs.declared.refusal.CheckError.TheVariants as errors
 use Rattle.gr_types.specs.declared.outlines.Outline as code_outline
 use Rattle.gr_program.specs.declared.program.Function as code_function
 use Rattle.gr_scan.specs.declared.token.Place.{Place}
@@ -45,7 +45,7 @@ module _ (fs : List Func) (i : ℕ) (known : List Signature) (os : List Outline)
       ap (λ k. headings_in k all (files.functions_of (drop (i + 1) fs))) p ∙ ap (λ a. headings_in (known ++ (h.0 ∷ [])) a (files.functions_of (drop (i + 1) fs))) q
       ∙ sym (then_some (heading_in known (files.function_of f)) h after e) ∙ rest f lt is
 
-  pub heading_over : (f : Func) (fault : Fault) (place : Place) → i < length fs → f ≡ get_or fs i f → Rejects fault (heading_in known (files.function_of f)) → Denies (refused_at place fault) r
+  pub heading_over : (f : Func) (fault : RuleError) (place : Place) → i < length fs → f ≡ get_or fs i f → Rejects fault (heading_in known (files.function_of f)) → Denies (refused_at place fault) r
   heading_over f (faults.Broken code) place lt is e = sym (rest f lt is) ∙ ap (λ h. h >>= after) e
   heading_over f faults.Memory place lt is e = tt
 

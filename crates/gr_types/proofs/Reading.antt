@@ -4,8 +4,8 @@ use Rattle.std.specs.Prelude.{Option, Some, None, ◌&&◌, codes, Result, Ok, E
 use Rattle.gr_tree.specs.Files as files
 use Rattle.gr_tree.specs.Files.{FileTree, FileOf, Group}
 use Rattle.gr_program.specs.declared.program.Program as code_program
-use Rattle.gr_types.specs.declared.fault.CheckError.{CheckError}
-use Rattle.gr_types.specs.declared.fault.CheckError.TheVariants as errors
+use Rattle.gr_types.specs.declared.refusal.CheckError.{CheckError}
+use Rattle.gr_types.specs.declared.refusal.CheckError.TheVariants as errors
 use Rattle.gr_program.specs.Programs.{ProgramIs}
 use Rattle.gr_program.specs.Views as views
 use Rattle.gr_program.specs.Order.{stands_in_order}

@@ -12,8 +12,8 @@ use Rattle.gr_program.specs.Views.{printed_of, prints_of}
 use Rattle.gr_exprs.specs.Finding.{◌>>=◌, only_in}
 use Rattle.gr_types.specs.FindingStatements.{printed_in, run_call, runs_in}
 use Rattle.gr_types.specs.Evaluating.{printed_one}
-use Rattle.gr_exprs.specs.declared.fault.Fault.{Fault}
-use Rattle.gr_exprs.specs.declared.fault.Fault.TheVariants as faults
+use Rattle.gr_exprs.specs.declared.refusal.RuleError.{RuleError}
+use Rattle.gr_exprs.specs.declared.refusal.RuleError.TheVariants as faults
 use Rattle.gr_exprs.specs.Checking.{Rejects}
 use Rattle.gr_exprs.proofs.Arguments.{front_trees}
 use Rattle.gr_exprs.proofs.Trees.{tree_call}
@@ -52,7 +52,7 @@ module _ (fs : List Signature) (s : Scope) (es : List code_expr.Expr) (i : ℕ) 
       ap (λ l. r >>= λ ps. Some (prints_of l ++ ps)) pushed ∙ after_prints r ds d ∙ sym (ap (λ g. (g >>= λ p. r >>= λ ps. Some (p ∷ ps)) >>= λ ps. Some (prints_of ds ++ ps)) gives)
       ∙ sym (ap (λ g. g >>= λ ps. Some (prints_of ds ++ ps)) (first_printed fs s es i e lt is)) ∙ so_far
 
-  pub print_refused : (e : code_expr.Expr) (f : Fault) → i < length es → e ≡ get_or es i e → Rejects f (printed_one fs s (tree_of e)) → Rejects f o
+  pub print_refused : (e : code_expr.Expr) (f : RuleError) → i < length es → e ≡ get_or es i e → Rejects f (printed_one fs s (tree_of e)) → Rejects f o
   print_refused e faults.Memory lt is none = tt
   print_refused e (faults.Broken code) lt is none =
       let r = printed_in fs s (trees_of (drop (i + 1) es)) in

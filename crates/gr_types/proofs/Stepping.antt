@@ -14,8 +14,8 @@ use Rattle.gr_tree.specs.Statements as statements
 use Rattle.gr_tree.specs.Statements.{Statement, Statements, Clauses, comm_of, for_of, if_of, row_statements, statement_of, statements_of}
 use Rattle.gr_program.specs.declared.program.Stmt as checked_stmt
 use Rattle.gr_program.specs.declared.program.Case as code_case
-use Rattle.gr_types.specs.declared.fault.CheckError.{CheckError}
-use Rattle.gr_types.specs.declared.fault.CheckError.TheVariants as errors
+use Rattle.gr_types.specs.declared.refusal.CheckError.{CheckError}
+use Rattle.gr_types.specs.declared.refusal.CheckError.TheVariants as errors
 use Rattle.gr_program.specs.Programs as pure
 use Rattle.gr_program.specs.Programs.{Expr, Opening, Stmts, stop, then, joined, Cases, no_case}
 use Rattle.gr_program.specs.Views.{stmt_of, stmts_of, case_on, cases_of}

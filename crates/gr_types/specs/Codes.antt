@@ -8,26 +8,26 @@ use Rattle.gr_typing.specs.Names.{predeclared, among, is_blank}
 use Rattle.gr_typing.specs.Scopes.{Scope, number_of, Signature, may_name}
 use Rattle.gr_typing.specs.Contexts.{Within}
 use Rattle.gr_typing.specs.FileChecks.{ends_well}
-use Rattle.gr_exprs.specs.declared.fault.Code.{Code}
-use Rattle.gr_exprs.specs.declared.fault.Code.TheVariants as codes
-use Rattle.gr_types.specs.declared.fault.CheckError.{CheckError}
-use Rattle.gr_types.specs.declared.fault.CheckError.TheVariants as refusals
-use Rattle.gr_types.specs.declared.labels.LabelFault.{LabelFault}
-use Rattle.gr_types.specs.declared.labels.LabelFault.TheVariants as label_faults
+use Rattle.gr_exprs.specs.declared.refusal.RefusalCode.{RefusalCode}
+use Rattle.gr_exprs.specs.declared.refusal.RefusalCode.TheVariants as codes
+use Rattle.gr_types.specs.declared.refusal.CheckError.{CheckError}
+use Rattle.gr_types.specs.declared.refusal.CheckError.TheVariants as refusals
+use Rattle.gr_types.specs.declared.labels.LabelError.{LabelError}
+use Rattle.gr_types.specs.declared.labels.LabelError.TheVariants as label_faults
 use Rattle.gr_types.specs.declared.labels.UnfitLabel.{UnfitLabel}
 use Rattle.gr_types.specs.FindingStatements.{Checked}
 use Rattle.gr_types.specs.Outlines.{Outline, OutlineOf, labeled_in}
 use Rattle.gr_exprs.specs.Codes.{name_code}
 
 -- a name that is to be a variable of the type `int`
-abbrev pub variable_code : List Signature → Scope → List ℕ → Code
+abbrev pub variable_code : List Signature → Scope → List ℕ → RefusalCode
 variable_code fs s x = if is_some (number_of s x) then codes.WrongForm else name_code fs s x
 
 abbrev pub is_function : List files.Function → List ℕ → Bool
 is_function [] x = false
 is_function (files.FunctionOf place name groups w body closing ∷ others) x = pointwise nat_eq name x || is_function others x
 
-abbrev pub heading_type_code : List files.Function → WrittenType → Code
+abbrev pub heading_type_code : List files.Function → WrittenType → RefusalCode
 heading_type_code fs (TypeName x) =
     if is_blank x then codes.UnknownName else (if among predeclared x || is_function fs x then codes.WrongForm else codes.UnknownName)
 heading_type_code fs UnitType = codes.WrongForm
@@ -35,16 +35,16 @@ heading_type_code fs (Chan direction element) = heading_type_code fs element
 heading_type_code fs (ParenType inner) = heading_type_code fs inner
 
 -- names on the left of `:=` that may not stand there
-abbrev pub define_code : List (List ℕ) → Code
+abbrev pub define_code : List (List ℕ) → RefusalCode
 define_code names = if may_name names then codes.NoNewVariable else codes.DeclaredTwice
 
-abbrev pub label_code : LabelFault → Code
+abbrev pub label_code : LabelError → RefusalCode
 label_code label_faults.Blank = codes.WrongLabel
 label_code label_faults.DeclaredTwice = codes.DeclaredTwice
 label_code label_faults.Unused = codes.WrongLabel
 
 -- of a rule that is broken at an offset and a label that does not fit, the one that stands first
-abbrev pub earlier_of : Code → ℕ → Option UnfitLabel → Code × ℕ
+abbrev pub earlier_of : RefusalCode → ℕ → Option UnfitLabel → RefusalCode × ℕ
 earlier_of code at None = (code, at)
 earlier_of code at (Some label) = if nat_lt label.place.start at then (label_code label.fault, label.place.start) else (code, at)
 

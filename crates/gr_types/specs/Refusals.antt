@@ -1,7 +1,7 @@
 -- What it says of a file that it was refused.
 use Rattle.gr_tree.specs.Files.{FileTree}
-use Rattle.gr_types.specs.declared.fault.CheckError.{CheckError}
-use Rattle.gr_types.specs.declared.fault.CheckError.TheVariants as errors
+use Rattle.gr_types.specs.declared.refusal.CheckError.{CheckError}
+use Rattle.gr_types.specs.declared.refusal.CheckError.TheVariants as errors
 use Rattle.gr_program.specs.Programs.{Program}
 use Rattle.gr_typing.specs.FileChecks.{ProgramOf}
 

@@ -1,7 +1,7 @@
 //! Statements with no statements in them.
 ghost use Rattle.std.specs.Prelude.{◌≡◌, Err, is_some};
-ghost use Rattle.gr_exprs.specs.declared.fault.Fault.TheVariants as faults;
-ghost use Rattle.gr_exprs.specs.declared.fault.Code.TheVariants as codes;
+ghost use Rattle.gr_exprs.specs.declared.refusal.RuleError.TheVariants as faults;
+ghost use Rattle.gr_exprs.specs.declared.refusal.RefusalCode.TheVariants as codes;
 ghost use Rattle.gr_tree.specs.Exprs.{tree_of};
 ghost use Rattle.gr_tree.specs.Statements as trees;
 ghost use Rattle.gr_tree.specs.Statements.{optional};
@@ -25,10 +25,10 @@ use crate::context::{Context, Nest, break_depth, continue_depth};
 use crate::expression_statements::expression_statement;
 use gr_exprs::calls::unusable;
 use gr_exprs::expressions::{call_in, find};
-use gr_exprs::fault::{Code, Fault};
 use gr_exprs::functions::Functions;
 use gr_exprs::operands::{Operand, as_type, of_kind};
 use gr_exprs::operators::{binary_type, may_stand_right};
+use gr_exprs::refusal::{RefusalCode, RuleError};
 use gr_exprs::scope::Scope;
 use gr_program as checked;
 use gr_program::{Act, Literal, Type};
@@ -37,28 +37,28 @@ use std::alloc::Global;
 
 // The variable that a name stands for, which is a whole number.
 #[tactic(auto, unfolding(crate::specs::FindingStatements::number_variable, crate::specs::FindingStatements::variable_in))]
-fn number_variable(functions: &Functions, scope: &Scope, name: &[u8]) -> Result<usize, Fault>
+fn number_variable(functions: &Functions, scope: &Scope, name: &[u8]) -> Result<usize, RuleError>
     ensures value { Agrees (λ k. k) result (spec.number_variable (scope_of scope.now) name.now) }
     ensures code { Tells result (variable_code (functions_of functions.now) (scope_of scope.now) name.now) }
 {
     let Some(number) = scope.number_of(name) else {
-        return Err(Fault::Broken(unusable(functions, scope, name)));
+        return Err(RuleError::Broken(unusable(functions, scope, name)));
     };
     match scope.type_of(number) {
         Some(Type::Int) => Ok(number),
-        _ => Err(Fault::Broken(Code::WrongForm)),
+        _ => Err(RuleError::Broken(RefusalCode::WrongForm)),
     }
 }
 
 // An assignment of a variable's value and this one, joined by an operator that gives a whole number.
-fn update_by(op: BinaryOp, variable: usize, value: Operand) -> Result<Act, Fault>
+fn update_by(op: BinaryOp, variable: usize, value: Operand) -> Result<Act, RuleError>
     ensures { Agrees act_of result (spec.updated op variable (meaning_of value)) }
 {
     let Some(Type::Int) = binary_type(op, &Type::Int, &Type::Int) else {
-        return Err(Fault::Broken(Code::WrongForm));
+        return Err(RuleError::Broken(RefusalCode::WrongForm));
     };
     if !may_stand_right(op, &value) {
-        return Err(Fault::Broken(Code::Constant));
+        return Err(RuleError::Broken(RefusalCode::Constant));
     }
     let value = of_kind(&Type::Int, value)?;
     Ok(Act::Update {
@@ -77,8 +77,9 @@ fn update(
     name: &[u8],
     op: BinaryOp,
     expr: &Expr,
-) -> Result<Act, Fault>
-    ensures { Agrees (λ a. (act_of a, scope_of scope.now)) result (spec.simple_in (functions_of functions.now) (scope_of scope.now) (trees.Update name.now op (tree_of expr.now))) }
+) -> Result<Act, RuleError>
+    ensures { Agrees (λ a. (act_of a, scope_of scope.now)) result
+        (spec.simple_in (functions_of functions.now) (scope_of scope.now) (trees.Update name.now op (tree_of expr.now))) }
 {
     let variable = number_variable(functions, scope, name)?;
     let value = find(alloc, functions, scope, expr)?;
@@ -104,8 +105,9 @@ pub fn simple(
     functions: &Functions,
     scope: &mut Scope,
     simple: &Simple,
-) -> Result<Act, Fault>
-    ensures { Agrees (λ a. (act_of a, scope_of scope.new)) result (spec.simple_in (functions_of functions.now) (scope_of scope.old) (trees.simple_of simple.now)) }
+) -> Result<Act, RuleError>
+    ensures { Agrees (λ a. (act_of a, scope_of scope.new)) result
+        (spec.simple_in (functions_of functions.now) (scope_of scope.old) (trees.simple_of simple.now)) }
 {
     match simple {
         Simple::Eval(expr) => expression_statement(alloc, functions, scope, expr),
@@ -135,8 +137,10 @@ fn return_value(
     scope: &Scope,
     result_type: &Option<Type>,
     expr: &Option<Expr>,
-) -> Result<Option<checked::Expr>, Fault>
-    ensures value { Agrees (optional expr_of) result (spec.returned_in (functions_of functions.now) (scope_of scope.now) (optional ty_of result_type.now) (optional tree_of expr.now)) }
+) -> Result<Option<checked::Expr>, RuleError>
+    ensures value { Agrees (optional expr_of) result
+        (spec.returned_in (functions_of functions.now) (scope_of scope.now) (optional ty_of result_type.now)
+        (optional tree_of expr.now)) }
     // A value where none is wanted, or none where one is, is told as a wrong count.
     ensures count { (is_some result_type.now ≡ is_some expr.now → ⊥) → result ≡ Err (faults.Broken codes.WrongCount) }
 {
@@ -146,19 +150,19 @@ fn return_value(
             let value = find(alloc, functions, scope, expr)?;
             Ok(Some(as_type(own, value)?))
         }
-        _ => Err(Fault::Broken(Code::WrongCount)),
+        _ => Err(RuleError::Broken(RefusalCode::WrongCount)),
     }
 }
 
 // Which of the statements around a place a break leaves.
-fn break_of(label: &Option<Vec<u8>>, nest: &Nest) -> Result<usize, Fault>
+fn break_of(label: &Option<Vec<u8>>, nest: &Nest) -> Result<usize, RuleError>
     ensures { Agrees (λ k. k) result (first_where (is_left (optional trees.name_of label.now)) (nest_of nest.now)) }
 {
     break_depth(label.as_deref(), nest)
 }
 
 // Which of the statements around a place a continue begins anew.
-fn continue_of(label: &Option<Vec<u8>>, nest: &Nest) -> Result<usize, Fault>
+fn continue_of(label: &Option<Vec<u8>>, nest: &Nest) -> Result<usize, RuleError>
     ensures { Agrees (λ k. k) result (first_where (is_continued (optional trees.name_of label.now)) (nest_of nest.now)) }
 {
     continue_depth(label.as_deref(), nest)
@@ -171,8 +175,9 @@ pub fn act(
     context: &Context,
     scope: &mut Scope,
     action: &Action,
-) -> Result<Act, Fault>
-    ensures { Agrees (λ a. (act_of a, scope_of scope.new)) result (spec.act_in (context_of context.now) (scope_of scope.old) (trees.act_of action.now)) }
+) -> Result<Act, RuleError>
+    ensures { Agrees (λ a. (act_of a, scope_of scope.new)) result
+        (spec.act_in (context_of context.now) (scope_of scope.old) (trees.act_of action.now)) }
 {
     let functions = context.functions;
     match action {

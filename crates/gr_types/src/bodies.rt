@@ -14,13 +14,13 @@ ghost use Rattle.gr_types.specs.Codes as spec_codes;
 
 use crate::context::{Context, Nest};
 use crate::endings::ends;
-use crate::fault::{CheckError, refused};
-use crate::labels::{LabelFault, UnfitLabel, unfit_label};
+use crate::labels::{LabelError, UnfitLabel, unfit_label};
 use crate::outlines::Outline;
+use crate::refusal::{CheckError, refused};
 use crate::statements::body;
-use gr_exprs::fault::{Code, Fault};
 use gr_exprs::functions::Functions;
 use gr_exprs::names::copy;
+use gr_exprs::refusal::{RefusalCode, RuleError};
 use gr_exprs::scope::Scope;
 use gr_program as checked;
 use gr_program::Function;
@@ -28,17 +28,17 @@ use gr_program::order::is_in_order;
 use gr_tree::Stmt;
 use std::alloc::Global;
 
-fn label_code(fault: LabelFault) -> Code
+fn label_code(fault: LabelError) -> RefusalCode
     ensures { result ≡ spec_codes.label_code fault }
 {
     match fault {
-        LabelFault::Blank | LabelFault::Unused => Code::WrongLabel,
-        LabelFault::DeclaredTwice => Code::DeclaredTwice,
+        LabelError::Blank | LabelError::Unused => RefusalCode::WrongLabel,
+        LabelError::DeclaredTwice => RefusalCode::DeclaredTwice,
     }
 }
 
 // The rule that is broken first, and where: that of a statement, or that of a label.
-fn earlier(code: Code, at: usize, unfit: Option<UnfitLabel>) -> (Code, usize)
+fn earlier(code: RefusalCode, at: usize, unfit: Option<UnfitLabel>) -> (RefusalCode, usize)
     ensures { result ≡ spec_codes.earlier_of code at unfit }
 {
     match unfit {
@@ -54,7 +54,8 @@ fn labeled(
     scope: &mut Scope,
     stmts: &[Stmt],
 ) -> Result<Vec<checked::Stmt>, CheckError>
-    ensures { Settles (λ v. (stmts_of v.items, scope_of scope.new)) result (spec.labeled_in (context_of context.now) (scope_of scope.old) (statements_of stmts.now)) }
+    ensures { Settles (λ v. (stmts_of v.items, scope_of scope.new)) result
+        (spec.labeled_in (context_of context.now) (scope_of scope.old) (statements_of stmts.now)) }
 {
     let unfit = unfit_label(alloc, stmts)?;
     let steps = match body(alloc, context, scope, stmts) {
@@ -95,12 +96,12 @@ fn finish(alloc: Global, functions: &Functions, outline: Outline) -> Result<Func
     let body = labeled(alloc, &context, &mut scope, &func.body)?;
     if wanted.is_some() && !ends(&func.body) {
         return Err(CheckError::Refused {
-            code: Code::MissingReturn,
+            code: RefusalCode::MissingReturn,
             at: func.end.start,
         });
     }
     if !is_in_order(func.place.start, &body, func.end.start) {
-        return Err(refused(Fault::Broken(Code::WrongForm), func.place));
+        return Err(refused(RuleError::Broken(RefusalCode::WrongForm), func.place));
     }
     Ok(Function {
         name: copy(alloc, &func.name)?,
@@ -118,7 +119,8 @@ pub fn bodies(
     functions: &Functions,
     outlines: Vec<Outline>,
 ) -> Result<Vec<Function>, CheckError>
-    ensures { Settles (λ v. programs.functions_of v.items) result (spec.finished_all (functions_of functions.now) (outlines_of outlines.entry.items)) }
+    ensures { Settles (λ v. programs.functions_of v.items) result
+        (spec.finished_all (functions_of functions.now) (outlines_of outlines.entry.items)) }
 {
     let mut finished = Vec::new(alloc);
     for outline in outlines {

@@ -8,9 +8,9 @@ ghost use Rattle.gr_types.specs.Outlines.{program_read};
 ghost use Rattle.gr_types.specs.Checking.{Settles};
 
 use crate::bodies::bodies;
-use crate::fault::CheckError;
 use crate::outlines::headings;
-use gr_exprs::fault::Code;
+use crate::refusal::CheckError;
+use gr_exprs::refusal::RefusalCode;
 use gr_program::Program;
 use gr_tree::File;
 use std::alloc::Global;
@@ -20,7 +20,7 @@ fn read(alloc: Global, file: &File) -> Result<Program, CheckError>
     ensures { Settles program_of result (program_read (file_of file.now)) }
 {
     let no_main = CheckError::Refused {
-        code: Code::NoMain,
+        code: RefusalCode::NoMain,
         at: file.place.start,
     };
     if file.package.as_slice() != b"main".as_slice() {

@@ -13,9 +13,9 @@ ghost use Rattle.gr_types.specs.ActViews.{awaited_of, sent_of};
 use crate::assigning::definition::define_targets;
 use crate::assigning::targets::targets_for;
 use gr_exprs::expressions::find;
-use gr_exprs::fault::{Code, Fault};
 use gr_exprs::functions::Functions;
 use gr_exprs::operands::{Operand, as_channel, as_type};
+use gr_exprs::refusal::{RefusalCode, RuleError};
 use gr_exprs::scope::Scope;
 use gr_exprs::types::{may_receive, may_send, zero};
 use gr_program as checked;
@@ -39,12 +39,12 @@ pub enum Awaited {
 }
 
 /// A value as a channel that values are received from: the type of its elements, and the channel.
-pub fn received_from(value: Operand) -> Result<(Type, checked::Expr), Fault>
+pub fn received_from(value: Operand) -> Result<(Type, checked::Expr), RuleError>
     ensures { Agrees typed_of result (received_from (meaning_of value)) }
 {
     let channel = as_channel(value)?;
     if !may_receive(channel.direction) {
-        return Err(Fault::Broken(Code::WrongDirection));
+        return Err(RuleError::Broken(RefusalCode::WrongDirection));
     }
     Ok((channel.element, channel.term))
 }
@@ -56,7 +56,7 @@ pub fn receive_of(
     functions: &Functions,
     scope: &Scope,
     expr: &Expr,
-) -> Result<(Type, checked::Expr), Fault>
+) -> Result<(Type, checked::Expr), RuleError>
     ensures { Agrees typed_of result (spec.receive_in (functions_of functions.now) (scope_of scope.now) (tree_of expr.now)) }
 {
     match expr {
@@ -64,7 +64,7 @@ pub fn receive_of(
         Expr::Unary(UnaryOp::Receive, operand) => {
             received_from(find(alloc, functions, scope, operand)?)
         }
-        _ => Err(Fault::Broken(Code::WrongForm)),
+        _ => Err(RuleError::Broken(RefusalCode::WrongForm)),
     }
 }
 
@@ -76,12 +76,13 @@ pub fn send_of(
     scope: &Scope,
     channel: &Expr,
     value: &Expr,
-) -> Result<(checked::Expr, checked::Expr), Fault>
-    ensures { Agrees sent_of result (spec.send_in (functions_of functions.now) (scope_of scope.now) (tree_of channel.now) (tree_of value.now)) }
+) -> Result<(checked::Expr, checked::Expr), RuleError>
+    ensures { Agrees sent_of result
+        (spec.send_in (functions_of functions.now) (scope_of scope.now) (tree_of channel.now) (tree_of value.now)) }
 {
     let channel = as_channel(find(alloc, functions, scope, channel)?)?;
     if !may_send(channel.direction) {
-        return Err(Fault::Broken(Code::WrongDirection));
+        return Err(RuleError::Broken(RefusalCode::WrongDirection));
     }
     let value = as_type(&channel.element, find(alloc, functions, scope, value)?)?;
     Ok((channel.term, value))
@@ -95,8 +96,10 @@ fn awaits_assigned(
     scope: &Scope,
     names: &[Vec<u8>],
     expr: &Expr,
-) -> Result<Awaited, Fault>
-    ensures { Agrees (λ o. (awaited_of o, scope_of scope.now)) result (spec.comm_in (functions_of functions.now) (scope_of scope.now) (trees.AssignTo (names_of names.now) (tree_of expr.now))) }
+) -> Result<Awaited, RuleError>
+    ensures { Agrees (λ o. (awaited_of o, scope_of scope.now)) result
+        (spec.comm_in (functions_of functions.now) (scope_of scope.now)
+        (trees.AssignTo (names_of names.now) (tree_of expr.now))) }
 {
     let (element, channel) = receive_of(alloc, functions, scope, expr)?;
     let zero = zero(&element);
@@ -117,8 +120,10 @@ fn awaits_defined(
     scope: &mut Scope,
     names: &[Vec<u8>],
     expr: &Expr,
-) -> Result<Awaited, Fault>
-    ensures { Agrees (λ o. (awaited_of o, scope_of scope.new)) result (spec.comm_in (functions_of functions.now) (scope_of scope.old) (trees.DefineAs (names_of names.now) (tree_of expr.now))) }
+) -> Result<Awaited, RuleError>
+    ensures { Agrees (λ o. (awaited_of o, scope_of scope.new)) result
+        (spec.comm_in (functions_of functions.now) (scope_of scope.old)
+        (trees.DefineAs (names_of names.now) (tree_of expr.now))) }
 {
     let (element, channel) = receive_of(alloc, functions, scope, expr)?;
     let zero = zero(&element);
@@ -138,8 +143,9 @@ pub fn awaits(
     functions: &Functions,
     scope: &mut Scope,
     communication: &Communication,
-) -> Result<Awaited, Fault>
-    ensures { Agrees (λ o. (awaited_of o, scope_of scope.new)) result (spec.comm_in (functions_of functions.now) (scope_of scope.old) (comm_of communication.now)) }
+) -> Result<Awaited, RuleError>
+    ensures { Agrees (λ o. (awaited_of o, scope_of scope.new)) result
+        (spec.comm_in (functions_of functions.now) (scope_of scope.old) (comm_of communication.now)) }
 {
     match communication {
         Communication::Send(channel, value) => {

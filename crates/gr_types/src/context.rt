@@ -8,10 +8,10 @@ ghost use Rattle.gr_typing.specs.Scopes.{first_where, next_number};
 ghost use Rattle.gr_exprs.specs.Checking.{Agrees};
 ghost use Rattle.gr_types.specs.ContextViews.{around_of, nest_of, context_of};
 ghost use Rattle.gr_exprs.specs.Codes.{Tells};
-ghost use Rattle.gr_exprs.specs.declared.fault.Code.TheVariants as codes;
+ghost use Rattle.gr_exprs.specs.declared.refusal.RefusalCode.TheVariants as codes;
 
-use gr_exprs::fault::{Code, Fault};
 use gr_exprs::functions::Functions;
+use gr_exprs::refusal::{RefusalCode, RuleError};
 use gr_program::Type;
 
 /// A for or a select statement, with the label directly before it, if it has one.
@@ -67,35 +67,36 @@ fn is_continued(label: Option<&[u8]>, around: &Around) -> bool
 }
 
 // One further out. No text is long enough for as many statements around each other as there are numbers.
-fn next(number: usize) -> Result<usize, Fault>
+fn next(number: usize) -> Result<usize, RuleError>
     ensures value { Agrees (λ k. k) result (next_number (Some number)) }
     ensures code { Tells result codes.WrongLabel }
 {
     match number.checked_add(1) {
         Some(next) => Ok(next),
-        None => Err(Fault::Memory),
+        None => Err(RuleError::Memory),
     }
 }
 
 /// Which of the statements around a place a break leaves, counted outwards from the nearest, which is 0.
-pub fn break_depth(label: Option<&[u8]>, nest: &Nest) -> Result<usize, Fault>
+pub fn break_depth(label: Option<&[u8]>, nest: &Nest) -> Result<usize, RuleError>
     ensures value { Agrees (λ k. k) result (first_where (spec.is_left (optional (λ x. x.now) label.entry)) (nest_of nest.now)) }
     ensures code { Tells result codes.WrongLabel }
 {
     match nest {
-        Nest::Outside => Err(Fault::Broken(Code::WrongLabel)),
+        Nest::Outside => Err(RuleError::Broken(RefusalCode::WrongLabel)),
         Nest::Inside(around, _) if is_left(label, around) => Ok(0),
         Nest::Inside(_, outer) => next(break_depth(label, outer)?),
     }
 }
 
 /// Which of the statements around a place a continue begins anew, counted outwards from the nearest, which is 0.
-pub fn continue_depth(label: Option<&[u8]>, nest: &Nest) -> Result<usize, Fault>
-    ensures value { Agrees (λ k. k) result (first_where (spec.is_continued (optional (λ x. x.now) label.entry)) (nest_of nest.now)) }
+pub fn continue_depth(label: Option<&[u8]>, nest: &Nest) -> Result<usize, RuleError>
+    ensures value { Agrees (λ k. k) result
+        (first_where (spec.is_continued (optional (λ x. x.now) label.entry)) (nest_of nest.now)) }
     ensures code { Tells result codes.WrongLabel }
 {
     match nest {
-        Nest::Outside => Err(Fault::Broken(Code::WrongLabel)),
+        Nest::Outside => Err(RuleError::Broken(RefusalCode::WrongLabel)),
         Nest::Inside(around, _) if is_continued(label, around) => Ok(0),
         Nest::Inside(_, outer) => next(continue_depth(label, outer)?),
     }
@@ -104,7 +105,8 @@ pub fn continue_depth(label: Option<&[u8]>, nest: &Nest) -> Result<usize, Fault>
 impl<'a> Context<'a> {
     /// What is around a statement within the body of a for or a select.
     pub fn within(&'a self, nest: &'a Nest<'a>) -> Context<'a>
-        ensures { context_of result ≡ spec.Within (spec.functions (context_of self.now)) (optional ty_of self.now.result.now) (nest_of nest.now) }
+        ensures { context_of result ≡ spec.Within (spec.functions (context_of self.now)) (optional ty_of self.now.result.now)
+            (nest_of nest.now) }
     {
         Context {
             functions: self.functions,

@@ -13,10 +13,10 @@ ghost use Rattle.gr_exprs.specs.Checking.{Agrees, meaning_of, called_of};
 use crate::communications::receive_of;
 use gr_exprs::calls::{Called, call, resolve};
 use gr_exprs::expressions::{call_in, find, find_all};
-use gr_exprs::fault::{Code, Fault};
 use gr_exprs::functions::Functions;
 use gr_exprs::names::copy;
 use gr_exprs::operands::{Operand, as_channel, with_type};
+use gr_exprs::refusal::{RefusalCode, RuleError};
 use gr_exprs::scope::Scope;
 use gr_exprs::types::{may_send, zero};
 use gr_program as checked;
@@ -31,13 +31,14 @@ fn only(
     functions: &Functions,
     scope: &Scope,
     arguments: &[Expr],
-) -> Result<Operand, Fault>
-    ensures { Agrees meaning_of result (finding.only_in (functions_of functions.now) (scope_of scope.now) (trees_of arguments.now)) }
+) -> Result<Operand, RuleError>
+    ensures { Agrees meaning_of result
+        (finding.only_in (functions_of functions.now) (scope_of scope.now) (trees_of arguments.now)) }
 {
     match arguments {
-        [] => Err(Fault::Broken(Code::WrongCount)),
+        [] => Err(RuleError::Broken(RefusalCode::WrongCount)),
         [argument] => find(alloc, functions, scope, argument),
-        [_, _, ..] => Err(Fault::Broken(Code::WrongCount)),
+        [_, _, ..] => Err(RuleError::Broken(RefusalCode::WrongCount)),
     }
 }
 
@@ -46,23 +47,23 @@ fn close(
     functions: &Functions,
     scope: &Scope,
     arguments: &[Expr],
-) -> Result<Act, Fault>
+) -> Result<Act, RuleError>
     ensures { Agrees act_of result (parts.closing (functions_of functions.now) (scope_of scope.now) (trees_of arguments.now)) }
 {
     let channel = as_channel(only(alloc, functions, scope, arguments)?)?;
     if !may_send(channel.direction) {
-        return Err(Fault::Broken(Code::WrongDirection));
+        return Err(RuleError::Broken(RefusalCode::WrongDirection));
     }
     Ok(Act::Close(channel.term))
 }
 
-fn printable(value: Operand) -> Result<Printed, Fault>
+fn printable(value: Operand) -> Result<Printed, RuleError>
     ensures { Agrees printed_of result (parts.printed_value (meaning_of value)) }
 {
     let (own, term) = with_type(value)?;
     match own {
         Type::Int | Type::Bool => Ok(Printed::Value(term)),
-        Type::Unit | Type::Chan(_, _) => Err(Fault::Broken(Code::WrongForm)),
+        Type::Unit | Type::Chan(_, _) => Err(RuleError::Broken(RefusalCode::WrongForm)),
     }
 }
 
@@ -71,8 +72,9 @@ fn print_one(
     functions: &Functions,
     scope: &Scope,
     argument: &Expr,
-) -> Result<Printed, Fault>
-    ensures { Agrees printed_of result (parts.printed_one (functions_of functions.now) (scope_of scope.now) (tree_of argument.now)) }
+) -> Result<Printed, RuleError>
+    ensures { Agrees printed_of result
+        (parts.printed_one (functions_of functions.now) (scope_of scope.now) (tree_of argument.now)) }
 {
     match argument {
         Expr::Text(bytes) => Ok(Printed::Text(copy(alloc, bytes)?)),
@@ -86,8 +88,9 @@ fn print_all(
     functions: &Functions,
     scope: &Scope,
     arguments: &[Expr],
-) -> Result<Vec<Printed>, Fault>
-    ensures { Agrees (λ v. prints_of v.items) result (spec.printed_in (functions_of functions.now) (scope_of scope.now) (trees_of arguments.now)) }
+) -> Result<Vec<Printed>, RuleError>
+    ensures { Agrees (λ v. prints_of v.items) result
+        (spec.printed_in (functions_of functions.now) (scope_of scope.now) (trees_of arguments.now)) }
 {
     let mut printed = Vec::with_capacity(alloc, arguments.len())?;
     for argument in arguments {
@@ -102,7 +105,7 @@ fn print(
     functions: &Functions,
     scope: &Scope,
     arguments: &[Expr],
-) -> Result<Act, Fault>
+) -> Result<Act, RuleError>
     ensures { Agrees act_of result (parts.printing (functions_of functions.now) (scope_of scope.now) (trees_of arguments.now)) }
 {
     Ok(Act::Print(print_all(alloc, functions, scope, arguments)?))
@@ -115,13 +118,13 @@ fn unused(
     scope: &Scope,
     name: &[u8],
     arguments: &[Expr],
-) -> Result<Act, Fault>
+) -> Result<Act, RuleError>
     ensures { Agrees act_of result None }
 {
     let callee = resolve(functions, scope, name)?;
     let values = find_all(alloc, functions, scope, arguments)?;
     call(alloc, functions, callee, values)?;
-    Err(Fault::Broken(Code::WrongForm))
+    Err(RuleError::Broken(RefusalCode::WrongForm))
 }
 
 fn run_built_in(
@@ -130,8 +133,9 @@ fn run_built_in(
     scope: &Scope,
     name: &[u8],
     arguments: &[Expr],
-) -> Result<Act, Fault>
-    ensures { Agrees act_of result (spec.run_built_in (functions_of functions.now) (scope_of scope.now) name.now (trees_of arguments.now)) }
+) -> Result<Act, RuleError>
+    ensures { Agrees act_of result (spec.run_built_in (functions_of functions.now) (scope_of scope.now) name.now
+        (trees_of arguments.now)) }
 {
     if name == b"close".as_slice() {
         close(alloc, functions, scope, arguments)
@@ -155,8 +159,9 @@ fn run_function(
     scope: &Scope,
     name: &[u8],
     arguments: &[Expr],
-) -> Result<Act, Fault>
-    ensures { Agrees act_of result (parts.running (functions_of functions.now) (scope_of scope.now) name.now (trees_of arguments.now)) }
+) -> Result<Act, RuleError>
+    ensures { Agrees act_of result (parts.running (functions_of functions.now) (scope_of scope.now) name.now
+        (trees_of arguments.now)) }
 {
     let called = call_in(alloc, functions, scope, name, arguments)?;
     Ok(without_result(called))
@@ -169,14 +174,15 @@ fn run_call(
     scope: &Scope,
     name: &[u8],
     arguments: &[Expr],
-) -> Result<Act, Fault>
-    ensures { Agrees act_of result (spec.run_call (functions_of functions.now) (scope_of scope.now) name.now (trees_of arguments.now)) }
+) -> Result<Act, RuleError>
+    ensures { Agrees act_of result (spec.run_call (functions_of functions.now) (scope_of scope.now) name.now
+        (trees_of arguments.now)) }
 {
     if functions.number(name).is_some() {
         return run_function(alloc, functions, scope, name, arguments);
     }
     if scope.variable_named(name).is_some() {
-        return Err(Fault::Broken(Code::WrongForm));
+        return Err(RuleError::Broken(RefusalCode::WrongForm));
     }
     run_built_in(alloc, functions, scope, name, arguments)
 }
@@ -187,7 +193,7 @@ fn run_receive(
     functions: &Functions,
     scope: &Scope,
     expr: &Expr,
-) -> Result<Act, Fault>
+) -> Result<Act, RuleError>
     ensures { Agrees act_of result (parts.receiving (functions_of functions.now) (scope_of scope.now) (tree_of expr.now)) }
 {
     let (element, channel) = receive_of(alloc, functions, scope, expr)?;
@@ -201,11 +207,11 @@ fn no_statement(
     functions: &Functions,
     scope: &Scope,
     expr: &Expr,
-) -> Result<Act, Fault>
+) -> Result<Act, RuleError>
     ensures { Agrees act_of result None }
 {
     find(alloc, functions, scope, expr)?;
-    Err(Fault::Broken(Code::WrongForm))
+    Err(RuleError::Broken(RefusalCode::WrongForm))
 }
 
 /// An expression as a statement: a call of a function, of `close` or `println`, or a receive.
@@ -215,14 +221,14 @@ pub fn expression_statement(
     functions: &Functions,
     scope: &Scope,
     expr: &Expr,
-) -> Result<Act, Fault>
+) -> Result<Act, RuleError>
     ensures { Agrees act_of result (spec.runs_in (functions_of functions.now) (scope_of scope.now) (tree_of expr.now)) }
 {
     match expr {
         Expr::Paren(inner) => expression_statement(alloc, functions, scope, inner),
         Expr::Unary(UnaryOp::Receive, _) => run_receive(alloc, functions, scope, expr),
         Expr::Call(name, arguments) => run_call(alloc, functions, scope, name, arguments),
-        Expr::Make(_) | Expr::MakeSized(_, _) => Err(Fault::Broken(Code::WrongForm)),
+        Expr::Make(_) | Expr::MakeSized(_, _) => Err(RuleError::Broken(RefusalCode::WrongForm)),
         expr => no_statement(alloc, functions, scope, expr),
     }
 }

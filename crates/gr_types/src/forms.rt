@@ -31,14 +31,16 @@ pub fn conditional(
     body: Vec<checked::Stmt>,
     otherwise: Vec<checked::Stmt>,
 ) -> checked::Stmt
-    ensures { stmt_of result ≡ pure.If place (optional opening_of parts.init) (expr_of parts.condition) (stmts_of body.items) (stmts_of otherwise.items) }
+    ensures { stmt_of result ≡ pure.If place (optional opening_of parts.init) (expr_of parts.condition) (stmts_of body.items)
+        (stmts_of otherwise.items) }
 {
     let IfParts { init, condition } = parts;
     checked::forms::conditional(place, init, condition, body, otherwise)
 }
 
 pub fn repeated(place: Place, parts: LoopParts, body: Vec<checked::Stmt>) -> checked::Stmt
-    ensures { stmt_of result ≡ pure.For place (optional opening_of parts.init) (optional expr_of parts.condition) (optional opening_of parts.post) (stmts_of body.items) }
+    ensures { stmt_of result ≡ pure.For place (optional opening_of parts.init) (optional expr_of parts.condition)
+        (optional opening_of parts.post) (stmts_of body.items) }
 {
     let LoopParts {
         init,

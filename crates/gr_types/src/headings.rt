@@ -14,12 +14,12 @@ use crate::acts::simple;
 use crate::assigning::definition::define_target;
 use crate::assigning::targets::target_for;
 use crate::communications::received_from;
-use crate::fault::{CheckError, refused};
+use crate::refusal::{CheckError, refused};
 use gr_const::Constant;
 use gr_exprs::expressions::find;
-use gr_exprs::fault::{Code, Fault};
 use gr_exprs::functions::Functions;
 use gr_exprs::operands::{Operand, of_kind};
+use gr_exprs::refusal::{RefusalCode, RuleError};
 use gr_exprs::scope::Scope;
 use gr_program as checked;
 use gr_program::types::copy;
@@ -56,7 +56,8 @@ fn header_act(
     scope: &mut Scope,
     header: &Header,
 ) -> Result<Act, CheckError>
-    ensures { Settles (λ a. (act_of a, scope_of scope.new)) result (spec.simple_in (functions_of functions.now) (scope_of scope.old) (simple_of header.now.simple)) }
+    ensures { Settles (λ a. (act_of a, scope_of scope.new)) result
+        (spec.simple_in (functions_of functions.now) (scope_of scope.old) (simple_of header.now.simple)) }
 {
     match simple(alloc, functions, scope, &header.simple) {
         Ok(act) => Ok(act),
@@ -72,7 +73,8 @@ fn opening(
     scope: &mut Scope,
     header: &Option<Box<Header>>,
 ) -> Result<Option<Box<Opening>>, CheckError>
-    ensures { Settles (λ o. (optional opening_of o, scope_of scope.new)) result (spec.opening_in (functions_of functions.now) (scope_of scope.old) (optional heading_of header.now)) }
+    ensures { Settles (λ o. (optional opening_of o, scope_of scope.new)) result
+        (spec.opening_in (functions_of functions.now) (scope_of scope.old) (optional heading_of header.now)) }
 {
     let Some(header) = header else {
         return Ok(None);
@@ -90,11 +92,12 @@ fn post_statement(
     scope: &mut Scope,
     header: &Option<Box<Header>>,
 ) -> Result<Option<Box<Opening>>, CheckError>
-    ensures { Settles (λ o. (optional opening_of o, scope_of scope.new)) result (spec.post_in (functions_of functions.now) (scope_of scope.old) (optional heading_of header.now)) }
+    ensures { Settles (λ o. (optional opening_of o, scope_of scope.new)) result
+        (spec.post_in (functions_of functions.now) (scope_of scope.old) (optional heading_of header.now)) }
 {
     if let Some(post) = header {
         if let Simple::Define(_, _) = post.simple {
-            return Err(refused(Fault::Broken(Code::WrongForm), post.place));
+            return Err(refused(RuleError::Broken(RefusalCode::WrongForm), post.place));
         }
     }
     opening(alloc, functions, scope, header)
@@ -106,11 +109,11 @@ fn truth(
     functions: &Functions,
     scope: &Scope,
     expr: &Expr,
-) -> Result<checked::Expr, Fault>
+) -> Result<checked::Expr, RuleError>
     ensures { Agrees expr_of result (spec.condition_in (functions_of functions.now) (scope_of scope.now) (tree_of expr.now)) }
 {
     match find(alloc, functions, scope, expr)? {
-        Operand::Constant(Constant::Whole(_)) => Err(Fault::Broken(Code::WrongForm)),
+        Operand::Constant(Constant::Whole(_)) => Err(RuleError::Broken(RefusalCode::WrongForm)),
         value => of_kind(&Type::Bool, value),
     }
 }
@@ -138,7 +141,8 @@ fn loop_condition(
     place: Place,
     expr: &Option<Expr>,
 ) -> Result<Option<checked::Expr>, CheckError>
-    ensures { Settles (λ o. optional expr_of o) result (spec.loop_condition_in (functions_of functions.now) (scope_of scope.now) (optional tree_of expr.now)) }
+    ensures { Settles (λ o. optional expr_of o) result
+        (spec.loop_condition_in (functions_of functions.now) (scope_of scope.now) (optional tree_of expr.now)) }
 {
     let Some(expr) = expr else {
         return Ok(None);
@@ -155,7 +159,8 @@ pub fn if_parts(
     place: Place,
     head: &IfHead,
 ) -> Result<IfParts, CheckError>
-    ensures { Settles (λ p. (if_parts_of p, scope_of scope.new)) result (spec.if_head_in (functions_of functions.now) (scope_of scope.old) (if_of head.now)) }
+    ensures { Settles (λ p. (if_parts_of p, scope_of scope.new)) result
+        (spec.if_head_in (functions_of functions.now) (scope_of scope.old) (if_of head.now)) }
 {
     let init = opening(alloc, functions, scope, &head.init)?;
     let condition = condition(alloc, functions, scope, place, &head.condition)?;
@@ -173,7 +178,9 @@ pub fn loop_parts(
     condition: &Option<Expr>,
     post: &Option<Box<Header>>,
 ) -> Result<LoopParts, CheckError>
-    ensures { Settles (λ p. (loop_parts_of p, scope_of scope.new)) result (spec.for_parts (functions_of functions.now) (scope_of scope.old) (optional heading_of init.now) (optional tree_of condition.now) (optional heading_of post.now)) }
+    ensures { Settles (λ p. (loop_parts_of p, scope_of scope.new)) result
+        (spec.for_parts (functions_of functions.now) (scope_of scope.old) (optional heading_of init.now)
+        (optional tree_of condition.now) (optional heading_of post.now)) }
 {
     let init = opening(alloc, functions, scope, init)?;
     let condition = loop_condition(alloc, functions, scope, place, condition)?;
@@ -193,8 +200,9 @@ pub fn range_target(
     scope: &mut Scope,
     own: &Type,
     target: &RangeTarget,
-) -> Result<Option<usize>, Fault>
-    ensures { Agrees (λ k. (k, scope_of scope.new)) result (spec.target_in (scope_of scope.old) (ty_of own.now) (target_of target.now)) }
+) -> Result<Option<usize>, RuleError>
+    ensures { Agrees (λ k. (k, scope_of scope.new)) result
+        (spec.target_in (scope_of scope.old) (ty_of own.now) (target_of target.now)) }
 {
     match target {
         RangeTarget::Nothing => Ok(None),
@@ -216,8 +224,9 @@ fn range(
     scope: &mut Scope,
     target: &RangeTarget,
     expr: &Expr,
-) -> Result<RangeParts, Fault>
-    ensures { Agrees (λ p. (range_parts_of p, scope_of scope.new)) result (spec.range_parts (functions_of functions.now) (scope_of scope.old) (target_of target.now) (tree_of expr.now)) }
+) -> Result<RangeParts, RuleError>
+    ensures { Agrees (λ p. (range_parts_of p, scope_of scope.new)) result
+        (spec.range_parts (functions_of functions.now) (scope_of scope.old) (target_of target.now) (tree_of expr.now)) }
 {
     let value = find(alloc, functions, scope, expr)?;
     let (element, channel) = received_from(value)?;
@@ -235,7 +244,8 @@ pub fn range_parts(
     target: &RangeTarget,
     expr: &Expr,
 ) -> Result<RangeParts, CheckError>
-    ensures { Settles (λ p. (range_parts_of p, scope_of scope.new)) result (spec.range_parts (functions_of functions.now) (scope_of scope.old) (target_of target.now) (tree_of expr.now)) }
+    ensures { Settles (λ p. (range_parts_of p, scope_of scope.new)) result
+        (spec.range_parts (functions_of functions.now) (scope_of scope.old) (target_of target.now) (tree_of expr.now)) }
 {
     match range(alloc, functions, scope, target, expr) {
         Ok(parts) => Ok(parts),

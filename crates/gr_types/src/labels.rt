@@ -14,7 +14,7 @@ use std::alloc::{AllocError, Global};
 
 /// Why a label may not stand where it does.
 #[derive(Clone, Copy, Debug, PartialEq, Eq)]
-pub enum LabelFault {
+pub enum LabelError {
     /// C8: the blank identifier is no label.
     Blank,
     /// C2: a label before it in the same function has this name.
@@ -27,7 +27,7 @@ pub enum LabelFault {
 #[derive(Clone, Copy, Debug, PartialEq, Eq)]
 pub struct UnfitLabel {
     pub place: Place,
-    pub fault: LabelFault,
+    pub fault: LabelError,
 }
 
 // Names, each once, in the order in which they were added.
@@ -120,15 +120,16 @@ fn gather_one<'a>(used: &mut NameSet<'a>, statement: &'a Stmt) -> Result<(), All
 }
 
 // What is wrong with a label, where these are declared before it.
-fn fault_of(used: &NameSet, declared: &NameSet, name: &[u8]) -> Option<LabelFault>
-    ensures { is_none result ≡ (not (name_specs.is_blank name.now) && (not (name_specs.among (names_of declared.now) name.now) && name_specs.among (names_of used.now) name.now)) }
+fn fault_of(used: &NameSet, declared: &NameSet, name: &[u8]) -> Option<LabelError>
+    ensures { is_none result ≡ (not (name_specs.is_blank name.now) &&
+        (not (name_specs.among (names_of declared.now) name.now) && name_specs.among (names_of used.now) name.now)) }
 {
     if is_blank(name) {
-        Some(LabelFault::Blank)
+        Some(LabelError::Blank)
     } else if declared.has(name) {
-        Some(LabelFault::DeclaredTwice)
+        Some(LabelError::DeclaredTwice)
     } else if !used.has(name) {
-        Some(LabelFault::Unused)
+        Some(LabelError::Unused)
     } else {
         None
     }
@@ -158,8 +159,10 @@ fn declare_all<'a>(
     declared: &mut NameSet<'a>,
     statements: &'a [Stmt],
 ) -> Result<Option<UnfitLabel>, AllocError>
-    ensures fits { IfOk result (λ r. is_none r ≡ fit_after (names_of used.now) (names_of declared.old) (spec.labels_in (statements_of statements.now))) }
-    ensures names { IfOk result (λ r. is_none r ≡ true → names_of declared.new ≡ names_of declared.old ++ spec.labels_in (statements_of statements.now)) }
+    ensures fits { IfOk result (λ r. is_none r
+        ≡ fit_after (names_of used.now) (names_of declared.old) (spec.labels_in (statements_of statements.now))) }
+    ensures names { IfOk result (λ r. is_none r ≡ true
+        → names_of declared.new ≡ names_of declared.old ++ spec.labels_in (statements_of statements.now)) }
 {
     for statement in statements {
         let unfit = declare_one(used, declared, statement)?;
@@ -176,8 +179,10 @@ fn declare_clauses<'a>(
     declared: &mut NameSet<'a>,
     clauses: &'a [Clause],
 ) -> Result<Option<UnfitLabel>, AllocError>
-    ensures fits { IfOk result (λ r. is_none r ≡ fit_after (names_of used.now) (names_of declared.old) (spec.labels_among (clauses_of clauses.now))) }
-    ensures names { IfOk result (λ r. is_none r ≡ true → names_of declared.new ≡ names_of declared.old ++ spec.labels_among (clauses_of clauses.now)) }
+    ensures fits { IfOk result (λ r. is_none r
+        ≡ fit_after (names_of used.now) (names_of declared.old) (spec.labels_among (clauses_of clauses.now))) }
+    ensures names { IfOk result (λ r. is_none r ≡ true
+        → names_of declared.new ≡ names_of declared.old ++ spec.labels_among (clauses_of clauses.now)) }
 {
     for clause in clauses {
         let unfit = declare_clause(used, declared, clause)?;
@@ -194,8 +199,10 @@ fn declare_clause<'a>(
     declared: &mut NameSet<'a>,
     clause: &'a Clause,
 ) -> Result<Option<UnfitLabel>, AllocError>
-    ensures fits { IfOk result (λ r. is_none r ≡ fit_after (names_of used.now) (names_of declared.old) (spec.labels_in (clause_body clause.now))) }
-    ensures names { IfOk result (λ r. is_none r ≡ true → names_of declared.new ≡ names_of declared.old ++ spec.labels_in (clause_body clause.now)) }
+    ensures fits { IfOk result (λ r. is_none r
+        ≡ fit_after (names_of used.now) (names_of declared.old) (spec.labels_in (clause_body clause.now))) }
+    ensures names { IfOk result (λ r. is_none r ≡ true
+        → names_of declared.new ≡ names_of declared.old ++ spec.labels_in (clause_body clause.now)) }
 {
     match clause {
         Clause::Default(body) | Clause::Case(_, body) => declare_all(used, declared, body),
@@ -208,8 +215,10 @@ fn declare_one<'a>(
     declared: &mut NameSet<'a>,
     statement: &'a Stmt,
 ) -> Result<Option<UnfitLabel>, AllocError>
-    ensures fits { IfOk result (λ r. is_none r ≡ fit_after (names_of used.now) (names_of declared.old) (spec.labels_of (statement_of statement.now))) }
-    ensures names { IfOk result (λ r. is_none r ≡ true → names_of declared.new ≡ names_of declared.old ++ spec.labels_of (statement_of statement.now)) }
+    ensures fits { IfOk result (λ r. is_none r
+        ≡ fit_after (names_of used.now) (names_of declared.old) (spec.labels_of (statement_of statement.now))) }
+    ensures names { IfOk result (λ r. is_none r ≡ true
+        → names_of declared.new ≡ names_of declared.old ++ spec.labels_of (statement_of statement.now)) }
 {
     match statement {
         Stmt::Act(_, _) => Ok(None),

@@ -12,11 +12,11 @@ ghost use Rattle.gr_types.specs.OutlineViews.{outline_of, outlines_of, taken_of}
 ghost use Rattle.gr_exprs.specs.Checking.{Agrees};
 ghost use Rattle.gr_types.specs.Checking.{Settles};
 
-use crate::fault::{CheckError, refused};
 use crate::parameters::{Parameters, result_type, take_groups};
-use gr_exprs::fault::{Code, Fault};
+use crate::refusal::{CheckError, refused};
 use gr_exprs::functions::Functions;
 use gr_exprs::names::{copy, is_predeclared};
+use gr_exprs::refusal::{RefusalCode, RuleError};
 use gr_exprs::scope::Scope;
 use gr_exprs::types::Signature;
 use gr_program::types::copy_optional;
@@ -62,8 +62,9 @@ fn outline_of_heading<'a>(
     func: &'a Func,
     parameters: Parameters,
     wanted: Option<Type>,
-) -> Result<(Signature, Outline<'a>), Fault>
-    ensures { Agrees (λ h. (sign_of h.0, outline_of h.1)) result (spec.headed (trees.function_of func.now) func.now.name.items (taken_of parameters) (optional ty_of wanted)) }
+) -> Result<(Signature, Outline<'a>), RuleError>
+    ensures { Agrees (λ h. (sign_of h.0, outline_of h.1)) result
+        (spec.headed (trees.function_of func.now) func.now.name.items (taken_of parameters) (optional ty_of wanted)) }
 {
     let Parameters {
         types,
@@ -71,7 +72,7 @@ fn outline_of_heading<'a>(
         scope,
     } = parameters;
     if !fits_main(&func.name, &types, &wanted) {
-        return Err(Fault::Broken(Code::NoMain));
+        return Err(RuleError::Broken(RefusalCode::NoMain));
     }
     let signature = Signature {
         name: copy(alloc, &func.name)?,
@@ -96,11 +97,12 @@ fn heading<'a>(
     funcs: &[Func],
     functions: &Functions,
     func: &'a Func,
-) -> Result<(Signature, Outline<'a>), Fault>
-    ensures { Agrees (λ h. (sign_of h.0, outline_of h.1)) result (spec.heading_in (functions_of functions.now) (trees.function_of func.now)) }
+) -> Result<(Signature, Outline<'a>), RuleError>
+    ensures { Agrees (λ h. (sign_of h.0, outline_of h.1)) result
+        (spec.heading_in (functions_of functions.now) (trees.function_of func.now)) }
 {
     if !name_fits(functions, &func.name) {
-        return Err(Fault::Broken(Code::DeclaredTwice));
+        return Err(RuleError::Broken(RefusalCode::DeclaredTwice));
     }
     let parameters = take_groups(alloc, funcs, &func.parameters)?;
     let wanted = result_type(alloc, funcs, &func.result)?;
@@ -112,7 +114,8 @@ pub fn headings<'a>(
     alloc: Global,
     funcs: &'a [Func],
 ) -> Result<(Functions, Vec<Outline<'a>>), CheckError>
-    ensures { Settles (λ r. (functions_of r.0, outlines_of r.1.items)) result (spec.headings_in [] [] (trees.functions_of funcs.now)) }
+    ensures { Settles (λ r. (functions_of r.0, outlines_of r.1.items)) result
+        (spec.headings_in [] [] (trees.functions_of funcs.now)) }
 {
     let mut functions = Functions::new(alloc);
     let mut outlines = Vec::new(alloc);

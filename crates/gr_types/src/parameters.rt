@@ -13,8 +13,8 @@ ghost use Rattle.gr_exprs.specs.Checking.{Agrees};
 ghost use Rattle.gr_exprs.specs.Codes.{Tells};
 ghost use Rattle.gr_types.specs.Codes.{is_function, heading_type_code};
 
-use gr_exprs::fault::{Code, Fault};
 use gr_exprs::names::{is_blank, is_predeclared};
+use gr_exprs::refusal::{RefusalCode, RuleError};
 use gr_exprs::scope::Scope;
 use gr_exprs::types::written;
 use gr_program::types::copy;
@@ -43,25 +43,26 @@ fn is_function(funcs: &[Func], name: &[u8]) -> bool
 }
 
 // The rule that a written type breaks which is none.
-fn no_type(funcs: &[Func], tree: &TypeTree) -> Code
+fn no_type(funcs: &[Func], tree: &TypeTree) -> RefusalCode
     ensures { result ≡ heading_type_code (functions_of funcs.now) (trees.type_of tree.now) }
 {
     match tree {
-        TypeTree::Name(name) if is_blank(name) => Code::UnknownName,
-        TypeTree::Name(name) if is_predeclared(name) || is_function(funcs, name) => Code::WrongForm,
-        TypeTree::Name(_) => Code::UnknownName,
-        TypeTree::Unit => Code::WrongForm,
+        TypeTree::Name(name) if is_blank(name) => RefusalCode::UnknownName,
+        TypeTree::Name(name) if is_predeclared(name) || is_function(funcs, name) =>
+            RefusalCode::WrongForm,
+        TypeTree::Name(_) => RefusalCode::UnknownName,
+        TypeTree::Unit => RefusalCode::WrongForm,
         TypeTree::Chan(_, inner) | TypeTree::Paren(inner) => no_type(funcs, inner),
     }
 }
 
-fn written_type(alloc: Global, funcs: &[Func], tree: &TypeTree) -> Result<Type, Fault>
+fn written_type(alloc: Global, funcs: &[Func], tree: &TypeTree) -> Result<Type, RuleError>
     ensures value { Agrees ty_of result (types.type_written (trees.type_of tree.now)) }
     ensures code { Tells result (heading_type_code (functions_of funcs.now) (trees.type_of tree.now)) }
 {
     match written(alloc, tree)? {
         Some(own) => Ok(own),
-        None => Err(Fault::Broken(no_type(funcs, tree))),
+        None => Err(RuleError::Broken(no_type(funcs, tree))),
     }
 }
 
@@ -70,7 +71,7 @@ pub fn result_type(
     alloc: Global,
     funcs: &[Func],
     tree: &Option<TypeTree>,
-) -> Result<Option<Type>, Fault>
+) -> Result<Option<Type>, RuleError>
     ensures { Agrees (optional ty_of) result (written_of (optional trees.type_of tree.now)) }
 {
     match tree {
@@ -97,11 +98,11 @@ impl Parameters {
     }
 
     // Takes one more parameter.
-    fn take(&mut self, alloc: Global, name: &[u8], own: &Type) -> Result<(), Fault>
+    fn take(&mut self, alloc: Global, name: &[u8], own: &Type) -> Result<(), RuleError>
         ensures { Agrees (λ u. taken_of self.new) result (spec.take (taken_of self.old) name.now (ty_of own.now)) }
     {
         if !self.may_take(name) {
-            return Err(Fault::Broken(Code::DeclaredTwice));
+            return Err(RuleError::Broken(RefusalCode::DeclaredTwice));
         }
         self.scope.declare(alloc, name, copy(alloc, own)?)?;
         let variable = self.scope.number_of(name);
@@ -114,8 +115,9 @@ impl Parameters {
     }
 
     // Takes parameters of one type.
-    fn take_each(&mut self, alloc: Global, names: &[Vec<u8>], own: &Type) -> Result<(), Fault>
-        ensures { Agrees (λ u. taken_of self.new) result (spec.take_each (taken_of self.old) (trees.names_of names.now) (ty_of own.now)) }
+    fn take_each(&mut self, alloc: Global, names: &[Vec<u8>], own: &Type) -> Result<(), RuleError>
+        ensures { Agrees (λ u. taken_of self.new) result
+            (spec.take_each (taken_of self.old) (trees.names_of names.now) (ty_of own.now)) }
     {
         for name in names {
             self.take(alloc, name, own)?;
@@ -125,7 +127,7 @@ impl Parameters {
 }
 
 /// The parameters of these groups.
-pub fn take_groups(alloc: Global, funcs: &[Func], groups: &[Group]) -> Result<Parameters, Fault>
+pub fn take_groups(alloc: Global, funcs: &[Func], groups: &[Group]) -> Result<Parameters, RuleError>
     ensures { Agrees taken_of result (spec.take_groups spec.none_taken (groups_of groups.now)) }
 {
     let mut parameters = Parameters::new(alloc);

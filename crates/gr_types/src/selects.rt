@@ -1,7 +1,7 @@
 //! What belongs to a select itself: its clauses without their blocks.
 ghost use Rattle.std.specs.Prelude.{◌≡◌};
 ghost use Rattle.gr_tree.specs.Statements.{comm_of};
-ghost use Rattle.gr_types.specs.declared.fault.CheckError.TheVariants as errors;
+ghost use Rattle.gr_types.specs.declared.refusal.CheckError.TheVariants as errors;
 ghost use Rattle.gr_types.specs.StatementViews.{clauses_of};
 ghost use Rattle.gr_typing.specs.Statements.{at_most_one, defaults};
 ghost use Rattle.gr_exprs.specs.Tables.{scope_of};
@@ -11,7 +11,7 @@ ghost use Rattle.gr_types.specs.FindingStatements as spec;
 ghost use Rattle.gr_types.specs.Checking.{Settles};
 
 use crate::communications::{Awaited, awaits};
-use crate::fault::{CheckError, refused};
+use crate::refusal::{CheckError, refused};
 use gr_exprs::functions::Functions;
 use gr_exprs::scope::Scope;
 use gr_scan::token::Place;
@@ -26,7 +26,8 @@ pub fn placed_awaits(
     place: Place,
     communication: &Communication,
 ) -> Result<Awaited, CheckError>
-    ensures { Settles (λ o. (awaited_of o, scope_of scope.new)) result (spec.comm_in (functions_of functions.now) (scope_of scope.old) (comm_of communication.now)) }
+    ensures { Settles (λ o. (awaited_of o, scope_of scope.new)) result
+        (spec.comm_in (functions_of functions.now) (scope_of scope.old) (comm_of communication.now)) }
 {
     match awaits(alloc, functions, scope, communication) {
         Ok(awaited) => Ok(awaited),

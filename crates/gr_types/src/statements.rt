@@ -11,11 +11,11 @@ ghost use Rattle.gr_types.specs.Checking.{Settles};
 
 use crate::acts::act;
 use crate::context::{Around, Context, Nest};
-use crate::fault::{CheckError, refused};
 use crate::forms;
 use crate::headings::{IfParts, LoopParts, RangeParts, if_parts, loop_parts, range_parts};
+use crate::refusal::{CheckError, refused};
 use crate::selects::{first_error, has_at_most_one_default, placed_awaits};
-use gr_exprs::fault::{Code, Fault};
+use gr_exprs::refusal::{RefusalCode, RuleError};
 use gr_exprs::scope::Scope;
 use gr_program as checked;
 use gr_program::{Act, Case};
@@ -30,7 +30,8 @@ fn placed_act(
     place: Place,
     action: &Action,
 ) -> Result<Act, CheckError>
-    ensures { Settles (λ a. (programs.act_of a, scope_of scope.new)) result (spec.act_in (context_of context.now) (scope_of scope.old) (act_of action.now)) }
+    ensures { Settles (λ a. (programs.act_of a, scope_of scope.new)) result
+        (spec.act_in (context_of context.now) (scope_of scope.old) (act_of action.now)) }
 {
     match act(alloc, context, scope, action) {
         Ok(act) => Ok(act),
@@ -45,7 +46,8 @@ fn act_step(
     place: Place,
     action: &Action,
 ) -> Result<checked::Stmt, CheckError>
-    ensures { Settles (λ s. (pieces.only_stmt s, scope_of scope.new)) result (pieces.does_in (context_of context.now) (scope_of scope.old) place (act_of action.now)) }
+    ensures { Settles (λ s. (pieces.only_stmt s, scope_of scope.new)) result
+        (pieces.does_in (context_of context.now) (scope_of scope.old) place (act_of action.now)) }
 {
     let act = placed_act(alloc, context, scope, place, action)?;
     Ok(checked::Stmt::Act { place, act })
@@ -59,7 +61,8 @@ pub fn body(
     scope: &mut Scope,
     stmts: &[Stmt],
 ) -> Result<Vec<checked::Stmt>, CheckError>
-    ensures { Settles (λ v. (stmts_of v.items, scope_of scope.new)) result (spec.body_in (context_of context.now) (scope_of scope.old) (statements_of stmts.now)) }
+    ensures { Settles (λ v. (stmts_of v.items, scope_of scope.new)) result
+        (spec.body_in (context_of context.now) (scope_of scope.old) (statements_of stmts.now)) }
 {
     let mut steps = Vec::with_capacity(alloc, stmts.len())?;
     for stmt in stmts {
@@ -81,7 +84,9 @@ fn statement(
     label: Option<&[u8]>,
     stmt: &Stmt,
 ) -> Result<Option<checked::Stmt>, CheckError>
-    ensures { Settles (λ o. (pieces.made_of o, scope_of scope.new)) result (spec.statement_in (context_of context.now) (scope_of scope.old) (optional (λ x. x.now) label.entry) (statement_of stmt.now)) }
+    ensures { Settles (λ o. (pieces.made_of o, scope_of scope.new)) result
+        (spec.statement_in (context_of context.now) (scope_of scope.old) (optional (λ x. x.now) label.entry)
+        (statement_of stmt.now)) }
 {
     match stmt {
         Stmt::Act(place, action) => Ok(Some(act_step(alloc, context, scope, *place, action)?)),
@@ -115,7 +120,8 @@ fn block(
     scope: &mut Scope,
     stmts: &[Stmt],
 ) -> Result<checked::Stmt, CheckError>
-    ensures { Settles (λ s. (pieces.only_stmt s, scope_of scope.new)) result (pieces.block_in (context_of context.now) (scope_of scope.old) (statements_of stmts.now)) }
+    ensures { Settles (λ s. (pieces.only_stmt s, scope_of scope.new)) result
+        (pieces.block_in (context_of context.now) (scope_of scope.old) (statements_of stmts.now)) }
 {
     scope.enter(alloc)?;
     let steps = body(alloc, context, scope, stmts)?;
@@ -133,7 +139,8 @@ fn tested(
     head: &IfHead,
     stmts: &[Stmt],
 ) -> Result<(IfParts, Vec<checked::Stmt>), CheckError>
-    ensures { Settles (λ t. (pieces.tested_of t, scope_of scope.new)) result (pieces.tested_in (context_of context.now) (scope_of scope.old) (if_of head.now) (statements_of stmts.now)) }
+    ensures { Settles (λ t. (pieces.tested_of t, scope_of scope.new)) result
+        (pieces.tested_in (context_of context.now) (scope_of scope.old) (if_of head.now) (statements_of stmts.now)) }
 {
     scope.enter(alloc)?;
     let parts = if_parts(alloc, context.functions, scope, place, head)?;
@@ -152,7 +159,8 @@ fn only_if(
     head: &IfHead,
     stmts: &[Stmt],
 ) -> Result<checked::Stmt, CheckError>
-    ensures { Settles (λ s. (pieces.only_stmt s, scope_of scope.new)) result (pieces.if_in (context_of context.now) (scope_of scope.old) place (if_of head.now) (statements_of stmts.now)) }
+    ensures { Settles (λ s. (pieces.only_stmt s, scope_of scope.new)) result
+        (pieces.if_in (context_of context.now) (scope_of scope.old) place (if_of head.now) (statements_of stmts.now)) }
 {
     let (parts, steps) = tested(alloc, context, scope, place, head, stmts)?;
     scope.leave(alloc);
@@ -169,7 +177,9 @@ fn if_else(
     tested: (IfParts, Vec<checked::Stmt>),
     otherwise: &[Stmt],
 ) -> Result<checked::Stmt, CheckError>
-    ensures { Settles (λ s. (pieces.only_stmt s, scope_of scope.new)) result (pieces.else_in (context_of context.now) place (statements_of otherwise.now) (pieces.tested_of tested) (scope_of scope.old)) }
+    ensures { Settles (λ s. (pieces.only_stmt s, scope_of scope.new)) result
+        (pieces.else_in (context_of context.now) place (statements_of otherwise.now) (pieces.tested_of tested)
+        (scope_of scope.old)) }
 {
     scope.enter(alloc)?;
     let otherwise = body(alloc, context, scope, otherwise)?;
@@ -189,7 +199,9 @@ fn if_else_if(
     tested: (IfParts, Vec<checked::Stmt>),
     otherwise: &Stmt,
 ) -> Result<checked::Stmt, CheckError>
-    ensures { Settles (λ s. (pieces.only_stmt s, scope_of scope.new)) result (pieces.else_if_in (context_of context.now) place (statement_of otherwise.now) (pieces.tested_of tested) (scope_of scope.old)) }
+    ensures { Settles (λ s. (pieces.only_stmt s, scope_of scope.new)) result
+        (pieces.else_if_in (context_of context.now) place (statement_of otherwise.now) (pieces.tested_of tested)
+        (scope_of scope.old)) }
 {
     let otherwise = statement(alloc, context, scope, None, otherwise)?;
     scope.leave(alloc);
@@ -208,7 +220,9 @@ fn for_step(
     head: &ForHead,
     stmts: &[Stmt],
 ) -> Result<checked::Stmt, CheckError>
-    ensures { Settles (λ s. (pieces.only_stmt s, scope_of scope.new)) result (pieces.for_in (context_of context.now) (scope_of scope.old) (optional (λ x. x.now) label.entry) place (for_of head.now) (statements_of stmts.now)) }
+    ensures { Settles (λ s. (pieces.only_stmt s, scope_of scope.new)) result
+        (pieces.for_in (context_of context.now) (scope_of scope.old) (optional (λ x. x.now) label.entry) place (for_of head.now)
+        (statements_of stmts.now)) }
 {
     let functions = context.functions;
     let nest = Nest::Inside(Around::Loop(label), &*context.nest);
@@ -236,7 +250,9 @@ fn loop_step(
     parts: LoopParts,
     stmts: &[Stmt],
 ) -> Result<checked::Stmt, CheckError>
-    ensures { Settles (λ s. (pieces.only_stmt s, scope_of scope.new)) result (pieces.loop_in (context_of context.now) place (pieces.loop_parts_of parts) (statements_of stmts.now) (scope_of scope.old)) }
+    ensures { Settles (λ s. (pieces.only_stmt s, scope_of scope.new)) result
+        (pieces.loop_in (context_of context.now) place (pieces.loop_parts_of parts) (statements_of stmts.now)
+        (scope_of scope.old)) }
 {
     scope.enter(alloc)?;
     let steps = body(alloc, context, scope, stmts)?;
@@ -255,7 +271,9 @@ fn range_step(
     parts: RangeParts,
     stmts: &[Stmt],
 ) -> Result<checked::Stmt, CheckError>
-    ensures { Settles (λ s. (pieces.only_stmt s, scope_of scope.new)) result (pieces.range_in (context_of context.now) place (pieces.range_parts_of parts) (statements_of stmts.now) (scope_of scope.old)) }
+    ensures { Settles (λ s. (pieces.only_stmt s, scope_of scope.new)) result
+        (pieces.range_in (context_of context.now) place (pieces.range_parts_of parts) (statements_of stmts.now)
+        (scope_of scope.old)) }
 {
     scope.enter(alloc)?;
     let steps = body(alloc, context, scope, stmts)?;
@@ -273,10 +291,12 @@ fn select(
     place: Place,
     clauses: &[Clause],
 ) -> Result<checked::Stmt, CheckError>
-    ensures { Settles (λ s. (pieces.only_stmt s, scope_of scope.new)) result (pieces.select_in (context_of context.now) (scope_of scope.old) (optional (λ x. x.now) label.entry) place (clauses_of clauses.now)) }
+    ensures { Settles (λ s. (pieces.only_stmt s, scope_of scope.new)) result
+        (pieces.select_in (context_of context.now) (scope_of scope.old) (optional (λ x. x.now) label.entry) place
+        (clauses_of clauses.now)) }
 {
     if !has_at_most_one_default(clauses) {
-        return Err(refused(Fault::Broken(Code::DeclaredTwice), place));
+        return Err(refused(RuleError::Broken(RefusalCode::DeclaredTwice), place));
     }
     let depth = scope.depth();
     let nest = Nest::Inside(Around::Choice(label), &*context.nest);
@@ -299,7 +319,8 @@ fn cases(
     place: Place,
     clauses: &[Clause],
 ) -> Result<Vec<Case>, CheckError>
-    ensures { Settles (λ v. (cases_of v.items, scope_of scope.new)) result (spec.clauses_in (context_of context.now) (scope_of scope.old) (clauses_of clauses.now)) }
+    ensures { Settles (λ v. (cases_of v.items, scope_of scope.new)) result
+        (spec.clauses_in (context_of context.now) (scope_of scope.old) (clauses_of clauses.now)) }
 {
     let mut cases = Vec::with_capacity(alloc, clauses.len())?;
     for clause in clauses {
@@ -317,7 +338,8 @@ fn case(
     place: Place,
     clause: &Clause,
 ) -> Result<Case, CheckError>
-    ensures { Settles (λ k. (case_on k, scope_of scope.new)) result (pieces.clause_in (context_of context.now) (scope_of scope.old) clause.now) }
+    ensures { Settles (λ k. (case_on k, scope_of scope.new)) result
+        (pieces.clause_in (context_of context.now) (scope_of scope.old) clause.now) }
 {
     match clause {
         Clause::Default(body) => default_case(alloc, context, scope, body),
@@ -334,7 +356,8 @@ fn default_case(
     scope: &mut Scope,
     stmts: &[Stmt],
 ) -> Result<Case, CheckError>
-    ensures { Settles (λ k. (case_on k, scope_of scope.new)) result (pieces.default_in (context_of context.now) (scope_of scope.old) (statements_of stmts.now)) }
+    ensures { Settles (λ k. (case_on k, scope_of scope.new)) result
+        (pieces.default_in (context_of context.now) (scope_of scope.old) (statements_of stmts.now)) }
 {
     scope.enter(alloc)?;
     let steps = body(alloc, context, scope, stmts)?;
@@ -351,7 +374,8 @@ fn awaited_case(
     communication: &Communication,
     stmts: &[Stmt],
 ) -> Result<Case, CheckError>
-    ensures { Settles (λ k. (case_on k, scope_of scope.new)) result (pieces.case_in (context_of context.now) (scope_of scope.old) (comm_of communication.now) (statements_of stmts.now)) }
+    ensures { Settles (λ k. (case_on k, scope_of scope.new)) result
+        (pieces.case_in (context_of context.now) (scope_of scope.old) (comm_of communication.now) (statements_of stmts.now)) }
 {
     scope.enter(alloc)?;
     let awaited = placed_awaits(alloc, context.functions, scope, place, communication)?;

@@ -4,8 +4,8 @@ use Rattle.std.specs.declared.option.Option.{Option}
 use Rattle.std.specs.declared.result.Result.{Result}
 use Rattle.gr_program.specs.Programs.{Program}
 use Rattle.gr_command.specs.declared.command.Command.{Command}
-use Rattle.gr_session.specs.declared.journal.Entry.{Entry}
-use Rattle.gr_session.specs.Entries.{EntersCommand}
+use Rattle.gr_share.specs.Entry.{Entry}
+use Rattle.gr_share.specs.Entries.{EntersCommand}
 use Rattle.std.specs.Io.KnownBytes.{Keeps}
 use Rattle.gr_command.specs.declared.command.Line.{Line}
 use Rattle.gr_command.specs.declared.command.Line.TheVariants as says

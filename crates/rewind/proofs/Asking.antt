@@ -4,11 +4,11 @@ use Rattle.std.specs.Prelude.{IsErrOf}
 use Rattle.std.specs.Borrow.{Bor}
 use Rattle.gr_program.specs.Programs.{Program}
 use Rattle.gr_command.specs.declared.command.Command.{Command}
-use Rattle.gr_session.specs.declared.TheConstants.{JOURNAL_LIMIT}
-use Rattle.gr_session.specs.declared.journal.AskRefused.{AskRefused}
-use Rattle.gr_session.specs.declared.journal.AskRefused.TheVariants.{JournalFull, NoMemory}
-use Rattle.gr_session.specs.declared.journal.Receipt.{Receipt}
-use Rattle.gr_session.specs.Keeps.{Seen}
+use Rattle.gr_share.specs.SessionConstants.{JOURNAL_LIMIT}
+use Rattle.gr_share.specs.AskRefused.{AskRefused}
+use Rattle.gr_share.specs.AskRefused.TheVariants.{JournalFull, NoMemory}
+use Rattle.gr_share.specs.Receipt.{Receipt}
+use Rattle.gr_share.specs.Keeps.{Seen}
 use Rattle.gr_share.specs.Calls.{Asker, Asked}
 use Rattle.gr_share.specs.declared.desk.Asked.TheVariants as asks
 use Rattle.rewind.specs.Replies.{answer_of}

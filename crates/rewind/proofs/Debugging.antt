@@ -5,12 +5,12 @@ use Rattle.std.specs.Io.KnownBytes.{Consumes, IsAtEnd}
 use Rattle.gr_scan.specs.declared.scan.ScanError.TheVariants as scanning
 use Rattle.gr_scan.specs.declared.scan.TheConstants.{TEXT_LIMIT}
 use Rattle.gr_program.specs.Programs.{Program}
-use Rattle.gr_session.specs.declared.journal.Entry.{Entry}
-use Rattle.gr_session.specs.declared.open.OpenError.{OpenError}
-use Rattle.gr_session.specs.declared.open.OpenError.TheVariants as opening
-use Rattle.gr_session.specs.Entries.{IsLegal}
-use Rattle.gr_session.specs.Source.{IsProgramOf}
-use Rattle.gr_session.specs.Refused.{NoProgram, SaysWhy}
+use Rattle.gr_share.specs.Entry.{Entry}
+use Rattle.gr_share.specs.OpenError.{OpenError}
+use Rattle.gr_share.specs.OpenError.TheVariants as opening
+use Rattle.gr_share.specs.Entries.{IsLegal}
+use Rattle.gr_share.specs.Source.{IsProgramOf}
+use Rattle.gr_share.specs.Refused.{NoProgram, SaysWhy}
 use Rattle.rewind.specs.declared.stream.ServeFault.{ServeFault}
 use Rattle.rewind.specs.declared.stream.ServeFault.TheVariants.{Read, Write, Memory}
 use Rattle.rewind.specs.declared.debug.DebugFault.{DebugFault}

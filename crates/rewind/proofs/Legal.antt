@@ -3,10 +3,10 @@ use Rattle.std.proofs.Common.{ℕ, ◌≤◌, List, [], ◌∷◌, subst, sym, a
 use Rattle.std.proofs.lemmas.List.Elements.{All-push}
 use Rattle.gr_program.specs.Programs.{Program}
 use Rattle.gr_command.specs.declared.command.Command.{Command}
-use Rattle.gr_session.specs.declared.journal.Entry.{Entry}
-use Rattle.gr_session.specs.declared.journal.Asked.TheVariants as asks
-use Rattle.gr_session.specs.Journal.{first_world}
-use Rattle.gr_session.specs.Entries.{IsAskedBy, IsLegal, EntersCommand, no_entry, one_more}
+use Rattle.gr_share.specs.Entry.{Entry}
+use Rattle.gr_share.specs.Asked.TheVariants as asks
+use Rattle.gr_share.specs.Journal.{first_world}
+use Rattle.gr_share.specs.Entries.{IsAskedBy, IsLegal, EntersCommand, no_entry, one_more}
 use Rattle.gr_command.specs.Replies.{Said}
 use Rattle.rewind.specs.Replies.{Answer, Replied, JournalFull, NoMemory}
 use Rattle.rewind.specs.Stream.{Answered, of_session}

@@ -2,8 +2,8 @@
 use Rattle.std.specs.Prelude.{◌≡◌, List, [], ◌∷◌, ◌⊎◌, All, Option, Some, None, Result, Ok, Err, OnOk, IfErr}
 use Rattle.gr_program.specs.Programs.{Program}
 use Rattle.gr_program.specs.Views.{program_of}
-use Rattle.gr_session.specs.Entries.{IsLegal}
-use Rattle.gr_session.specs.Keeps.{Seen}
+use Rattle.gr_share.specs.Entries.{IsLegal}
+use Rattle.gr_share.specs.Keeps.{Seen}
 use Rattle.gr_share.specs.Calls.{Asker, IsTied}
 use Rattle.rewind.specs.declared.stream.ServeFault.{ServeFault}
 use Rattle.rewind.specs.declared.stream.ServeFault.TheVariants.{Read, Write, Memory}

@@ -1,4 +1,4 @@
--- The codes of which the program tells. Made by docs/words/make.py from the texts beside it: change those.
+-- The codes of which the program tells. Made by words/make.py from the texts beside it: change those.
 use Rattle.std.specs.Prelude.{ℕ, List, [], ◌∷◌, codes}
 
 -- Codes of refused sources

@@ -15,3 +15,5 @@ pub mod CommandLine
 pub mod Terminal
 pub mod Codes
 pub mod Explanations
+pub use Rattle.gr_share.specs.contracts.locked.Locked as LockedContracts
+pub use Rattle.gr_share.specs.contracts.shared.Shared as SharedContracts

@@ -3,9 +3,9 @@ use Rattle.std.specs.Prelude.{ℕ, List, codes, Result, Ok, Err}
 use Rattle.std.specs.Borrow.{Bor}
 use Rattle.gr_command.specs.Replies.{Said, said_of}
 use Rattle.gr_command.specs.Texts.{said_text}
-use Rattle.gr_session.specs.declared.journal.Receipt.{Receipt}
-use Rattle.gr_session.specs.declared.journal.AskRefused.{AskRefused}
-use Rattle.gr_session.specs.declared.journal.AskRefused.TheVariants as refused
+use Rattle.gr_share.specs.Receipt.{Receipt}
+use Rattle.gr_share.specs.AskRefused.{AskRefused}
+use Rattle.gr_share.specs.AskRefused.TheVariants as refused
 
 -- what came of a command: a reply, or no entry in a full journal or for want of memory
 pub data Answer : Type 0 where

@@ -5,12 +5,12 @@ use Rattle.gr_scan.specs.declared.scan.ScanError.{ScanError}
 use Rattle.gr_scan.specs.declared.scan.ScanError.TheVariants as scanning
 use Rattle.gr_syntax.specs.declared.parse.ParseError.{ParseError}
 use Rattle.gr_syntax.specs.declared.parse.ParseError.TheVariants as parsing
-use Rattle.gr_exprs.specs.declared.fault.Code.{Code}
-use Rattle.gr_exprs.specs.declared.fault.Code.TheVariants as rules
-use Rattle.gr_types.specs.declared.fault.CheckError.{CheckError}
-use Rattle.gr_types.specs.declared.fault.CheckError.TheVariants as checking
-use Rattle.gr_session.specs.declared.open.OpenError.{OpenError}
-use Rattle.gr_session.specs.declared.open.OpenError.TheVariants as opening
+use Rattle.gr_exprs.specs.declared.refusal.RefusalCode.{RefusalCode}
+use Rattle.gr_exprs.specs.declared.refusal.RefusalCode.TheVariants as rules
+use Rattle.gr_types.specs.declared.refusal.CheckError.{CheckError}
+use Rattle.gr_types.specs.declared.refusal.CheckError.TheVariants as checking
+use Rattle.gr_share.specs.OpenError.{OpenError}
+use Rattle.gr_share.specs.OpenError.TheVariants as opening
 use Rattle.rewind.specs.declared.stream.ServeFault.{ServeFault}
 use Rattle.rewind.specs.declared.stream.ServeFault.TheVariants.{Read, Write, Memory}
 use Rattle.rewind.specs.declared.debug.DebugFault.{DebugFault}
@@ -35,7 +35,7 @@ parse_code (parsing.TooHigh token) = codes "P3"
 parse_code parsing.Memory = codes "P4"
 
 -- codes of the rules that a program keeps
-abbrev pub rule_code : Code → List ℕ
+abbrev pub rule_code : RefusalCode → List ℕ
 rule_code rules.UnknownName = codes "C1"
 rule_code rules.DeclaredTwice = codes "C2"
 rule_code rules.WrongForm = codes "C3"

@@ -2,10 +2,10 @@
 use Rattle.std.specs.Prelude.{◌≡◌, ℕ, ◌≢◌, false, List, [], ◌∷◌, ◌++◌, length, codes}
 use Rattle.gr_program.specs.Programs.{Program}
 use Rattle.gr_command.specs.declared.command.Command.{Command}
-use Rattle.gr_session.specs.declared.journal.Entry.{Entry}
-use Rattle.gr_session.specs.declared.journal.Receipt.{Receipt}
-use Rattle.gr_session.specs.declared.TheConstants.{JOURNAL_LIMIT}
-use Rattle.gr_session.specs.Entries.{EntersCommand}
+use Rattle.gr_share.specs.Entry.{Entry}
+use Rattle.gr_share.specs.Receipt.{Receipt}
+use Rattle.gr_share.specs.SessionConstants.{JOURNAL_LIMIT}
+use Rattle.gr_share.specs.Entries.{EntersCommand}
 use Rattle.gr_command.specs.declared.command.Line.{Line}
 use Rattle.gr_command.specs.declared.command.Line.TheVariants as says
 use Rattle.gr_command.specs.Commands.{meaning}

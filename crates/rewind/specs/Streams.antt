@@ -1,6 +1,6 @@
 -- A stream between a session, a reader and a writer.
 use Rattle.std.specs.Prelude.{ℕ}
-use Rattle.gr_session.specs.Keeps.{Seen}
+use Rattle.gr_share.specs.Keeps.{Seen}
 use Rattle.gr_program.specs.Views.{program_of}
 use Rattle.rewind.specs.declared.stream.ServeFault.{ServeFault}
 use Rattle.rewind.specs.Devices.{Change, Fails}

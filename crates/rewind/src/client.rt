@@ -4,11 +4,11 @@ ghost use Rattle.rewind.specs.Devices.{change};
 ghost use Rattle.rewind.specs.Replies.{answer_of, answer_text};
 ghost use Rattle.rewind.specs.Clients.{IsAnswered, LineEnds, StreamEnds};
 
-use crate::counted::{Counted, LineEnd, LineFault, read_line};
+use crate::counted::{Counted, LineEnd, LineError, read_line};
 use crate::stream::ServeFault;
 use gr_base::NoMemory;
 use gr_command::{Command, Line, read_command, write_reply};
-use gr_session::{AskRefused, Receipt};
+use gr_share::{AskRefused, Receipt};
 use std::alloc::Global;
 use std::io::{Read, Write};
 
@@ -120,8 +120,8 @@ pub(crate) fn serve_client<C: Client, R: Read, W: Write>(
     loop {
         line.clear();
         match read_line(reader, &mut line) {
-            Err(LineFault::Read) => return Err(ServeFault::Read),
-            Err(LineFault::Memory) => return Err(ServeFault::Memory),
+            Err(LineError::Read) => return Err(ServeFault::Read),
+            Err(LineError::Memory) => return Err(ServeFault::Memory),
             Ok(LineEnd::End) => {
                 if line.is_empty() {
                     return Ok(());

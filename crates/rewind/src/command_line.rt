@@ -1,7 +1,9 @@
 //! The command line of the program.
 ghost use Rattle.std.specs.Prelude.{◌≡◌, [], IfOk, IfErr, OnOk, Some, true, false, is_some, option_map, map, codes};
-ghost use Rattle.clap.specs.Words.{app_of, fault_of, found_of, first_value, kind_of, rows_of, rule_of, takes, matches_of, with_rule};
-ghost use Rattle.rewind.specs.CommandLine.{bare_line, rewind_line, file_rule, option_rule, workers_rule, count_in, debugs as session_over, alone as without_workers, the_one, asked_of, asked_in};
+ghost use Rattle.clap.specs.Words.{app_of, fault_of, found_of, first_value, kind_of, rows_of, rule_of, takes, matches_of};
+ghost use Rattle.clap.specs.Words.{with_rule};
+ghost use Rattle.rewind.specs.CommandLine.{bare_line, rewind_line, file_rule, option_rule, workers_rule, count_in};
+ghost use Rattle.rewind.specs.CommandLine.{debugs as session_over, alone as without_workers, the_one, asked_of, asked_in};
 
 use crate::settings::{Settings, WORKER_LIMIT};
 use crate::words::{
@@ -110,7 +112,8 @@ fn debugs<'a>(file: &'a str, workers: Option<&str>) -> Option<Settings<'a>>
 
 // What has no use for workers.
 fn alone<'a>(settings: Settings<'a>, workers: Option<&str>) -> Option<Settings<'a>>
-    ensures { option_map asked_of result ≡ without_workers (asked_of settings.entry) (option_map (λ text. text.now) workers.entry) }
+    ensures { option_map asked_of result
+        ≡ without_workers (asked_of settings.entry) (option_map (λ text. text.now) workers.entry) }
 {
     match workers {
         None => Some(settings),

@@ -20,7 +20,7 @@ pub struct Counted<T> {
 
 /// Why a device was not read or written. The failure is counted.
 #[derive(Clone, Copy)]
-pub(crate) enum Failed {
+pub(crate) enum DeviceError {
     /// It was read as often as it may be.
     Spent,
     /// The device failed.
@@ -67,27 +67,27 @@ impl<T> Counted<T> {
 
 impl<R: Read> Counted<R> {
     /// The next byte, if there is one.
-    pub(crate) fn next_byte(&mut self) -> Result<Option<u8>, Failed>
+    pub(crate) fn next_byte(&mut self) -> Result<Option<u8>, DeviceError>
         ensures ok { IfOk result (λ next.
             Next (R.remaining (device_of self.old)) (R.remaining (device_of self.new)) next) }
         ensures err { OnErr result (Keeps (R.remaining (device_of self.old)) (R.remaining (device_of self.new))) }
         ensures same { OnOk result (failures_of self.new ≡ failures_of self.old) }
         ensures failures { OnErr result (failures_of self.new ≡ one_more (failures_of self.old)) }
         ensures left { OnOk result (left_of self.new + 1 ≡ left_of self.old) }
-        ensures spent { IsErrOf result Failed.Spent ↔ (left_of self.old ≡ 0) }
-        ensures stays_spent { IsErrOf result Failed.Spent → left_of self.new ≡ 0 }
-        ensures device { IsErrOf result Failed.Device → left_of self.new + 1 ≡ left_of self.old }
+        ensures spent { IsErrOf result DeviceError.Spent ↔ (left_of self.old ≡ 0) }
+        ensures stays_spent { IsErrOf result DeviceError.Spent → left_of self.new ≡ 0 }
+        ensures device { IsErrOf result DeviceError.Device → left_of self.new + 1 ≡ left_of self.old }
     {
         if self.left == 0 {
             self.fail();
-            return Err(Failed::Spent);
+            return Err(DeviceError::Spent);
         }
         self.left -= 1;
         match one_byte(&mut self.inner) {
             Ok(next) => Ok(next),
             Err(_) => {
                 self.fail();
-                Err(Failed::Device)
+                Err(DeviceError::Device)
             }
         }
     }
@@ -123,7 +123,7 @@ fn one_byte<R: Read>(reader: &mut R) -> io::Result<Option<u8>>
 
 impl<W: Write> Counted<W> {
     /// Writes the bytes, or a beginning of them.
-    pub(crate) fn put(&mut self, bytes: &[u8]) -> Result<(), Failed>
+    pub(crate) fn put(&mut self, bytes: &[u8]) -> Result<(), DeviceError>
         ensures ok { OnOk result
             (Appends (W.contents (device_of self.old)) (W.contents (device_of self.new)) bytes.now) }
         ensures err { OnErr result
@@ -136,7 +136,7 @@ impl<W: Write> Counted<W> {
             Ok(()) => Ok(()),
             Err(_) => {
                 self.fail();
-                Err(Failed::Device)
+                Err(DeviceError::Device)
             }
         }
     }
@@ -184,7 +184,7 @@ pub(crate) enum LineEnd {
 
 /// Why no whole line was read.
 #[derive(Clone, Copy)]
-pub(crate) enum LineFault {
+pub(crate) enum LineError {
     Read,
     Memory,
 }
@@ -193,19 +193,19 @@ pub(crate) enum LineFault {
 pub(crate) fn read_line<R: Read>(
     reader: &mut Counted<R>,
     line: &mut Vec<u8>,
-) -> Result<LineEnd, LineFault>
+) -> Result<LineEnd, LineError>
     requires { length line.old.items ≡ 0 }
     ensures ok { IfOk result (λ end.
         LineRead (R.remaining (device_of reader.old)) (R.remaining (device_of reader.new)) line.new.items end) }
     ensures err { OnErr result (Taken (R.remaining (device_of reader.old)) (R.remaining (device_of reader.new))) }
-    ensures read { IsErrOf result LineFault.Read → failures_of reader.new ≡ one_more (failures_of reader.old) }
+    ensures read { IsErrOf result LineError.Read → failures_of reader.new ≡ one_more (failures_of reader.old) }
     ensures same { OnOk result (failures_of reader.new ≡ failures_of reader.old) }
-    ensures memory { IsErrOf result LineFault.Memory → failures_of reader.new ≡ failures_of reader.old }
+    ensures memory { IsErrOf result LineError.Memory → failures_of reader.new ≡ failures_of reader.old }
     ensures left { OnOk result (left_of reader.new < left_of reader.old) }
 {
     loop {
         match reader.next_byte() {
-            Err(_) => return Err(LineFault::Read),
+            Err(_) => return Err(LineError::Read),
             Ok(None) => return Ok(LineEnd::End),
             Ok(Some(b'\n')) => return Ok(LineEnd::Newline),
             Ok(Some(byte)) => {
@@ -213,7 +213,7 @@ pub(crate) fn read_line<R: Read>(
                     continue;
                 }
                 if line.push(byte).is_err() {
-                    return Err(LineFault::Memory);
+                    return Err(LineError::Memory);
                 }
             }
         }

@@ -4,10 +4,10 @@ ghost use Rattle.gr_program.specs.Views.{program_of};
 ghost use Rattle.rewind.specs.Devices.{change, device_of, Fails, NeverFails};
 ghost use Rattle.rewind.specs.Debug.{SourceRead, Opened, Accepted, SourceLeft, Debugged, DebugLeft, BlamesSource, BlamesDevice};
 
-use crate::counted::{Counted, LineFault};
+use crate::counted::{Counted, LineError};
 use crate::stream::{ServeFault, serve};
 use gr_scan::scan::TEXT_LIMIT;
-use gr_session::{OpenError, Session};
+use gr_share::{OpenError, Session};
 use std::alloc::Global;
 use std::io::{Read, Write};
 use std::mem;
@@ -31,21 +31,21 @@ pub enum DebugFault {
 }
 
 // The bytes of the source; of a source that is too long, one byte more than a text may have.
-fn read_source<S: Read>(source: &mut Counted<S>, text: &mut Vec<u8>) -> Result<(), LineFault>
+fn read_source<S: Read>(source: &mut Counted<S>, text: &mut Vec<u8>) -> Result<(), LineError>
     requires { length text.old.items ≡ 0 }
     ensures ok { OnOk result
         (SourceRead (S.remaining (device_of source.old)) (S.remaining (device_of source.new)) text.new.items) }
     ensures same { OnOk result (NeverFails (change S.remaining source.old source.new)) }
-    ensures read { IsErrOf result LineFault.Read → Fails (change S.remaining source.old source.new) }
-    ensures memory { IsErrOf result LineFault.Memory → NeverFails (change S.remaining source.old source.new) }
+    ensures read { IsErrOf result LineError.Read → Fails (change S.remaining source.old source.new) }
+    ensures memory { IsErrOf result LineError.Memory → NeverFails (change S.remaining source.old source.new) }
 {
     while text.len() <= TEXT_LIMIT {
         match source.next_byte() {
-            Err(_) => return Err(LineFault::Read),
+            Err(_) => return Err(LineError::Read),
             Ok(None) => return Ok(()),
             Ok(Some(byte)) => {
                 if text.push(byte).is_err() {
-                    return Err(LineFault::Memory);
+                    return Err(LineError::Memory);
                 }
             }
         }
@@ -68,8 +68,8 @@ pub(crate) fn open_source<S: Read>(
     let mut text = Vec::new(alloc);
     match read_source(source, &mut text) {
         Ok(()) => {}
-        Err(LineFault::Read) => return Err(DebugFault::Source),
-        Err(LineFault::Memory) => return Err(DebugFault::Serve(ServeFault::Memory)),
+        Err(LineError::Read) => return Err(DebugFault::Source),
+        Err(LineError::Memory) => return Err(DebugFault::Serve(ServeFault::Memory)),
     }
     match Session::open(alloc, text.as_slice()) {
         Ok(session) => Ok(session),

@@ -15,3 +15,8 @@ pub mod stream;
 pub mod terminal;
 pub mod words;
 pub mod workers;
+
+pub use gr_share::{
+    Batch, Desk, DeskId, EnrolRefused, Finished, Gate, Open, OpenError, Opened, Position, Receipt,
+    Room, Session, Shared, Unfinished, Worker, finish, run_batch, worker,
+};

@@ -1,4 +1,4 @@
-//! What the codes mean: a module for each section of docs/words/codes.txt.
+//! What the codes mean: a module for each section of words/codes.txt.
 
 pub(crate) mod callers;
 pub(crate) mod ends;

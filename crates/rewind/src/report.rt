@@ -1,14 +1,16 @@
 //! Faults as a user reads them.
 ghost use Rattle.std.specs.Prelude.{◌≡◌, ◌++◌, codes, decimal, option_map, OnOk, OnErr, IfOk};
-ghost use Rattle.rewind.specs.Report.{scan_code as code_of_scan, parse_code as code_of_parse, rule_code as code_of_rule, check_code as code_of_check, place_text, open_text, serve_text, fault_text, fault_line, code_of, code_of_open, status_of, Grows};
+ghost use Rattle.rewind.specs.Report.{scan_code as code_of_scan, parse_code as code_of_parse, rule_code as code_of_rule};
+ghost use Rattle.rewind.specs.Report.{check_code as code_of_check, place_text, open_text, serve_text, fault_text, fault_line};
+ghost use Rattle.rewind.specs.Report.{code_of, code_of_open, status_of, Grows};
 
 use crate::debug::DebugFault;
 use crate::stream::ServeFault;
 use gr_base::NoMemory;
 use gr_scan::scan::ScanError;
-use gr_session::{OpenError, Position};
+use gr_share::{OpenError, Position};
 use gr_syntax::parse::ParseError;
-use gr_types::fault::{CheckError, Code};
+use gr_types::refusal::{CheckError, RefusalCode};
 use itoa::Buffer;
 
 fn scan_code(error: ScanError) -> &'static [u8]
@@ -37,20 +39,20 @@ fn parse_code(error: ParseError) -> &'static [u8]
     }
 }
 
-fn rule_code(code: Code) -> &'static [u8]
+fn rule_code(code: RefusalCode) -> &'static [u8]
     ensures { result.now ≡ code_of_rule code }
 {
     match code {
-        Code::UnknownName => b"C1",
-        Code::DeclaredTwice => b"C2",
-        Code::WrongForm => b"C3",
-        Code::WrongCount => b"C4",
-        Code::WrongDirection => b"C5",
-        Code::MissingReturn => b"C6",
-        Code::Constant => b"C7",
-        Code::WrongLabel => b"C8",
-        Code::NoMain => b"C9",
-        Code::NoNewVariable => b"C10",
+        RefusalCode::UnknownName => b"C1",
+        RefusalCode::DeclaredTwice => b"C2",
+        RefusalCode::WrongForm => b"C3",
+        RefusalCode::WrongCount => b"C4",
+        RefusalCode::WrongDirection => b"C5",
+        RefusalCode::MissingReturn => b"C6",
+        RefusalCode::Constant => b"C7",
+        RefusalCode::WrongLabel => b"C8",
+        RefusalCode::NoMain => b"C9",
+        RefusalCode::NoNewVariable => b"C10",
     }
 }
 

@@ -7,7 +7,7 @@ ghost use Rattle.rewind.specs.Streams.{Serves, Leaves};
 use crate::client::{Client, serve_client, text_of};
 use crate::counted::Counted;
 use gr_base::NoMemory;
-use gr_session::{Command, DeskId, Session};
+use gr_share::{Command, DeskId, Session};
 use std::alloc::Global;
 use std::io::{Read, Write};
 use thiserror::Error;
@@ -36,9 +36,9 @@ struct SessionDesk<'a> {
 impl<'a> Client for SessionDesk<'a> {
     ghost use Rattle.std.specs.Prelude.{ℕ, List, [], ◌≤◌};
     ghost use Rattle.gr_program.specs.Views.{program_of};
-    ghost use Rattle.gr_session.specs.declared.journal.DeskId.{DeskId};
-    ghost use Rattle.gr_session.specs.declared.journal.Entry.{Entry};
-    ghost use Rattle.gr_session.specs.Keeps.{Seen};
+    ghost use Rattle.gr_share.specs.DeskId.{DeskId};
+    ghost use Rattle.gr_share.specs.Entry.{Entry};
+    ghost use Rattle.gr_share.specs.Keeps.{Seen};
     ghost use Rattle.rewind.specs.Stream.{of_session};
 
     ghost State = { List Entry };

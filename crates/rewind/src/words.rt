@@ -1,4 +1,4 @@
-//! What the program says in plain words. Made by docs/words/make.py from the texts beside it: change those.
+//! What the program says in plain words. Made by words/make.py from the texts beside it: change those.
 
 pub(crate) const VERSION: &str = "1.0.0";
 

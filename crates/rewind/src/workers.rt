@@ -1,5 +1,6 @@
 //! A session beside workers, from its source to its last reply.
-ghost use Rattle.std.specs.Prelude.{◌≡◌, ◌<◌, ◌≤◌, [], ◌∷◌, ◌++◌, OnOk, IfOk, IfErr, IfSome, IfNone, IsTrue, vec_len, vec_capacity};
+ghost use Rattle.std.specs.Prelude.{◌≡◌, ◌<◌, ◌≤◌, [], ◌∷◌, ◌++◌, OnOk, IfOk, IfErr, IfSome, IfNone, IsTrue, vec_len};
+ghost use Rattle.std.specs.Prelude.{vec_capacity};
 ghost use Rattle.gr_program.specs.Views.{program_of};
 ghost use Rattle.rewind.specs.Devices.{change};
 ghost use Rattle.rewind.specs.Debug.{BlamesDevice};
@@ -10,8 +11,7 @@ use crate::debug::{DebugFault, open_source};
 use crate::desk::serve_desk;
 use crate::stream::ServeFault;
 use gr_base::NoMemory;
-use gr_session::Open;
-use gr_share::{Desk, Opened, Room, Shared, Worker, finish, worker};
+use gr_share::{Desk, Open, Opened, Room, Shared, Worker, finish, worker};
 use std::alloc::Global;
 use std::io::{Read, Write};
 use std::marker::Brand;
@@ -119,7 +119,7 @@ fn serve<B: Room, T: Wait, R: Read, W: Write>(
 }
 
 // Ties a reference that came back, for the borrow checker, to the one that was lent.
-fn take_back<T>(lent: &mut T)
+fn reclaim<T>(lent: &mut T)
     ensures { lent.new ≡ lent.old }
 {}
 
@@ -142,7 +142,7 @@ fn seats<B: Room, T: Wait>(
 
 // Does the task while the workers work, each on a thread of its own, then tells them to end and waits for them. The task is told
 // whether all of them could be started.
-#[tactic(auto, using(gr_session::proofs::Crossing::session_send))]
+#[tactic(auto, using(crate::proofs::Lent::session_send))]
 fn beside<B: Room + Send + Sync, T: Threads + Wait + Sync, J: Task + Drop>(
     rt: &T,
     alloc: Global,
@@ -186,7 +186,8 @@ fn serve_among<B: Room + Send + Sync, T: Threads + Wait + Sync, R: Read, W: Writ
 ) -> Option<(Desk<B>, Result<(), ServeFault>)>
     ensures served { IfSome result (λ r. Streamed desk r.0 r.1
         (change R.remaining reader.old reader.new) (change W.contents writer.old writer.new)) }
-    ensures none { IfNone result (IsStill (change R.remaining reader.old reader.new) × IsStill (change W.contents writer.old writer.new)) }
+    ensures none { IfNone result (IsStill (change R.remaining reader.old reader.new)
+        × IsStill (change W.contents writer.old writer.new)) }
 {
     let stream = Stream {
         rt,
@@ -197,8 +198,8 @@ fn serve_among<B: Room + Send + Sync, T: Threads + Wait + Sync, R: Read, W: Writ
         writer,
     };
     let (desk, reader, writer, served) = beside(rt, alloc, shared, workers, stream);
-    take_back(reader);
-    take_back(writer);
+    reclaim(reader);
+    reclaim(writer);
     match served {
         Some(served) => Some((desk, served)),
         None => None,
@@ -296,7 +297,8 @@ fn serve_beside<B: Room + Send + Sync, T: Threads + Wait + Sync, R: Read, W: Wri
 /// workers on threads of their own, which take the steps that `free` grants. In the end the workers are told to end and waited
 /// for, and the session is shared no more.
 ///
-/// The answers are those of a legal journal of the source's program, in which the desk's entries are its commands, in their order.
+/// The answers are those of a legal journal of the source's program, in which the desk's entries are its commands, in their
+/// order.
 ///
 /// After `Threads` a thread could not be started, and no command was read, or seats were missing in the end, and all lines were
 /// served. After the other faults what holds after those of `debug` holds.

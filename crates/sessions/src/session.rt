@@ -23,7 +23,7 @@ pub fn output(
     told(file, writer.into_inner(), ended)
 }
 
-/// The same by a desk of a shared session, without workers.
+/// Serves the commands by a desk of a shared session, without workers.
 pub fn output_of_desk<T: Threads + Wait + Sync>(
     rt: &T,
     alloc: Global,

@@ -88,7 +88,7 @@ impl Channels {
 
     /// Takes changes back, the last first. It takes memory only where there is no room; refused, no content has changed,
     /// and the changes are handed back.
-    pub fn take_back(
+    pub fn undo_all(
         &mut self,
         undos: Vec<(ChName, ChanUndo)>,
     ) -> Result<(), (Vec<(ChName, ChanUndo)>, NoMemory)>

@@ -2,7 +2,8 @@
 
 ghost use Rattle.std.specs.Prelude.{◌≡◌, [], ◌∷◌, true, IfOk, IfSome, OnOk, OnErr};
 ghost use Rattle.gr_base.specs.declared.names.ChName.{ChName};
-ghost use Rattle.gr_tables.specs.NamedChannels.{contents_of, rooms_of, withdrawn, ChansFit, HasRooms, GoesBack, TookBack, KeepsRooms, Follows, MoreAtGates, listed, is_at_gate, is_empty};
+ghost use Rattle.gr_tables.specs.NamedChannels.{contents_of, rooms_of, withdrawn, ChansFit, HasRooms, GoesBack, TookBack};
+ghost use Rattle.gr_tables.specs.NamedChannels.{KeepsRooms, Follows, MoreAtGates, listed, is_at_gate, is_empty};
 
 use crate::channels::Channels;
 use gr_base::{ChName, GoName, NoMemory};

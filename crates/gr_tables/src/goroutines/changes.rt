@@ -7,7 +7,8 @@ ghost use Rattle.gr_code.specs.Goroutines.{local, parked, retried};
 ghost use Rattle.gr_goros.specs.Undoing.{Fits, IsLive, need};
 ghost use Rattle.gr_goros.specs.Views.{arrival_of, waits_of, halted};
 ghost use Rattle.gr_goros.specs.Tasks.{IsStep};
-ghost use Rattle.gr_tables.specs.NamedGoroutines.{seen_at, At, ChangesBy, KeepsContents, StepsAlone, CanArrive, CanPark, CanEnd, Arrives, ComesTo, TakenBack};
+ghost use Rattle.gr_tables.specs.NamedGoroutines.{seen_at, At, ChangesBy, KeepsContents, StepsAlone, CanArrive, CanPark, CanEnd};
+ghost use Rattle.gr_tables.specs.NamedGoroutines.{Arrives, ComesTo, TakenBack};
 ghost use Rattle.gr_tables.specs.Counting.{CanTry, StepsOn};
 ghost use Rattle.gr_tables.specs.Slots.{SlotChanges, SlotKeeps};
 
@@ -17,144 +18,35 @@ use gr_code::code::Code;
 use gr_goros::{Arrival, GoUndo, Goroutine, Halt, Spot, Wait};
 use std::alloc::Global;
 
-/// The goroutine takes its next step. Refused, no content has changed.
-#[inline]
-fn step_in(
-    slot: &mut Option<Goroutine>,
-    alloc: Global,
-    code: &Code,
-) -> Result<(Kind, GoUndo), NoMemory>
-    requires { At (StepsAlone (program_code_of code.now)) slot.old }
-    ensures step { IfOk result (λ r. SlotChanges (λ a b. IsStep r (local (program_code_of code.now) a.content) a b) slot.old slot.new) }
-    ensures err { OnErr result (SlotKeeps slot.old slot.new) }
-{
-    let Some(goroutine) = slot else {
-        unreachable!()
-    };
-    goroutine.local_step(alloc, code)
-}
-
-/// The goroutine takes its next step, if it is ready and the step is over whole numbers alone; else no content has changed.
-#[inline(always)]
-fn count_in(slot: &mut Option<Goroutine>, code: &Code) -> Option<(u64, GoUndo)>
-    requires { At (CanTry (program_code_of code.now)) slot.old }
-    ensures step { IfSome result (λ r. SlotChanges (StepsOn (program_code_of code.now) r) slot.old slot.new) }
-    ensures none { IfNone result (SlotKeeps slot.old slot.new) }
-{
-    let Some(goroutine) = slot else {
-        unreachable!()
-    };
-    goroutine.count_step(code)
-}
-
-/// Takes a change of the goroutine back. Refused, no content has changed.
-fn undo_in(slot: &mut Option<Goroutine>, undo: GoUndo) -> Result<(), (GoUndo, NoMemory)>
-    requires { At (λ g. Fits undo g.content) slot.old }
-    ensures ok { OnOk result (SlotChanges (TakenBack undo) slot.old slot.new) }
-    ensures err { OnErr result (SlotKeeps slot.old slot.new) }
-    ensures returned { IfErr result (λ e. e.0 ≡ undo) }
-    ensures succeeds { At (λ g. need undo ≤ g.room) slot.old → IsOk result }
-{
-    let Some(goroutine) = slot else {
-        unreachable!()
-    };
-    goroutine.undo(undo)
-}
-
-/// What arrives takes the goroutine past its instruction. Refused, no content has changed.
-fn deliver_in(
-    slot: &mut Option<Goroutine>,
-    alloc: Global,
-    code: &Code,
-    arrival: Arrival,
-) -> Result<GoUndo, NoMemory>
-    requires { At (CanArrive (program_code_of code.now) (arrival_of arrival)) slot.old }
-    ensures after { IfOk result (λ undo. SlotChanges (Arrives (program_code_of code.now) (arrival_of arrival) undo) slot.old slot.new) }
-    ensures err { OnErr result (SlotKeeps slot.old slot.new) }
-{
-    let Some(goroutine) = slot else {
-        unreachable!()
-    };
-    goroutine.deliver(alloc, code, arrival)
-}
-
-/// The goroutine begins to wait, for one of these.
-fn park_in(slot: &mut Option<Goroutine>, waits: Vec<Wait>) -> GoUndo
-    requires { At CanPark slot.old }
-    ensures { SlotChanges (ComesTo (parked (waits_of waits.items)) result) slot.old slot.new }
-{
-    let Some(goroutine) = slot else {
-        unreachable!()
-    };
-    goroutine.park(waits)
-}
-
-/// The goroutine begins to wait to send on a channel, and for nothing else.
-fn park_to_send_in(slot: &mut Option<Goroutine>, channel: ChName) -> Spot
-    requires { At CanPark slot.old }
-    ensures { SlotChanges (ComesTo (parked (ToSend channel None ∷ [])) (GoUndo.Parked result)) slot.old slot.new }
-{
-    let Some(goroutine) = slot else {
-        unreachable!()
-    };
-    goroutine.park_to_send(channel)
-}
-
-/// The goroutine begins to wait to receive from a channel, and for nothing else.
-fn park_to_receive_in(slot: &mut Option<Goroutine>, channel: ChName) -> Spot
-    requires { At CanPark slot.old }
-    ensures { SlotChanges (ComesTo (parked (ToReceive channel None ∷ [])) (GoUndo.Parked result)) slot.old slot.new }
-{
-    let Some(goroutine) = slot else {
-        unreachable!()
-    };
-    goroutine.park_to_receive(channel)
-}
-
-/// The goroutine comes to an end.
-fn halt_in(slot: &mut Option<Goroutine>, alloc: Global, how: Halt) -> GoUndo
-    requires { At (CanEnd how) slot.old }
-    ensures { SlotChanges (ComesTo (halted how) result) slot.old slot.new }
-{
-    let Some(goroutine) = slot else {
-        unreachable!()
-    };
-    goroutine.halt(alloc, how)
-}
-
-/// The goroutine is ready at its instruction again.
-fn retry_in(slot: &mut Option<Goroutine>) -> GoUndo
-    requires { At (λ g. IsLive g.content) slot.old }
-    ensures { SlotChanges (ComesTo retried result) slot.old slot.new }
-{
-    let Some(goroutine) = slot else {
-        unreachable!()
-    };
-    goroutine.retry()
-}
-
 impl Goroutines {
     /// The goroutine with a number takes its next step, as `Goroutine::local_step` does. Refused, no content has changed.
     #[inline]
     pub fn local_step(&mut self, number: usize, code: &Code) -> Result<(Kind, GoUndo), NoMemory>
         requires { At (StepsAlone (program_code_of code.now)) (seen_at self.old number) }
-        ensures step { IfOk result (λ r. ChangesBy number (λ a b. IsStep r (local (program_code_of code.now) a.content) a b) self.old self.new) }
+        ensures step { IfOk result (λ r. ChangesBy number
+            (λ a b. IsStep r (local (program_code_of code.now) a.content) a b) self.old self.new) }
         ensures err { OnErr result (KeepsContents self.old self.new) }
     {
         let slot = self.map.get_index_mut(number).unwrap();
-        step_in(slot, self.alloc, code)
+        let Some(goroutine) = slot else {
+            unreachable!()
+        };
+        goroutine.local_step(self.alloc, code)
     }
 
     /// The goroutine with a number takes its next step, if it is ready and the step is over whole numbers alone, as
-    /// `Goroutine::count_step` does; else no content has changed.
+    /// `Goroutine::step_ints` does; else no content has changed.
     #[inline(always)]
-    pub fn count_step(&mut self, number: usize, code: &Code) -> Option<(u64, GoUndo)>
+    pub fn step_ints(&mut self, number: usize, code: &Code) -> Option<(u64, GoUndo)>
         requires { At (CanTry (program_code_of code.now)) (seen_at self.old number) }
         ensures step { IfSome result (λ r. ChangesBy number (StepsOn (program_code_of code.now) r) self.old self.new) }
         ensures none { IfNone result (KeepsContents self.old self.new) }
     {
         let slot = self.map.get_index_mut(number).unwrap();
-        count_in(slot, code)
+        let Some(goroutine) = slot else {
+            unreachable!()
+        };
+        goroutine.step_ints(code)
     }
 
     /// Takes a change of the goroutine with a number back, as `Goroutine::undo` does. It takes memory only where there is no
@@ -167,7 +59,10 @@ impl Goroutines {
         ensures succeeds { At (λ g. need undo ≤ g.room) (seen_at self.old number) → IsOk result }
     {
         let slot = self.map.get_index_mut(number).unwrap();
-        undo_in(slot, undo)
+        let Some(goroutine) = slot else {
+            unreachable!()
+        };
+        goroutine.undo(undo)
     }
 
     /// What arrives takes the goroutine with a number past its instruction, as `Goroutine::deliver` does. Refused, no content
@@ -179,11 +74,15 @@ impl Goroutines {
         arrival: Arrival,
     ) -> Result<GoUndo, NoMemory>
         requires { At (CanArrive (program_code_of code.now) (arrival_of arrival)) (seen_at self.old number) }
-        ensures after { IfOk result (λ undo. ChangesBy number (Arrives (program_code_of code.now) (arrival_of arrival) undo) self.old self.new) }
+        ensures after { IfOk result (λ undo. ChangesBy number
+            (Arrives (program_code_of code.now) (arrival_of arrival) undo) self.old self.new) }
         ensures err { OnErr result (KeepsContents self.old self.new) }
     {
         let slot = self.map.get_index_mut(number).unwrap();
-        deliver_in(slot, self.alloc, code, arrival)
+        let Some(goroutine) = slot else {
+            unreachable!()
+        };
+        goroutine.deliver(self.alloc, code, arrival)
     }
 
     /// The goroutine with a number begins to wait, for one of these.
@@ -192,7 +91,10 @@ impl Goroutines {
         ensures { ChangesBy number (ComesTo (parked (waits_of waits.items)) result) self.old self.new }
     {
         let slot = self.map.get_index_mut(number).unwrap();
-        park_in(slot, waits)
+        let Some(goroutine) = slot else {
+            unreachable!()
+        };
+        goroutine.park(waits)
     }
 
     /// The goroutine with a number begins to wait to send on a channel, and for nothing else. It answers where its innermost
@@ -202,7 +104,10 @@ impl Goroutines {
         ensures { ChangesBy number (ComesTo (parked (ToSend channel None ∷ [])) (GoUndo.Parked result)) self.old self.new }
     {
         let slot = self.map.get_index_mut(number).unwrap();
-        park_to_send_in(slot, channel)
+        let Some(goroutine) = slot else {
+            unreachable!()
+        };
+        goroutine.park_to_send(channel)
     }
 
     /// The goroutine with a number begins to wait to receive from a channel, and for nothing else. It answers where its
@@ -212,7 +117,10 @@ impl Goroutines {
         ensures { ChangesBy number (ComesTo (parked (ToReceive channel None ∷ [])) (GoUndo.Parked result)) self.old self.new }
     {
         let slot = self.map.get_index_mut(number).unwrap();
-        park_to_receive_in(slot, channel)
+        let Some(goroutine) = slot else {
+            unreachable!()
+        };
+        goroutine.park_to_receive(channel)
     }
 
     /// The goroutine with a number comes to an end: from its outermost frame, or by a fault.
@@ -221,7 +129,10 @@ impl Goroutines {
         ensures { ChangesBy number (ComesTo (halted how) result) self.old self.new }
     {
         let slot = self.map.get_index_mut(number).unwrap();
-        halt_in(slot, self.alloc, how)
+        let Some(goroutine) = slot else {
+            unreachable!()
+        };
+        goroutine.halt(self.alloc, how)
     }
 
     /// The goroutine with a number is ready at its instruction again.
@@ -230,6 +141,9 @@ impl Goroutines {
         ensures { ChangesBy number (ComesTo retried result) self.old self.new }
     {
         let slot = self.map.get_index_mut(number).unwrap();
-        retry_in(slot)
+        let Some(goroutine) = slot else {
+            unreachable!()
+        };
+        goroutine.retry()
     }
 }

@@ -10,9 +10,9 @@ ghost use Rattle.gr_types.specs.TakerViews.{pair_view};
 
 use crate::assigning::right_sides::{ReceivePair, pair, received_pair, values_for};
 use crate::assigning::targets::{accepts, all_targets, fit, target};
-use gr_exprs::fault::{Code, Fault};
 use gr_exprs::functions::Functions;
 use gr_exprs::operands::Operand;
+use gr_exprs::refusal::{RefusalCode, RuleError};
 use gr_exprs::scope::Scope;
 use gr_exprs::types::zero;
 use gr_program as checked;
@@ -26,13 +26,13 @@ fn fits(
     scope: &Scope,
     targets: &[Option<usize>],
     mut values: VecDeque<Operand>,
-) -> Result<Vec<checked::Expr>, Fault>
+) -> Result<Vec<checked::Expr>, RuleError>
     ensures { Agrees (λ v. exprs_of v.items) result (pure.fits (scope_of scope.now) targets.now (meanings_of values.items)) }
 {
     let mut terms = Vec::with_capacity(alloc, targets.len())?;
     for target in targets {
         let Some(value) = values.pop_front() else {
-            return Err(Fault::Broken(Code::WrongCount));
+            return Err(RuleError::Broken(RefusalCode::WrongCount));
         };
         let term = fit(scope, *target, value)?;
         terms.push(term)?;
@@ -46,8 +46,9 @@ fn assign_values(
     scope: &Scope,
     names: &[Vec<u8>],
     exprs: &[Expr],
-) -> Result<Act, Fault>
-    ensures { Agrees (λ a. (act_of a, scope_of scope.now)) result (pure.assign_values (functions_of functions.now) (scope_of scope.now) (names_of names.now) (trees_of exprs.now)) }
+) -> Result<Act, RuleError>
+    ensures { Agrees (λ a. (act_of a, scope_of scope.now)) result
+        (pure.assign_values (functions_of functions.now) (scope_of scope.now) (names_of names.now) (trees_of exprs.now)) }
 {
     let targets = all_targets(alloc, functions, scope, names)?;
     let values = values_for(alloc, functions, scope, names, exprs)?;
@@ -60,8 +61,9 @@ fn assign_received(
     functions: &Functions,
     scope: &Scope,
     pair: ReceivePair,
-) -> Result<Act, Fault>
-    ensures { Agrees (λ a. (act_of a, scope_of scope.now)) result (pure.assign_received (functions_of functions.now) (scope_of scope.now) (pair_view pair.entry)) }
+) -> Result<Act, RuleError>
+    ensures { Agrees (λ a. (act_of a, scope_of scope.now)) result
+        (pure.assign_received (functions_of functions.now) (scope_of scope.now) (pair_view pair.entry)) }
 {
     let value = target(functions, scope, pair.value)?;
     let ok = target(functions, scope, pair.ok)?;
@@ -84,8 +86,10 @@ pub fn assign(
     scope: &Scope,
     names: &[Vec<u8>],
     exprs: &[Expr],
-) -> Result<Act, Fault>
-    ensures { Agrees (λ a. (act_of a, scope_of scope.now)) result (spec.assign_by (functions_of functions.now) (scope_of scope.now) (names_of names.now) (trees_of exprs.now) (spec.pair_of (names_of names.now) (trees_of exprs.now))) }
+) -> Result<Act, RuleError>
+    ensures { Agrees (λ a. (act_of a, scope_of scope.now)) result
+        (spec.assign_by (functions_of functions.now) (scope_of scope.now) (names_of names.now) (trees_of exprs.now)
+        (spec.pair_of (names_of names.now) (trees_of exprs.now))) }
 {
     match pair(names, exprs) {
         Some(pair) => assign_received(alloc, functions, scope, pair),

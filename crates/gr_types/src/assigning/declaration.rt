@@ -17,9 +17,9 @@ ghost use Rattle.gr_exprs.specs.Checking.{Agrees, meaning_of, meanings_of, typed
 use crate::assigning::right_sides::received_pair;
 use crate::assigning::targets::may_declare;
 use gr_exprs::expressions::{find_all, written_type};
-use gr_exprs::fault::{Code, Fault};
 use gr_exprs::functions::Functions;
 use gr_exprs::operands::{Operand, as_type, with_type};
+use gr_exprs::refusal::{RefusalCode, RuleError};
 use gr_exprs::scope::Scope;
 use gr_exprs::types::{is_assignable, zero};
 use gr_program as checked;
@@ -36,7 +36,8 @@ fn declare_all(
     own: &Type,
 ) -> Result<(), AllocError>
     requires { Declarable (scope_of scope.old) (names_of names.now) }
-    ensures { OnOk result (scope_of scope.new ≡ assignments.all_declared (scope_of scope.old) (names_of names.now) (ty_of own.now)) }
+    ensures { OnOk result (scope_of scope.new
+        ≡ assignments.all_declared (scope_of scope.old) (names_of names.now) (ty_of own.now)) }
 {
     for name in names {
         scope.declare(alloc, name, copy(alloc, own)?)?;
@@ -75,9 +76,10 @@ fn declare_zeros(
     scope: &mut Scope,
     names: &[Vec<u8>],
     own: &Type,
-) -> Result<Act, Fault>
+) -> Result<Act, RuleError>
     requires { Declarable (scope_of scope.old) (names_of names.now) }
-    ensures { Agrees (λ a. (act_of a, scope_of scope.new)) result (spec.var_zero (scope_of scope.old) (names_of names.now) (ty_of own.now)) }
+    ensures { Agrees (λ a. (act_of a, scope_of scope.new)) result
+        (spec.var_zero (scope_of scope.old) (names_of names.now) (ty_of own.now)) }
 {
     declare_all(alloc, scope, names, own)?;
     let targets = variables(alloc, scope, names)?;
@@ -93,8 +95,9 @@ pub fn declare(
     scope: &mut Scope,
     names: &[Vec<u8>],
     type_tree: &TypeTree,
-) -> Result<Act, Fault>
-    ensures { Agrees (λ a. (act_of a, scope_of scope.new)) result (declaration (scope_of scope.old) (names_of names.now) (type_of type_tree.now)) }
+) -> Result<Act, RuleError>
+    ensures { Agrees (λ a. (act_of a, scope_of scope.new)) result
+        (declaration (scope_of scope.old) (names_of names.now) (type_of type_tree.now)) }
 {
     may_declare(alloc, scope, names)?;
     let own = written_type(alloc, functions, scope, type_tree)?;
@@ -107,7 +110,7 @@ fn written_of(
     functions: &Functions,
     scope: &Scope,
     type_tree: &Option<TypeTree>,
-) -> Result<Option<Type>, Fault>
+) -> Result<Option<Type>, RuleError>
     ensures { Agrees (λ t. optional ty_of t) result (spec.written_of (optional type_of type_tree.now)) }
 {
     match type_tree {
@@ -122,7 +125,7 @@ fn typed_as(
     alloc: Global,
     written: &Option<Type>,
     value: Operand,
-) -> Result<(Type, checked::Expr), Fault>
+) -> Result<(Type, checked::Expr), RuleError>
     ensures { Agrees typed_of result (spec.declared_as (optional ty_of written.now) (meaning_of value)) }
 {
     match written {
@@ -141,9 +144,10 @@ fn declare_one(
     name: &[u8],
     written: &Option<Type>,
     value: Operand,
-) -> Result<(Option<usize>, checked::Expr), Fault>
+) -> Result<(Option<usize>, checked::Expr), RuleError>
     requires { scopes.is_free (scope_of scope.old) name.now ≡ true }
-    ensures { Agrees (λ g. ((g.0, expr_of g.1), scope_of scope.new)) result (parts.placed (optional ty_of written.now) name.now (meaning_of value) (scope_of scope.old)) }
+    ensures { Agrees (λ g. ((g.0, expr_of g.1), scope_of scope.new)) result
+        (parts.placed (optional ty_of written.now) name.now (meaning_of value) (scope_of scope.old)) }
 {
     let (own, term) = typed_as(alloc, written, value)?;
     scope.declare(alloc, name, own)?;
@@ -157,22 +161,23 @@ fn declare_each(
     names: &[Vec<u8>],
     written: &Option<Type>,
     mut values: VecDeque<Operand>,
-) -> Result<(Vec<Option<usize>>, Vec<checked::Expr>), Fault>
+) -> Result<(Vec<Option<usize>>, Vec<checked::Expr>), RuleError>
     requires { Declarable (scope_of scope.old) (names_of names.now) }
-    ensures { Agrees (λ g. ((g.0.items, exprs_of g.1.items), scope_of scope.new)) result (parts.all_placed (optional ty_of written.now) (names_of names.now) (meanings_of values.items) (scope_of scope.old)) }
+    ensures { Agrees (λ g. ((g.0.items, exprs_of g.1.items), scope_of scope.new)) result
+        (parts.all_placed (optional ty_of written.now) (names_of names.now) (meanings_of values.items) (scope_of scope.old)) }
 {
     let mut variables = Vec::new(alloc);
     let mut terms = Vec::new(alloc);
     for name in names {
         let Some(value) = values.pop_front() else {
-            return Err(Fault::Broken(Code::WrongCount));
+            return Err(RuleError::Broken(RefusalCode::WrongCount));
         };
         let (variable, term) = declare_one(alloc, scope, name, written, value)?;
         variables.push(variable)?;
         terms.push(term)?;
     }
     if !values.is_empty() {
-        return Err(Fault::Broken(Code::WrongCount));
+        return Err(RuleError::Broken(RefusalCode::WrongCount));
     }
     Ok((variables, terms))
 }
@@ -184,12 +189,14 @@ fn declare_by_values(
     names: &[Vec<u8>],
     written: &Option<Type>,
     exprs: &[Expr],
-) -> Result<Act, Fault>
+) -> Result<Act, RuleError>
     requires { Declarable (scope_of scope.old) (names_of names.now) }
-    ensures { Agrees (λ a. (act_of a, scope_of scope.new)) result (parts.by_values (functions_of functions.now) (scope_of scope.old) (names_of names.now) (optional ty_of written.now) (trees_of exprs.now)) }
+    ensures { Agrees (λ a. (act_of a, scope_of scope.new)) result
+        (parts.by_values (functions_of functions.now) (scope_of scope.old) (names_of names.now) (optional ty_of written.now)
+        (trees_of exprs.now)) }
 {
     if names.len() != exprs.len() {
-        return Err(Fault::Broken(Code::WrongCount));
+        return Err(RuleError::Broken(RefusalCode::WrongCount));
     }
     let values = find_all(alloc, functions, scope, exprs)?;
     let (targets, values) = declare_each(alloc, scope, names, written, values)?;
@@ -197,13 +204,13 @@ fn declare_by_values(
 }
 
 // The type of a variable that takes a value of a type.
-fn type_for(alloc: Global, written: &Option<Type>, own: Type) -> Result<Type, Fault>
+fn type_for(alloc: Global, written: &Option<Type>, own: Type) -> Result<Type, RuleError>
     ensures { Agrees ty_of result (parts.type_for (optional ty_of written.now) (ty_of own)) }
 {
     match written {
         Some(written) => {
             if !is_assignable(&own, written) {
-                return Err(Fault::Broken(Code::WrongForm));
+                return Err(RuleError::Broken(RefusalCode::WrongForm));
             }
             Ok(copy(alloc, written)?)
         }
@@ -220,9 +227,11 @@ fn declare_by_receive(
     ok: &[u8],
     written: &Option<Type>,
     expr: &Expr,
-) -> Result<Act, Fault>
+) -> Result<Act, RuleError>
     requires { Declarable (scope_of scope.old) (value.now ∷ (ok.now ∷ [])) }
-    ensures { Agrees (λ a. (act_of a, scope_of scope.new)) result (parts.by_receive (functions_of functions.now) (scope_of scope.old) value.now ok.now (optional ty_of written.now) (tree_of expr.now)) }
+    ensures { Agrees (λ a. (act_of a, scope_of scope.new)) result
+        (parts.by_receive (functions_of functions.now) (scope_of scope.old) value.now ok.now (optional ty_of written.now)
+        (tree_of expr.now)) }
 {
     let (element, channel) = received_pair(alloc, functions, scope, expr)?;
     let zero = zero(&element);
@@ -245,9 +254,11 @@ fn declare_by(
     names: &[Vec<u8>],
     written: &Option<Type>,
     exprs: &[Expr],
-) -> Result<Act, Fault>
+) -> Result<Act, RuleError>
     requires { Declarable (scope_of scope.old) (names_of names.now) }
-    ensures { Agrees (λ a. (act_of a, scope_of scope.new)) result (spec.var_by (functions_of functions.now) (scope_of scope.old) (names_of names.now) (optional ty_of written.now) (trees_of exprs.now) (spec.pair_of (names_of names.now) (trees_of exprs.now))) }
+    ensures { Agrees (λ a. (act_of a, scope_of scope.new)) result
+        (spec.var_by (functions_of functions.now) (scope_of scope.old) (names_of names.now) (optional ty_of written.now)
+        (trees_of exprs.now) (spec.pair_of (names_of names.now) (trees_of exprs.now))) }
 {
     if names.len() == 2 && exprs.len() == 1 {
         let (value, ok) = (&names[0], &names[1]);
@@ -265,8 +276,10 @@ pub fn declare_values(
     names: &[Vec<u8>],
     type_tree: &Option<TypeTree>,
     exprs: &[Expr],
-) -> Result<Act, Fault>
-    ensures { Agrees (λ a. (act_of a, scope_of scope.new)) result (declaration_by (functions_of functions.now) (scope_of scope.old) (names_of names.now) (optional type_of type_tree.now) (trees_of exprs.now)) }
+) -> Result<Act, RuleError>
+    ensures { Agrees (λ a. (act_of a, scope_of scope.new)) result
+        (declaration_by (functions_of functions.now) (scope_of scope.old) (names_of names.now) (optional type_of type_tree.now)
+        (trees_of exprs.now)) }
 {
     may_declare(alloc, scope, names)?;
     let written = written_of(alloc, functions, scope, type_tree)?;

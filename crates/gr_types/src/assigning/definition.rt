@@ -1,4 +1,5 @@
-//! Definitions by `:=`: a name that is new in its block is declared, an old one takes its value (Go: Short variable declarations).
+//! Definitions by `:=`: a name that is new in its block is declared, an old one takes its value (Go: Short variable
+//! declarations).
 ghost use Rattle.gr_types.specs.FindingStatements as spec;
 ghost use Rattle.gr_types.specs.Taking as pure;
 ghost use Rattle.std.specs.Prelude.{◌≡◌, true, [], ◌∷◌, IfOk};
@@ -14,9 +15,9 @@ ghost use Rattle.gr_program.specs.TypeViews.{ty_of, types_of};
 
 use crate::assigning::right_sides::{ReceivePair, pair, received_pair, values_for};
 use crate::assigning::targets::{accepts, fit, is_old, may_define, may_define_one, target};
-use gr_exprs::fault::{Code, Fault};
 use gr_exprs::functions::Functions;
 use gr_exprs::operands::{Operand, with_type};
+use gr_exprs::refusal::{RefusalCode, RuleError};
 use gr_exprs::scope::Scope;
 use gr_exprs::types::zero;
 use gr_program as checked;
@@ -62,7 +63,8 @@ pub fn settle_all(
     mut takers: VecDeque<Taker>,
 ) -> Result<Vec<Option<usize>>, AllocError>
     requires { pure.may_settle_all (names_of names.now) (takers_of takers.items) (scope_of scope.old) ≡ true }
-    ensures { IfOk result (λ ks. (ks.items, scope_of scope.new) ≡ pure.all_settled (names_of names.now) (takers_of takers.items) (scope_of scope.old)) }
+    ensures { IfOk result (λ ks. (ks.items, scope_of scope.new)
+        ≡ pure.all_settled (names_of names.now) (takers_of takers.items) (scope_of scope.old)) }
 {
     let mut targets = Vec::with_capacity(alloc, names.len())?;
     for name in names {
@@ -75,7 +77,12 @@ pub fn settle_all(
     Ok(targets)
 }
 
-fn old_taker(functions: &Functions, scope: &Scope, name: &[u8], own: &Type) -> Result<Taker, Fault>
+fn old_taker(
+    functions: &Functions,
+    scope: &Scope,
+    name: &[u8],
+    own: &Type,
+) -> Result<Taker, RuleError>
     ensures { Agrees taker_of result (pure.old_taker (scope_of scope.now) name.now (ty_of own.now)) }
 {
     let target = target(functions, scope, name)?;
@@ -89,7 +96,7 @@ pub fn taker_for(
     scope: &Scope,
     name: &[u8],
     own: Type,
-) -> Result<Taker, Fault>
+) -> Result<Taker, RuleError>
     ensures { Agrees taker_of result (pure.taker (scope_of scope.now) name.now (ty_of own)) }
 {
     if is_old(scope, name) {
@@ -104,14 +111,15 @@ fn takers_for(
     scope: &Scope,
     names: &[Vec<u8>],
     types: &[Type],
-) -> Result<VecDeque<Taker>, Fault>
-    ensures { Agrees (λ ks. takers_of ks.items) result (pure.takers (scope_of scope.now) (names_of names.now) (types_of types.now)) }
+) -> Result<VecDeque<Taker>, RuleError>
+    ensures { Agrees (λ ks. takers_of ks.items) result
+        (pure.takers (scope_of scope.now) (names_of names.now) (types_of types.now)) }
 {
     let mut takers = VecDeque::new(alloc);
     for index in 0..names.len() {
         let own = match types.get(index) {
             Some(own) => copy(alloc, own)?,
-            None => return Err(Fault::Broken(Code::WrongCount)),
+            None => return Err(RuleError::Broken(RefusalCode::WrongCount)),
         };
         let taker = taker_for(functions, scope, &names[index], own)?;
         takers.push_back(taker)?;
@@ -125,9 +133,10 @@ fn define_each_target(
     scope: &mut Scope,
     names: &[Vec<u8>],
     types: &[Type],
-) -> Result<Vec<Option<usize>>, Fault>
+) -> Result<Vec<Option<usize>>, RuleError>
     requires { may_define (scope_of scope.old) (names_of names.now) ≡ true }
-    ensures { Agrees (λ ks. (ks.items, scope_of scope.new)) result (pure.defined_all (scope_of scope.old) (names_of names.now) (types_of types.now)) }
+    ensures { Agrees (λ ks. (ks.items, scope_of scope.new)) result
+        (pure.defined_all (scope_of scope.old) (names_of names.now) (types_of types.now)) }
 {
     let takers = takers_for(alloc, functions, scope, names, types)?;
     Ok(settle_all(alloc, scope, names, takers)?)
@@ -141,8 +150,9 @@ pub fn define_targets(
     scope: &mut Scope,
     names: &[Vec<u8>],
     types: &[Type],
-) -> Result<Vec<Option<usize>>, Fault>
-    ensures { Agrees (λ ks. (ks.items, scope_of scope.new)) result (defined_takers (scope_of scope.old) (names_of names.now) (types_of types.now)) }
+) -> Result<Vec<Option<usize>>, RuleError>
+    ensures { Agrees (λ ks. (ks.items, scope_of scope.new)) result
+        (defined_takers (scope_of scope.old) (names_of names.now) (types_of types.now)) }
 {
     may_define(alloc, scope, names)?;
     define_each_target(alloc, functions, scope, names, types)
@@ -154,7 +164,7 @@ fn define_new_target(
     scope: &mut Scope,
     name: &[u8],
     own: Type,
-) -> Result<Option<usize>, Fault>
+) -> Result<Option<usize>, RuleError>
     requires { may_define (scope_of scope.old) (name.now ∷ []) ≡ true }
     ensures { Agrees (λ k. (k, scope_of scope.new)) result (pure.defined_one (scope_of scope.old) name.now (ty_of own)) }
 {
@@ -169,7 +179,7 @@ pub fn define_target(
     scope: &mut Scope,
     name: &[u8],
     own: Type,
-) -> Result<Option<usize>, Fault>
+) -> Result<Option<usize>, RuleError>
     ensures { Agrees (λ k. (k, scope_of scope.new)) result (pure.new_target (scope_of scope.old) name.now (ty_of own)) }
 {
     may_define_one(scope, name)?;
@@ -182,7 +192,7 @@ fn old_share(
     scope: &Scope,
     name: &[u8],
     value: Operand,
-) -> Result<(Taker, checked::Expr), Fault>
+) -> Result<(Taker, checked::Expr), RuleError>
     ensures { Agrees share_of result (pure.old_share (scope_of scope.now) name.now (meaning_of value)) }
 {
     let target = target(functions, scope, name)?;
@@ -196,7 +206,7 @@ fn share(
     scope: &Scope,
     name: &[u8],
     value: Operand,
-) -> Result<(Taker, checked::Expr), Fault>
+) -> Result<(Taker, checked::Expr), RuleError>
     ensures { Agrees share_of result (pure.share (scope_of scope.now) name.now (meaning_of value)) }
 {
     if is_old(scope, name) {
@@ -212,14 +222,14 @@ fn shares(
     scope: &Scope,
     names: &[Vec<u8>],
     mut values: VecDeque<Operand>,
-) -> Result<(VecDeque<Taker>, Vec<checked::Expr>), Fault>
+) -> Result<(VecDeque<Taker>, Vec<checked::Expr>), RuleError>
     ensures { Agrees shares_of result (pure.shares (scope_of scope.now) (names_of names.now) (meanings_of values.items)) }
 {
     let mut takers = VecDeque::new(alloc);
     let mut terms = Vec::with_capacity(alloc, names.len())?;
     for name in names {
         let Some(value) = values.pop_front() else {
-            return Err(Fault::Broken(Code::WrongCount));
+            return Err(RuleError::Broken(RefusalCode::WrongCount));
         };
         let (taker, term) = share(functions, scope, name, value)?;
         takers.push_back(taker)?;
@@ -234,9 +244,10 @@ fn define_values(
     scope: &mut Scope,
     names: &[Vec<u8>],
     exprs: &[Expr],
-) -> Result<Act, Fault>
+) -> Result<Act, RuleError>
     requires { may_define (scope_of scope.old) (names_of names.now) ≡ true }
-    ensures { Agrees (λ a. (act_of a, scope_of scope.new)) result (pure.define_values (functions_of functions.now) (scope_of scope.old) (names_of names.now) (trees_of exprs.now)) }
+    ensures { Agrees (λ a. (act_of a, scope_of scope.new)) result
+        (pure.define_values (functions_of functions.now) (scope_of scope.old) (names_of names.now) (trees_of exprs.now)) }
 {
     let values = values_for(alloc, functions, scope, names, exprs)?;
     let (takers, values) = shares(alloc, functions, scope, names, values)?;
@@ -249,9 +260,10 @@ fn define_received(
     functions: &Functions,
     scope: &mut Scope,
     pair: ReceivePair,
-) -> Result<Act, Fault>
+) -> Result<Act, RuleError>
     requires { may_define (scope_of scope.old) (pair.value.now ∷ (pair.ok.now ∷ [])) ≡ true }
-    ensures { Agrees (λ a. (act_of a, scope_of scope.new)) result (pure.define_received (functions_of functions.now) (scope_of scope.old) (pair_view pair.entry)) }
+    ensures { Agrees (λ a. (act_of a, scope_of scope.new)) result
+        (pure.define_received (functions_of functions.now) (scope_of scope.old) (pair_view pair.entry)) }
 {
     let (own, channel) = received_pair(alloc, functions, scope, pair.expr)?;
     let zero = zero(&own);
@@ -274,9 +286,11 @@ fn define_by(
     scope: &mut Scope,
     names: &[Vec<u8>],
     exprs: &[Expr],
-) -> Result<Act, Fault>
+) -> Result<Act, RuleError>
     requires { may_define (scope_of scope.old) (names_of names.now) ≡ true }
-    ensures { Agrees (λ a. (act_of a, scope_of scope.new)) result (spec.define_by (functions_of functions.now) (scope_of scope.old) (names_of names.now) (trees_of exprs.now) (spec.pair_of (names_of names.now) (trees_of exprs.now))) }
+    ensures { Agrees (λ a. (act_of a, scope_of scope.new)) result
+        (spec.define_by (functions_of functions.now) (scope_of scope.old) (names_of names.now) (trees_of exprs.now)
+        (spec.pair_of (names_of names.now) (trees_of exprs.now))) }
 {
     match pair(names, exprs) {
         Some(pair) => define_received(alloc, functions, scope, pair),
@@ -291,8 +305,9 @@ pub fn define(
     scope: &mut Scope,
     names: &[Vec<u8>],
     exprs: &[Expr],
-) -> Result<Act, Fault>
-    ensures { Agrees (λ a. (act_of a, scope_of scope.new)) result (definition (functions_of functions.now) (scope_of scope.old) (names_of names.now) (trees_of exprs.now)) }
+) -> Result<Act, RuleError>
+    ensures { Agrees (λ a. (act_of a, scope_of scope.new)) result
+        (definition (functions_of functions.now) (scope_of scope.old) (names_of names.now) (trees_of exprs.now)) }
 {
     may_define(alloc, scope, names)?;
     define_by(alloc, functions, scope, names, exprs)

@@ -11,9 +11,9 @@ ghost use Rattle.gr_exprs.specs.Checking.{Agrees, meanings_of, typed_of};
 
 use crate::communications::receive_of;
 use gr_exprs::expressions::find_all;
-use gr_exprs::fault::{Code, Fault};
 use gr_exprs::functions::Functions;
 use gr_exprs::operands::Operand;
+use gr_exprs::refusal::{RefusalCode, RuleError};
 use gr_exprs::scope::Scope;
 use gr_program as checked;
 use gr_program::Type;
@@ -57,11 +57,11 @@ pub fn received_pair(
     functions: &Functions,
     scope: &Scope,
     expr: &Expr,
-) -> Result<(Type, checked::Expr), Fault>
+) -> Result<(Type, checked::Expr), RuleError>
     ensures { Agrees typed_of result (spec.receive_in (functions_of functions.now) (scope_of scope.now) (tree_of expr.now)) }
 {
     if !is_receive(expr) {
-        return Err(Fault::Broken(Code::WrongCount));
+        return Err(RuleError::Broken(RefusalCode::WrongCount));
     }
     receive_of(alloc, functions, scope, expr)
 }
@@ -74,11 +74,12 @@ pub fn values_for(
     scope: &Scope,
     names: &[Vec<u8>],
     exprs: &[Expr],
-) -> Result<VecDeque<Operand>, Fault>
-    ensures { Agrees (λ v. meanings_of v.items) result (pure.values_for (functions_of functions.now) (scope_of scope.now) (names_of names.now) (trees_of exprs.now)) }
+) -> Result<VecDeque<Operand>, RuleError>
+    ensures { Agrees (λ v. meanings_of v.items) result
+        (pure.values_for (functions_of functions.now) (scope_of scope.now) (names_of names.now) (trees_of exprs.now)) }
 {
     if names.len() != exprs.len() {
-        return Err(Fault::Broken(Code::WrongCount));
+        return Err(RuleError::Broken(RefusalCode::WrongCount));
     }
     find_all(alloc, functions, scope, exprs)
 }

@@ -14,15 +14,15 @@ ghost use Rattle.gr_exprs.specs.Checking.{Agrees, meaning_of};
 ghost use Rattle.gr_types.specs.Checking.{Holds};
 ghost use Rattle.gr_exprs.specs.Codes.{Tells, name_code};
 ghost use Rattle.gr_types.specs.Codes.{define_code};
-ghost use Rattle.gr_exprs.specs.declared.fault.Code.TheVariants as codes;
+ghost use Rattle.gr_exprs.specs.declared.refusal.RefusalCode.TheVariants as codes;
 ghost use Rattle.gr_types.specs.FindingStatements as spec;
 ghost use Rattle.gr_types.specs.Taking as pure;
 
 use gr_exprs::calls::unusable;
-use gr_exprs::fault::{Code, Fault};
 use gr_exprs::functions::Functions;
 use gr_exprs::names::{is_blank, is_predeclared};
 use gr_exprs::operands::{Operand, as_type, with_type};
+use gr_exprs::refusal::{RefusalCode, RuleError};
 use gr_exprs::scope::Scope;
 use gr_exprs::types::is_assignable;
 use gr_program as checked;
@@ -60,12 +60,12 @@ fn none_predeclared(names: &[Vec<u8>]) -> bool
 }
 
 /// Whether names may be declared together.
-pub fn may_stand_together(alloc: Global, names: &[Vec<u8>]) -> Result<(), Fault>
+pub fn may_stand_together(alloc: Global, names: &[Vec<u8>]) -> Result<(), RuleError>
     ensures value { Holds result (may_name (names_of names.now)) }
     ensures code { Tells result codes.DeclaredTwice }
 {
     if !are_distinct(alloc, names)? || !none_predeclared(names) {
-        return Err(Fault::Broken(Code::DeclaredTwice));
+        return Err(RuleError::Broken(RefusalCode::DeclaredTwice));
     }
     Ok(())
 }
@@ -89,27 +89,27 @@ fn all_old(scope: &Scope, names: &[Vec<u8>]) -> bool
 }
 
 /// Whether names may stand on the left of `:=`.
-pub fn may_define(alloc: Global, scope: &Scope, names: &[Vec<u8>]) -> Result<(), Fault>
+pub fn may_define(alloc: Global, scope: &Scope, names: &[Vec<u8>]) -> Result<(), RuleError>
     ensures value { Holds result (assignments.may_define (scope_of scope.now) (names_of names.now)) }
     ensures code { Tells result (define_code (names_of names.now)) }
 {
     may_stand_together(alloc, names)?;
     if all_old(scope, names) {
-        return Err(Fault::Broken(Code::NoNewVariable));
+        return Err(RuleError::Broken(RefusalCode::NoNewVariable));
     }
     Ok(())
 }
 
 /// Whether one name may stand on the left of `:=`.
-pub fn may_define_one(scope: &Scope, name: &[u8]) -> Result<(), Fault>
+pub fn may_define_one(scope: &Scope, name: &[u8]) -> Result<(), RuleError>
     ensures value { Holds result (assignments.may_define (scope_of scope.now) (name.now ∷ [])) }
     ensures code { Tells result (define_code (name.now ∷ [])) }
 {
     if is_predeclared(name) {
-        return Err(Fault::Broken(Code::DeclaredTwice));
+        return Err(RuleError::Broken(RefusalCode::DeclaredTwice));
     }
     if is_old(scope, name) {
-        return Err(Fault::Broken(Code::NoNewVariable));
+        return Err(RuleError::Broken(RefusalCode::NoNewVariable));
     }
     Ok(())
 }
@@ -132,19 +132,19 @@ fn all_free(scope: &Scope, names: &[Vec<u8>]) -> bool
 }
 
 /// Whether names may be declared by `var`.
-pub fn may_declare(alloc: Global, scope: &Scope, names: &[Vec<u8>]) -> Result<(), Fault>
+pub fn may_declare(alloc: Global, scope: &Scope, names: &[Vec<u8>]) -> Result<(), RuleError>
     ensures value { Holds result (assignments.may_declare (scope_of scope.now) (names_of names.now)) }
     ensures code { Tells result codes.DeclaredTwice }
 {
     may_stand_together(alloc, names)?;
     if !all_free(scope, names) {
-        return Err(Fault::Broken(Code::DeclaredTwice));
+        return Err(RuleError::Broken(RefusalCode::DeclaredTwice));
     }
     Ok(())
 }
 
 /// What a name on the left of `=` stands for: a variable, or none for the blank identifier.
-pub fn target(functions: &Functions, scope: &Scope, name: &[u8]) -> Result<Option<usize>, Fault>
+pub fn target(functions: &Functions, scope: &Scope, name: &[u8]) -> Result<Option<usize>, RuleError>
     ensures value { Agrees (λ k. k) result (pure.target (scope_of scope.now) name.now) }
     ensures code { Tells result (name_code (functions_of functions.now) (scope_of scope.now) name.now) }
 {
@@ -153,7 +153,7 @@ pub fn target(functions: &Functions, scope: &Scope, name: &[u8]) -> Result<Optio
     }
     match scope.variable_named(name) {
         Some(number) => Ok(Some(number)),
-        None => Err(Fault::Broken(unusable(functions, scope, name))),
+        None => Err(RuleError::Broken(unusable(functions, scope, name))),
     }
 }
 
@@ -163,7 +163,7 @@ pub fn all_targets(
     functions: &Functions,
     scope: &Scope,
     names: &[Vec<u8>],
-) -> Result<Vec<Option<usize>>, Fault>
+) -> Result<Vec<Option<usize>>, RuleError>
     ensures { Agrees (λ ks. ks.items) result (pure.targets (scope_of scope.now) (names_of names.now)) }
 {
     let mut targets = Vec::with_capacity(alloc, names.len())?;
@@ -175,7 +175,7 @@ pub fn all_targets(
 }
 
 /// Whether what a name stands for takes values of a type.
-pub fn accepts(scope: &Scope, target: Option<usize>, own: &Type) -> Result<(), Fault>
+pub fn accepts(scope: &Scope, target: Option<usize>, own: &Type) -> Result<(), RuleError>
     ensures value { Holds result (pure.accepts (scope_of scope.now) target (ty_of own.now)) }
     ensures code { Tells result codes.WrongForm }
 {
@@ -184,17 +184,17 @@ pub fn accepts(scope: &Scope, target: Option<usize>, own: &Type) -> Result<(), F
     };
     match scope.type_of(number) {
         Some(target_type) if is_assignable(own, target_type) => Ok(()),
-        _ => Err(Fault::Broken(Code::WrongForm)),
+        _ => Err(RuleError::Broken(RefusalCode::WrongForm)),
     }
 }
 
-fn all_accept(scope: &Scope, targets: &[Option<usize>], types: &[Type]) -> Result<(), Fault>
+fn all_accept(scope: &Scope, targets: &[Option<usize>], types: &[Type]) -> Result<(), RuleError>
     ensures { Holds result (pure.all_accept (scope_of scope.now) targets.now (types_of types.now)) }
 {
     for index in 0..targets.len() {
         match types.get(index) {
             Some(own) => accepts(scope, targets[index], own)?,
-            None => return Err(Fault::Broken(Code::WrongCount)),
+            None => return Err(RuleError::Broken(RefusalCode::WrongCount)),
         }
     }
     Ok(())
@@ -207,7 +207,7 @@ pub fn target_for(
     scope: &Scope,
     name: &[u8],
     own: &Type,
-) -> Result<Option<usize>, Fault>
+) -> Result<Option<usize>, RuleError>
     ensures { Agrees (λ k. k) result (spec.takes (scope_of scope.now) name.now (ty_of own.now)) }
 {
     let target = target(functions, scope, name)?;
@@ -224,7 +224,7 @@ pub fn targets_for(
     scope: &Scope,
     names: &[Vec<u8>],
     types: &[Type],
-) -> Result<Vec<Option<usize>>, Fault>
+) -> Result<Vec<Option<usize>>, RuleError>
     ensures { Agrees (λ ks. ks.items) result (spec.all_take (scope_of scope.now) (names_of names.now) (types_of types.now)) }
 {
     let targets = all_targets(alloc, functions, scope, names)?;
@@ -233,17 +233,17 @@ pub fn targets_for(
 }
 
 // A value that is given to the variable with a number.
-fn given_variable(scope: &Scope, number: usize, value: Operand) -> Result<checked::Expr, Fault>
+fn given_variable(scope: &Scope, number: usize, value: Operand) -> Result<checked::Expr, RuleError>
     ensures { Agrees expr_of result (pure.given_variable (scope_of scope.now) number (meaning_of value)) }
 {
     match scope.type_of(number) {
         Some(own) => as_type(own, value),
-        None => Err(Fault::Broken(Code::WrongForm)),
+        None => Err(RuleError::Broken(RefusalCode::WrongForm)),
     }
 }
 
 /// A value that is given to what a name stands for.
-pub fn fit(scope: &Scope, target: Option<usize>, value: Operand) -> Result<checked::Expr, Fault>
+pub fn fit(scope: &Scope, target: Option<usize>, value: Operand) -> Result<checked::Expr, RuleError>
     ensures { Agrees expr_of result (pure.fit (scope_of scope.now) target (meaning_of value)) }
 {
     match target {

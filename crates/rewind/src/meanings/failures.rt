@@ -1,4 +1,4 @@
-//! Pages on failures of the program itself. Made by docs/words/make.py from the texts beside it: change those.
+//! Pages on failures of the program itself. Made by words/make.py from the texts beside it: change those.
 ghost use Rattle.std.specs.Prelude.{◌≡◌, IfSome, is_some};
 ghost use Rattle.rewind.specs.Explanations.{IsOn, is_among};
 ghost use Rattle.rewind.specs.Codes.{failures as names};

@@ -1,4 +1,4 @@
-//! Pages on faults of a program. Made by docs/words/make.py from the texts beside it: change those.
+//! Pages on faults of a program. Made by words/make.py from the texts beside it: change those.
 ghost use Rattle.std.specs.Prelude.{◌≡◌, IfSome, is_some};
 ghost use Rattle.rewind.specs.Explanations.{IsOn, is_among};
 ghost use Rattle.rewind.specs.Codes.{faults as names};

@@ -1,5 +1,5 @@
 use Rattle.std.proofs.Common.{◌≡◌, map, ◌++◌}
-use Rattle.gr_record.specs.Back.{marked}
+use Rattle.gr_step.specs.Back.{marked}
 use Rattle.gr_rollback.proofs.asking.names_marked.Given as goal
 
 -- the names so far, and those of the steps that are left, are the names of all

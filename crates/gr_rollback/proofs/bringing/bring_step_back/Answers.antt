@@ -1,4 +1,4 @@
-use Rattle.gr_record.specs.declared.record.Form.TheVariants.{Alone, Waits, Passes}
+use Rattle.gr_step.specs.Form.TheVariants.{Alone, Waits, Passes}
 use Rattle.gr_rollback.proofs.BringLemmas.{brings_in, brings_own, brings_waiting}
 use Rattle.gr_rollback.proofs.bringing.bring_step_back.Goals as goal
 

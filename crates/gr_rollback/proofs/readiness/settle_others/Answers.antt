@@ -1,9 +1,9 @@
 use Rattle.std.proofs.Common.{ap, sym, subst, ◌∙◌}
 use Rattle.std.specs.Option.{option_to_list}
-use Rattle.gr_record.specs.declared.record.Beyond.{Beyond}
-use Rattle.gr_record.specs.Effects.{Effect, effect_in}
-use Rattle.gr_record.specs.Fews.{members}
-use Rattle.gr_record.specs.Parts.{begun_in}
+use Rattle.gr_step.specs.Beyond.{Beyond}
+use Rattle.gr_step.specs.Effects.{Effect, effect_in}
+use Rattle.gr_step.specs.Fews.{members}
+use Rattle.gr_step.specs.Parts.{begun_in}
 use Rattle.gr_step.specs.Stores.{contents_at}
 use Rattle.gr_rollback.specs.Readiness.{Settles, names_met, others_of}
 use Rattle.gr_rollback.proofs.PoolLemmas.{settles_join}

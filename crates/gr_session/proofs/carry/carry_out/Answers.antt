@@ -1,5 +1,5 @@
 use Rattle.std.proofs.Common.{ap, ◌∙◌}
-use Rattle.gr_depend.specs.Logs.{records_of}
+use Rattle.gr_rollback.specs.Logs.{records_of}
 use Rattle.gr_session.proofs.QueryLemmas.{show_leads, chan_told, text_leads, console_told, log_told}
 use Rattle.gr_session.proofs.carry.carry_out.Goals as goal
 

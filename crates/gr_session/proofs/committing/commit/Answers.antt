@@ -1,11 +1,11 @@
 use Rattle.std.proofs.Common.{true≢false, sym, ◌∙◌}
-use Rattle.gr_step.specs.Leasing.{loan_of}
+use Rattle.gr_rollback.specs.StepLeasing.{loan_of}
 use Rattle.gr_session.proofs.CommitLemmas.{stale_where_changed}
 use Rattle.gr_session.proofs.committing.commit.Goals as goal
 
 pub returns-then-not-has_program_of-clause-commits : goal.returns-then-not-has_program_of-clause-commits
 returns-then-not-has_program_of-clause-commits c = λ p w s. (
-  c.into_batch.ensures,
+  c.into_run.ensures,
   stale_where_changed p w c.args.debuggee.now s (loan_of c.args.lease)
       (λ is. true≢false (sym (c.has_program_of.ensures.1 is.program) ∙ c.if-not-has_program_of.true)),
 )

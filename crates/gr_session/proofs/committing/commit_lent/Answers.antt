@@ -1,8 +1,8 @@
 use Rattle.std.proofs.Common.{length, refl, arith}
-use Rattle.gr_depend.specs.Logs.{records_of}
+use Rattle.gr_rollback.specs.Logs.{records_of}
 use Rattle.gr_rollback.specs.declared.TheConstants.{LOG_LIMIT}
 use Rattle.gr_rules.specs.Limits.{most_steps}
-use Rattle.gr_step.specs.Leasing.{loan_of}
+use Rattle.gr_rollback.specs.StepLeasing.{loan_of}
 use Rattle.gr_session.specs.Debuggees.{log_in}
 use Rattle.gr_session.specs.Journal.{course_of}
 use Rattle.gr_session.proofs.CommitLemmas.{stale_past_grant, full_for_all, some_join, none_joins, fits_all, kept_short}

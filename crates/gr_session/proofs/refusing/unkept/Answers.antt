@@ -1,5 +1,5 @@
 use Rattle.std.proofs.Common.{◌≡◌, ◌<◌, ◌≤◌, length, ap, ◌∙◌, arith}
-use Rattle.gr_depend.specs.Logs.{records_of}
+use Rattle.gr_rollback.specs.Logs.{records_of}
 use Rattle.gr_rollback.specs.declared.TheConstants.{LOG_LIMIT}
 use Rattle.gr_session.specs.Debuggees.{log_in}
 use Rattle.gr_session.proofs.StepLemmas.{no_room, no_memory}

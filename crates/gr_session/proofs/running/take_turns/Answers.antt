@@ -1,6 +1,6 @@
 use Rattle.std.proofs.Common.{refl, ◌∙◌, ◌<◌, ◌+◌, subst, arith}
 use Rattle.gr_program.specs.Programs.{Program}
-use Rattle.gr_step.specs.Stores.{program_at}
+use Rattle.gr_rollback.specs.Stores.{program_at}
 use Rattle.gr_session.specs.Journal.{World}
 use Rattle.gr_session.specs.Debuggees.{Stands, store_in}
 use Rattle.gr_session.specs.Turning.{TakesTurn, Ends}

@@ -1,6 +1,6 @@
 use Rattle.std.proofs.Common.{◌≤◌, ◌-◌}
 use Rattle.gr_program.specs.Programs.{Program}
-use Rattle.gr_step.specs.Stores.{SameListing}
+use Rattle.gr_rollback.specs.Stores.{SameListing}
 use Rattle.gr_session.specs.Journal.{World}
 use Rattle.gr_session.specs.Debuggees.{IsDebuggee, Stands, store_in}
 use Rattle.gr_session.proofs.RunLemmas.{HasGone}

@@ -1,7 +1,7 @@
 use Rattle.std.proofs.Common.{ap, ◌∙◌}
 use Rattle.std.specs.Prelude.{option_copied}
 use Rattle.gr_code.specs.CodeViews.{program_code_of}
-use Rattle.gr_step.specs.Stores.{program_at}
+use Rattle.gr_rollback.specs.Stores.{program_at}
 use Rattle.gr_session.proofs.TargetLemmas.{kept_here, assigner_here}
 use Rattle.gr_session.proofs.targets.step_asked_for.Goals as goal
 

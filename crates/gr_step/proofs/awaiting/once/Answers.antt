@@ -1,5 +1,5 @@
 use Rattle.std.proofs.Common.{◌++◌, ◌∷◌, [], ap, ◌∙◌, arith, false, true}
-use Rattle.gr_step.proofs.AwaitingLemmas.{known_next, told_again, told_new}
+use Rattle.gr_step.proofs.WaitingOnLemmas.{known_next, told_again, told_new}
 use Rattle.gr_step.proofs.awaiting.once.Goals as goal
 
 pub loop-place-preserved-then-not-is_new : goal.loop-place-preserved-then-not-is_new

@@ -1,5 +1,5 @@
 use Rattle.std.proofs.Common.{◌++◌, ◌∷◌, [], ap, sym, ◌∙◌}
-use Rattle.gr_step.proofs.AwaitingLemmas.{all_pushed, one_pushed}
+use Rattle.gr_step.proofs.WaitingOnLemmas.{all_pushed, one_pushed}
 use Rattle.gr_step.proofs.awaiting.push_receivers.Goals as goal
 
 pub returns-in_default : goal.returns-in_default

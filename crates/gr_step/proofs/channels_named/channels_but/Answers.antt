@@ -2,7 +2,7 @@ use Rattle.std.proofs.Common.{◌∙◌, ◌++◌, ◌∷◌, [], ◌+◌, drop,
 use Rattle.gr_rules.specs.Operators.{same_channel}
 use Rattle.gr_rules.specs.Actors.{channels_but}
 use Rattle.gr_goros.specs.Views.{waits_of}
-use Rattle.gr_step.proofs.ChannelsNamed.{known, found, any_seen, any_found, in_neither, all_named}
+use Rattle.gr_step.proofs.ChannelsButLemmas.{known, found, any_seen, any_found, in_neither, all_named}
 use Rattle.gr_step.proofs.channels_named.channels_but.Goals as goal
 
 pub loop-wait-preserved-then-is_among : goal.loop-wait-preserved-then-is_among

@@ -2,7 +2,7 @@ use Rattle.std.proofs.Common.{◌∙◌, ◌++◌, ◌∷◌, [], sym, ap, subst
 use Rattle.gr_rules.specs.Actors.{channels_but}
 use Rattle.gr_goros.specs.Views.{waits_of}
 use Rattle.gr_step.specs.Preparing.{AreToLeave}
-use Rattle.gr_step.proofs.PreparingLemmas.{none_to_leave, all_to_leave}
+use Rattle.gr_step.proofs.PrepareLemmas.{none_to_leave, all_to_leave}
 use Rattle.gr_step.proofs.channels_named.channels_to_leave.Goals as goal
 
 pub returns-then-waits-eq1 : goal.returns-then-waits-eq1

@@ -1,4 +1,4 @@
-use Rattle.gr_step.proofs.LeasingLemmas.{walk_leads}
+use Rattle.gr_step.proofs.LeaseLemmas.{walk_leads}
 use Rattle.gr_step.proofs.leasing.law_of_leases.Goals as goal
 
 pub returns : goal.returns

@@ -1,5 +1,5 @@
 use Rattle.std.proofs.Common.{Some}
-use Rattle.gr_step.proofs.Queueing.{waits_next, waits_done}
+use Rattle.gr_step.proofs.QueueLemmas.{waits_next, waits_done}
 use Rattle.gr_step.proofs.queues.all_waits.Goals as goal
 
 pub loop-clause-preserved : goal.loop-clause-preserved

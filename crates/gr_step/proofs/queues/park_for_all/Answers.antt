@@ -1,5 +1,5 @@
 use Rattle.std.proofs.Common.{[], ◌∷◌, sym, append-nil, arith}
-use Rattle.gr_step.proofs.Queueing.{none_queued, here_made, queueing_next, all_queued, queued_fit, queued_room, unqueued}
+use Rattle.gr_step.proofs.QueueLemmas.{none_queued, here_made, queueing_next, all_queued, queued_fit, queued_room, unqueued}
 use Rattle.gr_step.proofs.queues.park_for_all.Goals as goal
 
 pub loop-clause-init : goal.loop-clause-init

@@ -1,5 +1,5 @@
 use Rattle.std.proofs.Common.{◌≤◌, length, vec_len, vec_capacity}
-use Rattle.gr_step.proofs.Queueing.{Queueing}
+use Rattle.gr_step.proofs.QueueLemmas.{Queueing}
 use Rattle.gr_step.proofs.queues.park_for_all.Given as goal
 
 abbrev pub invariant-loop-clause : goal.invariant-loop-clause

@@ -1,7 +1,7 @@
 use Rattle.std.proofs.Common.{◌∙◌, ◌++◌, ◌∷◌, [], ◌+◌, drop, sym, ap}
 use Rattle.gr_rules.specs.States.{same}
 use Rattle.gr_laws.specs.Touched as laws
-use Rattle.gr_step.proofs.EachOnce.{known, found, any_seen, any_found, in_neither, all_told}
+use Rattle.gr_step.proofs.EachOnceLemmas.{known, found, any_seen, any_found, in_neither, all_told}
 use Rattle.gr_step.proofs.sides.each_once.Goals as goal
 
 pub loop-object-preserved-then-is_among : goal.loop-object-preserved-then-is_among

@@ -1,8 +1,8 @@
-use Rattle.gr_contents.specs.Contents.{state_of}
-use Rattle.gr_contents.specs.Partners.{is_made_for}
+use Rattle.gr_refine.specs.Contents.{state_of}
+use Rattle.gr_refine.specs.Partners.{is_made_for}
 use Rattle.gr_tables.specs.NamedChannels.{contents_of}
 use Rattle.gr_step.specs.Parks.{with_channels}
-use Rattle.gr_step.proofs.EachOnce.{side_next, sides_told, first_so}
+use Rattle.gr_step.proofs.EachOnceLemmas.{side_next, sides_told, first_so}
 use Rattle.gr_step.proofs.sides.sides.Goals as goal
 
 pub side-requires : goal.side-requires

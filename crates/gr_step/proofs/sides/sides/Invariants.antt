@@ -3,8 +3,8 @@ use Rattle.std.specs.List.{list_all, flat_map}
 use Rattle.gr_rules.specs.Frames.{Frame}
 use Rattle.gr_rules.specs.Touches as rules
 use Rattle.gr_code.specs.CodeFrames.{CodeFrame}
-use Rattle.gr_contents.specs.Contents.{state_of}
-use Rattle.gr_contents.specs.Partners.{is_made_for}
+use Rattle.gr_refine.specs.Contents.{state_of}
+use Rattle.gr_refine.specs.Partners.{is_made_for}
 use Rattle.gr_goros.specs.Views.{communications_of}
 use Rattle.gr_tables.specs.NamedChannels.{contents_of}
 use Rattle.gr_step.specs.Parks.{with_channels}

@@ -1,7 +1,7 @@
 use Rattle.std.proofs.Common.{sym, subst}
 use Rattle.gr_tables.specs.NamedGoroutines.{goroutines_of}
 use Rattle.gr_step.specs.Unstepping.{IsForgotten}
-use Rattle.gr_step.proofs.UnsteppingLemmas.{one_gone}
+use Rattle.gr_step.proofs.UnstepLemmas.{one_gone}
 use Rattle.gr_step.proofs.unstepping.forget.Goals as goal
 
 pub returns : goal.returns

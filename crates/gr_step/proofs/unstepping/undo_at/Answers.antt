@@ -1,5 +1,5 @@
 use Rattle.gr_tables.proofs.ByNumber.{on_ok}
-use Rattle.gr_step.proofs.UnsteppingLemmas.{fits_there, room_there, one_back}
+use Rattle.gr_step.proofs.UnstepLemmas.{fits_there, room_there, one_back}
 use Rattle.gr_step.proofs.unstepping.undo_at.Goals as goal
 
 pub undo-requires : goal.undo-requires

@@ -2,7 +2,7 @@ use Rattle.std.proofs.Common.{◌≡◌, ℕ, List, [], ◌∷◌, arith, subst,
 use Rattle.std.specs.Prelude.{OnOk}
 use Rattle.gr_tables.specs.NamedGoroutines.{goroutines_of}
 use Rattle.gr_record.specs.Records.{go_back}
-use Rattle.gr_step.proofs.UnsteppingLemmas.{last_fits, last_needs_none, first_need_none, first_fit, first_back}
+use Rattle.gr_step.proofs.UnstepLemmas.{last_fits, last_needs_none, first_need_none, first_fit, first_back}
 use Rattle.gr_step.proofs.unstepping.undo_each.Goals as goal
 
 pub undo_at-requires : goal.undo_at-requires

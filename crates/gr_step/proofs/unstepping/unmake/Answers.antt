@@ -1,6 +1,6 @@
 use Rattle.std.proofs.Common.{sym, subst}
 use Rattle.gr_step.specs.Unstepping.{IsUnmade}
-use Rattle.gr_step.proofs.UnsteppingLemmas.{one_unmade}
+use Rattle.gr_step.proofs.UnstepLemmas.{one_unmade}
 use Rattle.gr_step.proofs.unstepping.unmake.Goals as goal
 
 pub returns-in-Some : goal.returns-in-Some

@@ -1,5 +1,5 @@
 use Rattle.std.proofs.Common.{ap, arith, length}
-use Rattle.gr_step.proofs.WaitingLemmas.{numbered_next}
+use Rattle.gr_step.proofs.WaitForLemmas.{numbered_next}
 use Rattle.gr_step.proofs.waiting.numbered.Goals as goal
 
 pub loop-clause-preserved : goal.loop-clause-preserved

@@ -2,7 +2,7 @@ use Rattle.std.proofs.Common.{◌++◌, ap, ◌∙◌}
 use Rattle.gr_rules.specs.Actors.{channels_but}
 use Rattle.gr_tables.specs.NamedGoroutines.{goroutines_of}
 use Rattle.gr_step.specs.Wakes.{waits_known}
-use Rattle.gr_step.proofs.WakingLemmas.{channels_next}
+use Rattle.gr_step.proofs.WakeLemmas.{channels_next}
 use Rattle.gr_step.proofs.waking.all_channels.Goals as goal
 
 pub loop-go-preserved : goal.loop-go-preserved

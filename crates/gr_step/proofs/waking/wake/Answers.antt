@@ -1,4 +1,4 @@
-use Rattle.gr_step.proofs.WakingLemmas.{can_retry, wakes_one, wakes_back}
+use Rattle.gr_step.proofs.WakeLemmas.{can_retry, wakes_one, wakes_back}
 use Rattle.gr_step.proofs.waking.wake.Goals as goal
 
 pub retry-requires : goal.retry-requires

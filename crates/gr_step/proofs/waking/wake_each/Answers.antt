@@ -2,7 +2,7 @@ use Rattle.std.proofs.Common.{◌≡◌, ◌++◌, ap, sym, subst, length, arith
 use Rattle.std.specs.Vec.Iter.{into_iter_items}
 use Rattle.gr_tables.specs.NamedGoroutines.{goroutines_of}
 use Rattle.gr_step.specs.Wakes.{LeadsOver}
-use Rattle.gr_step.proofs.WakingLemmas.{leads_join, live_next, woken_next, names_next}
+use Rattle.gr_step.proofs.WakeLemmas.{leads_join, live_next, woken_next, names_next}
 use Rattle.gr_step.proofs.waking.wake_each.Goals as goal
 
 pub loop-go-preserved : goal.loop-go-preserved

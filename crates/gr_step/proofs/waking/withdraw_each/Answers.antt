@@ -6,7 +6,7 @@ use Rattle.gr_tables.proofs.AnswerLemmas.{on_err}
 use Rattle.gr_tables.proofs.RoomLemmas.{within_self}
 use Rattle.gr_tables.proofs.Withdrawals.{follows_more, still_fit, still_have_rooms, took_all}
 use Rattle.gr_step.specs.Wakes.{waits_known}
-use Rattle.gr_step.proofs.WakingLemmas.{withdrawn_next, gates_next}
+use Rattle.gr_step.proofs.WakeLemmas.{withdrawn_next, gates_next}
 use Rattle.gr_step.proofs.waking.withdraw_each.Goals as goal
 
 pub put_all_back-requires-clause-fits : goal.put_all_back-requires-clause-fits

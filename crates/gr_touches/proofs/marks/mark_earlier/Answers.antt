@@ -8,7 +8,7 @@ d = record { place = 0; writes = false }
 
 pub returns-then-touch-origin : goal.returns-then-touch-origin
 returns-then-touch-origin c =
-    earlier_done c.args.origin c.args.all c.args.touches.now c.loop-i.i d (omega arith) c.args.marks.now c.loop-i.marks c.loop-i.marks
+    earlier_done c.args.origin c.args.wanted c.args.touches.now c.loop-i.i d (omega arith) c.args.marks.now c.loop-i.marks c.loop-i.marks
     c.requires.earlier c.requires.ascending c.if-touch-origin.true c.loop-i.invariant
 
 pub mark-requires-clause-from : goal.mark-requires-clause-from
@@ -24,5 +24,5 @@ mark-requires-clause-below c =
 
 pub loop-i-preserved : goal.loop-i-preserved
 loop-i-preserved c =
-    earlier_more c.args.origin c.args.all c.args.touches.now c.loop-i.i d (omega arith) c.args.marks.now c.loop-i.marks c.mark.new.marks
+    earlier_more c.args.origin c.args.wanted c.args.touches.now c.loop-i.i d (omega arith) c.args.marks.now c.loop-i.marks c.mark.new.marks
     (earlier_than c.args.origin _ c.requires.earlier c.if-touch-origin.false) c.loop-i.auto.marks c.mark.ensures c.loop-i.invariant

@@ -3,4 +3,4 @@ use Rattle.gr_touches.specs.Marks.{hits, Marks}
 use Rattle.gr_touches.proofs.marks.mark_earlier.Given as goal
 
 abbrev pub invariant-loop-i : goal.invariant-loop-i
-invariant-loop-i l = Marks l.origin (hits l.all (take l.i l.touches)) l.initial.marks l.marks
+invariant-loop-i l = Marks l.origin (hits l.wanted (take l.i l.touches)) l.initial.marks l.marks

@@ -5,7 +5,7 @@ use Rattle.gr_touches.proofs.marks.mark_later.Given as goal
 abbrev pub invariant-loop-left : goal.invariant-loop-left
 invariant-loop-left l = record {
   within : l.left ≤ length l.touches;
-  marks : Marks l.origin (hits l.all (drop l.left l.touches)) l.initial.marks l.marks;
+  marks : Marks l.origin (hits l.wanted (drop l.left l.touches)) l.initial.marks l.marks;
 }
 
 abbrev pub decreases-loop-left : goal.decreases-loop-left

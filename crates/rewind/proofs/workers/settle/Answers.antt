@@ -1,5 +1,5 @@
 use Rattle.std.proofs.Common.{subst, All}
-use Rattle.gr_session.specs.Entries.{IsLegal}
+use Rattle.gr_share.specs.Entries.{IsLegal}
 use Rattle.gr_share.specs.Calls.{IsTied}
 use Rattle.rewind.proofs.workers.settle.Goals as goal
 

@@ -1,5 +1,6 @@
-use Rattle.std.proofs.Common.{◌+◌, false, true, arith}
+use Rattle.std.proofs.Common.{◌+◌, true, arith}
 use Rattle.std.proofs.lemmas.List.{length-set}
+use Rattle.gr_touches.specs.declared.marks.Wanted.TheVariants as which_are
 use Rattle.gr_depend.proofs.SpreadLemmas.{count_of}
 use Rattle.gr_depend.proofs.TraceLemmas.{earlier_walked, traced_init, traced_pass, traced_take}
 use Rattle.gr_depend.proofs.log.Log.mark_causes.Goals as goal
@@ -24,8 +25,8 @@ loop-left-preserved-then-not-marks-left c =
       within = omega arith;
       traced = traced_pass rs c.args.at c.loop-left.left c.loop-left.marks (omega arith) (omega arith) c.requires.within (omega arith) c.loop-left.invariant.traced
           c.if-not-marks-left.true;
-      read = earlier_walked rs c.args.at lanes false c.loop-left.read c.loop-left.marks _ _ (omega arith) c.loop-left.invariant.read;
-      written = earlier_walked rs c.args.at lanes true c.loop-left.written c.loop-left.marks _ _ (omega arith) c.loop-left.invariant.written;
+      read = earlier_walked rs c.args.at lanes which_are.Writes c.loop-left.read c.loop-left.marks _ _ (omega arith) c.loop-left.invariant.read;
+      written = earlier_walked rs c.args.at lanes which_are.All c.loop-left.written c.loop-left.marks _ _ (omega arith) c.loop-left.invariant.written;
     }
 
 pub loop-left-preserved : goal.loop-left-preserved

@@ -1,5 +1,6 @@
-use Rattle.std.proofs.Common.{◌-◌, false, true, length, arith}
+use Rattle.std.proofs.Common.{◌-◌, true, length, arith}
 use Rattle.std.proofs.lemmas.List.{length-set}
+use Rattle.gr_touches.specs.declared.marks.Wanted.TheVariants as which_are
 use Rattle.gr_depend.proofs.SpreadLemmas.{count_of, later_walked, spread_init, spread_pass, spread_take}
 use Rattle.gr_depend.proofs.log.Log.mark_dependents.Goals as goal
 
@@ -9,8 +10,8 @@ loop-place-init c =
     let lanes = c.args.self.now.lanes in
     record {
       spread = spread_init rs c.args.at c.args.marks.now c.mark_from.new.marks c.requires.within c.requires.marks c.mark_from.auto.marks c.mark_from.ensures.marks;
-      read = later_walked rs c.args.at lanes false c.mark_from.new.read c.mark_from.new.marks c.args.at _ (omega arith) c.mark_from.ensures.read_walked;
-      written = later_walked rs c.args.at lanes true c.mark_from.new.written c.mark_from.new.marks c.args.at _ (omega arith) c.mark_from.ensures.written_walked;
+      read = later_walked rs c.args.at lanes which_are.Writes c.mark_from.new.read c.mark_from.new.marks c.args.at _ (omega arith) c.mark_from.ensures.read_walked;
+      written = later_walked rs c.args.at lanes which_are.All c.mark_from.new.written c.mark_from.new.marks c.args.at _ (omega arith) c.mark_from.ensures.written_walked;
     }
 
 pub loop-place-preserved-then-not-marks-place : goal.loop-place-preserved-then-not-marks-place
@@ -23,8 +24,8 @@ loop-place-preserved-then-not-marks-place c =
     record {
       spread = spread_pass rs c.args.at c.loop-place.place c.loop-place.marks (omega arith) (omega arith) (omega arith) c.loop-place.invariant.spread
           c.if-not-marks-place.true;
-      read = later_walked rs c.args.at lanes false c.loop-place.read c.loop-place.marks _ _ (omega arith) c.loop-place.invariant.read;
-      written = later_walked rs c.args.at lanes true c.loop-place.written c.loop-place.marks _ _ (omega arith) c.loop-place.invariant.written;
+      read = later_walked rs c.args.at lanes which_are.Writes c.loop-place.read c.loop-place.marks _ _ (omega arith) c.loop-place.invariant.read;
+      written = later_walked rs c.args.at lanes which_are.All c.loop-place.written c.loop-place.marks _ _ (omega arith) c.loop-place.invariant.written;
     }
 
 pub loop-place-preserved : goal.loop-place-preserved
@@ -38,6 +39,6 @@ loop-place-preserved c =
     record {
       spread = spread_take rs c.args.at c.loop-place.place c.loop-place.marks (omega arith) (omega arith) (omega arith) c.loop-place.invariant.spread
           n.new.marks n.auto.marks c.if-not-marks-place.false n.ensures.marks;
-      read = later_walked rs c.args.at lanes false n.new.read n.new.marks c.loop-place.place _ (omega arith) n.ensures.read_walked;
-      written = later_walked rs c.args.at lanes true n.new.written n.new.marks c.loop-place.place _ (omega arith) n.ensures.written_walked;
+      read = later_walked rs c.args.at lanes which_are.Writes n.new.read n.new.marks c.loop-place.place _ (omega arith) n.ensures.read_walked;
+      written = later_walked rs c.args.at lanes which_are.All n.new.written n.new.marks c.loop-place.place _ (omega arith) n.ensures.written_walked;
     }

@@ -1,7 +1,7 @@
 use Rattle.std.proofs.Common.{ℕ, ◌++◌, ◌∙◌, List, All, Some, refl, ap, subst, sym}
-use Rattle.gr_contents.specs.Contents.{with_goroutine}
+use Rattle.gr_refine.specs.Contents.{with_goroutine}
 use Rattle.gr_step.specs.Leasing.{Loan, goroutine_led_to, goroutine_lent, loan_of, name_lent, program_lent, records_led}
-use Rattle.gr_record.specs.declared.record.Record.{Record}
+use Rattle.gr_step.specs.Record.{Record}
 use Rattle.gr_step.specs.Stores.{contents_at}
 use Rattle.gr_depend.specs.Logs.{IsAlone, records_of}
 use Rattle.gr_rollback.proofs.LeasingLemmas.{alone_of_walk, joins_all}

@@ -1,7 +1,7 @@
 use Rattle.std.proofs.Common.{◌≡◌, ◌++◌, reverse, vec_len}
 use Rattle.gr_causal.specs.Sequences.{In, Distinct}
-use Rattle.gr_record.specs.declared.record.Record.{Record}
-use Rattle.gr_record.specs.Conflicts.{touched_by}
+use Rattle.gr_step.specs.Record.{Record}
+use Rattle.gr_step.specs.Conflicts.{touched_by}
 use Rattle.gr_depend.specs.Logs.{records_of}
 use Rattle.gr_depend.specs.Room.{CanTake}
 use Rattle.gr_rollback.proofs.course.Course.put_together.Given as goal

@@ -4,11 +4,11 @@ use Rattle.gr_rollback.proofs.RedoLemmas.{stands_still}
 use Rattle.gr_rollback.proofs.StandLemmas.{takes}
 use Rattle.gr_rollback.proofs.machine.Machine.step.Goals as goal
 
-pub returns-in_err-keep-clause-taken : goal.returns-in_err-keep-clause-taken
-returns-in_err-keep-clause-taken c = λ p w s.
-    let told = err_from_is_err_and c.from_residual.result c.from_residual.ensures.1 in
-    let kept = c.in_err-keep.ensures.kept p w.past s.holds in
-    rw (told.1, told.2) (kept.0, stands_still p w c.args.self.now _ s kept.1 refl)
+pub returns-in_err-told-clause-taken : goal.returns-in_err-told-clause-taken
+returns-in_err-told-clause-taken c = λ p w s.
+    let why = err_from_is_err_and c.from_residual.result c.from_residual.ensures.1 in
+    let kept = c.in_err-told.ensures.kept p w.past s.holds in
+    rw (why.1, why.2) (kept.0, stands_still p w c.args.self.now _ s kept.1 refl)
 
 pub returns-clause-taken : goal.returns-clause-taken
-returns-clause-taken c = λ p w s. takes p w c.args.event _ (c.in_ok-keep.ensures.kept p w.past s.holds) (ap reverse c.clear.ensures.items)
+returns-clause-taken c = λ p w s. takes p w _ c.in_ok-told.told _ (c.in_ok-told.ensures.kept p w.past s.holds) (ap reverse c.clear.ensures.items)

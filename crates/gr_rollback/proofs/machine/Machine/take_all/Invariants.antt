@@ -1,14 +1,14 @@
 use Rattle.std.proofs.Common.{◌+◌, ◌≤◌, vec_len, vec_capacity}
 use Rattle.gr_program.specs.Programs.{Program}
 use Rattle.gr_step.specs.Stores.{SameListing}
-use Rattle.gr_rollback.specs.Pasts.{World}
+use Rattle.gr_rollback.specs.Pasts.{Timeline}
 use Rattle.gr_rollback.specs.Machines.{store_of, Stands, IsMachine}
 use Rattle.gr_rollback.specs.Redoing.{GoesOn}
 use Rattle.gr_rollback.proofs.machine.Machine.take_all.Given as goal
 
 abbrev pub invariant-loop-alloc : goal.invariant-loop-alloc
 invariant-loop-alloc l =
-    ((p : Program) (w : World p) → Stands p w l.fn.self → GoesOn p w l.fn.ids.items l.ids.items l.self)
+    ((p : Program) (w : Timeline p) → Stands p w l.fn.self → GoesOn p w l.fn.ids.items l.ids.items l.self)
     × IsMachine l.self
     × (vec_len l.ids + vec_len l.self.again ≤ vec_capacity l.ids)
     × SameListing (store_of l.fn.self) (store_of l.self)

@@ -1,8 +1,7 @@
 use Rattle.std.proofs.Common.{reverse, refl, sym, ap, subst, ◌∙◌}
 use Rattle.gr_base.specs.declared.events.Event.{Event}
-use Rattle.gr_depend.specs.Logs.{records_of}
 use Rattle.gr_rollback.specs.Steps.{IsNoStep, Keeps}
-use Rattle.gr_rollback.proofs.RedoLemmas.{next_event, taken_off, only_memory as wants_memory, stands_still, goes_nowhere, goes_next, last_there, last_first, some_last, keeps_some}
+use Rattle.gr_rollback.proofs.RedoLemmas.{next_event, taken_off, only_memory as wants_memory, stands_still, goes_nowhere, goes_next, last_there, last_first}
 use Rattle.gr_rollback.proofs.machine.Machine.take_next.Goals as goal
 
 pub returns-in_err-event-clause-goes : goal.returns-in_err-event-clause-goes
@@ -21,24 +20,16 @@ only_memory-requires c =
 pub returns-in-Err-clause-goes : goal.returns-in-Err-clause-goes
 returns-in-Err-clause-goes c = λ p w s. goes_nowhere p w _ _ (stands_still p w c.args.self.now _ s (c.in-Err.ensures.kept p w.past s.holds).1 refl)
 
-pub unwrap-requires-2 : goal.unwrap-requires-2
-unwrap-requires-2 c =
-    some_last (records_of c.keep.new.self.log) c.last-2.result c.last-2.ensures
-    (keeps_some _ c.requires.machine.world.past _ c.keep.new.self (c.in_default.ensures.kept _ c.requires.machine.world.past c.requires.machine.stands.holds))
-
-pub returns-clause-goes : goal.returns-clause-goes
-returns-clause-goes c = λ p w s.
+pub returns-in-Ok-clause-goes : goal.returns-in-Ok-clause-goes
+returns-in-Ok-clause-goes c = λ p w s.
     let event = c.unwrap.result.now in
     let off = c.unwrap-go.result in
     let items = c.args.self.now.again.items in
     let rest = c.pop.new.self.items in
-    let records = records_of c.keep.new.self.log in
     let last = last_there items c.deref.result.now c.last.result c.unwrap.result c.last.ensures.value c.unwrap.ensures c.deref.ensures.value in
     let next = next_event items rest c.pop.result event off c.pop.ensures.items c.unwrap-go.ensures last in
     let same = taken_off items rest c.pop.result event off c.pop.ensures.items c.unwrap-go.ensures last in
-    let keeps : Keeps p w.past event c.keep.new.self =
-    subst (λ e. Keeps p w.past e c.keep.new.self) c.in_ok-event.ensures (c.in_default.ensures.kept p w.past s.holds) in
+    let keeps : Keeps p w.past event c.in-Ok.told c.keep.new.self =
+    subst (λ e. Keeps p w.past e c.in-Ok.told c.keep.new.self) c.in_ok-event.ensures (c.in-Ok.ensures.kept p w.past s.holds) in
     rw c.push_reserved.ensures.items
-    (goes_next p w c.args.self.now _ event (reverse rest) s (sym s.again ∙ next) refl keeps c.args.ids.now.items off.go c.unwrap-2.result.now
-    (ap (λ (e : Event). e.go) same)
-    (last_there records records c.last-2.result c.unwrap-2.result c.last-2.ensures c.unwrap-2.ensures refl))
+    (goes_next p w c.args.self.now _ event (reverse rest) s (sym s.again ∙ next) refl c.in-Ok.told keeps c.args.ids.now.items off.go (ap (λ (e : Event). e.go) same))

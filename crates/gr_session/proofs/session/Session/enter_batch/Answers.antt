@@ -1,5 +1,5 @@
 use Rattle.std.proofs.Common.{◌<◌, ◌≤◌, length, refl, ap, ◌∙◌, rules}
-use Rattle.gr_step.specs.Leasing.{loan_of}
+use Rattle.gr_rollback.specs.StepLeasing.{loan_of}
 use Rattle.gr_session.specs.declared.TheConstants.{JOURNAL_LIMIT}
 use Rattle.gr_session.specs.declared.journal.Memory.TheVariants.{Enough}
 use Rattle.gr_session.proofs.CommitLemmas.{means_batch}

@@ -1,6 +1,6 @@
 use Rattle.std.proofs.Common.{◌≡◌, drop}
 use Rattle.std.specs.List.{list_any}
-use Rattle.gr_contents.specs.Partners.{can_proceed}
+use Rattle.gr_refine.specs.Partners.{can_proceed}
 use Rattle.gr_goros.specs.Views.{communications_of}
 use Rattle.gr_step.specs.Objects.{contents_in}
 use Rattle.gr_step.proofs.objects.Objects.any_can_proceed.Given as goal

@@ -7,39 +7,39 @@ use Rattle.gr_code.specs.CodeViews.{program_code_of}
 use Rattle.gr_tables.specs.NamedChannels.{GoesBack}
 use Rattle.gr_record.specs.Listings.{program_in}
 use Rattle.gr_record.specs.Parts.{channel_in}
-use Rattle.gr_step.proofs.Buffering.{can_buffer, was_buffered, buffer_room}
-use Rattle.gr_step.proofs.Encounters.{before_these}
-use Rattle.gr_step.proofs.Results.{if_ok, if_err}
+use Rattle.gr_step.proofs.BufferLemmas.{can_buffer, was_buffered, buffer_room}
+use Rattle.gr_step.proofs.ExchangeLemmas.{before_these}
+use Rattle.gr_step.proofs.ResultLemmas.{if_ok, if_err}
 use Rattle.gr_step.proofs.objects.Objects.buffer.Goals as goal
 
 pub pass-requires : goal.pass-requires
 pass-requires c =
     let done = ap (λ k. (k, c.in-Buffered.undo) ∷ []) (c.in_ok-passage.ensures.channel ∙ c.in_ok-copy.ensures) in
-    can_buffer (program_in c.args.listing.now) c.args.event.now c.args.number c.args.self.now c.requires.acting c.args.clause c.requires.clause
-    c.args.channel.now c.args.value c.requires.sound c.in-Some.found.now c.in-Some.ensures c.requires.space (program_code_of c.deref.result.now)
-    (ap program_code_of c.deref.ensures ∙ c.requires.coded) c.in-Buffered.undo c.offer.new.self (rw c.in-Buffered.is at c.in_ok-undo.ensures.rule)
+    can_buffer (program_in c.args.meeting.now.turn.now.listing.now) c.args.meeting.now.turn.now.event.now c.args.meeting.now.turn.now.number c.args.self.now c.requires.may.acting c.args.meeting.now.clause c.requires.may.clause
+    c.args.meeting.now.channel.now c.args.value c.requires.sound c.at-found.result.now c.at-found.ensures c.requires.space (program_code_of c.args.meeting.now.turn.now.listing.now.code.value)
+    c.requires.may.coded c.in-Buffered.undo c.offer.new.self (rw c.in-Buffered.is at c.in_ok-undo.ensures.rule)
     (rw c.in-Buffered.is at c.in_ok-undo.ensures.back) ((channel_in c.in_ok-passage.passage.value.contact.operation, c.in-Buffered.undo) ∷ []) done
 
 pub returns-clause-ok : goal.returns-clause-ok
 returns-clause-ok c =
     let done = ap (λ k. (k, c.in-Buffered.undo) ∷ []) (c.in_ok-passage.ensures.channel ∙ c.in_ok-copy.ensures) in
-    let told = rw c.in_ok-copy.ensures at (c.in_ok-passage.ensures.told (Gate c.in_ok-copy.field-0 ∷ []) (Tail c.in_ok-copy.field-0 ∷ slot_numbered c.in_ok-copy.field-0 c.in-Some.found.now.content.capacity (tail_of c.in-Some.found.now.content)) (c.entered.ensures c.in_ok-copy.field-0)) in
-    if_ok c.pass.result (rw c.kind_by-kind.ensures at (c.pass.ensures.ok (sends_on c.args.channel.now) (Gate c.args.channel.now ∷ [])
-    (Tail c.args.channel.now ∷ slot_numbered c.args.channel.now c.in-Some.found.now.content.capacity (tail_of c.in-Some.found.now.content)) told))
-    (λ change x. was_buffered (program_in c.args.listing.now) c.args.event.now c.args.number c.args.self.now c.requires.acting c.args.clause c.requires.clause
-    c.args.channel.now c.args.value c.requires.sound c.in-Some.found.now c.in-Some.ensures c.requires.space (program_code_of c.deref.result.now)
-    (ap program_code_of c.deref.ensures ∙ c.requires.coded) c.in-Buffered.undo c.offer.new.self (rw c.in-Buffered.is at c.in_ok-undo.ensures.rule)
+    let told = rw c.in_ok-copy.ensures at (c.in_ok-passage.ensures.told (Gate c.in_ok-copy.field-0 ∷ []) (Tail c.in_ok-copy.field-0 ∷ slot_numbered c.in_ok-copy.field-0 c.at-found.result.now.content.capacity (tail_of c.at-found.result.now.content)) (c.entered.ensures c.in_ok-copy.field-0)) in
+    if_ok c.pass.result (rw c.kind_by-kind.ensures at (c.pass.ensures.ok (sends_on c.args.meeting.now.channel.now) (Gate c.args.meeting.now.channel.now ∷ [])
+    (Tail c.args.meeting.now.channel.now ∷ slot_numbered c.args.meeting.now.channel.now c.at-found.result.now.content.capacity (tail_of c.at-found.result.now.content)) told))
+    (λ change x. was_buffered (program_in c.args.meeting.now.turn.now.listing.now) c.args.meeting.now.turn.now.event.now c.args.meeting.now.turn.now.number c.args.self.now c.requires.may.acting c.args.meeting.now.clause c.requires.may.clause
+    c.args.meeting.now.channel.now c.args.value c.requires.sound c.at-found.result.now c.at-found.ensures c.requires.space (program_code_of c.args.meeting.now.turn.now.listing.now.code.value)
+    c.requires.may.coded c.in-Buffered.undo c.offer.new.self (rw c.in-Buffered.is at c.in_ok-undo.ensures.rule)
     (rw c.in-Buffered.is at c.in_ok-undo.ensures.back) ((channel_in c.in_ok-passage.passage.value.contact.operation, c.in-Buffered.undo) ∷ []) done change c.pass.new.self x)
 
 pub returns-clause-room : goal.returns-clause-room
 returns-clause-room c =
     let done = ap (λ k. (k, c.in-Buffered.undo) ∷ []) (c.in_ok-passage.ensures.channel ∙ c.in_ok-copy.ensures) in
-    let told = rw c.in_ok-copy.ensures at (c.in_ok-passage.ensures.told (Gate c.in_ok-copy.field-0 ∷ []) (Tail c.in_ok-copy.field-0 ∷ slot_numbered c.in_ok-copy.field-0 c.in-Some.found.now.content.capacity (tail_of c.in-Some.found.now.content)) (c.entered.ensures c.in_ok-copy.field-0)) in
-    if_ok c.pass.result (rw c.kind_by-kind.ensures at (c.pass.ensures.ok (sends_on c.args.channel.now) (Gate c.args.channel.now ∷ [])
-    (Tail c.args.channel.now ∷ slot_numbered c.args.channel.now c.in-Some.found.now.content.capacity (tail_of c.in-Some.found.now.content)) told))
-    (λ change x. buffer_room (program_in c.args.listing.now) c.args.event.now c.args.number c.args.self.now c.requires.acting c.args.clause c.requires.clause
-    c.args.channel.now c.args.value c.requires.sound c.in-Some.found.now c.in-Some.ensures c.requires.space (program_code_of c.deref.result.now)
-    (ap program_code_of c.deref.ensures ∙ c.requires.coded) c.in-Buffered.undo c.offer.new.self (rw c.in-Buffered.is at c.in_ok-undo.ensures.rule)
+    let told = rw c.in_ok-copy.ensures at (c.in_ok-passage.ensures.told (Gate c.in_ok-copy.field-0 ∷ []) (Tail c.in_ok-copy.field-0 ∷ slot_numbered c.in_ok-copy.field-0 c.at-found.result.now.content.capacity (tail_of c.at-found.result.now.content)) (c.entered.ensures c.in_ok-copy.field-0)) in
+    if_ok c.pass.result (rw c.kind_by-kind.ensures at (c.pass.ensures.ok (sends_on c.args.meeting.now.channel.now) (Gate c.args.meeting.now.channel.now ∷ [])
+    (Tail c.args.meeting.now.channel.now ∷ slot_numbered c.args.meeting.now.channel.now c.at-found.result.now.content.capacity (tail_of c.at-found.result.now.content)) told))
+    (λ change x. buffer_room (program_in c.args.meeting.now.turn.now.listing.now) c.args.meeting.now.turn.now.event.now c.args.meeting.now.turn.now.number c.args.self.now c.requires.may.acting c.args.meeting.now.clause c.requires.may.clause
+    c.args.meeting.now.channel.now c.args.value c.requires.sound c.at-found.result.now c.at-found.ensures c.requires.space (program_code_of c.args.meeting.now.turn.now.listing.now.code.value)
+    c.requires.may.coded c.in-Buffered.undo c.offer.new.self (rw c.in-Buffered.is at c.in_ok-undo.ensures.rule)
     (rw c.in-Buffered.is at c.in_ok-undo.ensures.back) ((channel_in c.in_ok-passage.passage.value.contact.operation, c.in-Buffered.undo) ∷ []) done change c.pass.new.self x)
 
 pub returns-clause-err : goal.returns-clause-err

@@ -3,9 +3,9 @@ use Rattle.gr_code.specs.CodeViews.{program_code_of}
 use Rattle.gr_lower.specs.Lowered.{lowered}
 use Rattle.gr_record.specs.Listings.{program_in}
 use Rattle.gr_step.specs.Objects.{contents_in}
-use Rattle.gr_step.proofs.ChoosingLemmas.{other_need, task_there}
+use Rattle.gr_step.proofs.ChoiceLemmas.{other_need, task_there}
 use Rattle.gr_step.proofs.NoChoiceLemmas.{none_other}
-use Rattle.gr_step.proofs.SendingLemmas.{sends_in}
+use Rattle.gr_step.proofs.SendsInLemmas.{sends_in}
 use Rattle.gr_step.proofs.objects.Objects.clauses_at.Goals as goal
 use Rattle.gr_step.proofs.objects.Objects.clauses_at.Goals.{After-deref}
 

@@ -3,8 +3,8 @@ use Rattle.gr_goros.specs.declared.arrivals.Halt.TheVariants.{Faulted}
 use Rattle.gr_goros.specs.Views.{halted}
 use Rattle.gr_rules.specs.States.{faulted}
 use Rattle.gr_record.specs.Fews.{members}
-use Rattle.gr_step.proofs.FrameNeeds.{need_none}
-use Rattle.gr_step.proofs.PlacedLemmas.{placed, no_rooms}
+use Rattle.gr_step.proofs.NeedNoFrameLemmas.{need_none}
+use Rattle.gr_step.proofs.PlaceLemmas.{placed, no_rooms}
 use Rattle.gr_tables.specs.NamedChannels.{contents_of, rooms_of}
 use Rattle.gr_step.proofs.objects.Objects.fault.Goals as goal
 

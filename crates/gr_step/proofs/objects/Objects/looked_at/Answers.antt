@@ -3,7 +3,7 @@ use Rattle.std.proofs.lemmas.Result.{IfOk-weaker}
 use Rattle.gr_laws.specs.Touched.{each_once}
 use Rattle.gr_goros.specs.Views.{communications_of}
 use Rattle.gr_step.specs.Objects.{contents_in}
-use Rattle.gr_step.proofs.WaitTouches.{sides_by_channels}
+use Rattle.gr_step.proofs.WaitTouchLemmas.{sides_by_channels}
 use Rattle.gr_step.proofs.objects.Objects.looked_at.Goals as goal
 
 pub returns : goal.returns

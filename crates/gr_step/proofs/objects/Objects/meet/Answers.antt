@@ -5,68 +5,68 @@ use Rattle.gr_rules.specs.Actors.{channels_but}
 use Rattle.gr_rules.specs.Touches.{slot_numbered}
 use Rattle.gr_code.specs.CodeViews.{program_code_of}
 use Rattle.gr_record.specs.Listings.{program_in}
-use Rattle.gr_step.proofs.Encounters.{as_before, same_seen}
-use Rattle.gr_step.proofs.Meeting.{its_sender, can_meet_sender, sender_was_met, meeting_room}
-use Rattle.gr_step.proofs.Results.{if_ok, if_err, on_err}
+use Rattle.gr_step.proofs.ExchangeLemmas.{as_before, same_seen}
+use Rattle.gr_step.proofs.MeetLemmas.{its_sender, can_meet_sender, sender_was_met, meeting_room}
+use Rattle.gr_step.proofs.ResultLemmas.{if_ok, if_err, on_err}
 use Rattle.gr_step.proofs.objects.Objects.meet.Goals as goal
 
 pub prepare-requires : goal.prepare-requires
 prepare-requires c =
-    (its_sender (program_in c.args.listing.now) c.args.event.now c.args.number c.args.self.now c.requires.acting c.args.clause c.requires.clause
-    c.args.channel.now c.args.zero c.requires.sound c.in-Some.found.now c.in-Some.ensures c.in-Some-sender.sender.now
-    c.in-Some-sender.ensures c.requires.empty).waits
+    (its_sender (program_in c.args.meeting.now.turn.now.listing.now) c.args.meeting.now.turn.now.event.now c.args.meeting.now.turn.now.number c.args.self.now c.requires.may.acting c.args.meeting.now.clause c.requires.may.clause
+    c.args.meeting.now.channel.now c.args.zero c.requires.sound c.at-found.result.now c.at-found.ensures c.in-Some.sender.now
+    c.in-Some.ensures c.requires.empty).waits
 
 pub exchange-requires : goal.exchange-requires
 exchange-requires c =
-    let its = its_sender (program_in c.args.listing.now) c.args.event.now c.args.number c.args.self.now c.requires.acting c.args.clause c.requires.clause
-    c.args.channel.now c.args.zero c.requires.sound c.in-Some.found.now c.in-Some.ensures c.in-Some-sender.sender.now
-    c.in-Some-sender.ensures c.requires.empty in
-    let ready = rw c.in_ok-copy.ensures at (c.in_ok-prepared.ensures its.m.waits (Head c.in_ok-copy.field-0 ∷ slot_numbered c.in_ok-copy.field-0 c.in-Some.found.now.content.capacity c.in-Some.found.now.content.head) (Gate c.in_ok-copy.field-0 ∷ []) its.waits_for (c.exit_read-touched.ensures c.in_ok-copy.field-0)) in
-    can_meet_sender (program_in c.args.listing.now) c.args.event.now c.args.number c.args.self.now c.requires.acting c.args.clause c.requires.clause
-    c.args.channel.now c.args.zero c.requires.sound c.in-Some.found.now c.in-Some.ensures c.in-Some-sender.sender.now
-    c.in-Some-sender.ensures c.requires.empty c.in_ok-prepared.prepared ready (program_code_of c.deref.result.now)
-    (ap program_code_of c.deref.ensures ∙ c.requires.coded) c.in-Met.value c.in-Met.undo c.take.new.self
+    let its = its_sender (program_in c.args.meeting.now.turn.now.listing.now) c.args.meeting.now.turn.now.event.now c.args.meeting.now.turn.now.number c.args.self.now c.requires.may.acting c.args.meeting.now.clause c.requires.may.clause
+    c.args.meeting.now.channel.now c.args.zero c.requires.sound c.at-found.result.now c.at-found.ensures c.in-Some.sender.now
+    c.in-Some.ensures c.requires.empty in
+    let ready = rw c.in_ok-copy.ensures at (c.in_ok-prepared.ensures its.m.waits (Head c.in_ok-copy.field-0 ∷ slot_numbered c.in_ok-copy.field-0 c.at-found.result.now.content.capacity c.at-found.result.now.content.head) (Gate c.in_ok-copy.field-0 ∷ []) its.waits_for (c.exit_read-touched.ensures c.in_ok-copy.field-0)) in
+    can_meet_sender (program_in c.args.meeting.now.turn.now.listing.now) c.args.meeting.now.turn.now.event.now c.args.meeting.now.turn.now.number c.args.self.now c.requires.may.acting c.args.meeting.now.clause c.requires.may.clause
+    c.args.meeting.now.channel.now c.args.zero c.requires.sound c.at-found.result.now c.at-found.ensures c.in-Some.sender.now
+    c.in-Some.ensures c.requires.empty c.in_ok-prepared.prepared ready (program_code_of c.args.meeting.now.turn.now.listing.now.code.value)
+    c.requires.may.coded c.in-Met.value c.in-Met.undo c.take.new.self
     (rw c.in-Met.is at c.in_ok-value.ensures.rule) (rw c.in-Met.is at c.in_ok-value.ensures.back)
 
 pub returns-clause-ok : goal.returns-clause-ok
 returns-clause-ok c =
-    let its = its_sender (program_in c.args.listing.now) c.args.event.now c.args.number c.args.self.now c.requires.acting c.args.clause c.requires.clause
-    c.args.channel.now c.args.zero c.requires.sound c.in-Some.found.now c.in-Some.ensures c.in-Some-sender.sender.now
-    c.in-Some-sender.ensures c.requires.empty in
-    let ready = rw c.in_ok-copy.ensures at (c.in_ok-prepared.ensures its.m.waits (Head c.in_ok-copy.field-0 ∷ slot_numbered c.in_ok-copy.field-0 c.in-Some.found.now.content.capacity c.in-Some.found.now.content.head) (Gate c.in_ok-copy.field-0 ∷ []) its.waits_for (c.exit_read-touched.ensures c.in_ok-copy.field-0)) in
-    if_ok c.exchange.result (rw c.kind_by-kind.ensures at (c.exchange.ensures.ok (receives_from c.args.channel.now) (Head c.args.channel.now ∷ slot_numbered c.args.channel.now c.in-Some.found.now.content.capacity c.in-Some.found.now.content.head)
-    ((Gate c.args.channel.now ∷ []) ++ Go c.in-Some-sender.sender.now.go ∷ map Gate (channels_but (c.args.channel.now ∷ []) its.m.waits)) ready.reached))
-    (λ change done. sender_was_met (program_in c.args.listing.now) c.args.event.now c.args.number c.args.self.now c.requires.acting c.args.clause c.requires.clause
-    c.args.channel.now c.args.zero c.requires.sound c.in-Some.found.now c.in-Some.ensures c.in-Some-sender.sender.now
-    c.in-Some-sender.ensures c.requires.empty c.in_ok-prepared.prepared ready (program_code_of c.deref.result.now)
-    (ap program_code_of c.deref.ensures ∙ c.requires.coded) c.in-Met.value c.in-Met.undo c.take.new.self
+    let its = its_sender (program_in c.args.meeting.now.turn.now.listing.now) c.args.meeting.now.turn.now.event.now c.args.meeting.now.turn.now.number c.args.self.now c.requires.may.acting c.args.meeting.now.clause c.requires.may.clause
+    c.args.meeting.now.channel.now c.args.zero c.requires.sound c.at-found.result.now c.at-found.ensures c.in-Some.sender.now
+    c.in-Some.ensures c.requires.empty in
+    let ready = rw c.in_ok-copy.ensures at (c.in_ok-prepared.ensures its.m.waits (Head c.in_ok-copy.field-0 ∷ slot_numbered c.in_ok-copy.field-0 c.at-found.result.now.content.capacity c.at-found.result.now.content.head) (Gate c.in_ok-copy.field-0 ∷ []) its.waits_for (c.exit_read-touched.ensures c.in_ok-copy.field-0)) in
+    if_ok c.exchange.result (rw c.kind_by-kind.ensures at (c.exchange.ensures.ok (receives_from c.args.meeting.now.channel.now) (Head c.args.meeting.now.channel.now ∷ slot_numbered c.args.meeting.now.channel.now c.at-found.result.now.content.capacity c.at-found.result.now.content.head)
+    ((Gate c.args.meeting.now.channel.now ∷ []) ++ Go c.in-Some.sender.now.go ∷ map Gate (channels_but (c.args.meeting.now.channel.now ∷ []) its.m.waits)) ready.reached))
+    (λ change done. sender_was_met (program_in c.args.meeting.now.turn.now.listing.now) c.args.meeting.now.turn.now.event.now c.args.meeting.now.turn.now.number c.args.self.now c.requires.may.acting c.args.meeting.now.clause c.requires.may.clause
+    c.args.meeting.now.channel.now c.args.zero c.requires.sound c.at-found.result.now c.at-found.ensures c.in-Some.sender.now
+    c.in-Some.ensures c.requires.empty c.in_ok-prepared.prepared ready (program_code_of c.args.meeting.now.turn.now.listing.now.code.value)
+    c.requires.may.coded c.in-Met.value c.in-Met.undo c.take.new.self
     (rw c.in-Met.is at c.in_ok-value.ensures.rule) (rw c.in-Met.is at c.in_ok-value.ensures.back) change c.exchange.new.self done)
 
 pub returns-clause-room : goal.returns-clause-room
 returns-clause-room c =
-    let its = its_sender (program_in c.args.listing.now) c.args.event.now c.args.number c.args.self.now c.requires.acting c.args.clause c.requires.clause
-    c.args.channel.now c.args.zero c.requires.sound c.in-Some.found.now c.in-Some.ensures c.in-Some-sender.sender.now
-    c.in-Some-sender.ensures c.requires.empty in
-    let ready = rw c.in_ok-copy.ensures at (c.in_ok-prepared.ensures its.m.waits (Head c.in_ok-copy.field-0 ∷ slot_numbered c.in_ok-copy.field-0 c.in-Some.found.now.content.capacity c.in-Some.found.now.content.head) (Gate c.in_ok-copy.field-0 ∷ []) its.waits_for (c.exit_read-touched.ensures c.in_ok-copy.field-0)) in
-    if_ok c.exchange.result (rw c.kind_by-kind.ensures at (c.exchange.ensures.ok (receives_from c.args.channel.now) (Head c.args.channel.now ∷ slot_numbered c.args.channel.now c.in-Some.found.now.content.capacity c.in-Some.found.now.content.head)
-    ((Gate c.args.channel.now ∷ []) ++ Go c.in-Some-sender.sender.now.go ∷ map Gate (channels_but (c.args.channel.now ∷ []) its.m.waits)) ready.reached))
-    (λ change done. meeting_room (program_in c.args.listing.now) c.args.event.now c.args.number c.args.self.now c.requires.acting c.args.clause c.requires.clause
-    c.args.channel.now c.args.zero c.requires.sound c.in-Some.found.now c.in-Some.ensures c.in-Some-sender.sender.now
-    c.in-Some-sender.ensures c.requires.empty c.in_ok-prepared.prepared ready (program_code_of c.deref.result.now)
-    (ap program_code_of c.deref.ensures ∙ c.requires.coded) c.in-Met.value c.in-Met.undo c.take.new.self
+    let its = its_sender (program_in c.args.meeting.now.turn.now.listing.now) c.args.meeting.now.turn.now.event.now c.args.meeting.now.turn.now.number c.args.self.now c.requires.may.acting c.args.meeting.now.clause c.requires.may.clause
+    c.args.meeting.now.channel.now c.args.zero c.requires.sound c.at-found.result.now c.at-found.ensures c.in-Some.sender.now
+    c.in-Some.ensures c.requires.empty in
+    let ready = rw c.in_ok-copy.ensures at (c.in_ok-prepared.ensures its.m.waits (Head c.in_ok-copy.field-0 ∷ slot_numbered c.in_ok-copy.field-0 c.at-found.result.now.content.capacity c.at-found.result.now.content.head) (Gate c.in_ok-copy.field-0 ∷ []) its.waits_for (c.exit_read-touched.ensures c.in_ok-copy.field-0)) in
+    if_ok c.exchange.result (rw c.kind_by-kind.ensures at (c.exchange.ensures.ok (receives_from c.args.meeting.now.channel.now) (Head c.args.meeting.now.channel.now ∷ slot_numbered c.args.meeting.now.channel.now c.at-found.result.now.content.capacity c.at-found.result.now.content.head)
+    ((Gate c.args.meeting.now.channel.now ∷ []) ++ Go c.in-Some.sender.now.go ∷ map Gate (channels_but (c.args.meeting.now.channel.now ∷ []) its.m.waits)) ready.reached))
+    (λ change done. meeting_room (program_in c.args.meeting.now.turn.now.listing.now) c.args.meeting.now.turn.now.event.now c.args.meeting.now.turn.now.number c.args.self.now c.requires.may.acting c.args.meeting.now.clause c.requires.may.clause
+    c.args.meeting.now.channel.now c.args.zero c.requires.sound c.at-found.result.now c.at-found.ensures c.in-Some.sender.now
+    c.in-Some.ensures c.requires.empty c.in_ok-prepared.prepared ready (program_code_of c.args.meeting.now.turn.now.listing.now.code.value)
+    c.requires.may.coded c.in-Met.value c.in-Met.undo c.take.new.self
     (rw c.in-Met.is at c.in_ok-value.ensures.rule) (rw c.in-Met.is at c.in_ok-value.ensures.back) change c.exchange.new.self done)
 
 pub returns-clause-err : goal.returns-clause-err
 returns-clause-err c =
-    let its = its_sender (program_in c.args.listing.now) c.args.event.now c.args.number c.args.self.now c.requires.acting c.args.clause c.requires.clause
-    c.args.channel.now c.args.zero c.requires.sound c.in-Some.found.now c.in-Some.ensures c.in-Some-sender.sender.now
-    c.in-Some-sender.ensures c.requires.empty in
-    let ready = rw c.in_ok-copy.ensures at (c.in_ok-prepared.ensures its.m.waits (Head c.in_ok-copy.field-0 ∷ slot_numbered c.in_ok-copy.field-0 c.in-Some.found.now.content.capacity c.in-Some.found.now.content.head) (Gate c.in_ok-copy.field-0 ∷ []) its.waits_for (c.exit_read-touched.ensures c.in_ok-copy.field-0)) in
+    let its = its_sender (program_in c.args.meeting.now.turn.now.listing.now) c.args.meeting.now.turn.now.event.now c.args.meeting.now.turn.now.number c.args.self.now c.requires.may.acting c.args.meeting.now.clause c.requires.may.clause
+    c.args.meeting.now.channel.now c.args.zero c.requires.sound c.at-found.result.now c.at-found.ensures c.in-Some.sender.now
+    c.in-Some.ensures c.requires.empty in
+    let ready = rw c.in_ok-copy.ensures at (c.in_ok-prepared.ensures its.m.waits (Head c.in_ok-copy.field-0 ∷ slot_numbered c.in_ok-copy.field-0 c.at-found.result.now.content.capacity c.at-found.result.now.content.head) (Gate c.in_ok-copy.field-0 ∷ []) its.waits_for (c.exit_read-touched.ensures c.in_ok-copy.field-0)) in
     if_err c.exchange.result c.exchange.ensures.err_goroutines c.exchange.ensures.err_channels (λ gos took.
-    as_before (program_in c.args.listing.now) c.args.event.now c.args.number c.args.self.now c.requires.acting c.args.clause
-    (Some (c.in-Some-sender.sender.now.value, true)) c.args.channel.now c.in-Some-sender.sender.now.go c.in-Some-sender.sender.now.case None its (receives_from c.args.channel.now) (Head c.args.channel.now ∷ slot_numbered c.args.channel.now c.in-Some.found.now.content.capacity c.in-Some.found.now.content.head)
-    (Gate c.args.channel.now ∷ []) c.in_ok-prepared.prepared ready (program_code_of c.deref.result.now)
-    (ap program_code_of c.deref.ensures ∙ c.requires.coded) c.take.new.self c.in-Met.undo
+    as_before (program_in c.args.meeting.now.turn.now.listing.now) c.args.meeting.now.turn.now.event.now c.args.meeting.now.turn.now.number c.args.self.now c.requires.may.acting c.args.meeting.now.clause
+    (Some (c.in-Some.sender.now.value, true)) c.args.meeting.now.channel.now c.in-Some.sender.now.go c.in-Some.sender.now.case None its (receives_from c.args.meeting.now.channel.now) (Head c.args.meeting.now.channel.now ∷ slot_numbered c.args.meeting.now.channel.now c.at-found.result.now.content.capacity c.at-found.result.now.content.head)
+    (Gate c.args.meeting.now.channel.now ∷ []) c.in_ok-prepared.prepared ready (program_code_of c.args.meeting.now.turn.now.listing.now.code.value)
+    c.requires.may.coded c.take.new.self c.in-Met.undo
     (rw c.in-Met.is at c.in_ok-value.ensures.back) c.exchange.new.self gos took c.exchange.ensures.run)
 
 pub returns-in_err-value-clause-err : goal.returns-in_err-value-clause-err

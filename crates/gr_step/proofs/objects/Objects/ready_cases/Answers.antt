@@ -5,7 +5,7 @@ use Rattle.gr_goros.specs.Views.{communications_of}
 use Rattle.gr_step.specs.Choices.{ready_from}
 use Rattle.gr_record.specs.Listings.{program_in, state_in}
 use Rattle.gr_step.specs.Objects.{contents_in}
-use Rattle.gr_step.proofs.ChoosingLemmas.{are_channels}
+use Rattle.gr_step.proofs.ChoiceLemmas.{are_channels}
 use Rattle.gr_step.proofs.MayLemmas.{ready_is}
 use Rattle.gr_step.proofs.NoChoiceLemmas.{no_clause}
 use Rattle.gr_step.proofs.objects.Objects.ready_cases.Goals as goal

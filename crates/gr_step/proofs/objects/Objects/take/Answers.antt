@@ -2,9 +2,14 @@ use Rattle.std.proofs.Common.{sym, ap, ◌∙◌}
 use Rattle.gr_code.specs.CodeViews.{program_code_of}
 use Rattle.gr_record.specs.Listings.{program_in}
 use Rattle.gr_step.proofs.EventLemmas.{found_right}
+use Rattle.gr_step.proofs.PlaceLemmas.{acting_there}
 use Rattle.gr_step.proofs.objects.Objects.take.Goals as goal
 
 pub is_local-requires : goal.is_local-requires
 is_local-requires c =
-    found_right (program_in c.args.listing.now) c.args.event.now c.args.number c.args.self.now c.requires.acting _
-    c.in-Some.goroutine.now (ap program_code_of c.deref.ensures ∙ c.requires.coded) (sym c.in-Some.ensures.value)
+    found_right (program_in c.args.turn.now.listing.now) c.args.turn.now.event.now c.args.turn.now.number c.args.self.now c.requires.may.acting _
+    c.at-goroutine.result.now (ap program_code_of c.deref.ensures ∙ c.requires.may.coded) (sym c.at-goroutine.ensures.value)
+
+pub at-goroutine-requires : goal.at-goroutine-requires
+at-goroutine-requires c =
+    acting_there (program_in c.args.turn.now.listing.now) c.args.turn.now.event.now c.args.turn.now.number c.args.self.now c.requires.may.acting

@@ -5,15 +5,15 @@ use Rattle.gr_step.proofs.objects.Objects.take_alone.Goals as goal
 
 pub returns-in_default-clause-why : goal.returns-in_default-clause-why
 returns-in_default-clause-why c =
-    let a = c.requires.acting in
-    others_refused (program_in c.args.listing.now) c.args.event.now c.args.number c.args.self.now a
-    (local_leaves_none (program_in c.args.listing.now) c.args.event.now c.args.number c.args.self.now a (c.requires.task a.goroutine a.there))
+    let a = c.requires.may.acting in
+    others_refused (program_in c.args.turn.now.listing.now) c.args.turn.now.event.now c.args.turn.now.number c.args.self.now a
+    (local_leaves_none (program_in c.args.turn.now.listing.now) c.args.turn.now.event.now c.args.turn.now.number c.args.self.now a (c.requires.task a.goroutine a.there))
     c.in_default.not-Plain
 
 pub returns-in_err-local-clause-why : goal.returns-in_err-local-clause-why
 returns-in_err-local-clause-why c =
-    let a = c.requires.acting in
-    let possible = plain_goes (program_in c.args.listing.now) c.args.event.now c.args.number c.args.self.now a
-    (local_leaves_none (program_in c.args.listing.now) c.args.event.now c.args.number c.args.self.now a (c.requires.task a.goroutine a.there))
+    let a = c.requires.may.acting in
+    let possible = plain_goes (program_in c.args.turn.now.listing.now) c.args.turn.now.event.now c.args.turn.now.number c.args.self.now a
+    (local_leaves_none (program_in c.args.turn.now.listing.now) c.args.turn.now.event.now c.args.turn.now.number c.args.self.now a (c.requires.task a.goroutine a.there))
     c.in-Plain.is in
     search (rules, possible)

@@ -1,11 +1,11 @@
 use Rattle.std.proofs.Common.{◌∙◌, [], ◌∷◌, None, sym, ap}
 use Rattle.gr_rules.specs.Touches.{side}
 use Rattle.gr_laws.specs.Touched.{each_once}
-use Rattle.gr_contents.specs.Contents.{state_of}
+use Rattle.gr_refine.specs.Contents.{state_of}
 use Rattle.gr_goros.specs.Views.{communication_of, waits_of}
 use Rattle.gr_tables.specs.NamedChannels.{contents_of}
 use Rattle.gr_step.specs.Parks.{gates_of, with_channels}
-use Rattle.gr_step.proofs.WaitingLemmas.{nil_waits, nil_made, nil_touched}
+use Rattle.gr_step.proofs.WaitForLemmas.{nil_waits, nil_made, nil_touched}
 use Rattle.gr_step.proofs.objects.Objects.wait_on_nil.Goals as goal
 
 pub begin_to_wait-requires-clause-made : goal.begin_to_wait-requires-clause-made

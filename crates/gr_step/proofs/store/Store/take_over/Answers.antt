@@ -1,13 +1,13 @@
 use Rattle.std.proofs.Common.{◌≡◌, ◌<◌, ◌∙◌, length, Some, None, refl, sym, ap, subst}
 use Rattle.std.specs.Prelude.{option_map}
-use Rattle.gr_contents.specs.Contents.{with_goroutine}
+use Rattle.gr_refine.specs.Contents.{with_goroutine}
 use Rattle.gr_goros.specs.Views.{Seen}
 use Rattle.gr_tables.specs.NamedGoroutines.{goroutines_of}
 use Rattle.gr_tables.proofs.ByNumber.{seen_named}
 use Rattle.gr_step.specs.Leasing.{goroutine_lent, name_lent}
 use Rattle.gr_step.specs.Stores.{contents_at}
-use Rattle.gr_step.proofs.LeasingLemmas.{exchanged}
-use Rattle.gr_step.proofs.StartSteps.{within_names}
+use Rattle.gr_step.proofs.LeaseLemmas.{exchanged}
+use Rattle.gr_step.proofs.StartNextLemmas.{within_names}
 use Rattle.gr_step.proofs.store.Store.take_over.Goals as goal
 
 pub unreachable-requires-in_default-remove : goal.unreachable-requires-in_default-remove

@@ -2,7 +2,7 @@ use Rattle.std.proofs.Common.{◌∙◌, sym, ap, option_map}
 use Rattle.std.specs.Option.{option_copied_mut}
 use Rattle.gr_channels.specs.Changes.{TakeNeedsMemory}
 use Rattle.gr_tables.proofs.SeenLemmas.{lent}
-use Rattle.gr_tables.proofs.AnswerLemmas.{content_at_err, seen_at_err, take_at, take_back}
+use Rattle.gr_tables.proofs.AnswerLemmas.{content_at_err, seen_at_err, take_at, undo_all}
 use Rattle.gr_tables.proofs.Validity.{lent_valid, taken_valid, can_enter}
 use Rattle.gr_tables.proofs.channels.Channels.take.Goals as goal
 
@@ -18,7 +18,7 @@ pub returns-clause-back : goal.returns-clause-back
 returns-clause-back c =
     let new = c.get_mut.follows.lender c.take.new.self in
     let writes = (c.get_mut.follows.holds c.take.new.self).3 in
-    take_back c.args.self.now _ (lent c.args.name.now c.get_mut.result c.unwrap.result c.take.new.self c.args.self.now.map new c.get_mut.ensures.value
+    undo_all c.args.self.now _ (lent c.args.name.now c.get_mut.result c.unwrap.result c.take.new.self c.args.self.now.map new c.get_mut.ensures.value
     c.unwrap.ensures writes)
     c.take.result c.take.ensures.rule c.take.ensures.undone
 

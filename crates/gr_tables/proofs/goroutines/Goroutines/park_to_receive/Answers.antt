@@ -1,4 +1,4 @@
-use Rattle.std.proofs.Common.{refl, sym, ap, ◌∙◌}
+use Rattle.std.proofs.Common.{Some, refl, sym, ap, ◌∙◌}
 use Rattle.std.specs.Option.{option_copied_mut}
 use Rattle.gr_tables.specs.NamedGoroutines.{CanPark}
 use Rattle.gr_tables.proofs.ByNumber.{written_unique, changed}
@@ -9,6 +9,6 @@ invariant_of-self c = record { unique = written_unique c.args.self.now.map c.arg
 
 pub returns : goal.returns
 returns c =
-    changed c.args.self.now _ c.args.number c.unwrap-slot.result.now c.park_to_receive_in.new.slot
+    changed c.args.self.now _ c.args.number c.unwrap-slot.result.now (Some c.park_to_receive.new.self)
     refl (sym (ap option_copied_mut c.unwrap-slot.ensures) ∙ c.get_index_mut.ensures.value)
-    (CanPark) c.requires _ c.park_to_receive_in.ensures
+    CanPark c.requires _ (c.in-Some.goroutine, c.park_to_receive.new.self, c.in-Some.is, refl, (c.park_to_receive.ensures.after, c.park_to_receive.ensures.undone))

@@ -1,4 +1,4 @@
-use Rattle.std.proofs.Common.{refl, sym, ap, ◌∙◌}
+use Rattle.std.proofs.Common.{Some, refl, sym, ap, ◌∙◌}
 use Rattle.std.specs.Option.{option_copied_mut}
 use Rattle.gr_goros.specs.Undoing.{IsLive}
 use Rattle.gr_tables.proofs.ByNumber.{written_unique, changed}
@@ -9,6 +9,6 @@ invariant_of-self c = record { unique = written_unique c.args.self.now.map c.arg
 
 pub returns : goal.returns
 returns c =
-    changed c.args.self.now _ c.args.number c.unwrap-slot.result.now c.retry_in.new.slot
+    changed c.args.self.now _ c.args.number c.unwrap-slot.result.now (Some c.retry.new.self)
     refl (sym (ap option_copied_mut c.unwrap-slot.ensures) ∙ c.get_index_mut.ensures.value)
-    (λ g. IsLive g.content) c.requires _ c.retry_in.ensures
+    (λ g. IsLive g.content) c.requires _ (c.in-Some.goroutine, c.retry.new.self, c.in-Some.is, refl, (c.retry.ensures.after, c.retry.ensures.undone))

@@ -1,7 +1,7 @@
-use Rattle.std.proofs.Common.{refl, sym, ap, ◌∙◌}
+use Rattle.std.proofs.Common.{Some, refl, sym, ap, ◌∙◌}
 use Rattle.std.specs.Option.{option_copied_mut}
 use Rattle.gr_goros.specs.Undoing.{Fits}
-use Rattle.gr_tables.proofs.ByNumber.{written_unique, changed, kept, on_ok, on_err}
+use Rattle.gr_tables.proofs.ByNumber.{written_unique, changed, kept, on_ok, on_err, both_done, both_err}
 use Rattle.gr_tables.proofs.goroutines.Goroutines.undo.Goals as goal
 
 pub invariant_of-self : goal.invariant_of-self
@@ -9,12 +9,14 @@ invariant_of-self c = record { unique = written_unique c.args.self.now.map c.arg
 
 pub returns-clause-ok : goal.returns-clause-ok
 returns-clause-ok c =
-    on_ok c.undo_in.result _ _ (λ s. changed c.args.self.now _ c.args.number c.unwrap-slot.result.now c.undo_in.new.slot
+    on_ok c.undo.result _ _ (λ s. changed c.args.self.now _ c.args.number c.unwrap-slot.result.now (Some c.undo.new.self)
     refl (sym (ap option_copied_mut c.unwrap-slot.ensures) ∙ c.get_index_mut.ensures.value)
-    (λ g. Fits c.args.undo g.content) c.requires _ s) c.undo_in.ensures.ok
+    (λ g. Fits c.args.undo g.content) c.requires _
+    (c.in-Some.goroutine, c.undo.new.self, c.in-Some.is, refl, s)) (both_done c.undo.result _ _ c.undo.ensures.ok c.undo.ensures.spends)
 
 pub returns-clause-err : goal.returns-clause-err
 returns-clause-err c =
-    on_err c.undo_in.result _ _ (λ s. kept c.args.self.now _ c.args.number c.unwrap-slot.result.now c.undo_in.new.slot
+    on_err c.undo.result _ _ (λ s. kept c.args.self.now _ c.args.number c.unwrap-slot.result.now (Some c.undo.new.self)
     refl (sym (ap option_copied_mut c.unwrap-slot.ensures) ∙ c.get_index_mut.ensures.value)
-    (λ g. Fits c.args.undo g.content) c.requires s) c.undo_in.ensures.err
+    (λ g. Fits c.args.undo g.content) c.requires
+    (c.in-Some.goroutine, c.undo.new.self, c.in-Some.is, refl, s.0, s.1)) (both_err c.undo.result _ _ c.undo.ensures.err c.undo.ensures.err_room)

@@ -1,5 +1,5 @@
 use Rattle.std.proofs.Common.{sym, ◌∙◌}
-use Rattle.gr_touches.specs.Keys.{seen}
+use Rattle.gr_touches.specs.ObjectRefs.{seen}
 use Rattle.gr_touches.specs.Lists.{list_of}
 use Rattle.gr_touches.proofs.LaneLemmas.{all_wanted}
 use Rattle.gr_touches.proofs.lanes.Lanes.list.Goals as goal

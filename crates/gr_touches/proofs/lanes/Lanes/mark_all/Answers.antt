@@ -11,9 +11,9 @@ loop-i-preserved c =
     let before = take c.loop-i.i c.args.objects.now in
     record {
       marks = marks_as c.args.origin _ _ c.args.marks.now c.mark_object.new.marks
-          (hits_more l c.args.all c.args.objects.now c.loop-i.i c.index-objects-i.result (omega arith) c.index-objects-i.is)
-          (marks_both c.args.origin (hits_any l c.args.all before) (hits c.args.all (list_of l c.index-objects-i.result)) c.args.marks.now c.loop-i.marks c.mark_object.new.marks
+          (hits_more l c.args.wanted c.args.objects.now c.loop-i.i c.index-objects-i.result (omega arith) c.index-objects-i.is)
+          (marks_both c.args.origin (hits_any l c.args.wanted before) (hits c.args.wanted (list_of l c.index-objects-i.result)) c.args.marks.now c.loop-i.marks c.mark_object.new.marks
           c.loop-i.auto.marks c.loop-i.invariant.marks
-          (subst (λ o. Marks c.args.origin (hits c.args.all (list_of l o)) c.loop-i.marks c.mark_object.new.marks) c.of-object.ensures c.mark_object.ensures.marks));
+          (subst (λ o. Marks c.args.origin (hits c.args.wanted (list_of l o)) c.loop-i.marks c.mark_object.new.marks) c.of-object.ensures c.mark_object.ensures.marks));
       walked = c.mark_object.ensures.walked;
     }

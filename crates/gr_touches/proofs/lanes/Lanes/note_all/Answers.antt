@@ -1,5 +1,7 @@
-use Rattle.std.proofs.Common.{[], ◌∷◌, sym, ◌∙◌, subst, append-nil, arith}
-use Rattle.gr_touches.specs.Lists.{list_of, Adds}
+use Rattle.std.proofs.Common.{◌≡◌, true, false, List, [], ◌∷◌, refl, sym, ◌∙◌, subst, append-nil, arith}
+use Rattle.std.proofs.lemmas.List.{take_all}
+use Rattle.gr_base.specs.declared.objects.Object.{Object}
+use Rattle.gr_touches.specs.Lists.{list_of, AddsFor}
 use Rattle.gr_touches.specs.Room.{FitsFor}
 use Rattle.gr_touches.proofs.NoteLemmas.{added_more}
 use Rattle.gr_touches.proofs.RoomLemmas.{fits_next}
@@ -13,25 +15,29 @@ loop-i-init c = record {
 
 pub loop-i-preserved : goal.loop-i-preserved
 loop-i-preserved c = record {
-  lists = added_more c.args.self.now c.loop-i.self c.add-added.new.self c.args.touch c.args.objects.now c.loop-i.i c.index-objects-i.result
-      (omega arith) c.index-objects-i.is c.loop-i.invariant.lists
-      (subst (λ o. Adds o c.args.touch c.loop-i.self c.add-added.new.self) c.of.ensures c.in_default.ensures.ok);
+  lists = added_more c.args.objects.now c.loop-i.i c.index-objects-i.result (omega arith) c.index-objects-i.is
+      c.args.self.now c.loop-i.self c.add-added.new.self c.args.touch c.loop-i.invariant.lists
+      (subst (λ o. AddsFor (o ∷ []) c.args.touch c.loop-i.self c.add-added.new.self) c.of.ensures c.in_default.ensures.ok);
   room = λ lists fits. c.add-added.ensures.room lists (c.loop-i.invariant.room lists fits);
 }
 
-pub returns-in-Err-clause-err : goal.returns-in-Err-clause-err
-returns-in-Err-clause-err c =
-    c.forget_all.ensures.lists (list_of c.args.self.now) c.args.touch (λ q. c.in-Err.ensures.err q ∙ c.loop-i.invariant.lists q)
+pub returns-in-Err : goal.returns-in-Err
+returns-in-Err c = record {
+  ok = tt;
+  err = c.forget_all.ensures.lists (list_of c.args.self.now) c.args.touch (λ q. c.in-Err.ensures.err q ∙ c.loop-i.invariant.lists q);
+  succeeds = λ fits.
+      let no : false ≡ true = c.in-Err.ensures.succeeds
+      (subst (λ o. FitsFor (o ∷ []) c.args.touch c.loop-i.self) (sym c.of.ensures)
+      (fits_next c.args.self.now c.loop-i.self c.args.touch c.args.objects.now c.loop-i.i c.index-objects-i.result (omega arith) c.index-objects-i.is
+      c.loop-i.invariant.lists c.loop-i.invariant.room fits)) in
+      absurd (let never : false ≡ true = no in cc);
+  room = λ lists fits. c.forget_all.ensures.room lists (c.add-added.ensures.room lists (c.loop-i.invariant.room lists fits));
+}
 
-pub returns-in-Err-clause-succeeds : goal.returns-in-Err-clause-succeeds
-returns-in-Err-clause-succeeds c fits =
-    c.in-Err.ensures.succeeds
-    (subst (λ o. FitsFor (o ∷ []) c.args.touch c.loop-i.self) (sym c.of.ensures)
-    (fits_next c.args.self.now c.loop-i.self c.args.touch c.args.objects.now c.loop-i.i c.index-objects-i.result (omega arith) c.index-objects-i.is
-    c.loop-i.invariant.lists c.loop-i.invariant.room fits))
-
-pub returns-in-Err-clause-room : goal.returns-in-Err-clause-room
-returns-in-Err-clause-room c lists fits = c.forget_all.ensures.room lists (c.add-added.ensures.room lists (c.loop-i.invariant.room lists fits))
-
-pub returns-clause-room : goal.returns-clause-room
-returns-clause-room c = c.loop-i.invariant.room
+pub returns : goal.returns
+returns c = record {
+  ok = subst (λ (l : List Object). AddsFor l c.args.touch c.args.self.now c.loop-i.self) (take_all _ c.args.objects.now (omega arith)) c.loop-i.invariant.lists;
+  err = tt;
+  succeeds = λ fits. refl;
+  room = c.loop-i.invariant.room;
+}

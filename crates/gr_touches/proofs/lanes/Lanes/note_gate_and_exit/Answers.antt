@@ -1,31 +1,22 @@
-use Rattle.std.proofs.Common.{◌≡◌, true, false, [], ◌∷◌}
+use Rattle.std.proofs.Common.{[], ◌∷◌, refl}
+use Rattle.std.proofs.lemmas.Result.{err_from_is_err_and}
 use Rattle.gr_base.specs.declared.objects.Object.TheVariants.{Gate, Head}
 use Rattle.gr_record.specs.Parts.{slot_before}
-use Rattle.gr_touches.proofs.NoteLemmas.{added_after}
-use Rattle.gr_touches.proofs.RoomLemmas.{fits_rest}
-use Rattle.gr_touches.proofs.AddingLemmas.{first_fits, keeps_one}
+use Rattle.gr_touches.proofs.AddingLemmas.{first_refused, second_refused, both_noted}
 use Rattle.gr_touches.proofs.lanes.Lanes.note_gate_and_exit.Goals as goal
 
-pub returns-in_err-add_to_lane-clause-succeeds : goal.returns-in_err-add_to_lane-clause-succeeds
-returns-in_err-add_to_lane-clause-succeeds c fits =
+pub returns-in_err-add_to_lane : goal.returns-in_err-add_to_lane
+returns-in_err-add_to_lane c =
     let rest = Head c.args.channel.now ∷ slot_before c.args.channel.now c.args.slot [] in
-    let no : false ≡ true = c.in_err-add_to_lane.ensures.succeeds (first_fits c.args.self.now c.args.touch (Gate c.args.channel.now) rest fits) in
-    absurd (let never : false ≡ true = no in cc)
+    let told = err_from_is_err_and c.from_residual.result c.from_residual.ensures.1 in
+    first_refused c.args.self.now c.add_to_lane.new.self c.args.touch (Gate c.args.channel.now ∷ []) rest refl told.1 c.in_err-add_to_lane.ensures
 
-pub returns-in-Err-clause-err : goal.returns-in-Err-clause-err
-returns-in-Err-clause-err c =
-    keeps_one c.args.self.now c.add_to_lane.new.self c.note_end-noted.new.self c.take_back.new.self c.args.touch (Gate c.args.channel.now)
-    c.in_ok-add_to_lane.ensures.ok c.in-Err.ensures.err c.take_back.ensures.lists
-
-pub returns-in-Err-clause-succeeds : goal.returns-in-Err-clause-succeeds
-returns-in-Err-clause-succeeds c fits =
+pub returns-in-Err : goal.returns-in-Err
+returns-in-Err c =
     let rest = Head c.args.channel.now ∷ slot_before c.args.channel.now c.args.slot [] in
-    c.in-Err.ensures.succeeds
-    (fits_rest c.args.self.now c.add_to_lane.new.self c.args.touch (Gate c.args.channel.now) rest
-    c.in_ok-add_to_lane.ensures.ok c.in_ok-add_to_lane.ensures.room fits)
+    second_refused c.args.self.now c.add_to_lane.new.self c.note_end-noted.new.self c.take_from_lane.new.self c.args.touch (Gate c.args.channel.now ∷ []) rest refl refl refl c.in_ok-add_to_lane.ensures c.in-Err.ensures c.take_from_lane.ensures.lists c.take_from_lane.ensures.room
 
-pub returns-clause-ok : goal.returns-clause-ok
-returns-clause-ok c =
+pub returns : goal.returns
+returns c =
     let rest = Head c.args.channel.now ∷ slot_before c.args.channel.now c.args.slot [] in
-    added_after c.args.self.now c.add_to_lane.new.self c.note_end-noted.new.self c.args.touch (Gate c.args.channel.now) rest
-    c.in_ok-add_to_lane.ensures.ok c.in_default.ensures.ok
+    both_noted c.args.self.now c.add_to_lane.new.self c.note_end-noted.new.self c.args.touch (Gate c.args.channel.now ∷ []) rest refl refl refl c.in_ok-add_to_lane.ensures c.in_default.ensures

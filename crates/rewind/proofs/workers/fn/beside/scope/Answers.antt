@@ -7,7 +7,7 @@ use Rattle.gr_share.proofs.tie.Tie.TheSendSync as tie
 use Rattle.gr_share.specs.contracts.locked.Locked as Locked
 use Rattle.gr_share.specs.contracts.shared.Shared as Shared
 use Rattle.gr_share.specs.contracts.desk.Worker as Worker
-use Rattle.gr_session.proofs.Crossing.{session_send}
+use Rattle.gr_share.proofs.Crossing.{session_send}
 use Rattle.rewind.proofs.workers.fn.beside.scope.Goals as goal
 
 pub spawn-requires-send-F : goal.spawn-requires-send-F

@@ -1,0 +1,280 @@
+//! Steps of a frame that read and replace whole numbers alone, as most steps do.
+
+ghost use Rattle.std.specs.Prelude.{◌≡◌, ◌+◌, ◌<◌, ◌^◌, Bool, true, slice_get, IfSome, IfNone};
+ghost use Rattle.gr_base.specs.declared.kinds.Kind.TheVariants as kinds;
+ghost use Rattle.gr_base.specs.declared.values.Value.TheVariants.{Int, Bool as Truth};
+ghost use Rattle.gr_rules.specs.Outcomes.{gives, wrong};
+ghost use Rattle.gr_rules.specs.Evaluation as rules;
+ghost use Rattle.gr_rules.specs.Evaluation.{evaluate, held};
+ghost use Rattle.gr_rules.specs.Operands.{also, nothing};
+ghost use Rattle.gr_rules.specs.Goroutines.{ready};
+ghost use Rattle.gr_code.specs.Instructions.{Assigns};
+ghost use Rattle.gr_code.specs.CodeFrames as frames;
+ghost use Rattle.gr_code.specs.CodeFrames.{at_number, with_cell};
+ghost use Rattle.gr_code.specs.CodeViews.{action_of, instruction_of, operand_of, operands_of, program_code_of};
+ghost use Rattle.gr_code.specs.Goroutines.{CodeGoroutine, is_local, is_local_action, is_local_instruction, local, task_of};
+ghost use Rattle.gr_goros.specs.Tasks.{ChangesInts, IsStep, kept_of, performed, tested, updated};
+ghost use Rattle.gr_goros.specs.Undoing.{frame_before, undone};
+
+use crate::cells::put_number;
+use crate::frame::Frame;
+use crate::goroutine::Goroutine;
+use crate::undo::{Former, FrameUndo, GoUndo};
+use crate::wait::Status;
+use gr_base::Value;
+use gr_code::code::{Action, Code, Instruction, Operand};
+use gr_eval::{Scalar, number_in, number_of, of_numbers, on_ints};
+use gr_tree::BinaryOp;
+use std::mem;
+
+/// What a step over whole numbers replaced: where its frame stood, and what was in the one cell that it wrote to, if it wrote to
+/// one.
+#[derive(Clone, Copy)]
+pub(crate) struct IntChange {
+    pub(crate) pc: usize,
+    pub(crate) writes: bool,
+    pub(crate) slot: usize,
+    pub(crate) former: i64,
+}
+
+/// The truth value that the operand is, where that stands in a cell.
+#[inline]
+fn truth_of(cells: &[Option<Value>], operand: &Operand) -> Option<bool>
+    ensures { IfSome result (λ b. evaluate cells.now (operand_of operand.now) ≡ gives (Truth b)) }
+{
+    let Operand::Variable(cell) = operand else {
+        return None;
+    };
+    match cells.get(*cell) {
+        Some(Some(Value::Bool(b))) => Some(*b),
+        _ => None,
+    }
+}
+
+impl IntChange {
+    /// The frame before it.
+    #[inline(always)]
+    pub(crate) fn undo(self) -> FrameUndo
+        ensures { result ≡ kept_of self }
+    {
+        let cells = if self.writes {
+            Former::Int(self.slot, self.former)
+        } else {
+            Former::Same
+        };
+        FrameUndo {
+            number: self.pc,
+            cells,
+        }
+    }
+}
+
+impl Goroutine {
+    /// Takes the next step, if it is ready and the step is over whole numbers alone, and answers its ordinal and what it
+    /// replaced. `None` where it is another step; nothing has changed.
+    #[inline(always)]
+    pub fn step_ints(&mut self, code: &Code) -> Option<(u64, GoUndo)>
+        requires right { self.old.content.status ≡ ready → ¬ (task_of (program_code_of code.now) self.old.content ≡ wrong) }
+        requires counted { self.old.content.steps + 1 < 2 ^ 64 }
+        ensures step { IfSome result (λ r. IsStep (kinds.Pure, r.1)
+            (local (program_code_of code.now) self.old.content) self.old self.new) }
+        ensures ordinal { IfSome result (λ r. r.0 ≡ self.old.content.steps + 1) }
+        ensures ready { IfSome result (λ _. self.old.content.status ≡ ready) }
+        ensures alone { IfSome result (λ _. is_local (program_code_of code.now) self.old.content ≡ true) }
+        ensures stays { IfSome result (λ r. (g : CodeGoroutine) → (undone r.1 g).status ≡ g.status) }
+        ensures none { IfNone result (self.new ≡ self.old) }
+    {
+        let Status::Ready = self.status else {
+            return None;
+        };
+        let counted = self.top.step_ints(self.top.instruction(code))?;
+        self.steps += 1;
+        Some((
+            self.steps,
+            GoUndo::Went(self.top.kept_function(), counted.undo()),
+        ))
+    }
+}
+
+impl Frame {
+    /// Goes on at another instruction.
+    #[inline(always)]
+    fn jump_to(&mut self, on: usize) -> IntChange
+        ensures after { self.new ≡ at_number self.old on }
+        ensures back { frame_before (kept_of result) self.new ≡ self.old }
+    {
+        let pc = mem::replace(&mut self.pc, on);
+        IntChange {
+            pc,
+            writes: false,
+            slot: 0,
+            former: 0,
+        }
+    }
+
+    /// Goes on with a number in a cell that holds another.
+    #[inline(always)]
+    fn put_int(&mut self, slot: usize, former: i64, n: i64, on: usize) -> IntChange
+        requires { held (slice_get self.old.cells slot) ≡ gives (Int former) }
+        ensures after { self.new ≡ with_cell self.old slot (Int n) on }
+        ensures back { frame_before (kept_of result) self.new ≡ self.old }
+    {
+        let pc = mem::replace(&mut self.pc, on);
+        put_number(&mut self.cells, slot, former, n);
+        IntChange {
+            pc,
+            writes: true,
+            slot,
+            former,
+        }
+    }
+
+    /// Takes the step of an instruction that reads whole numbers alone, and writes one to a cell that holds one, if any.
+    /// `None` where it is another step; the frame is then as it was.
+    #[inline(always)]
+    pub(crate) fn step_ints(&mut self, instruction: &Instruction) -> Option<IntChange>
+        requires { ¬ (frames.task self.old (instruction_of instruction.now) ≡ wrong) }
+        ensures counts { ChangesInts result (frames.task self.old (instruction_of instruction.now)) self.old self.new }
+        ensures alone { IfSome result (λ _. (caller : Bool)
+            → is_local_instruction caller (instruction_of instruction.now) ≡ true) }
+    {
+        let Instruction::Perform { action, operands } = instruction else {
+            return None;
+        };
+        match operands.as_slice() {
+            [operand] => self.step_with_one(action, operand),
+            [] => self.step_without_operands(action),
+            [first, second] => self.step_with_two(action, first, second),
+            _ => None,
+        }
+    }
+
+    /// .. of a statement without operands.
+    #[inline(always)]
+    fn step_without_operands(&mut self, action: &Action) -> Option<IntChange>
+        ensures counts { ChangesInts result (performed self.old (action_of action.now) nothing) self.old self.new }
+        ensures alone { IfSome result (λ _. (caller : Bool) → is_local_action caller (action_of action.now) ≡ true) }
+    {
+        match action {
+            Action::GoOn { on } => Some(self.jump_to(*on)),
+            _ => None,
+        }
+    }
+
+    /// .. of a statement with one operand.
+    #[inline(always)]
+    #[tactic(auto, using(crate::proofs::TaskLemmas::updated_is))]
+    fn step_with_one(&mut self, action: &Action, operand: &Operand) -> Option<IntChange>
+        requires { ¬ (performed self.old (action_of action.now) (also (operand_of operand.now) nothing) ≡ wrong) }
+        ensures counts { ChangesInts result
+            (performed self.old (action_of action.now) (also (operand_of operand.now) nothing)) self.old self.new }
+        ensures alone { IfSome result (λ _. (caller : Bool) → is_local_action caller (action_of action.now) ≡ true) }
+    {
+        match action {
+            Action::Update { variable, op, on } => self.update_int(*variable, *op, operand, *on),
+            Action::Test { holds, fails } => self.compare(operand, *holds, *fails),
+            Action::Assign { targets, on } => self.set_one(targets, operand, *on),
+            _ => None,
+        }
+    }
+
+    /// .. of a statement with two operands.
+    #[inline]
+    fn step_with_two(
+        &mut self,
+        action: &Action,
+        first: &Operand,
+        second: &Operand,
+    ) -> Option<IntChange>
+        requires { ¬ (performed self.old (action_of action.now)
+            (also (operand_of first.now) (also (operand_of second.now) nothing)) ≡ wrong) }
+        ensures counts { ChangesInts result
+            (performed self.old (action_of action.now)
+            (also (operand_of first.now) (also (operand_of second.now) nothing))) self.old self.new }
+        ensures alone { IfSome result (λ _. (caller : Bool) → is_local_action caller (action_of action.now) ≡ true) }
+    {
+        match action {
+            Action::Assign { targets, on } => self.set_first(targets, first, second, *on),
+            _ => None,
+        }
+    }
+
+    /// Goes on where a condition on numbers holds, or where it does not.
+    #[inline(always)]
+    fn compare(&mut self, operand: &Operand, holds: usize, fails: usize) -> Option<IntChange>
+        requires { ¬ (tested self.old holds fails (also (operand_of operand.now) nothing) ≡ wrong) }
+        ensures { ChangesInts result (tested self.old holds fails (also (operand_of operand.now) nothing)) self.old self.new }
+    {
+        match of_numbers(self.cells(), operand) {
+            Some(Ok(Scalar::Bool(truth))) => {
+                let on = if truth { holds } else { fails };
+                Some(self.jump_to(on))
+            }
+            _ => None,
+        }
+    }
+
+    /// Assigns with an operator on numbers.
+    #[inline(always)]
+    fn update_int(
+        &mut self,
+        variable: usize,
+        op: BinaryOp,
+        operand: &Operand,
+        on: usize,
+    ) -> Option<IntChange>
+        requires { ¬ (updated self.old variable op on (also (operand_of operand.now) nothing) ≡ wrong) }
+        ensures { ChangesInts result (updated self.old variable op on (also (operand_of operand.now) nothing)) self.old self.new }
+    {
+        let y = number_of(self.cells(), operand)?;
+        let x = number_in(self.cells(), variable)?;
+        match on_ints(op, x, y) {
+            Ok(Scalar::Int(n)) => Some(self.put_int(variable, x, n, on)),
+            _ => None,
+        }
+    }
+
+    /// Assigns a number to one variable.
+    #[inline(always)]
+    fn set_one(
+        &mut self,
+        targets: &[Option<usize>],
+        operand: &Operand,
+        on: usize,
+    ) -> Option<IntChange>
+        requires { ¬ (performed self.old (Assigns targets.now on) (also (operand_of operand.now) nothing) ≡ wrong) }
+        ensures { ChangesInts result (performed self.old (Assigns targets.now on)
+            (also (operand_of operand.now) nothing)) self.old self.new }
+    {
+        let [Some(variable)] = targets else {
+            return None;
+        };
+        let x = number_in(self.cells(), *variable)?;
+        match of_numbers(self.cells(), operand) {
+            Some(Ok(Scalar::Int(n))) => Some(self.put_int(*variable, x, n, on)),
+            _ => None,
+        }
+    }
+
+    /// Assigns the first of a number and a truth value to one variable, as a clause of a select does that receives a number.
+    fn set_first(
+        &mut self,
+        targets: &[Option<usize>],
+        first: &Operand,
+        second: &Operand,
+        on: usize,
+    ) -> Option<IntChange>
+        requires { ¬ (performed self.old (Assigns targets.now on)
+            (also (operand_of first.now) (also (operand_of second.now) nothing)) ≡ wrong) }
+        ensures { ChangesInts result (performed self.old (Assigns targets.now on)
+            (also (operand_of first.now) (also (operand_of second.now) nothing))) self.old self.new }
+    {
+        let [Some(variable)] = targets else {
+            return None;
+        };
+        let _ = truth_of(self.cells(), second)?;
+        let x = number_in(self.cells(), *variable)?;
+        let n = number_of(self.cells(), first)?;
+        Some(self.put_int(*variable, x, n, on))
+    }
+}

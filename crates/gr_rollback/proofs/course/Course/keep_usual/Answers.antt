@@ -1,0 +1,43 @@
+use Rattle.std.proofs.Common.{◌≡◌, None, ap, subst}
+use Rattle.gr_base.specs.declared.events.Choice.TheVariants.{Plain}
+use Rattle.gr_base.specs.declared.events.Event.{Event}
+use Rattle.gr_rules.specs.Steps.{refusal}
+use Rattle.gr_step.specs.Choices.{usual_event}
+use Rattle.gr_step.specs.Stores.{program_at, contents_at}
+use Rattle.gr_step.proofs.RecordLemmas.{no_object_twice}
+use Rattle.gr_rollback.specs.Steps.{Kept}
+use Rattle.gr_rollback.proofs.CountedLemmas.{joined_or_not, nothing_taken}
+use Rattle.gr_rollback.proofs.CourseLemmas.{can_count, is_course, logged, tells}
+use Rattle.gr_rollback.proofs.PlainLemmas.{plain_is_usual}
+use Rattle.gr_rollback.proofs.StepLemmas.{record_is_allowed}
+use Rattle.gr_rollback.proofs.course.Course.keep_usual.Goals as goal
+
+pub step_ints-requires-clause-counted : goal.step_ints-requires-clause-counted
+step_ints-requires-clause-counted c = can_count _ c.requires.past c.args.self.now c.requires.holds
+
+pub join-requires-clause-once : goal.join-requires-clause-once
+join-requires-clause-once c =
+    let p = program_at c.args.self.now.store in
+    let before = contents_at c.args.self.now.store in
+    let after = contents_at c.step_ints.new.self in
+    let is = c.in-Ok.ensures.step in
+    no_object_twice p before c.in-Ok.step (logged p before after c.in-Ok.step is) after (tells p before after c.in-Ok.step is)
+
+pub returns-in-Ok-clause-kept : goal.returns-in-Ok-clause-kept
+returns-in-Ok-clause-kept c = λ p w s.
+    let step = c.in-Ok.ensures in
+    let allowed = subst (λ e. refusal p w.state e ≡ None) step.event (record_is_allowed p w c.args.self.now c.in-Ok.step (contents_at c.step_ints.new.self) s step.step) in
+    subst (λ e. Kept p w e c.join.result c.join.new.self) (plain_is_usual p w.state c.args.go allowed)
+    (joined_or_not p w c.args.self.now s c.in-Ok.step c.step_ints.new.self
+    (record { is = step.step; alone = step.alone; keeps = step.stays; run = step.run; listing = step.listing })
+    (record { go = c.args.go; choice = Plain }) c.join.result c.join.new.self step.event c.join.ensures)
+
+pub keep_further-requires : goal.keep_further-requires
+keep_further-requires c =
+    let here = c.requires in
+    is_course _ here.past _ (nothing_taken _ here.past c.args.self.now c.step_ints.new.self here.holds c.in-Err.ensures.listing c.in-Err.ensures.err)
+
+pub returns-in-Err-clause-kept : goal.returns-in-Err-clause-kept
+returns-in-Err-clause-kept c = λ p w s.
+    subst (λ g. Kept p w (usual_event p w.state g) c.keep_further.result c.keep_further.new.self) (ap (λ (e : Event). e.go) c.in-Err.ensures.returned)
+    (c.keep_further.ensures.kept p w (nothing_taken p w c.args.self.now c.step_ints.new.self s c.in-Err.ensures.listing c.in-Err.ensures.err))

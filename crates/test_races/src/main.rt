@@ -1,0 +1,144 @@
+//! Desks and workers that race: `racing DESKS WORKERS COMMANDS RACES FILE..`. In each race over a Go file a session is opened,
+//! which so many desks and workers share, each on a thread of its own. Each desk asks so many commands of those that change a
+//! session, drawn at random. When all have ended, the steps that are kept are taken once more in a fresh session. Both sessions
+//! have to tell the same of each goroutine, of what it printed and of each channel.
+//!
+//! For each file it writes how many races ended so, and what came of each race on standard error.
+//!
+//! Exit status: 0; 1 where a session differs, memory was wanted, or the words are not these.
+#![tactic(auto)]
+
+mod chance;
+mod race;
+mod replay;
+
+use gr_share::{Opened, Session};
+use race::{Load, Raced, race_all};
+use replay::replay;
+use std::alloc::Global;
+use std::marker::Brand;
+use std::process::ExitCode;
+use std::sync::Wait;
+use std::thread::Threads;
+use std::{env, fs, io};
+
+/// What came of a race, where the session that was shared and a fresh one tell the same.
+#[derive(Clone, Copy)]
+struct Course {
+    /// How many commands got an entry.
+    asked: usize,
+    /// How many entries are batches and turns of workers.
+    worked: usize,
+    /// How many steps were kept in the end.
+    kept: usize,
+    /// How many goroutines they started, with `g0`.
+    goroutines: usize,
+}
+
+// Races over a source. `None` where something is not as it should be.
+fn course_of<T: Threads + Wait + Sync>(
+    rt: &T,
+    alloc: Global,
+    source: &[u8],
+    load: Load,
+) -> Option<Course> {
+    let session = Session::open(alloc, source).ok()?;
+    let opened = Opened::new(alloc, session).ok()?;
+    let Raced {
+        session,
+        asked,
+        worked,
+    } = race_all::<Brand, T>(rt, alloc, opened, load)?;
+    let (kept, goroutines) = replay(alloc, source, session)?;
+    Some(Course {
+        asked,
+        worked,
+        kept,
+        goroutines,
+    })
+}
+
+// Races over a file, and tells of it. Whether it is as it should be.
+fn is_alike<T: Threads + Wait + Sync>(
+    rt: &HostRuntime,
+    threads: &T,
+    file: &str,
+    source: &[u8],
+    load: Load,
+) -> io::Result<bool> {
+    let seed = load.seed;
+    let Some(course) = course_of(threads, rt.alloc(), source, load) else {
+        eprintln!(rt; "{file}: race {seed} differs")?;
+        return Ok(false);
+    };
+    let Course {
+        asked,
+        worked,
+        kept,
+        goroutines,
+    } = course;
+    eprintln!(rt;
+        "{file}: {asked} commands, {worked} batches and turns; {kept} steps kept, {goroutines} goroutines"
+    )?;
+    Ok(true)
+}
+
+// Has callers race over a file so often, and tells how often it was as it should be. Whether it always was.
+fn tell<T: Threads + Wait + Sync>(
+    rt: &HostRuntime,
+    threads: &T,
+    file: &str,
+    races: u32,
+    load: Load,
+) -> io::Result<bool> {
+    let source = fs::read(rt, file)?;
+    let mut alike = 0u32;
+    for race in 0..races {
+        let load = Load {
+            seed: race as u64,
+            ..load
+        };
+        if is_alike(rt, threads, file, source.as_slice(), load)? {
+            alike = alike.saturating_add(1);
+        }
+    }
+    println!(rt; "{file}: {alike} of {races} alike")?;
+    Ok(alike == races)
+}
+
+// How many races there are over each file, and the load of the first.
+fn settings(desks: &str, workers: &str, commands: &str, races: &str) -> Option<(u32, Load)> {
+    let load = Load {
+        desks: desks.parse().ok()?,
+        workers: workers.parse().ok()?,
+        commands: commands.parse().ok()?,
+        seed: 0,
+    };
+    Some((races.parse().ok()?, load))
+}
+
+fn run<T: Threads + Wait + Sync>(rt: &HostRuntime, threads: &T) -> io::Result<ExitCode> {
+    let words: Vec<String> = env::args(rt)?.collect(rt.alloc())?;
+    let [_, desks, workers, commands, races, files @ ..] = words.as_slice() else {
+        return Ok(ExitCode::from(1));
+    };
+    let Some((races, load)) = settings(
+        desks.as_str(),
+        workers.as_str(),
+        commands.as_str(),
+        races.as_str(),
+    ) else {
+        return Ok(ExitCode::from(1));
+    };
+    let mut status = 0;
+    for file in files {
+        if !tell(rt, threads, file.as_str(), races, load)? {
+            status = 1;
+        }
+    }
+    Ok(ExitCode::from(status))
+}
+
+fn main(rt: HostRuntime) -> io::Result<ExitCode> {
+    run(&rt, &rt)
+}

@@ -1,0 +1,207 @@
+//! Batches in one thread: that goroutines are lent, batches run and committed with ample memory, and that a batch is refused
+//! whose goroutine changed or for which the grant has no room.
+ghost use Rattle.std.specs.Prelude.{◌≤◌};
+
+use gr_command::{Line, Reply, read_command, write_reply};
+use rewind::{Batch, DeskId, Open, Session, run_batch};
+use std::alloc::Global;
+use std::test::Fail;
+
+// Two goroutines that take 21 steps each, 20 of them by themselves.
+const SPINNING: &[u8] =
+    b"package main\nfunc spin(n int) { for i := 0; i < n; i++ { } }\nfunc main() {\n\tgo spin(9)\n\tgo spin(9)\n\tselect {}\n}\n";
+
+// Starts both, and lets the workers take steps.
+const STARTED: [&[u8]; 4] = [b"step g0", b"step g0", b"step g0", b"free 1000"];
+
+// A program that ends beside a goroutine which takes steps by itself.
+const ENDING: &[u8] =
+    b"package main\nfunc spin(n int) { for i := 0; i < n; i++ { } }\nfunc main() {\n\tgo spin(9)\n}\n";
+
+// What is done, and what is to come of it.
+#[derive(Clone, Copy)]
+enum Act<'a> {
+    // A line is asked, which gets this reply.
+    Ask(&'a [u8], &'a [u8]),
+    // The first goroutine that may be lent takes a batch of at most so many steps, which has so many.
+    Run(usize, usize),
+    // The last batch that was run is committed: so many steps joined the log, or it is stale.
+    Commit(Option<u32>),
+    // So much is left of the grant.
+    Grant(u32),
+    // The log takes so many steps more.
+    Room(usize),
+    // No goroutine may be lent, and no turn is due.
+    Idle,
+}
+
+// A session, with one who asks it and the batches that were run.
+#[derive(Drop)]
+struct Asking {
+    session: Session,
+    desk: DeskId,
+    batches: Vec<Batch>,
+    ghost enrolled: { (1 ≤ desk.number) × (desk.number ≤ session.askers) },
+}
+
+fn only_if(holds: bool) -> Option<()> {
+    if holds { Some(()) } else { None }
+}
+
+// Whether it says that so many steps were committed, or that the batch was stale.
+fn says(reply: &Reply, joined: Option<u32>) -> bool {
+    match reply {
+        Reply::Committed(steps) => joined == Some(*steps),
+        Reply::Stale => joined.is_none(),
+        _ => false,
+    }
+}
+
+impl Asking {
+    fn new(alloc: Global, source: &[u8]) -> Option<Asking> {
+        let mut session = Session::open(alloc, source).ok()?;
+        let desk = session.enrol().ok()?;
+        Some(Asking {
+            session,
+            desk,
+            batches: Vec::new(alloc),
+        })
+    }
+
+    fn reply(&mut self, alloc: Global, line: &[u8]) -> Option<Reply> {
+        let Ok(Line::Command(command)) = read_command(alloc, line) else {
+            return None;
+        };
+        match self.session.ask(alloc, self.desk, command) {
+            Ok(receipt) => Some(receipt.reply),
+            Err(_) => None,
+        }
+    }
+
+    fn ask(&mut self, alloc: Global, line: &[u8], wanted: &[u8]) -> Option<()> {
+        let reply = self.reply(alloc, line)?;
+        let mut text = Vec::new(alloc);
+        write_reply(&mut text, &reply).ok()?;
+        only_if(text.as_slice() == wanted)
+    }
+
+    fn run(&mut self, alloc: Global, limit: usize, steps: usize) -> Option<()> {
+        let lease = self.session.lease(alloc, 0).ok()??;
+        let batch = run_batch(alloc, lease, limit, &Open).ok()?;
+        let taken = batch.len();
+        self.batches.push(batch).ok()?;
+        only_if(taken == steps)
+    }
+
+    fn commit(&mut self, alloc: Global, joined: Option<u32>) -> Option<()> {
+        let batch = self.batches.pop()?;
+        match self.session.commit(alloc, self.desk, batch) {
+            Ok(receipt) => only_if(says(&receipt.reply, joined)),
+            Err(_) => None,
+        }
+    }
+
+    fn is_idle(&self, alloc: Global) -> Option<()> {
+        let lease = self.session.lease(alloc, 0).ok()?;
+        only_if(lease.is_none() && !self.session.turn_due())
+    }
+
+    fn act(&mut self, alloc: Global, act: Act<'_>) -> Option<()> {
+        match act {
+            Act::Ask(line, wanted) => self.ask(alloc, line, wanted),
+            Act::Run(limit, steps) => self.run(alloc, limit, steps),
+            Act::Commit(joined) => self.commit(alloc, joined),
+            Act::Grant(left) => only_if(self.session.grant() == left),
+            Act::Room(left) => only_if(self.session.room() == left),
+            Act::Idle => self.is_idle(alloc),
+        }
+    }
+}
+
+// A program, what is asked before, and what is done with its batches.
+#[derive(Clone, Copy)]
+struct Story {
+    name: &'static str,
+    source: &'static [u8],
+    lines: &'static [&'static [u8]],
+    acts: &'static [Act<'static>],
+}
+
+const STORIES: [Story; 5] = [
+    Story {
+        name: "a batch joins the log",
+        source: SPINNING,
+        lines: &STARTED,
+        acts: &[
+            Act::Run(5, 5),
+            Act::Commit(Some(5)),
+            Act::Grant(995),
+            Act::Ask(b"show g0.1", b"| g0.1 ready 5 line 2\n| spin n=9 i=2\nok\n"),
+        ],
+    },
+    Story {
+        name: "a batch joins once",
+        source: SPINNING,
+        lines: &STARTED,
+        acts: &[
+            Act::Run(256, 20),
+            Act::Run(256, 20),
+            Act::Commit(Some(20)),
+            Act::Grant(980),
+            Act::Commit(None),
+            Act::Grant(980),
+        ],
+    },
+    Story {
+        name: "what came back is as it was lent",
+        source: SPINNING,
+        lines: &STARTED,
+        acts: &[
+            Act::Run(5, 5),
+            Act::Run(5, 5),
+            Act::Ask(b"back g0#1", b"ok 3 g0#1 g0#2 g0#3\n"),
+            Act::Commit(None),
+            Act::Room(1_000_000),
+            Act::Ask(b"redo", b"ok 3 g0#1 g0#2 g0#3\n"),
+            Act::Commit(Some(5)),
+        ],
+    },
+    Story {
+        name: "a batch keeps to the grant",
+        source: SPINNING,
+        lines: &STARTED,
+        acts: &[
+            Act::Run(5, 5),
+            Act::Ask(b"free 3", b"ok grant 3\n"),
+            Act::Commit(None),
+            Act::Run(0, 1),
+            Act::Commit(Some(1)),
+        ],
+    },
+    Story {
+        name: "none is lent after the end",
+        source: ENDING,
+        lines: &[b"step g0", b"step g0", b"free 1000"],
+        acts: &[Act::Idle],
+    },
+];
+
+// Whether all acts of a story, one after the other, come out as they say.
+fn is_played(alloc: Global, story: &Story) -> Option<()> {
+    let mut asking = Asking::new(alloc, story.source)?;
+    for line in story.lines {
+        asking.reply(alloc, line)?;
+    }
+    for act in story.acts {
+        asking.act(alloc, *act)?;
+    }
+    Some(())
+}
+
+#[test]
+fn batches_come_out_as_told(rt: HostRuntime) -> Result<(), Fail> {
+    for story in &STORIES {
+        is_played(rt.alloc(), story).ok_or(story.name)?;
+    }
+    Ok(())
+}

@@ -1,0 +1,2 @@
+-- That a session may be lent to threads.
+pub use Rattle.rewind.proofs.Crossing.{session_send}

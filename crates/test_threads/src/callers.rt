@@ -1,0 +1,259 @@
+//! Those who call a session, each on a thread of its own.
+
+use crate::meeting::{Door, Meeting};
+use gr_command::{Command, Line, read_command, write_reply};
+use rewind::counted::Counted;
+use rewind::desk::serve_desk;
+use rewind::stream::ServeFault;
+use rewind::{Desk, Room, Shared, Worker, worker};
+use std::alloc::Global;
+use std::io::{ErrorKind, Write};
+use std::sync::Wait;
+use std::thread::Threads;
+use std::time::{Clock, Duration};
+use std::{io, thread};
+
+// Takes as many bytes as there is room, and then fails.
+#[derive(Drop)]
+struct Full {
+    room: usize,
+}
+
+impl Write for Full {
+    fn write(&mut self, buf: &[u8]) -> io::Result<usize> {
+        if self.room == 0 {
+            return Err(io::Error::from(ErrorKind::Other));
+        }
+        let taken = buf.len().min(self.room);
+        self.room -= taken;
+        Ok(taken)
+    }
+
+    fn flush(&mut self) -> io::Result<()> {
+        Ok(())
+    }
+}
+
+/// What a desk does on its thread.
+#[derive(Clone, Copy)]
+pub(crate) enum Errand {
+    /// Asks the same a hundred times.
+    Hundred,
+    /// Waits until both goroutines have ended, and then has the workers end.
+    Watch,
+    /// Waits until a worker is held, takes back what started its goroutine, and lets the worker go.
+    TakeBack,
+    /// Has the workers end after a while.
+    Close,
+    /// Takes the first step, and asks what it printed.
+    See,
+    /// Serves a stream whose writer fails in the second reply.
+    Break,
+}
+
+/// One who calls: a desk with its errand, and how many replies were those that the errand asks for; or a worker, which works so
+/// often at most.
+#[derive(Drop)]
+pub(crate) enum Caller<B: Room> {
+    Asks(Desk<B>, Errand, u64),
+    Works(Worker<B>, u64),
+}
+
+fn command(alloc: Global, line: &[u8]) -> Option<Command> {
+    match read_command(alloc, line) {
+        Ok(Line::Command(command)) => Some(command),
+        _ => None,
+    }
+}
+
+/// The bytes of the reply to a line, where it got one.
+pub(crate) fn reply<B: Room, T: Wait>(
+    rt: &T,
+    alloc: Global,
+    shared: &Shared<B>,
+    desk: &mut Desk<B>,
+    line: &[u8],
+) -> Option<Vec<u8>> {
+    let asked = command(alloc, line)?;
+    let mut text = Vec::new(alloc);
+    let receipt = desk.ask(rt, alloc, shared, asked).ok()?;
+    write_reply(&mut text, &receipt.reply).ok()?;
+    Some(text)
+}
+
+// 1 where the line got this reply.
+fn said<B: Room, T: Wait>(
+    rt: &T,
+    alloc: Global,
+    shared: &Shared<B>,
+    desk: &mut Desk<B>,
+    line: &[u8],
+    wanted: &[u8],
+) -> u64 {
+    match reply(rt, alloc, shared, desk, line) {
+        Some(text) => u64::from(text.as_slice() == wanted),
+        None => 0,
+    }
+}
+
+// How many of a hundred questions were answered.
+fn ask_a_hundred<B: Room, T: Wait>(
+    rt: &T,
+    alloc: Global,
+    shared: &Shared<B>,
+    desk: &mut Desk<B>,
+) -> u64 {
+    let mut answers = 0u64;
+    for _ in 0..100u64 {
+        if reply(rt, alloc, shared, desk, b"causes g0#1").is_some() {
+            answers = answers.saturating_add(1);
+        }
+    }
+    answers
+}
+
+// 1 where the reply to the line comes to begin like this, which is asked up to 10,000 times.
+fn wait_until<B: Room, T: Wait + Clock>(
+    rt: &T,
+    alloc: Global,
+    shared: &Shared<B>,
+    desk: &mut Desk<B>,
+    line: &[u8],
+    shown: &[u8],
+) -> u64 {
+    for _ in 0..10_000u64 {
+        let Some(text) = reply(rt, alloc, shared, desk, line) else {
+            return 0;
+        };
+        if text.as_slice().starts_with(shown) {
+            return 1;
+        }
+        thread::sleep(rt, Duration::from_millis(1));
+    }
+    0
+}
+
+fn watch<B: Room, T: Wait + Clock>(
+    rt: &T,
+    alloc: Global,
+    shared: &Shared<B>,
+    desk: &mut Desk<B>,
+) -> u64 {
+    let one = wait_until(rt, alloc, shared, desk, b"show g0.1", b"| g0.1 done 21\n");
+    let other = wait_until(rt, alloc, shared, desk, b"show g0.2", b"| g0.2 done 21\n");
+    shared.close(rt);
+    one.saturating_add(other)
+}
+
+fn take_back<B: Room, T: Wait + Clock>(
+    rt: &T,
+    alloc: Global,
+    shared: &Shared<B>,
+    meeting: &Meeting,
+    desk: &mut Desk<B>,
+) -> u64 {
+    meeting.wait_for_worker(rt);
+    let told = said(
+        rt,
+        alloc,
+        shared,
+        desk,
+        b"back g0#1",
+        b"ok 3 g0#1 g0#2 g0#3\n",
+    );
+    meeting.let_go();
+    told
+}
+
+fn see<B: Room, T: Wait>(rt: &T, alloc: Global, shared: &Shared<B>, desk: &mut Desk<B>) -> u64 {
+    let step = said(rt, alloc, shared, desk, b"step g0", b"ok g0#1 pure\n");
+    let text = said(
+        rt,
+        alloc,
+        shared,
+        desk,
+        b"text g0",
+        b"| -9223372036854775808\nok\n",
+    );
+    step.saturating_add(text)
+}
+
+fn serve_in_vain<B: Room, T: Wait>(
+    rt: &T,
+    alloc: Global,
+    shared: &Shared<B>,
+    desk: &mut Desk<B>,
+) -> u64 {
+    let mut lines = Counted::new(b"step g0\nundo\nundo\n".as_slice());
+    let mut full = Counted::new(Full { room: 16 });
+    let served = serve_desk(rt, alloc, shared, desk, &mut lines, &mut full);
+    u64::from(matches!(served, Err(ServeFault::Write)))
+}
+
+// Does an errand, and counts the replies that it asks for.
+fn run<B: Room, T: Wait + Clock>(
+    rt: &T,
+    alloc: Global,
+    shared: &Shared<B>,
+    meeting: &Meeting,
+    desk: &mut Desk<B>,
+    errand: Errand,
+) -> u64 {
+    match errand {
+        Errand::Hundred => ask_a_hundred(rt, alloc, shared, desk),
+        Errand::Watch => watch(rt, alloc, shared, desk),
+        Errand::TakeBack => take_back(rt, alloc, shared, meeting, desk),
+        Errand::Close => {
+            thread::sleep(rt, Duration::from_millis(20));
+            shared.close(rt);
+            0
+        }
+        Errand::See => see(rt, alloc, shared, desk),
+        Errand::Break => serve_in_vain(rt, alloc, shared, desk),
+    }
+}
+
+// Does the errand, or works.
+fn call<B: Room, T: Wait + Clock>(
+    rt: &T,
+    alloc: Global,
+    shared: &Shared<B>,
+    meeting: &Meeting,
+    caller: &mut Caller<B>,
+) {
+    match caller {
+        Caller::Asks(desk, errand, answers) => {
+            *answers = run(rt, alloc, shared, meeting, desk, *errand);
+        }
+        Caller::Works(me, budget) => {
+            let gate = Door { clock: rt, meeting };
+            worker(rt, alloc, shared, me, &gate, *budget);
+        }
+    }
+}
+
+/// Has all call at once, and waits for all of them. Whether the threads could be started.
+#[tactic(auto, using(crate::proofs::Lent::session_send))]
+pub(crate) fn call_at_once<B: Room + Send + Sync, T: Threads + Wait + Clock + Sync>(
+    rt: &T,
+    alloc: Global,
+    shared: &Shared<B>,
+    meeting: &Meeting,
+    callers: &mut [Caller<B>],
+) -> bool {
+    thread::scope(thread::scope_env(), rt, |scope| {
+        let mut started = true;
+        for caller in callers.iter_mut() {
+            if scope
+                .spawn(move || call(rt, alloc, shared, meeting, caller))
+                .is_err()
+            {
+                started = false;
+            }
+        }
+        if !started {
+            shared.close(rt);
+        }
+        started
+    })
+}

@@ -1,0 +1,267 @@
+//! Desks and workers on threads: that calls succeed, that all entries stay, that workers take steps and are in batches at the
+//! same time, and that a batch whose goroutine changed is refused. Each scene shows that no sharing ends while a seat is missing.
+ghost use Rattle.std.specs.Prelude.{◌≡◌};
+ghost use Rattle.gr_program.specs.Views.{program_of};
+
+use crate::callers::Errand;
+use crate::meeting::Hold;
+use crate::scenes::{Outcome, Scene, play};
+use rewind::counted::Counted;
+use rewind::debug::debug;
+use rewind::workers::debug_beside;
+use rewind::{EnrolRefused, Opened, Room, Session, Shared};
+use std::alloc::Global;
+use std::marker::Brand;
+use std::sync::Wait;
+use std::test::Fail;
+
+// Two goroutines that take 21 steps each, 20 of them by themselves.
+const SPINNING: &[u8] =
+    b"package main\nfunc spin(n int) { for i := 0; i < n; i++ { } }\nfunc main() {\n\tgo spin(9)\n\tgo spin(9)\n\tselect {}\n}\n";
+
+// Starts both, and lets the workers take steps.
+const STARTED: [&[u8]; 4] = [b"step g0", b"step g0", b"step g0", b"free 1000"];
+
+const PRINTING: &[u8] = b"package main\nfunc main() { println(-9223372036854775808) }\n";
+
+const HANDING: &[u8] =
+    b"package main\nfunc send(c chan int) {\n\tc <- 7\n}\nfunc main() {\n\tc := make(chan int)\n\tgo send(c)\n\tprintln(<-c)\n}\n";
+
+const HANDED: &[u8] =
+    b"step g0\nstep g0\nstep g0\nstep g0\nstep g0.1\nstep g0.1\nstep g0\nstep g0\ncauses g0#4\nback g0.1#1\nshow g0\nconsole\n";
+
+// What a scene is to come to; `None` is for what its schedule decides.
+#[derive(Clone, Copy)]
+struct Wanted {
+    answers: u64,
+    entries: Option<usize>,
+    grant: Option<u32>,
+    room: Option<usize>,
+    stale: Option<u64>,
+    met: Option<bool>,
+}
+
+impl Wanted {
+    fn is_met_by(&self, outcome: &Outcome) -> bool {
+        self.answers == outcome.answers
+            && self.stale.is_none_or(|stale| stale == outcome.stale)
+            && self
+                .entries
+                .is_none_or(|entries| entries == outcome.entries)
+            && self.grant.is_none_or(|grant| grant == outcome.grant)
+            && self.room.is_none_or(|room| room == outcome.room)
+            && self.met.is_none_or(|met| met == outcome.met)
+    }
+}
+
+#[derive(Clone, Copy)]
+struct Act {
+    name: &'static str,
+    scene: Scene<'static>,
+    wanted: Wanted,
+}
+
+// A scene in which nobody calls, and what it comes to.
+const EMPTY: Scene<'static> = Scene {
+    source: SPINNING,
+    first: &[],
+    errands: &[],
+    workers: 0,
+    budget: 0,
+    hold: Hold::Nowhere,
+};
+
+const ANYTHING: Wanted = Wanted {
+    answers: 0,
+    entries: None,
+    grant: None,
+    room: None,
+    stale: None,
+    met: None,
+};
+
+// Workers take all steps, whose grant is the same in each schedule.
+const SPUN: Wanted = Wanted {
+    answers: 2,
+    grant: Some(958),
+    ..ANYTHING
+};
+
+const ACTS: [Act; 9] = [
+    Act {
+        name: "two desks ask a hundred times each",
+        scene: Scene {
+            errands: &[Errand::Hundred, Errand::Hundred],
+            workers: 1,
+            ..EMPTY
+        },
+        wanted: Wanted {
+            answers: 200,
+            entries: Some(200),
+            ..ANYTHING
+        },
+    },
+    Act {
+        name: "a desk sees what it did",
+        scene: Scene {
+            source: PRINTING,
+            errands: &[Errand::See],
+            ..EMPTY
+        },
+        wanted: Wanted {
+            answers: 2,
+            ..ANYTHING
+        },
+    },
+    Act {
+        name: "a desk whose writer fails ends alone",
+        scene: Scene {
+            errands: &[Errand::Break, Errand::Hundred],
+            ..EMPTY
+        },
+        wanted: Wanted {
+            answers: 101,
+            entries: Some(102),
+            ..ANYTHING
+        },
+    },
+    Act {
+        name: "two workers take all steps",
+        scene: Scene {
+            first: &STARTED,
+            errands: &[Errand::Watch],
+            workers: 2,
+            budget: u64::MAX,
+            ..EMPTY
+        },
+        wanted: SPUN,
+    },
+    Act {
+        name: "four workers take all steps",
+        scene: Scene {
+            first: &STARTED,
+            errands: &[Errand::Watch],
+            workers: 4,
+            budget: u64::MAX,
+            ..EMPTY
+        },
+        wanted: SPUN,
+    },
+    Act {
+        name: "two workers are in their first batches at once",
+        scene: Scene {
+            first: &STARTED,
+            workers: 2,
+            budget: 1,
+            hold: Hold::InBatch,
+            ..EMPTY
+        },
+        wanted: Wanted {
+            grant: Some(960),
+            met: Some(true),
+            ..ANYTHING
+        },
+    },
+    Act {
+        name: "a batch is stale after its start was taken back",
+        scene: Scene {
+            first: &STARTED,
+            errands: &[Errand::TakeBack],
+            workers: 1,
+            budget: 1,
+            hold: Hold::BeforeCommit,
+            ..EMPTY
+        },
+        wanted: Wanted {
+            answers: 1,
+            grant: Some(1000),
+            room: Some(1_000_000),
+            stale: Some(1),
+            met: Some(true),
+            ..ANYTHING
+        },
+    },
+    Act {
+        name: "a worker ends at its budget, after a turn and a batch",
+        scene: Scene {
+            first: &[b"free 7"],
+            workers: 1,
+            budget: 2,
+            ..EMPTY
+        },
+        wanted: Wanted {
+            entries: Some(3),
+            ..ANYTHING
+        },
+    },
+    Act {
+        name: "idle workers end where they are told to",
+        scene: Scene {
+            errands: &[Errand::Close],
+            workers: 2,
+            budget: u64::MAX,
+            ..EMPTY
+        },
+        wanted: Wanted {
+            entries: Some(0),
+            ..ANYTHING
+        },
+    },
+];
+
+#[test]
+fn scenes_come_to_what_they_should(rt: HostRuntime) -> Result<(), Fail> {
+    for act in &ACTS {
+        let outcome = play(&rt, rt.alloc(), act.scene)?;
+        if !act.wanted.is_met_by(&outcome) {
+            return Err(Fail::from(act.name));
+        }
+    }
+    Ok(())
+}
+
+fn seats_given<B: Room, T: Wait>(rt: &T, alloc: Global, opened: Opened) -> Option<bool>
+    requires table { opened.table ≡ B.table }
+    requires session { (program_of opened.session.program ≡ B.program) × (opened.session.askers ≡ B.first) }
+{
+    let shared = Shared::<B>::new(opened);
+    for _ in 0..500u64 {
+        shared.desk(rt, alloc).ok()?;
+        shared.worker_seat(rt, alloc).ok()?;
+    }
+    let desk = shared.desk(rt, alloc);
+    let seat = shared.worker_seat(rt, alloc);
+    Some(matches!(desk, Err(EnrolRefused::Full)) && matches!(seat, Err(EnrolRefused::Full)))
+}
+
+#[test]
+fn there_are_a_thousand_askers(rt: HostRuntime) -> Result<(), Fail> {
+    let session = Session::open(rt.alloc(), SPINNING)
+        .ok()
+        .ok_or("no session")?;
+    let opened = Opened::new(rt.alloc(), session)?;
+    assert_eq!(rt;
+        seats_given::<Brand, _>(&rt, rt.alloc(), opened),
+        Some(true)
+    );
+    Ok(())
+}
+
+#[test]
+fn idle_workers_change_no_reply(rt: HostRuntime) -> Result<(), Fail> {
+    let mut source = Counted::new(HANDING);
+    let mut reader = Counted::new(HANDED);
+    let mut alone = Counted::new(Vec::new(rt.alloc()));
+    let served = debug(rt.alloc(), &mut source, &mut reader, &mut alone);
+    assert!(rt; served.is_ok());
+    let mut source = Counted::new(HANDING);
+    let mut reader = Counted::new(HANDED);
+    let mut beside = Counted::new(Vec::new(rt.alloc()));
+    let served = debug_beside(&rt, rt.alloc(), 4, &mut source, &mut reader, &mut beside);
+    assert!(rt; served.is_ok());
+    assert_eq!(rt;
+        beside.into_inner().as_slice(),
+        alone.into_inner().as_slice()
+    );
+    Ok(())
+}
