@@ -11,7 +11,7 @@ RT = $(if $(HAS_RT),rt,$(error rewind: 'rt' is not on the path: install the Ratt
 NEEDS_RT = @: $(RT)
 
 .DEFAULT_GOAL := $(if $(HAS_RT),all,help)
-.PHONY: all help quick quick-page demo test gate edits words command-line-test bench replay hostile times gate-times dap-test page page-test vsix \
+.PHONY: all help quick quick-page demo test gate edits words command-line-test bench replay second-opinion hostile times gate-times dap-test page page-test vsix \
 	page-pictures install uninstall clean
 
 ## Use it
@@ -93,14 +93,17 @@ gate: ## the gate: each proof from nothing, edits that must be refused, all test
 
 edits: ## the edits that must be refused and that the gate leaves out (hours; CRATE=NAME for one crate)
 	$(NEEDS_RT)
-	bench/edits.sh $(CRATE)
+	tools/edits.sh $(CRATE)
 
 command-line-test: $(REWIND) ## what the program writes by its command line, with pipes and at a terminal (1 minute)
-	docs/words/make.py --check
-	bench/command_line.py $(REWIND)
+	words/make.py --check
+	tests/command_line.py $(REWIND)
 
 replay: $(REWIND) ## steps of 1,000 random sessions, taken again in fresh sessions and in other orders (5 minutes)
-	bench/replay.py $(REWIND)
+	tests/replay.py $(REWIND)
+
+second-opinion: $(REWIND) ## random sessions, answered by a plain model too (10 minutes; SECONDS=N)
+	tests/second.py --sessions 1000000 --seconds $(or $(SECONDS),600) $(REWIND)
 
 dap-test: $(REWIND) ## the adapter for editors (1 minute)
 	REWIND=$(REWIND) editors/dap/tests/run
@@ -110,16 +113,11 @@ IS_QUICK = $(filter rewind-quick,$(notdir $(REWIND)))
 page-test: browser-needs other-browsers $(if $(IS_QUICK),quick-page,page) ## the page: types, style, modules, all of it in Chromium, and sessions in Firefox and WebKitGTK (5 minutes)
 	page/test.sh bin/rewind$(if $(IS_QUICK),-quick).html
 
-hostile: $(REWIND) bin/racing ## hostile sources and commands, failing devices, refused memory, races (6 processor minutes)
-	hostile/all.sh $(REWIND)
+hostile: $(REWIND) bin/test_races ## hostile sources and commands, failing devices, refused memory, races (6 processor minutes)
+	tests/hostile/all.sh $(REWIND)
 
-bench: bin/rewind bin/channel_bench bin/front_bench ## times of steps, rollback, workers, channels and the front (minutes)
-	bench/steps.py bin/rewind
-	bench/core.py bin/rewind
-	bench/rollback.py bin/rewind
-	bench/workers.py bin/rewind
-	bench/channels.py bin/channel_bench
-	bench/front.py bin/front_bench
+bench: bin/rewind bin/bench_channels bin/bench_front ## times of steps, rollback, workers, channels and the front, into bench/RESULTS.md (minutes)
+	bench/results.py
 
 times: ## how long demo, quick, quick-page and test take on two processors, in fresh clones (15 minutes)
 	$(NEEDS_RT)
@@ -128,12 +126,12 @@ times: ## how long demo, quick, quick-page and test take on two processors, in f
 gate-times: ## the gate in a fresh clone, with the processor minutes of each crate: bin/gate.md (hours)
 	$(NEEDS_RT)
 	mkdir -p bin
-	bench/gate.py --table bin/gate.md --log bin/gate.log
+	tools/gate.py --table bin/gate.md --log bin/gate.log
 
 ## Make again what is made
 
-words: ## the program's texts, manual page and tables from docs/words (a second)
-	docs/words/make.py
+words: ## the program's texts, manual page and tables from words (a second)
+	words/make.py
 
 page-pictures: browser-needs page ## the pictures of docs/SESSIONS.md, drawn by the page (1 minute)
 	mkdir -p docs/pictures
@@ -146,7 +144,7 @@ help: ## lists these targets
 	@awk '/^## / { printf "\n%s\n", substr($$0, 4) } /^[a-z-]+:.*## / { name = $$0; sub(/:.*/, "", name); sub(/.*## /, ""); \
 		printf "  make %-18s %s\n", name, $$0 }' $(firstword $(MAKEFILE_LIST))
 
-bin/channel_bench bin/front_bench bin/racing: FORCE
+bin/bench_channels bin/bench_front bin/test_races: FORCE
 	$(NEEDS_RT)
 	tools/prove.py $(notdir $@) $@
 

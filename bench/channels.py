@@ -1,7 +1,7 @@
 #!/usr/bin/env python3
 """The time of an offer or a take and its undoing, at a capacity of 1 and of 1,000,000.
 
-    bench/channels.py [PROGRAM]      (bin/channel_bench)
+    bench/channels.py [PROGRAM]      (bin/bench_channels)
 
 At each capacity 1,000,000 values pass through a channel, by fills and emptyings in turn, and all is undone again.
 Prints the processor time of a change with its undoing, and the ratio, which is to be at most 2: the capacity and the
@@ -33,7 +33,7 @@ def least(program, capacity, values):
 
 
 def main():
-    program = sys.argv[1] if len(sys.argv) > 1 else "bin/channel_bench"
+    program = sys.argv[1] if len(sys.argv) > 1 else "bin/bench_channels"
     each = []
     for capacity in CAPACITIES:
         starting = least(program, capacity, 0)

@@ -1,7 +1,7 @@
 #!/usr/bin/env python3
 """The time of scanning, parsing and checking sources of 128 KiB and of 1 MiB.
 
-    bench/front.py [PROGRAM]      (bin/front_bench)
+    bench/front.py [PROGRAM]      (bin/bench_front)
 
 Three kinds of source: wide (thousands of functions, and of variables in one scope), deep (blocks and parentheses, 90
 levels of each) and mixed (all forms of statements). Prints for each the MiB a second of each stage and of the three
@@ -123,7 +123,7 @@ def tell(kind, text, times):
 
 
 def main():
-    program = sys.argv[1] if len(sys.argv) > 1 else "bin/front_bench"
+    program = sys.argv[1] if len(sys.argv) > 1 else "bin/bench_front"
     worst = 0.0
     for kind in (wide, deep, mixed):
         together = []

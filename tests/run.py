@@ -21,21 +21,24 @@ SECONDS = 580
 COUNTS = re.compile(r"(\d+) passed, (\d+) failed(?:, (\d+) skipped)?")
 # The parts that take longest come first.
 PARTS = {
-    "session_tests": ["tests/crate.py", "session_tests"],
-    "tests": ["tests/crate.py", "tests"],
+    "test_sessions": ["tests/crate.py", "test_sessions"],
+    "test_threads": ["tests/crate.py", "test_threads"],
     "page": ["tests/page.py", "PROGRAM"],
-    "racing": ["tests/crate.py", "racing"],
+    "test_races": ["tests/crate.py", "test_races"],
     "clients": ["tests/clients.py", "PROGRAM"],
-    "replay": ["bench/replay.py", "PROGRAM", "--sessions", "100000", "--seconds", "60", "--jobs", "1"],
-    "growth": ["hostile/growth.py", "PROGRAM", "--commands", "10", "--jobs", "1"],
-    "part_tests": ["tests/crate.py", "part_tests"],
-    "devices": ["hostile/devices.py", "PROGRAM", "--sessions", "1", "--jobs", "1"],
+    "model": ["tests/second.py", "--seconds", "60", "--sessions", "100000", "PROGRAM"],
+    "replay": ["tests/replay.py", "PROGRAM", "--sessions", "100000", "--seconds", "60", "--jobs", "1"],
+    "growth": ["tests/hostile/growth.py", "PROGRAM", "--commands", "10", "--jobs", "1"],
+    "test_parts": ["tests/crate.py", "test_parts"],
+    "devices": ["tests/hostile/devices.py", "PROGRAM", "--sessions", "1", "--jobs", "1"],
     "documents": ["tests/documents.py", "PROGRAM"],
-    "command line": ["bench/command_line.py", "PROGRAM"],
+    "command line": ["tests/command_line.py", "PROGRAM"],
     "adapter": ["editors/dap/tests/run"],
     "sessions": ["tests/sessions.py", "PROGRAM"],
     "demo": ["tools/demo.py", "--check", "PROGRAM"],
     "edits": ["tests/edits.py", "PROGRAM"],
+    "shown": ["tests/shown.py"],
+    "workers": ["tests/workers.py", "PROGRAM"],
 }
 
 

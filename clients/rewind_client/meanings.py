@@ -1,4 +1,4 @@
-"""What the codes, faults and exit statuses of Rewind mean, in words; those of the codes stand in docs/words."""
+"""What the codes, faults and exit statuses of Rewind mean, in words; those of the codes stand in words."""
 from __future__ import annotations
 
 import json

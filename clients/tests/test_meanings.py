@@ -1,4 +1,4 @@
-"""The words of codes: they stand once, in docs/words."""
+"""The words of codes: they stand once, in words."""
 from __future__ import annotations
 
 import re
@@ -9,7 +9,7 @@ from rewind_client.meanings import DEADLOCK, FAULTS, REFUSED_COMMANDS, REFUSED_S
 
 from conftest import CLIENTS
 
-WORDS = CLIENTS.parent / "docs" / "words"
+WORDS = CLIENTS.parent / "words"
 
 
 def test_the_words_of_codes_are_those_of_docs_words() -> None:

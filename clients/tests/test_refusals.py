@@ -16,7 +16,7 @@ from rewind_client.finding import find_rewind
 from rewind_client.refusals import Refusal, explain_refusal, table
 
 FOLDER = Path(__file__).with_name("refused")
-CODES = Path(__file__).parents[2] / "docs" / "words" / "codes.txt"
+CODES = Path(__file__).parents[2] / "words" / "codes.txt"
 SOURCES = sorted(FOLDER.glob("*.go"))
 TOLD = re.compile(r"rewind: ([SPC]\d+)(?: at (\d+):(\d+))?\n")
 

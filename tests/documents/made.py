@@ -6,7 +6,7 @@ import sys
 
 from . import repository
 
-SCRIPTS = ("docs/words/make.py", "bench/reading.py")
+SCRIPTS = ("words/make.py", "tools/reading.py")
 
 
 def check(checks, program):

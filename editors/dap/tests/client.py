@@ -13,7 +13,7 @@ ADAPTER = os.path.join(REPOSITORY, "clients", "rewind-dap")
 sys.path.insert(0, os.path.join(REPOSITORY, "clients"))
 DATA = os.path.join(REPOSITORY, "crates", "sessions", "data")
 REWIND = os.path.abspath(os.environ.get("REWIND") or os.path.join(REPOSITORY, "bin", "rewind"))
-LIMIT = 20.0
+LIMIT = 120.0  # Seconds without a byte, on a machine that has much else to do.
 
 sys.path.insert(0, HERE)
 

@@ -9,7 +9,7 @@ from concurrent.futures import ProcessPoolExecutor
 from typing import NamedTuple
 
 HERE = os.path.dirname(os.path.abspath(__file__))
-TOP = os.path.dirname(HERE)
+TOP = os.path.dirname(os.path.dirname(HERE))
 DATA = os.path.join(TOP, "crates", "sessions", "data")
 # Files that are written thousands of times are best kept in memory.
 MEMORY = "/dev/shm"

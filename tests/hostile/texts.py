@@ -1,7 +1,7 @@
 #!/usr/bin/env python3
 """Hostile sources: each must be opened, or refused by an S, P or C code at a place inside the text.
 
-    hostile/texts.py [PROGRAM] [--jobs N] [--seed S] [--random N]
+    tests/hostile/texts.py [PROGRAM] [--jobs N] [--seed S] [--random N]
 
 (bin/rewind, all processors, seed 1, 6,000 of each random kind.)
 

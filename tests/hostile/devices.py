@@ -1,7 +1,7 @@
 #!/usr/bin/env python3
 """Devices that fail, stop, are interrupted, or take and give one byte at a time, at every place of an example session.
 
-    hostile/devices.py [PROGRAM] [--jobs N] [--sessions S]      (bin/rewind, all processors, all sessions)
+    tests/hostile/devices.py [PROGRAM] [--jobs N] [--sessions S]      (bin/rewind, all processors, all sessions)
 
 For every k and j, under each example session that has commands:
 

@@ -1,10 +1,10 @@
 #!/usr/bin/env bash
-# Refuses each growth in the tests of channels that go on after a refusal (crates/part_tests/src/channels/refusals.rt):
+# Refuses each growth in the tests of channels that go on after a refusal (crates/test_parts/src/channels/refusals.rt):
 # run K refuses the K-th growth of each of these tests, and each is to pass. It proves nothing.
 #
-#     bench/refusals.sh [FIRST [LAST]]      (1 and the number of growths of the longest test)
+#     tests/refusals.sh [FIRST [LAST]]      (1 and the number of growths of the longest test)
 set -eu
-crate=$(cd "$(dirname "${BASH_SOURCE[0]}")/../crates/part_tests" && pwd)
+crate=$(cd "$(dirname "${BASH_SOURCE[0]}")/../crates/test_parts" && pwd)
 first=${1:-1}
 last=${2:-36}
 log=$(mktemp)

@@ -3,8 +3,8 @@
 (crates/rewind/src/words.rt, meanings), the list of the codes (crates/rewind/specs/Codes.antt), the manual page (docs/rewind.1), the
 marked tables of docs/COMMANDS.md and docs/LANGUAGE.md, and what the clients know of codes (clients/rewind_client/words.json).
 
-    docs/words/make.py           writes them
-    docs/words/make.py --check   fails where one does not stand as made, or where a code of the definitions has no text
+    words/make.py           writes them
+    words/make.py --check   fails where one does not stand as made, or where a code of the definitions has no text
 """
 
 import json
@@ -14,7 +14,7 @@ import sys
 import textwrap
 
 HERE = os.path.dirname(os.path.abspath(__file__))
-ROOT = os.path.dirname(os.path.dirname(HERE))
+ROOT = os.path.dirname(HERE)
 WORDS = "crates/rewind/src/words.rt"
 MEANINGS = "crates/rewind/src/meanings/%s.rt"
 NAMES = "crates/rewind/specs/Codes.antt"
@@ -183,7 +183,7 @@ FILES = {entry.name: plain(entry.text) + "\n" for entry in PROGRAM["files"]}
 
 def words():
     parts = [
-        "//! What the program says in plain words. Made by docs/words/make.py from the texts beside it: change those.\n",
+        "//! What the program says in plain words. Made by words/make.py from the texts beside it: change those.\n",
         constant("VERSION", TEXTS["version"]),
         constant("ABOUT", ABOUT),
         constant("USAGE", USAGE),
@@ -212,7 +212,7 @@ def pages(section):
         rows.append(f'    (\n        b"{entry.name}",\n        {text},\n    ),\n')
     title = TITLES[section][0].lower() + TITLES[section][1:]
     return (
-        f"//! Pages on {title}. Made by docs/words/make.py from the texts beside it: change those.\n"
+        f"//! Pages on {title}. Made by words/make.py from the texts beside it: change those.\n"
         "ghost use Rattle.std.specs.Prelude.{◌≡◌, IfSome, is_some};\n"
         "ghost use Rattle.rewind.specs.Explanations.{IsOn, is_among};\n"
         f"ghost use Rattle.rewind.specs.Codes.{{{section} as names}};\n\n"
@@ -229,7 +229,7 @@ def pages(section):
 def names():
     """The codes that have a page, as definitions."""
     parts = [
-        "-- The codes of which the program tells. Made by docs/words/make.py from the texts beside it: change those.\n"
+        "-- The codes of which the program tells. Made by words/make.py from the texts beside it: change those.\n"
         "use Rattle.std.specs.Prelude.{ℕ, List, [], ◌∷◌, codes}\n"
     ]
     for section in CODES:
@@ -260,7 +260,7 @@ def manual():
     statuses = [(entry.name, f"{roff(entry.when)}. On standard error: {roff(entry.tells)}.") for entry in PROGRAM["statuses"]]
     example = "\n".join(roff(line) for line in [f"$ {EXAMPLE['commands']}"] + EXAMPLE["replies"].splitlines())
     parts = [
-        '.\\" Made by docs/words/make.py from the texts beside it: change those.\n',
+        '.\\" Made by words/make.py from the texts beside it: change those.\n',
         f'.TH REWIND 1 "" "Rewind {TEXTS["version"]}" "User Commands"\n',
         f".SH NAME\nrewind \\- {roff(TEXTS['name'])}\n",
         f".SH SYNOPSIS\n{synopsis}\n",
@@ -313,7 +313,7 @@ def tables():
 def with_tables(page_name, made):
     text = read(page_name)
     for name, content in made.items():
-        mark, end = f"<!-- docs/words: {name} -->\n", f"<!-- end of {name} -->\n"
+        mark, end = f"<!-- words: {name} -->\n", f"<!-- end of {name} -->\n"
         if text.count(mark) != 1 or text.count(end) != 1:
             sys.exit(f"{page_name}: no place for the table '{name}'")
         before, rest = text.split(mark)
@@ -370,7 +370,7 @@ def main():
         whole = os.path.join(ROOT, path)
         stands = os.path.exists(whole) and read(path) == text
         if "--check" in sys.argv[1:]:
-            wrong += [] if stands else [f"{path}: not as docs/words/make.py makes it (make words)"]
+            wrong += [] if stands else [f"{path}: not as words/make.py makes it (make words)"]
         elif not stands:
             with open(whole, "w", encoding="utf-8") as file:
                 file.write(text)

@@ -2,7 +2,7 @@
 # Tries the must-fail edits that the gate leaves out: those in crates/NAME/edits/. The prover is to refuse each.
 # Works in a fresh clone of HEAD, over proofs of the crates below: what is not committed is not tried.
 #
-#     bench/edits.sh [NAME ..]      (every crate that has such edits)
+#     tools/edits.sh [NAME ..]      (every crate that has such edits)
 set -eu
 top=$(cd "$(dirname "${BASH_SOURCE[0]}")/.." && pwd)
 room=$(mktemp -d)

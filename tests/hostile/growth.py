@@ -1,7 +1,7 @@
 #!/usr/bin/env python3
 """Each growth inside one call refused in turn: what stands after it, and the same call made again with memory.
 
-    hostile/growth.py [PROGRAM] [--jobs N] [--rest R] [--commands C]      (bin/rewind, all processors, R = 1, all commands)
+    tests/hostile/growth.py [PROGRAM] [--jobs N] [--rest R] [--commands C]      (bin/rewind, all processors, R = 1, all commands)
 
 Every command of the example sessions, and of `kinds`, which has a step of every kind, is one case: its k-th growth is refused,
 for k = 1, 2, .. until it meets none, and with `--rest 1` once more with all growths after that in the same command. Either the

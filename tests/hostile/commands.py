@@ -1,7 +1,7 @@
 #!/usr/bin/env python3
 """Hostile commands: each line gets the one reply that docs/COMMANDS.md gives it, and a rejected line changes nothing.
 
-    hostile/commands.py [PROGRAM] [--jobs N] [--seed S] [--lines N]      (bin/rewind, all processors, seed 1, 400,000 random lines)
+    tests/hostile/commands.py [PROGRAM] [--jobs N] [--seed S] [--lines N]      (bin/rewind, all processors, seed 1, 400,000 random lines)
 
 Random bytes and random words; every command with every kind of wrong word, with a word too many and one too few; lines of up
 to 16 MiB. Which lines are commands is said here once more, by patterns. A line that is one gets a reply of its form, a blank line

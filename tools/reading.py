@@ -1,7 +1,7 @@
 #!/usr/bin/env python3
 """Counts the lines of the definitions that docs/THEOREMS.md lists under 'What to read'.
 
-    bench/reading.py [--check]
+    tools/reading.py [--check]
 
 Writes the last column of that table anew: the lines of the named modules without imports, comments and empty lines.
 With --check it changes nothing, and tells each number that is not right. It tells, and changes nothing, where a row has another form or
@@ -72,7 +72,7 @@ def differences(lines):
         told, right = row[0].split("|")[-2].strip(), counted(row[0]).split("|")[-2].strip()
         if told != right:
             what = row[0].split("|")[1].strip()
-            yield f"{place}: '{what}' has {told}, and its modules have {right} lines (bench/reading.py)"
+            yield f"{place}: '{what}' has {told}, and its modules have {right} lines (tools/reading.py)"
 
 
 def main():

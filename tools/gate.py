@@ -1,7 +1,7 @@
 #!/usr/bin/env python3
 """Where the time of the gate goes, crate by crate.
 
-    bench/gate.py [--here FOLDER] [--table FILE] [--log FILE]
+    tools/gate.py [--here FOLDER] [--table FILE] [--log FILE]
 
 Runs `make gate` in a fresh clone of this repository at HEAD, or in the clone FOLDER, and watches its processes: each check
 names its crate in its arguments, works for tests where it has `--test`, and for a must-fail edit where it runs in a

@@ -1,10 +1,10 @@
 #!/usr/bin/env python3
 """Runs a rewind by its command line, with pipes and at a pseudo-terminal, and compares what it writes:
 
-    bench/command_line.py bin/rewind
+    tests/command_line.py bin/rewind
 
 What goes to standard output is the same at a terminal and elsewhere, byte for byte, and that of each example session. The
-texts are those of docs/words.
+texts are those of words.
 """
 
 import glob
@@ -23,7 +23,7 @@ DATA = os.path.join(ROOT, "crates", "sessions", "data")
 PROMPT = b"(rewind) "
 LONGEST = 3000  # bytes of a line that a terminal takes
 SECONDS = 60
-sys.path.insert(0, os.path.join(ROOT, "docs", "words"))
+sys.path.insert(0, os.path.join(ROOT, "words"))
 import make  # noqa: E402
 
 

@@ -1,7 +1,7 @@
 #!/usr/bin/env python3
 """Steps that random sessions keep, taken once more in fresh sessions: each goroutine, channel and text must be the same.
 
-    bench/replay.py [--sessions N] [--seconds T] [--seed S] [--jobs J] [--keep DIR] [PROGRAM]
+    tests/replay.py [--sessions N] [--seconds T] [--seed S] [--jobs J] [--keep DIR] [PROGRAM]
 
 With nothing said: 1,000 sessions of bin/rewind, seed 1, as many at once as processors. After T seconds no session begins.
 
@@ -221,4 +221,5 @@ def main():
     sys.exit(1 if failed else 0)
 
 
-main()
+if __name__ == "__main__":
+    main()

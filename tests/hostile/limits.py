@@ -1,11 +1,11 @@
 #!/usr/bin/env python3
 """Limits that take a long source, a long line or many steps; the others are example sessions (`.._the_limit`).
 
-    hostile/limits.py [PROGRAM] [--jobs N]      (bin/rewind, all processors)
+    tests/hostile/limits.py [PROGRAM] [--jobs N]      (bin/rewind, all processors)
 
 Sources of 1,048,576 bytes and of one byte more, an endless one, and what is no file; a log of 1,000,000 steps, taken back and
 again one by one and all at once; an order of as many steps as a line can name. The journal's limit and that of a line are in
-hostile/commands.py.
+tests/hostile/commands.py.
 """
 import subprocess
 import sys

@@ -1,0 +1,14 @@
+#!/usr/bin/env bash
+# Runs all of tests/hostile/, each with its counts, and fails where one of them does. Callers race by bin/test_races.
+#
+#     tests/hostile/all.sh [PROGRAM [JOBS]]      (bin/rewind, all processors)
+set -u
+here=$(cd "$(dirname "${BASH_SOURCE[0]}")" && pwd)
+program=${1:-$here/../../bin/rewind}
+jobs=${2:-$(nproc)}
+status=0
+for part in limits commands devices growth texts; do
+  python3 "$here/$part.py" "$program" --jobs "$jobs" || status=1
+done
+(cd "$here/../../crates/test_races/data" && "$here/../../bin/test_races" 4 2 1000 8 *.go && "$here/../../bin/test_races" 2 4 1000 100 *.go) || status=1
+exit "$status"
