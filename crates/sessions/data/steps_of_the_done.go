@@ -1,0 +1,9 @@
+package main
+
+func f() {
+}
+
+func main() {
+	go f()
+	select {}
+}

@@ -1,0 +1,94 @@
+"""What a running program has: goroutines, channels, and the steps that were taken."""
+
+from dataclasses import dataclass, field
+from typing import Any, List, Optional, Set, Tuple
+
+
+@dataclass(eq=False)
+class Goroutine:
+    """A goroutine: its status is `ready`, `waiting` or `done`."""
+
+    name: str
+    status: str = "ready"
+    steps: int = 0
+    children: int = 0
+    made: int = 0
+    lines: List[str] = field(default_factory=list)
+    frames: List[Any] = field(default_factory=list)
+    # The channels that it waits for.
+    waits: List[str] = field(default_factory=list)
+    run: Any = None
+    ask: Any = None
+
+    def go_on(self, value):
+        """Goes on with what came of what it asked for."""
+        self.status, self.waits = "ready", []
+        try:
+            self.ask = self.run.send(value)
+        except StopIteration:
+            self.status, self.ask = "done", None
+
+
+@dataclass(eq=False)
+class Waiter:
+    """A goroutine in a queue of a channel, with the number of its clause and the value to send."""
+
+    go: str
+    case: Optional[int]
+    value: Any = None
+
+
+@dataclass(eq=False)
+class Channel:
+    """A channel; the values that entered are counted, and so are those that left."""
+
+    name: str
+    capacity: int
+    closed: bool = False
+    items: List[Any] = field(default_factory=list)
+    head: int = 0
+    senders: List[Waiter] = field(default_factory=list)
+    receivers: List[Waiter] = field(default_factory=list)
+
+    def slot(self, number):
+        return {("slot", self.name, number % self.capacity)} if self.capacity else set()
+
+    @property
+    def tail(self):
+        return self.head + len(self.items)
+
+    def reads_of_send(self):
+        return {("gate", self.name), ("tail", self.name)} | self.slot(self.tail)
+
+    def reads_of_receive(self):
+        return {("gate", self.name), ("head", self.name)} | self.slot(self.head)
+
+    def can_send(self):
+        return self.closed or bool(self.receivers) or len(self.items) < self.capacity
+
+    def can_receive(self):
+        return self.closed or bool(self.senders) or bool(self.items)
+
+
+@dataclass
+class Step:
+    """A step that was taken."""
+
+    go: str
+    number: int
+    choice: Any
+    kind: str = ""
+    reads: Set[Tuple] = field(default_factory=set)
+    writes: Set[Tuple] = field(default_factory=set)
+    printed: Optional[str] = None
+    # What it did with a channel (`send` or `receive`), and which.
+    operation: Optional[Tuple[str, str]] = None
+    gives: List[str] = field(default_factory=list)
+    started: Optional[str] = None
+
+    @property
+    def name(self):
+        return f"{self.go}#{self.number}"
+
+    def conflicts(self, other):
+        return bool(self.writes & (other.reads | other.writes) or other.writes & self.reads)
