@@ -1,0 +1,97 @@
+#!/usr/bin/env python3
+"""Runs the benches and writes their figures as one table, with the machine, the date and the commit.
+
+    bench/results.py [--out FILE] [--only BENCH]      (bench/RESULTS.md, all benches)
+
+Takes bin/rewind, bin/bench_channels and bin/bench_front. Figures depend on what else the machine does: leave it alone.
+"""
+import argparse
+import datetime
+import os
+import re
+import subprocess
+import sys
+
+HERE = os.path.dirname(os.path.abspath(__file__))
+TOP = os.path.dirname(HERE)
+BENCHES = {
+    "steps": "rewind", "core": "rewind", "rollback": "rewind", "workers": "rewind", "channels": "bench_channels", "front": "bench_front",
+}
+HEAD = """# Measurements
+
+Written by `make bench`. Times are of processors and not by the clock, but for those of workers.
+
+| Machine | Commit | Date | Program |
+|---|---|---|---|
+| %s | %s | %s | %s |
+
+| Bench | What | Figure |
+|---|---|---|
+"""
+
+
+def told(*words):
+    """What a command prints, without its newline."""
+    return subprocess.run(words, cwd=TOP, stdout=subprocess.PIPE, check=True, text=True).stdout.strip()
+
+
+def machine():
+    """The processor, how many there are, and the memory."""
+    with open("/proc/cpuinfo", encoding="utf-8") as lines:
+        name = next((line.partition(":")[2].strip() for line in lines if line.startswith("model name")), "unknown processor")
+    gigabytes = os.sysconf("SC_PAGE_SIZE") * os.sysconf("SC_PHYS_PAGES") / 1e9
+    return f"{name}, {os.cpu_count()} processors, {gigabytes:.0f} GB"
+
+
+def row_of_core(line):
+    """A program with its time a step, its time an undo, and its bytes."""
+    name, steps, step, undo, size = line.split()
+    return name.replace("_", " "), f"{step} ns a step, {undo} ns an undo, {size} bytes a step ({steps} steps)"
+
+
+def row_of_rollback(line):
+    """Work on a log, and its time."""
+    found = re.match(r"(.+?)\s{2,}(\d+)\s+(-?[\d.]+)$", line)
+    return found[1], f"{found[3]} ms ({found[2]} steps)"
+
+
+def row(bench, line):
+    """What a line of a bench tells, and its figure. A heading is none."""
+    if bench == "core" and len(line.split()) == 5 and line.split()[1].isdigit():
+        return row_of_core(line)
+    if bench == "rollback" and re.search(r"\d\s+-?[\d.]+$", line):
+        return row_of_rollback(line)
+    what, colon, figure = line.partition(": ")
+    return (" ".join(what.split()), figure.strip()) if colon else None
+
+
+def rows(bench):
+    """The rows of a bench, which may end with a status of 1 where a limit is missed, and none where its program is missing."""
+    if not os.access(f"{TOP}/bin/{BENCHES[bench]}", os.X_OK):
+        print(f"results: there is no bin/{BENCHES[bench]}, so {bench} is left out")
+        return [], 1
+    done = subprocess.run([f"{HERE}/{bench}.py", f"{TOP}/bin/{BENCHES[bench]}"], stdout=subprocess.PIPE, text=True)
+    print(done.stdout, end="", flush=True)
+    found = [row(bench, line) for line in done.stdout.splitlines()]
+    return [(bench, *it) for it in found if it], done.returncode
+
+
+def main():
+    parser = argparse.ArgumentParser(description=__doc__.splitlines()[0])
+    parser.add_argument("--out", default=f"{HERE}/RESULTS.md")
+    parser.add_argument("--only", choices=BENCHES)
+    asked = parser.parse_args()
+    text, status = [], 0
+    for bench in [asked.only] if asked.only else BENCHES:
+        found, missed = rows(bench)
+        text += ["| %s | %s | %s |\n" % it for it in found]
+        status = status or missed
+    version = told(f"{TOP}/bin/rewind", "--version")
+    head = HEAD % (machine(), told("git", "rev-parse", "--short", "HEAD"), datetime.date.today().isoformat(), version)
+    with open(asked.out, "w", encoding="utf-8") as file:
+        file.write(head + "".join(text))
+    return status
+
+
+if __name__ == "__main__":
+    sys.exit(main())
