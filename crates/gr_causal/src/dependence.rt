@@ -4,8 +4,8 @@ ghost use Rattle.std.specs.Prelude.{◌≡◌, ℕ, List, Bool, true, map, ◌�
 ghost use Rattle.gr_causal.specs.Sequences.{Distinct, IsAt};
 ghost use Rattle.gr_causal.specs.Dependence.{dependents, kept, causes, Depends, IsLeastClosed, AreTheOthers};
 
-/// One pass over the log collects the least closed set of the steps that depend on a step, itself included, in log
-/// order, and leaves the others, in log order.
+/// One pass over the log collects the least closed set of steps that depend on a step, itself included. It leaves the other
+/// steps. Both lists are in log order.
 pub fn dependents_are_least<T>()
     ensures least { (clash : T → T → Bool) (log : List T) (i : ℕ) (x : T)
         → Distinct log → IsAt log i x
@@ -14,8 +14,8 @@ pub fn dependents_are_least<T>()
         → Distinct log → AreTheOthers log (dependents clash log i) (kept clash log i) }
 {}
 
-/// One pass from the end of the log collects the least closed set of the steps on which a step depends, itself
-/// included, in log order. It needs that conflicts are mutual.
+/// One pass from the end of the log collects the least closed set of steps that a step depends on, itself included. The list
+/// is in log order. It needs that conflicts are mutual.
 pub fn causes_are_least<T>()
     ensures { (clash : T → T → Bool)
         → ((a b : T) → clash a b ≡ true → clash b a ≡ true)
@@ -23,8 +23,8 @@ pub fn causes_are_least<T>()
         → IsLeastClosed (λ a b. Depends clash log a b) log x (causes clash log i) }
 {}
 
-/// A log whose steps have names of their own has one list of dependents of a step, one of causes and one of the other
-/// steps that meet the definitions; so a program may find them by any way.
+/// In a log whose steps have names of their own, just one list meets the definition of a step's dependents. The same holds of
+/// its causes, and of the other steps. So a program may find them in any way.
 pub fn dependence_is_unique<T, N>()
     ensures dependents { (clash : T → T → Bool) (name : T → N) (same : N → N → Bool)
         → ((m n : N) → (same m n ≡ true) ↔ (m ≡ n))

@@ -1,13 +1,13 @@
 //! Causal-consistent rollback for any machine whose steps touch named objects.
 //!
-//! A machine is a deterministic partial step on states, made of objects with contents. A step is noted with its kind
-//! and with the objects that it read or wrote, and the log keeps what it wrote over. Two steps conflict where one
-//! writes what the other touches; a step of a log depends directly on an earlier one with which it conflicts.
+//! A machine is a deterministic partial step on states. A state is made of objects with contents. A step notes its kind and
+//! the objects that it read or wrote, and the log keeps what it wrote over. Two steps conflict where one writes what the
+//! other touches. A step of a log depends directly on each earlier step with which it conflicts.
 //!
-//! Each theorem stands on the contract of a function that does nothing, for all machines whose objects, cells, states,
-//! events and notes are `O`, `C`, `S`, `E` and `N`, or for all steps of a type `T`; the definitions are in `specs/`.
-//! Nothing is said of time, fairness or progress. After Lanese, Nishida, Palacios and Vidal, "A theory of
-//! reversibility for Erlang" (2018), and Mazurkiewicz's traces (1977).
+//! Each theorem is the contract of a function that does nothing. It holds for all machines whose objects, cells, states,
+//! events and notes are `O`, `C`, `S`, `E` and `N`, or for all steps of a type `T`. The definitions are in `specs/`. Nothing
+//! is said of time, fairness or progress. After Lanese, Nishida, Palacios and Vidal, "A theory of reversibility for Erlang"
+//! (2018), and Mazurkiewicz's traces (1977).
 #![tactic(auto)]
 
 pub mod dependence;

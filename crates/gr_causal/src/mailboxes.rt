@@ -46,7 +46,7 @@ pub struct Event {
     pub action: Action,
 }
 
-/// The steps that stay where one is taken back, and those that go with it, each in log order.
+/// The two parts of a log where a step is taken back, each in log order.
 #[derive(Drop)]
 pub struct Parts {
     /// Those that do not depend on it.
@@ -102,8 +102,8 @@ pub fn parted(alloc: Global, log: &[Event], place: usize) -> Result<Parts, Alloc
     Ok(Parts { stay, gone })
 }
 
-/// The machine of mailboxes meets the laws, and each of its steps notes how many its worker has taken. What a step
-/// touches follows from its event: its worker, and its mailbox, which a looking does not write.
+/// The machine of mailboxes meets the laws. Each of its steps notes how many steps its worker has taken. What a step touches
+/// follows from its event: its worker and its mailbox. A `Look` does not write the mailbox.
 pub fn mailboxes_are_a_machine()
     ensures laws { Laws mailboxes }
     ensures counts { CountsSteps mailboxes owner ordinal count }
@@ -112,8 +112,8 @@ pub fn mailboxes_are_a_machine()
         → n ≡ noted e (count t e.worker) }
 {}
 
-/// Worker 0 puts 5 into mailbox 0, worker 1 sees it, worker 2 puts 7 into mailbox 1 and sees the 5, worker 3 takes the
-/// 5 out. The taking depends on both lookings, of which neither depends on the other.
+/// Worker 0 puts 5 into mailbox 0, worker 1 sees it, worker 2 puts 7 into mailbox 1 and sees the 5, worker 3 takes the 5 out.
+/// That `Take` depends on both looks at the 5, and neither look depends on the other.
 pub fn worked_log_is_a_log()
     ensures log { IsLog mailboxes start worked_log final }
     ensures gone { dependents (conflict mailboxes) worked_log 1 ≡ looks ∷ takes_five ∷ [] }
@@ -121,8 +121,8 @@ pub fn worked_log_is_a_log()
     ensures behind { causes (conflict mailboxes) worked_log 3 ≡ puts_five ∷ puts_seven ∷ looks_too ∷ [] }
 {}
 
-/// An order of the worked log that respects dependence, one that does not, since the 5 is taken out before it is seen,
-/// and one that leaves a step out. A name is a worker and an ordinal.
+/// Three orders of the worked log. One respects dependence. One does not, since the 5 is taken out before it is seen. One
+/// leaves a step out. A name is a worker and an ordinal.
 pub fn worked_orders()
     ensures accepts { let names = (2, 1) ∷ (0, 1) ∷ (2, 2) ∷ (1, 1) ∷ (3, 1) ∷ [] in
         ordered (conflict mailboxes) name same_name names worked_log

@@ -7,7 +7,8 @@ ghost use Rattle.gr_causal.specs.Machine.{ForEveryMachine, StepOf, IsLog, confli
 ghost use Rattle.gr_causal.specs.OrderByNames.{ordered, NamesEach, FirstToChange};
 ghost use Rattle.gr_causal.specs.OrderByNames.Ordered.{accepted, other_steps, broken};
 
-/// Neighbours of a log that do not conflict may be swapped: the same state, with the same notes and saved contents.
+/// Neighbours in a log that do not conflict can be swapped. The log then leads to the same state, with the same notes and
+/// saved contents.
 pub fn neighbours_swap<O, C, S, E, N>()
     ensures { ForEveryMachine O C S E N (λ M.
         (s t : M.State) (front back : List (StepOf M)) (a b : StepOf M)
@@ -30,10 +31,10 @@ pub fn orders_replay_alike<O, C, S, E, N>()
         → IsLog M s new t) }
 {}
 
-/// The test of an order that is given by names of steps. It accepts exactly the orders that respect dependence. It
-/// answers 'other steps' exactly where the names are not those of the log, each once. Else it names two steps: the
-/// second is the first step of the given order that some conflicting earlier step of the log follows, the first is the
-/// first such step of the log. The steps of the log need names of their own.
+/// The test of an order that is given by names of steps. It accepts exactly the orders that respect dependence. It answers
+/// 'other steps' exactly where the names are not those of the log, each once. Otherwise it names two steps. The second is the
+/// first step of the given order that comes before a conflicting step which is earlier in the log. The first is the earliest
+/// such step of the log. The steps of the log need names of their own.
 pub fn order_by_names<T, N>()
     ensures accepts { (clash : T → T → Bool) (name : T → N) (same : N → N → Bool)
         → ((m n : N) → (same m n ≡ true) ↔ (m ≡ n))

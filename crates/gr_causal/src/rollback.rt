@@ -1,4 +1,4 @@
-//! Taking steps back with all that depends on them, and doing them again.
+//! Taking steps back with all that depends on them, and taking them again.
 
 ghost use Rattle.std.specs.Prelude.{◌≡◌, ℕ, List, [], ◌∷◌, ◌++◌, false};
 ghost use Rattle.gr_causal.specs.Sequences.{In, Distinct};
@@ -6,7 +6,7 @@ ghost use Rattle.gr_causal.specs.Dependence.{dependents, kept, Depends, IsClosed
 ghost use Rattle.gr_causal.specs.Orders.{IsOrder};
 ghost use Rattle.gr_causal.specs.Machine.{ForEveryMachine, StepOf, IsLog, conflict, undo};
 
-/// Taking back the last step leaves the replay of the log before it, from which the step goes again.
+/// Taking back the last step leaves the replay of the log before it. From there the step can be taken again.
 pub fn last_step_goes_back<O, C, S, E, N>()
     ensures others { ForEveryMachine O C S E N (λ M. (s t : M.State) (log : List (StepOf M)) (r : StepOf M)
         → IsLog M s (log ++ r ∷ []) t
@@ -23,8 +23,8 @@ pub fn rollback_leaves_the_kept<O, C, S, E, N>()
         → IsLog M s (kept (conflict M) log i) (undo M.put t (dependents (conflict M) log i))) }
 {}
 
-/// Each dependent is taken back in a state in which it ended: when those behind it, `gone`, are back, its record is
-/// that of a step from the state without it to the state with it.
+/// Each dependent is taken back in a state in which it ended. When those behind it, `gone`, are back, its record is that of a
+/// step from the state without it to the state with it.
 pub fn rollback_meets_each_step<O, C, S, E, N>()
     ensures { ForEveryMachine O C S E N (λ M.
         (s t : M.State) (log left gone : List (StepOf M)) (r : StepOf M) (i : ℕ)
@@ -40,8 +40,8 @@ pub fn kept_then_dependents_is_an_order<O, C, S, E, N>()
         Distinct log → IsOrder (conflict M) log (kept (conflict M) log i ++ gone)) }
 {}
 
-/// After a rollback the dependents, done again in their old order, are possible, with their old notes and saved
-/// contents, and give the state from before it.
+/// After a rollback the dependents can be taken again in their old order. They have their old notes and saved contents, and
+/// lead to the state from before the rollback.
 pub fn redo_restores_the_state<O, C, S, E, N>()
     ensures again { ForEveryMachine O C S E N (λ M. (s t : M.State) (log : List (StepOf M)) (i : ℕ)
         → let gone = dependents (conflict M) log i in
@@ -51,8 +51,8 @@ pub fn redo_restores_the_state<O, C, S, E, N>()
         IsLog M s log t → IsLog M s (kept (conflict M) log i ++ gone) t) }
 {}
 
-/// A step with which no later step conflicts can be taken back from the middle of a log. What it touched stands as it
-/// left it; taking it back leaves the replay of the others, from which it goes again to the state where it was taken
+/// A step can be taken back from the middle of a log if no later step conflicts with it. What it touched stands as it left
+/// it, and taking it back leaves the replay of the others. From there the step goes again to the state in which it was taken
 /// back, with its old note and saved contents.
 pub fn middle_step_goes_back<O, C, S, E, N>()
     ensures stands { ForEveryMachine O C S E N (λ M.
@@ -73,9 +73,10 @@ pub fn middle_step_goes_back<O, C, S, E, N>()
         → IsLog M (undo M.put u (r ∷ [])) (r ∷ []) u) }
 {}
 
-/// More than the dependents of one step can go back: any steps of the log such that each later step which conflicts
-/// with one of them is among them. The others followed by them are an order of the log that respects dependence;
-/// taking them back from the last to the first leaves the replay of the others, from which they can be done again.
+/// Any closed set of steps can go back, and not only the dependents of one step. A set is closed if each later step that
+/// conflicts with one of its steps is in it. The others followed by the set are an order of the log that respects dependence.
+/// Taking the set back, from its last step to its first, leaves the replay of the others. From there the set can be taken
+/// again.
 pub fn closed_parts_go_back<O, C, S, E, N>()
     ensures order { ForEveryMachine O C S E N (λ M. (log gone stay : List (StepOf M))
         → Distinct log
@@ -94,8 +95,8 @@ pub fn closed_parts_go_back<O, C, S, E, N>()
         → IsLog M (undo M.put t gone) gone t) }
 {}
 
-/// A rollback may stop on its way: the dependents that were taken back so far, the last ones, are closed, so what is
-/// left is the replay of all other steps.
+/// A rollback may stop on its way. The dependents taken back so far, the last ones, are closed, so what is left is the replay
+/// of all other steps.
 pub fn rollback_may_stop<O, C, S, E, N>()
     ensures closed { ForEveryMachine O C S E N (λ M. (log left gone : List (StepOf M)) (i : ℕ)
         → Distinct log → dependents (conflict M) log i ≡ left ++ gone

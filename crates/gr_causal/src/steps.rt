@@ -6,9 +6,9 @@ ghost use Rattle.gr_causal.specs.Machine.{ForEveryMachine, Laws, StepOf, IsLog, 
 ghost use Rattle.gr_causal.specs.Rules.{ForEveryRulebook, machine_of};
 ghost use Rattle.gr_causal.specs.StepNames.{CountsSteps, name_of};
 
-/// A machine that steps by rules meets the laws, whatever the rules: only what is written changes, and where a step is
-/// possible it is possible, with the same note and the same contents written, in every state that agrees on what it
-/// touches. It needs that a state is its contents, and that putting a cell changes the content of its object alone.
+/// A machine that steps by rules meets the laws, whatever the rules. Only what is written changes. A step that is possible in
+/// one state is possible in every state that agrees on what it touches, with the same note and the same contents written. It
+/// needs that a state is its contents, and that putting a cell changes the content of its object alone.
 pub fn rules_make_a_machine<O, C, S, E, K>()
     ensures { ForEveryRulebook O C S E K (λ B. Laws (machine_of B)) }
 {}
@@ -22,8 +22,8 @@ pub fn conflict_is_a_common_object<O, C, S, E, N>()
         ⊎ (In o (M.writes b.note) × In o (M.touches a.note))))) }
 {}
 
-/// A log of two parts is a log of the first, and from its end a log of the second, and so the other way round; and a
-/// log from a state has but one end. A step that is possible is a log.
+/// A log of two parts is a log of the first part, and from its end a log of the second. The converse holds too. A log from a
+/// state has just one end. A step that is possible is a log.
 pub fn logs_split_and_join<O, C, S, E, N>()
     ensures split { ForEveryMachine O C S E N (λ M. (s t : M.State) (front back : List (StepOf M))
         → IsLog M s (front ++ back) t
@@ -38,9 +38,9 @@ pub fn logs_split_and_join<O, C, S, E, N>()
         IsLog M s (record { event = e; note = n; saved = saved } ∷ []) t) }
 {}
 
-/// A record of a step from `s` to `t`, taken back in any state `u`, gives `u` with the contents of `s` at what the
-/// step wrote. If what the step touched stands in `u` as the step left it, its event goes from there to `u` again,
-/// with the same note and the same saved contents.
+/// A record of a step from `s` to `t` can be taken back in any state `u`. That gives `u` with the contents of `s` at what the
+/// step wrote. If what the step touched stands in `u` as the step left it, its event leads from there to `u` again, with the
+/// same note and saved contents.
 pub fn one_step_is_taken_back<O, C, S, E, N>()
     ensures saved { ForEveryMachine O C S E N (λ M. (s t u : M.State) (r : StepOf M)
         → IsLog M s (r ∷ []) t
@@ -56,8 +56,8 @@ pub fn one_step_is_taken_back<O, C, S, E, N>()
         → IsLog M (undo M.put u (r ∷ [])) (r ∷ []) u) }
 {}
 
-/// Where each step notes its owner's count of steps, no two steps of a log have the same owner and ordinal, and the
-/// ordinals of an owner rise along the log.
+/// If each step notes its owner's count of steps, no two steps of a log have the same owner and ordinal. The ordinals of an
+/// owner then rise along the log.
 pub fn names_are_distinct<O, C, S, E, N, Owner>()
     ensures distinct { ForEveryMachine O C S E N (λ M.
         (owner : M.Event → Owner) (ordinal : M.Note → ℕ) (count : M.State → Owner → ℕ)

@@ -50,7 +50,7 @@ pub enum Piece {
     Value,
 }
 
-/// What a statement does with its operands, all its parts being done, and the instruction with which it goes on.
+/// What a statement does with its operands once all its parts are done, and the instruction with which it goes on.
 #[derive(Debug, Drop)]
 pub enum Action {
     /// Assigns the values; a target that is `None` is the blank identifier.
@@ -82,7 +82,7 @@ pub enum Action {
     Send {
         on: usize,
     },
-    /// A call of the function with a number in a new goroutine.
+    /// A call of the function with a number, in a new goroutine.
     Start {
         function: usize,
         on: usize,
@@ -139,7 +139,7 @@ pub enum Instruction {
         slot: Option<usize>,
         on: usize,
     },
-    /// The left operand of `&&` or `||`. It goes to a temporary; where it settles, the right one is passed by.
+    /// The left operand of `&&` or `||`. It goes to a temporary. Where it settles, the right one is skipped.
     Decide {
         op: BinaryOp,
         left: Operand,
@@ -156,7 +156,7 @@ pub enum Instruction {
     },
 }
 
-/// The code of a function. A frame of it has the cells of the variables, by their numbers, and then of the temporaries.
+/// The code of a function. The cells of its frames are the variables, by their numbers, and then the temporaries.
 #[derive(Debug, Drop)]
 pub struct FunctionCode {
     /// The variables of the parameters; `None` for the blank identifier.

@@ -1,5 +1,5 @@
-//! Code and the rules: an instruction means a point at which a frame may stand, filled in with the values of temporaries, and
-//! does there what the rules do. Types, definitions and laws; nothing here runs.
+//! Code and the rules. An instruction means a point at which a frame may stand, with temporaries in place of finished parts,
+//! and does there what the rules do. Types, definitions and laws; nothing here runs.
 #![tactic(auto)]
 
 pub mod code;
@@ -29,10 +29,10 @@ ghost use Rattle.gr_code.specs.Programs.{variables_in, instructions_in, line_at,
 ghost use Rattle.gr_code.specs.Examples.{joining, joining_code, looping, looping_code, choosing, choosing_code};
 ghost use Rattle.gr_code.specs.ProgramExamples.{copying, main_code, program_of_two, code_of_two, meaning_of_two};
 
-/// An instruction of code does what the rules do in the frame at its spot: it has the same deed, and past the deed it goes on
-/// as that frame. Wherever it goes on, right operands that are not wanted have no parts. What remains has the same point after
-/// it before and after temporaries are filled in. There is code: of statements one after the
-/// other, of a statement where two ways join, of a loop, of a select.
+/// An instruction of code does what the rules do in the frame at its spot. It has the same deed, and past the deed it goes on
+/// as that frame. Wherever it goes on, right operands that are not wanted have no parts. What remains leads to the same point
+/// before and after temporaries are filled in. Four examples of code are statements one after the other, a statement where
+/// two ways join, a loop and a select.
 pub fn law_of_code()
     ensures simulates { (n : ℕ) (means : Meanings) (code : ℕ → Option Instruction) (function : ℕ) (s : Spot)
         → (all : Variables) (i : Instruction)
@@ -51,10 +51,10 @@ pub fn law_of_code()
     ensures chooses { IsCode 2 choosing choosing_code }
 {}
 
-/// With a temporary in place of their next part, operands are those of the rules past the part, once the temporary has the
-/// part's value. They are clear again, their variables are below the next number, and they have one part less. A decision that
-/// settles passes by the parts of its right operand: plugged one after another, they leave the filled operands as they are,
-/// and past the last of them all is clear again.
+/// Operands with a temporary in place of their next part are those of the rules past the part, once the temporary has the
+/// part's value. They are clear again, their variables are below the next number, and they have one part less. A decision
+/// that settles skips the parts of its right operand. Plugged one after another, these parts leave the filled operands as
+/// they are, and past the last of them all is clear again.
 pub fn law_of_plugging()
     ensures plugged { (d : ℕ) (es : Operands)
         → AllBelow d es
@@ -77,8 +77,8 @@ pub fn law_of_plugging()
         → ClearAll ts es }
 {}
 
-/// A vector holds the variables and temporaries of a spot. Written to from the number of variables on, it has another value
-/// for a temporary, and the same variables; assigned to below it, other values of variables, and the same temporaries.
+/// A vector holds the variables and temporaries of a spot. A write from the number of variables on changes one temporary, and
+/// no variable. An assignment below that number changes variables, and no temporary.
 pub fn law_of_vectors()
     ensures holds { (n : ℕ) (all : Variables) (on : ℕ) → Holds (spot_in n all on) all }
     ensures keeps { (n : ℕ) (all : Variables) (d : ℕ) (v : Value) (on : ℕ)
@@ -89,11 +89,11 @@ pub fn law_of_vectors()
         → assigned_in n targets values all on ≡ assigned_at targets values (spot_in n all on) }
 {}
 
-/// Code of a program, and a frame of it that stands at an instruction: the instruction comes to the deed of the rules in the
-/// frame that is meant, and after the deed, with the value of a part, and past a communication, the frames of code are those
-/// that mean the frames of the rules. Where code goes past a clause, so do the rules; a deed that chooses among clauses is that
-/// of a select. Each frame so reached stands at an instruction again. A call begins as by the rules, in a frame that stands.
-/// There is a program with code.
+/// Frames of a program's code do what the rules do in the frames that they mean. An instruction comes to the deed of the
+/// rules. After the deed, with the value of a part, and past a communication, the frame of code means the frame of the rules.
+/// Where code goes past a clause, so do the rules. A deed that chooses among clauses is that of a select. Each frame that is
+/// reached stands at an instruction again. A call begins as by the rules, in a frame that stands. There is a program with
+/// code.
 pub fn law_of_frames()
     ensures does { (means : ℕ → Meanings) (p : Program) (code : ProgramCode) (f : CodeFrame) (i : Instruction)
         → ProgramFits means p code → Stands means code f → instruction_at code f ≡ Some i
@@ -131,8 +131,8 @@ pub fn law_of_frames()
     ensures fits { ProgramFits meaning_of_two program_of_two code_of_two }
 {}
 
-/// What is read off a frame of code that stands: there is an instruction, which names variables, temporaries and instructions
-/// that there are; the line is that of the statement by the rules; the first cells are the variables by the rules. Each
+/// What is read off a frame of code that stands. There is an instruction, and the variables, temporaries and instructions
+/// that it names exist. The line is that of the statement by the rules. The first cells are the variables by the rules. Each
 /// function of the code is one of the program.
 pub fn law_of_shown_frames()
     ensures has { (means : ℕ → Meanings) (p : Program) (code : ProgramCode) (f : CodeFrame)

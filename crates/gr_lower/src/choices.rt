@@ -36,7 +36,7 @@ fn into(targets: &[Option<usize>], first: usize) -> Result<Option<(usize, usize)
     Ok(Some((first, sum(first, 1)?)))
 }
 
-// The parts of the operands of a clause, the first with the temporary `next`, and its arm, which leads to `to`.
+// The parts of the operands of a clause, the first with the temporary `next`, and the arm of the clause, which leads to `to`.
 fn lower_arm(
     alloc: Global,
     out: &mut Vec<Instruction>,

@@ -94,8 +94,8 @@ fn decide(
     )
 }
 
-/// Writes the instructions of the parts of an expression, the first with the temporary `first`, and answers the operand that is
-/// left of it.
+/// Writes the instructions of the parts of an expression, the first with the temporary `first`. Answers the operand that is
+/// left.
 #[cycle(lowering)]
 pub fn lower_expr(
     alloc: Global,

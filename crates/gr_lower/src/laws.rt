@@ -17,8 +17,8 @@ ghost use Rattle.gr_lower.specs.CanLower.{CanDoAll, CanLower};
 ghost use Rattle.gr_lower.specs.Examples.{joining, looping, choosing, calling, calling_code, turning, turning_code, nesting};
 ghost use Rattle.gr_lower.specs.Examples.{nesting_code, MeansAs};
 
-/// The code of statements where two ways join, of loops, of a select, of a call and of statements in each other, what it
-/// means, the cells that it needs, and its lines. All of them have what the law of layout asks for.
+/// Layouts of statements where two ways join, of loops, of a select, of a call and of nested statements: their code, what it
+/// means, the cells that it needs, and its lines. All of them meet the conditions of the law of layout.
 pub fn examples_of_layout()
     ensures joins { MeansAs joining 4 code.joining_code code.joining }
     ensures loops { MeansAs looping 5 code.looping_code code.looping }
@@ -33,8 +33,8 @@ pub fn examples_of_layout()
         × CanDoAll 2 nesting }
 {}
 
-/// Operands whose parts are plugged with temporaries one after another are what is left of them, and their code has an
-/// instruction for each part. The code of statements has as many instructions as their sizes say.
+/// An expression whose parts are replaced by temporaries, one after another, is the operand that is left of it. Its code has
+/// an instruction for each part. The code of statements has as many instructions as their sizes say.
 #[tactic(auto, using(crate::proofs::PartsLeft::again_left, crate::proofs::PartsLeft::length_code_in, crate::proofs::CodeSizes::size_of_stmts))]
 pub fn law_of_sizes()
     ensures left { (d : ℕ) (es : Operands) → plugged_again (parts_in es) d es ≡ left_in es d }
@@ -42,9 +42,9 @@ pub fn law_of_sizes()
     ensures statements { (d o on : ℕ) (ways : List Way) (ss : Stmts) → length (stmts_code ss d o on ways) ≡ size_in ss }
 {}
 
-/// The code of a program is its code: each instruction means a point at which a frame may stand, does there what the rules
-/// do, and leads on to the instruction that means the next point; it names only variables, cells and instructions that there
-/// are, and has the line of its statement.
+/// The code of a program fits the program. Each instruction means a point at which a frame may stand, does there what the
+/// rules do, and leads on to the instruction that means the next point. The variables, cells and instructions that it names
+/// exist, and its line is that of its statement.
 #[tactic(auto, using(crate::proofs::FunctionsFit::program_fits))]
 pub fn law_of_layout()
     ensures { (p : Program) → CanLower p → ProgramFits (meaning p) p (lowered p) }

@@ -17,7 +17,7 @@ pub enum Ways<'a> {
     Inside(Way, &'a Ways<'a>),
 }
 
-/// Where a break leads that leaves this one of them, counted outwards from the nearest, which is 0.
+/// Where a break leads that leaves this one of the statements, counted outwards from the nearest, which is 0.
 pub fn leaving(depth: usize, ways: &Ways) -> Option<usize>
     ensures { result ≡ spec.leaving depth (ways_of ways.now) }
 {
@@ -28,7 +28,7 @@ pub fn leaving(depth: usize, ways: &Ways) -> Option<usize>
     }
 }
 
-/// Where a continue leads that begins this one of them anew.
+/// Where a continue leads that goes to the next turn of this one of the statements.
 pub fn turning(depth: usize, ways: &Ways) -> Option<usize>
     ensures { result ≡ spec.turning depth (ways_of ways.now) }
 {

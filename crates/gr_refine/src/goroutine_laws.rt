@@ -37,8 +37,7 @@ pub fn law_of_tasks()
     ensures is_there { OfEachGoroutine TaskIsThere }
 {}
 
-/// A step of a goroutine of code that reaches no further than itself is the step of the rules. Where the rules have such a step,
-/// so has code.
+/// A local step of a goroutine of code is the step of the rules. Where the rules have such a step, so has code.
 pub fn law_of_local_steps()
     ensures step { OfEachGoroutine LocalStepIsAStep }
     ensures is_there { OfEachGoroutine LocalStepIsThere }
@@ -61,7 +60,7 @@ pub fn law_of_arrivals()
     ensures clauses { OfEachStep SelectHasClauses }
 {}
 
-/// A goroutine of code that comes to wait, is done, faults, is ready again or starts is as by the rules.
+/// A goroutine of code comes to wait, ends, faults, is ready again and starts as by the rules.
 pub fn law_of_statuses()
     ensures parked { OfEachStep ParkedIsRuled }
     ensures finished { OfEachStep FinishedIsRuled }
@@ -79,8 +78,8 @@ pub fn law_of_beginnings()
     ensures main { OfEachProgram MainIsEntered }
 {}
 
-/// The steps of goroutines of code that make channels, start goroutines, count, close and end. Where the rules have such a step,
-/// code goes on, names are new and those that wait are there.
+/// The steps of goroutines of code that make channels, start goroutines, count, close and end. Where the rules have such a
+/// step, code goes on, names are new, and the goroutines that wait are there.
 pub fn law_of_code_steps()
     ensures makes { OfEachGoroutine MakeOfCode }
     ensures makes_on { OfEachGoroutine MakeCanArrive }

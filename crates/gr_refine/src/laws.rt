@@ -24,7 +24,7 @@ ghost use Rattle.gr_refine.specs.TakingBack.{ChangesGoBackAnywhere, ContentsAreP
 ghost use Rattle.gr_refine.specs.NamedBack.{NamedChangesFit, NamedChangesGoBack};
 ghost use Rattle.gr_refine.specs.Written.{WrittenPartsAreNamed, AllWrittenPartsAreNamed, FullSlotsMeet};
 
-/// The program that ends, a goroutine that changes, and one that goes away, are each one object that is written.
+/// The end of the program, a change of a goroutine, and its end each write one object.
 pub fn law_of_contents()
     ensures run { RunIsWritten }
     ensures goroutine { GoroutineIsWritten }
@@ -42,7 +42,7 @@ pub fn law_of_channels()
     ensures unmaking { UnmakingIsWritten }
 {}
 
-/// The gates of several channels change at once, and one after the other alike.
+/// Changing the gates of several channels at once comes to the same as changing one after the other.
 pub fn law_of_gates()
     ensures gates { GatesAreWritten }
     ensures withdrawing { WithdrawingIsWritten }
@@ -103,8 +103,8 @@ pub fn law_of_presence()
     ensures communication { CommunicationIsMade }
 {}
 
-/// What a store contains after one that waited was met, and after all that waited on a channel were woken, is what the rules
-/// write.
+/// What a store contains after a goroutine that waited was met is what the rules write. So is what it contains after all that
+/// waited on a channel were woken.
 pub fn law_of_meetings()
     ensures meeting { MeetingIsWritten }
     ensures moving { MovingIsWritten }

@@ -60,7 +60,7 @@ pub fn law_of_closes()
     ensures finds { ClosingFindsWaiters }
 {}
 
-/// Goroutines are woken and withdrawn at once as one after the other, by whatever list names them.
+/// Waking and withdrawing goroutines at once comes to the same as one after the other, whatever list names them.
 pub fn law_of_orders()
     ensures waking { WakingInTurn }
     ensures withdrawing { WithdrawingInTurn }
@@ -121,7 +121,7 @@ pub fn law_of_counts()
     ensures places_go_on { OfEachActor CountingPlacesGoesOn }
 {}
 
-/// The steps of a goroutine that reach no further than itself, and the end of the program.
+/// The local steps of a goroutine, and the end of the program.
 pub fn law_of_going()
     ensures moves { OfEachActor MovingMoves }
     ensures evaluating { OfEachActor EvaluatingFaults }

@@ -8,8 +8,8 @@ ghost use Rattle.gr_rules.specs.ExampleSteps.{StepsAreTheirGoroutines, AllAreWok
 ghost use Rattle.gr_rules.specs.ExampleSteps.{NamesOfValues};
 ghost use Rattle.gr_rules.specs.ExampleValues.{AtTheLimits, Quotients, Shifts, Zeros};
 
-/// Results are what is left in 64 bits, quotients are cut off towards zero, counts of shifts have no upper limit, and a zero
-/// divisor or a negative count is a fault, unless it stands where nothing is evaluated.
+/// Results are what is left in 64 bits. Quotients are rounded toward zero. Shift counts have no upper limit. A zero divisor
+/// or a negative count is a fault, unless it stands where nothing is evaluated.
 pub fn examples_of_values()
     ensures limits { AtTheLimits }
     ensures quotients { Quotients }
@@ -17,19 +17,19 @@ pub fn examples_of_values()
     ensures zeros { Zeros }
 {}
 
-/// Parts are done from left to right, operands before operators, and the right operand of `&&` is not entered before the
-/// left side is known. `break` and `continue` leave as many statements as they say. The post statement of a loop comes after
-/// each of its turns.
+/// Parts are done from left to right, and operands before operators. The right operand of `&&` is not entered before the left
+/// one is known. `break` and `continue` leave as many statements as they say. The post statement of a loop comes after each
+/// of its turns.
 pub fn examples_of_points()
     ensures parts { PartsInOrder }
     ensures ways { WaysOut }
     ensures turns { TurnsInOrder }
 {}
 
-/// A receive takes the item that is there before it meets a sender, which moves up. One that waits is met with a step of the
-/// other alone, and the other clauses of its select are withdrawn. A step writes what the table of touches says, the goroutine
-/// that takes it among it. What a step writes is in the table of touches. Default is taken where no clause is ready. Closing
-/// wakes all that wait. A fault stops the program. Children are counted. Assignments and calls give values to names.
+/// A receive takes the item that is there before it meets a sender, which moves up. A goroutine that waits is met by a step
+/// of the other goroutine alone, and the other clauses of its select are withdrawn. The default clause is taken where no
+/// other is ready. What a step writes is in the table of touches, among it the goroutine that takes the step. Closing wakes
+/// all that wait. A fault stops the program. Children are counted. Assignments and calls give values to names.
 pub fn examples_of_steps()
     ensures items { ItemsBeforeSenders }
     ensures partners { PartnersMove }

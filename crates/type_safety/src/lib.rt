@@ -1,4 +1,4 @@
-//! Type safety: progress and preservation. What holds of every state that a run of a checked program reaches. And checked
+//! Type safety, as progress and preservation: what holds of every state that a run of a checked program reaches. And checked
 //! programs have code.
 #![tactic(auto)]
 
@@ -20,8 +20,8 @@ ghost use Rattle.gr_lower.specs.CanLower.{CanLower};
 ghost use Rattle.gr_lower.specs.Lowered.{lowered, meaning};
 ghost use Rattle.type_safety.specs.Standing.{StandsAs, FrameSends, AreFresh};
 
-/// Progress: in every state that a run of a checked program reaches, while the program runs, a goroutine that is ready has a
-/// step, the one with the usual choice; and no event is refused as unsound, since no value of a wrong kind is met.
+/// Progress. In every state that a run of a checked program reaches, while the program runs, each ready goroutine has a step:
+/// the one with the usual choice. No event is refused as unsound, since no value of a wrong kind is met.
 pub fn law_of_checked_programs()
     ensures progress { (file : FileTree) (p : Program) (t : State) (name : List ℕ) (g : Goroutine)
         → ProgramOf file p
@@ -36,11 +36,11 @@ pub fn law_of_checked_programs()
         → ¬ (refusal p t e ≡ Some unsound) }
 {}
 
-/// Preservation, as far as the rules speak of it: in every state that a run of a checked program reaches, a goroutine has
-/// frames until it is finished; the innermost comes to a step or a fault, and where the goroutine waits it stands at just the
-/// operations that it waits for; each frame below stands at the call of the one above it and goes on with its result. The
-/// values that a select sends come to values or to faults. The names of children that are not yet started are free. The run
-/// starts with a goroutine that is ready, in `main`.
+/// Preservation, as far as the rules speak of it. In every state that a run of a checked program reaches, a goroutine has
+/// frames until it is finished. The innermost frame comes to a step or a fault. Where the goroutine waits, this frame stands
+/// at just the operations that it waits for. Each frame below stands at the call of the one above it, and goes on with its
+/// result. The values that a select sends come to values or to faults. The names of children that are not yet started are
+/// free. The run starts with a ready goroutine, in `main`.
 pub fn law_of_checked_states()
     ensures standing { (file : FileTree) (p : Program) (t : State) (name : List ℕ) (g : Goroutine)
         → ProgramOf file p
@@ -62,7 +62,7 @@ pub fn law_of_checked_states()
         → (f : Frame) × (call_of p (main_of p) [] ≡ gives f) × ((start p).goroutines [] ≡ Some (started f)) }
 {}
 
-/// Checked programs have code: the variables that a checked program names are those of its functions, and its expression
+/// Checked programs have code. The variables that a checked program names are those of its functions. Its expression
 /// statements are calls and receives, also where control never comes. So its layout is its code.
 pub fn law_of_checked_code()
     ensures can_lower { (file : FileTree) (p : Program) → ProgramOf file p → CanLower p }
