@@ -2,8 +2,8 @@
 
 ghost use Rattle.gr_tables.specs.NamedChannels.{ChangesJoin, ChangesGoBack, MadeIsRemoved};
 
-/// Changes of channels made one after the other are one list of changes, and what they lead from comes back: so steps that
-/// are taken back one after the other, the last one first, need no memory.
+/// Changes of channels made one after the other are one list of changes, and taking them back leads to where they began. So
+/// steps that are taken back one after the other, the last one first, need no memory.
 pub fn law_of_going_back()
     ensures joined { ChangesJoin }
     ensures back { ChangesGoBack }

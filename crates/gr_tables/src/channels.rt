@@ -66,7 +66,7 @@ impl Channels {
         ensures { (name : ChName) (x : Content) → contents_of self.now name ≡ Some x → IsChannel x }
     {}
 
-    /// A new channel, under a name that no channel has. Refused, nothing has changed.
+    /// Adds a new channel under a name that no channel has. Refused, nothing has changed.
     pub fn add(&mut self, name: ChName, capacity: u32) -> Result<(), NoMemory>
         requires { contents_of self.old name ≡ None }
         ensures contents { OnOk result (contents_of self.new
@@ -79,7 +79,7 @@ impl Channels {
         Ok(())
     }
 
-    /// Without the channel of a name.
+    /// Removes the channel of a name.
     pub fn remove(&mut self, name: &ChName)
         ensures { seen_of self.new ≡ updated same_channel (seen_of self.old) name.now None }
     {

@@ -37,7 +37,7 @@ impl Lanes {
         }
     }
 
-    /// Adds a touch to the lists of the head or tail of a channel and of its slot, if it has one. Refused, all lists are as
+    /// Adds a touch to the lists of the head or tail of a channel, and of its slot if there is one. Refused, all lists are as
     /// before.
     #[inline(always)]
     fn note_end(

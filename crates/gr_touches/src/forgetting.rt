@@ -31,7 +31,7 @@ impl Lanes {
         }
     }
 
-    /// Takes the touches of the last step from the lists: of a step that reached no further than its goroutine.
+    /// Takes the touches of the last step, which reached no further than its goroutine, from the lists.
     #[inline]
     fn forget_alone(&mut self, step: &Record)
         requires { step.now.change.beyond ≡ None }
@@ -44,7 +44,7 @@ impl Lanes {
         self.take_from_run();
     }
 
-    /// Takes the touches of the last step from the lists: of a step that reached further.
+    /// Takes the touches of the last step, which reached further than its goroutine, from the lists.
     fn forget_beyond(&mut self, step: &Record)
         ensures lists { (before : Object → List Touch) (place : ℕ)
             → ((q : Object) → list_of self.old q ≡ before q ++ kept_for q place step.now) → (q : Object)

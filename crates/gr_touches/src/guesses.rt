@@ -10,10 +10,10 @@ use std::cell::Cell;
 /// How many guesses are kept.
 const GUESSES: usize = 256;
 
-/// How many classes there are for each count, more than there are kinds of objects.
+/// How many classes there are for each count. There are fewer kinds of objects.
 const KINDS: u32 = 8;
 
-/// For each class of objects the number of the lane of the one that was found last.
+/// For each class of objects, the number of the lane of the object that was found last.
 #[derive(Drop)]
 pub(crate) struct Guesses {
     numbers: [Cell<usize>; GUESSES],

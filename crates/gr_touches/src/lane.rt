@@ -10,7 +10,7 @@ use std::alloc::Global;
 use std::cell::Cell;
 use std::marker::Model;
 
-/// Adds touches of so many steps that stand one behind the other, the first of them at a place. There is room for them.
+/// Adds the touches of `count` consecutive steps, the first of them at `place`. There is room for them.
 pub(crate) fn extend(touches: &mut Vec<Touch>, place: u32, count: usize, writes: bool)
     requires room { vec_len touches.old + count ≤ vec_capacity touches.old }
     requires places { place + count ≤ 2 ^ 32 }
@@ -28,7 +28,7 @@ pub(crate) fn extend(touches: &mut Vec<Touch>, place: u32, count: usize, writes:
 #[derive(Drop)]
 pub(crate) struct Lane {
     touches: Vec<Touch>,
-    /// The number of the lane that was asked for after this one last time: a guess of the next one.
+    /// The number of the lane that was asked for after this one the last time: a guess of the next one.
     next: Cell<usize>,
 }
 
@@ -71,8 +71,8 @@ impl Lane {
         Ok(())
     }
 
-    /// Adds touches of so many steps that wrote the object and stand one behind the other, the first of them at a place. Refused,
-    /// the touches are as before.
+    /// Adds the touches of `count` consecutive steps that wrote the object, the first of them at `place`. Refused, the
+    /// touches are as before.
     pub(crate) fn extend(&mut self, place: u32, count: usize) -> Result<(), NoMemory>
         requires { place + count ≤ 2 ^ 32 }
         ensures ok { OnOk result (self.new.0 ≡ self.old.0 ++ stretch true place count) }

@@ -69,7 +69,7 @@ impl Lanes {
         self.look_further(&object.as_ref())
     }
 
-    /// The number of the lane of an object, by a second guess: the lane that came last after the one that was asked for before.
+    /// The number of the lane of an object, by a second guess: the lane that came after the previous one the last time.
     #[inline(never)]
     fn look_further(&self, object: &ObjectRef<'_>) -> Option<usize>
         ensures named { IfSome result (λ i. slice_get (keys self.now.map) i ≡ Some (seen object.now)) }
@@ -99,8 +99,8 @@ impl Lanes {
         }
     }
 
-    /// The number of the lane of an object, found by its names. It becomes the guess for objects like this, and after the lane
-    /// that was asked for before.
+    /// The number of the lane of an object, found by its names. It becomes the guess for objects like this, and the guess
+    /// after the previous lane.
     fn look_up(&self, object: &ObjectRef<'_>, before: usize) -> Option<usize>
         ensures named { IfSome result (λ i. slice_get (keys self.now.map) i ≡ Some (seen object.now)) }
         ensures absent { IfNone result (get same self.now.map (seen object.now) ≡ None) }
@@ -142,7 +142,7 @@ impl Lanes {
         }
     }
 
-    /// The number of the list of an object, and touches among which are those of the list that are wanted.
+    /// The number of the list of an object, and touches that include the wanted ones of that list.
     pub(crate) fn numbered(
         &self,
         object: &ObjectRef<'_>,
@@ -157,7 +157,7 @@ impl Lanes {
         }
     }
 
-    /// The number of the list of `Run`, and those of its touches that are wanted.
+    /// The number of the list of `Run`, and the wanted ones of its touches.
     #[inline]
     pub(crate) fn numbered_run(&self, wanted: Wanted) -> (usize, &[Touch])
         ensures { IsNumbered self.now objects.Run wanted result.0 result.1.now }
@@ -228,8 +228,8 @@ impl Lanes {
         self.insert(key, lane)
     }
 
-    /// Adds the touches of so many steps of a goroutine that reached no further and stand one behind the other, the first of them
-    /// at a place. Refused, all lists are as before.
+    /// Adds the touches of `count` consecutive steps of a goroutine that reached no further, the first of them at `place`.
+    /// Refused, all lists are as before.
     pub fn note_own(&mut self, go: &GoName, place: u32, count: usize) -> Result<(), NoMemory>
         requires { place + count ≤ 2 ^ 32 }
         ensures ok { OnOk result ((q : Object) → list_of self.new q ≡ list_of self.old q ++ own_touches go.now place count q) }
@@ -241,7 +241,7 @@ impl Lanes {
         Ok(())
     }
 
-    /// Adds their touches to the list of the goroutine.
+    /// Adds the touches of `count` consecutive steps to the list of their goroutine.
     fn note_writes(&mut self, go: &GoName, place: u32, count: usize) -> Result<(), NoMemory>
         requires { place + count ≤ 2 ^ 32 }
         ensures ok { OnOk result ((q : Object)
@@ -256,7 +256,7 @@ impl Lanes {
         }
     }
 
-    /// Makes a lane for a goroutine that has none, with their touches.
+    /// Makes a lane for a goroutine that has none, with the touches of `count` consecutive steps.
     #[inline(never)]
     fn note_first_writes(&mut self, go: &GoName, place: u32, count: usize) -> Result<(), NoMemory>
         requires places { place + count ≤ 2 ^ 32 }

@@ -5,14 +5,14 @@ ghost use Rattle.gr_touches.specs.Marks.{takes, is_beyond, IsAscending, hits, In
 
 use crate::touch::Touch;
 
-/// On which side of a place of the log.
+/// A side of a place of the log.
 #[derive(Clone, Copy)]
 pub enum Direction {
     Later,
     Earlier,
 }
 
-/// From which place of the log on, and to which side, touches are marked.
+/// Where marks begin, and which touches are in reach: those on one side of a place of the log.
 #[derive(Clone, Copy)]
 pub struct Origin {
     pub direction: Direction,
@@ -56,7 +56,7 @@ fn mark(marks: &mut [bool], base: usize, touch: Touch, wanted: Wanted)
     }
 }
 
-/// Sets the marks of the touches later than a place that are wanted.
+/// Sets the marks of the wanted touches later than a place.
 fn mark_later(marks: &mut [bool], origin: Origin, touches: &[Touch], wanted: Wanted)
     requires later { origin.direction ≡ Direction.Later }
     requires ascending { IsAscending 0 touches.now }
@@ -74,7 +74,7 @@ fn mark_later(marks: &mut [bool], origin: Origin, touches: &[Touch], wanted: Wan
     }
 }
 
-/// Sets the marks of the touches earlier than a place that are wanted.
+/// Sets the marks of the wanted touches earlier than a place.
 fn mark_earlier(marks: &mut [bool], origin: Origin, touches: &[Touch], wanted: Wanted)
     requires earlier { origin.direction ≡ Direction.Earlier }
     requires ascending { IsAscending 0 touches.now }
@@ -90,7 +90,7 @@ fn mark_earlier(marks: &mut [bool], origin: Origin, touches: &[Touch], wanted: W
     }
 }
 
-/// Sets the marks of those touches on one side of a place that are wanted. The time is that of the touches on that side.
+/// Sets the marks of the wanted touches on one side of a place. The time is that of the touches on that side.
 pub(crate) fn mark_list(marks: &mut [bool], origin: Origin, touches: &[Touch], wanted: Wanted)
     requires ascending { IsAscending 0 touches.now }
     requires reach { InReach origin (length marks.old) touches.now }

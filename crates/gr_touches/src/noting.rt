@@ -91,7 +91,8 @@ impl Lanes {
         self.note_reached(place, step, beyond)
     }
 
-    /// Adds a touch to the lists of the goroutine of a step and of what else the step wrote. Refused, all lists are as before.
+    /// Adds a touch to the lists of the goroutine of a step and of the other objects that the step wrote. Refused, all lists
+    /// are as before.
     #[inline(always)]
     fn note_written<R: Reached>(
         &mut self,
@@ -110,7 +111,7 @@ impl Lanes {
         Ok(())
     }
 
-    /// Adds a touch to the lists of what a step read, but for `Run`. Refused, all lists are as before.
+    /// Adds a touch to the lists of the objects, except `Run`, that a step read. Refused, all lists are as before.
     #[inline(always)]
     pub(crate) fn note_read_beside_run(
         &mut self,
@@ -122,8 +123,8 @@ impl Lanes {
         self.note_channel(beyond, beyond.touched.read, touch, others_read(beyond))
     }
 
-    /// Adds a touch to the lists of the parts of its channel that a step wrote, of the goroutine that it met, and of others.
-    /// Refused, all lists are as before.
+    /// Adds a touch to three kinds of lists: those of the parts of its channel that a step wrote, of the goroutine that it
+    /// met, and of others. Refused, all lists are as before.
     #[inline(always)]
     pub(crate) fn note_written_beyond(
         &mut self,

@@ -1,4 +1,4 @@
-//! Objects that are named where their names are.
+//! Objects by names that are borrowed.
 
 ghost use Rattle.std.specs.Prelude.{◌≡◌, IfOk};
 ghost use Rattle.gr_rules.specs.States.{same};
@@ -10,7 +10,7 @@ use gr_base::{ChName, GoName, NoMemory, Object};
 use indexmap::Equivalent;
 use std::alloc::Global;
 
-/// An object, by its names where they are.
+/// An object, by references to its names.
 #[derive(Clone, Copy, PartialEq, Eq, Hash)]
 pub enum ObjectRef<'a> {
     Run,
@@ -61,7 +61,7 @@ impl ObjectRef<'_> {
     }
 }
 
-/// A look-up by names where they are, with no copy of them.
+/// A look-up by borrowed names, which copies none of them.
 impl Equivalent<Object> for ObjectRef<'_> {
     ghost use Rattle.gr_rules.specs.States.{same};
     ghost use Rattle.gr_touches.specs.ObjectRefs.{seen};
@@ -94,14 +94,14 @@ pub(crate) trait Named {
 
     ghost object: { Self → Object };
 
-    /// Whether this names the object that is a key.
+    /// Whether this names the object of a key.
     fn names(&self, key: &Object) -> bool
         ensures { result ≡ same (object self.now) key.now };
 
-    /// A guess of the number of its lane.
+    /// A guess of the number of the object's lane.
     fn guess(&self, guesses: &Guesses) -> usize;
 
-    /// The object, by this name.
+    /// The object that this names.
     fn as_ref(&self) -> ObjectRef<'_>
         ensures { seen result ≡ object self.now };
 }

@@ -15,8 +15,8 @@ use gr_base::{ChName, GoName, Object};
 use gr_record::Record;
 use gr_record::record::{Beyond, Contact, Form, Parts};
 
-/// Objects that a step read, or that it wrote, by their names where they are: `Run` or its goroutine, parts of one channel, a
-/// goroutine that it met, and others, in this order.
+/// Objects that a step read or wrote, by borrowed names. They are `Run` or its goroutine, parts of one channel, a goroutine
+/// that it met, and others, in this order.
 #[derive(Clone, Copy)]
 pub struct TouchedObjects<'a> {
     front: Option<ObjectRef<'a>>,
@@ -39,7 +39,7 @@ fn slot_at(channel: &ChName, place: Option<u32>) -> Option<(&ChName, u32)>
 }
 
 impl<'a> TouchedObjects<'a> {
-    /// Those that belong to no channel.
+    /// Objects that belong to no channel.
     fn without_channel(
         front: Option<ObjectRef<'a>>,
         partner: Option<&'a GoName>,
@@ -58,7 +58,7 @@ impl<'a> TouchedObjects<'a> {
         }
     }
 
-    /// Those with parts of a channel.
+    /// Objects with parts of a channel among them.
     fn with_channel(
         front: Option<ObjectRef<'a>>,
         parts: Parts,
@@ -112,7 +112,7 @@ impl<'a> TouchedObjects<'a> {
         }
     }
 
-    /// Takes the first of them off; none where only the others are left.
+    /// Takes the first of the objects off; `None` where only `others` are left.
     #[inline]
     pub(crate) fn next(&mut self) -> Option<ObjectRef<'a>>
         ensures first { MatchOption result (seen_in self.old ≡ self.new.others.now) (λ first. seen_in self.old ≡ seen first
@@ -145,7 +145,7 @@ impl<'a> TouchedObjects<'a> {
         Some(ObjectRef::Go(partner))
     }
 
-    /// The first of them, and the rest; none where only the others are left.
+    /// The first of the objects, and the rest; `None` where only `others` are left.
     #[inline]
     pub fn split_first(self) -> Option<(ObjectRef<'a>, TouchedObjects<'a>)>
         ensures first { MatchOption result (seen_in self.entry ≡ self.entry.others.now) (λ r. seen_in self.entry ≡ seen r.0
@@ -158,14 +158,14 @@ impl<'a> TouchedObjects<'a> {
     }
 }
 
-/// `Run`, which a step reads that does not write it.
+/// `Run`, which a step reads unless it writes it.
 fn run_unless<'a>(stops: bool) -> Option<ObjectRef<'a>>
     ensures { (os : List Object) → named seen result os ≡ (if stops then os else variants.Run ∷ os) }
 {
     if stops { None } else { Some(ObjectRef::Run) }
 }
 
-/// What a step read beside its channel.
+/// The objects beside its channel that a step read.
 #[inline]
 pub(crate) fn others_read(beyond: &Beyond) -> &[Object]
     ensures { result.now ≡ read_by_more beyond.now.more }
@@ -176,7 +176,7 @@ pub(crate) fn others_read(beyond: &Beyond) -> &[Object]
     }
 }
 
-/// What a step wrote beside its channel.
+/// The objects beside its channel that a step wrote.
 #[inline]
 pub(crate) fn others_written(beyond: &Beyond) -> &[Object]
     ensures { result.now ≡ written_by_more beyond.now.more }
@@ -187,7 +187,7 @@ pub(crate) fn others_written(beyond: &Beyond) -> &[Object]
     }
 }
 
-/// These parts of the channel of a step, with other objects.
+/// The named parts of the channel of a step, with other objects.
 #[tactic(auto, using(crate::proofs::ToldLemmas::no_channel))]
 fn told<'a>(
     front: Option<ObjectRef<'a>>,
@@ -222,7 +222,7 @@ pub(crate) fn parts_written(beyond: &Beyond) -> TouchedObjects<'_>
     told(None, beyond, beyond.touched.written, None, &[])
 }
 
-/// These parts of the channel with which a step did something, that touched no other.
+/// The named parts of the one channel that a step used, with one other object.
 fn in_contact<'a>(front: ObjectRef<'a>, contact: &'a Contact, parts: Parts) -> TouchedObjects<'a>
     ensures { seen_in result ≡ seen front.entry
         ∷ parts_before parts contact.now.touched.slot (Some (channel_in contact.now.operation)) [] }
@@ -232,7 +232,7 @@ fn in_contact<'a>(front: ObjectRef<'a>, contact: &'a Contact, parts: Parts) -> T
     TouchedObjects::with_channel(Some(front), parts, channel, place, None, &[])
 }
 
-/// What a step read that did something with one channel, and touched no other.
+/// The objects that a step read which used one channel and met nobody.
 #[inline]
 pub(crate) fn read_in(contact: &Contact) -> TouchedObjects<'_>
     ensures { seen_in result ≡ variants.Run ∷ reads_in (reached_on contact.now None) }
@@ -240,7 +240,7 @@ pub(crate) fn read_in(contact: &Contact) -> TouchedObjects<'_>
     in_contact(ObjectRef::Run, contact, contact.touched.read)
 }
 
-/// What a step wrote of which this is the goroutine, that did something with one channel, and met nobody.
+/// The objects that a step of the goroutine `own` wrote, which used one channel and met nobody.
 #[inline]
 fn written_in<'a>(own: ObjectRef<'a>, contact: &'a Contact) -> TouchedObjects<'a>
     ensures { seen_in result ≡ seen own.entry ∷ writes_in (reached_on contact.now None) }
@@ -248,7 +248,7 @@ fn written_in<'a>(own: ObjectRef<'a>, contact: &'a Contact) -> TouchedObjects<'a
     in_contact(own, contact, contact.touched.written)
 }
 
-/// What a step read and did not write that reached further.
+/// The objects that a step which reached further read and did not write.
 pub(crate) fn read_beyond(beyond: &Beyond) -> TouchedObjects<'_>
     ensures { seen_in result ≡ (if beyond.now.stops then reads_in beyond.now else variants.Run ∷ reads_in beyond.now) }
 {
@@ -257,7 +257,7 @@ pub(crate) fn read_beyond(beyond: &Beyond) -> TouchedObjects<'_>
     told(front, beyond, parts, None, others_read(beyond))
 }
 
-/// What a step read and did not write.
+/// The objects that a step read and did not write.
 #[inline]
 pub fn reads(step: &Record) -> TouchedObjects<'_>
     ensures { seen_in result ≡ read_by step.now }
@@ -270,7 +270,7 @@ pub fn reads(step: &Record) -> TouchedObjects<'_>
     }
 }
 
-/// What a step wrote.
+/// The objects that a step wrote.
 #[inline]
 pub fn writes(step: &Record) -> TouchedObjects<'_>
     ensures { seen_in result ≡ written_by step.now }

@@ -18,26 +18,26 @@ pub(crate) trait Reached {
     ghost use Rattle.std.specs.Prelude.{List};
     ghost use Rattle.gr_base.specs.declared.objects.Object.{Object};
 
-    // What the step read and did not write.
+    // The objects that the step read and did not write.
     ghost read: { Self → List Object };
 
-    // What it wrote, but for its goroutine.
+    // The objects that it wrote, except its goroutine.
     ghost written: { Self → List Object };
 
-    /// Adds a touch to the lists of what the step read. Refused, all lists are as before.
+    /// Adds a touch to the lists of the objects that the step read. Refused, all lists are as before.
     fn note_read(&self, lanes: &mut Lanes, touch: Touch) -> Result<(), NoMemory>
         ensures { NotesFor result (read self.now) touch lanes.old lanes.new };
 
-    /// Adds a touch to the lists of what the step wrote, but for its goroutine. Refused, all lists are as before.
+    /// Adds a touch to the lists of the objects, except its goroutine, that the step wrote. Refused, all lists are as before.
     fn note_written(&self, lanes: &mut Lanes, touch: Touch) -> Result<(), NoMemory>
         ensures { NotesFor result (written self.now) touch lanes.old lanes.new };
 
-    /// What the step read and did not write.
+    /// The objects that the step read and did not write.
     fn objects_read(&self) -> TouchedObjects<'_>
         ensures { seen_in result ≡ read self.now };
 }
 
-/// The step did something with one channel, and met nobody.
+/// A step that used one channel and met nobody.
 impl Reached for Contact {
     ghost use Rattle.std.specs.Prelude.{◌∷◌, None};
     ghost use Rattle.gr_base.specs.declared.objects.Object.TheVariants as objects;

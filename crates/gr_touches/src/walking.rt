@@ -21,7 +21,8 @@ impl Lanes {
     ghost use Rattle.gr_touches.specs.Lists.{list_of, IsNumbered};
     ghost use Rattle.gr_touches.specs.Walks.{AreInReach, AreWalked, hits_any, meets_step};
 
-    /// Sets the marks of the steps on one side of a place that wrote what this step read, or touched what it wrote.
+    /// Sets the marks of the steps on one side of a place that conflict with this step: they wrote what it read, or touched
+    /// what it wrote.
     pub fn mark_step(
         &self,
         origin: Origin,
@@ -45,7 +46,7 @@ impl Lanes {
         }
     }
 
-    /// Sets those marks for a step that reached no further than its goroutine.
+    /// Sets the marks of the steps that conflict with one that reached no further than its goroutine.
     fn mark_alone(
         &self,
         origin: Origin,
@@ -95,7 +96,7 @@ impl Lanes {
         }
     }
 
-    /// Sets the marks of those touches in a list that are wanted, which are among these. A list is walked once.
+    /// Sets the marks of the wanted touches in a list. A list is walked once.
     #[inline]
     fn mark_numbered(
         &self,
@@ -121,7 +122,7 @@ impl Lanes {
         mark_list(marks, origin, touches, wanted);
     }
 
-    /// Sets those marks for a step that reached further.
+    /// Sets the marks of the steps that conflict with one that reached further than its goroutine.
     fn mark_beyond(
         &self,
         origin: Origin,
@@ -143,7 +144,7 @@ impl Lanes {
         self.mark_each(origin, &mut writes(step), Wanted::All, written, marks);
     }
 
-    /// Sets the marks of those touches of these objects that are wanted.
+    /// Sets the marks of the wanted touches of these objects.
     fn mark_each(
         &self,
         origin: Origin,
@@ -165,7 +166,7 @@ impl Lanes {
         self.mark_each(origin, objects, wanted, walked, marks);
     }
 
-    /// Sets the marks of those touches that are wanted, for a slice of objects.
+    /// Sets the marks of the wanted touches of a slice of objects.
     fn mark_all(
         &self,
         origin: Origin,
@@ -186,7 +187,7 @@ impl Lanes {
         }
     }
 
-    /// Sets the marks of those touches of an object that are wanted.
+    /// Sets the marks of the wanted touches of an object.
     fn mark_object(
         &self,
         origin: Origin,

@@ -44,7 +44,7 @@ impl Places {
         })
     }
 
-    /// What these are beyond the others.
+    /// The places that are left over when the others are taken off, none below 0.
     fn minus(self, other: Places) -> Places
         ensures { room_of result ≡ minus (room_of self) (room_of other) }
     {
@@ -82,7 +82,7 @@ fn freed_by(undo: &ChanUndo) -> Places
     freed
 }
 
-/// How much room taking back the changes from a place on needs at one channel, if that is a number of places in memory.
+/// The room at one channel that taking back the changes from a place on needs, if that is a number of places in memory.
 pub(super) fn room_to_go_back(
     undos: &[(ChName, ChanUndo)],
     from: usize,

@@ -36,8 +36,8 @@ impl Channels {
         self.withdraw_after(none, names, go)
     }
 
-    /// Takes a goroutine out of the waiting lists of the channels of these names, after `done` was done in the same step.
-    /// What goes back after that is `done` and what was done here. Refused, all of it is taken back, `done` too.
+    /// Takes a goroutine out of the waiting lists of the channels of these names, after the changes `done` of the same step.
+    /// The answer takes back both `done` and what was done here. Refused, all of it is taken back, `done` too.
     pub fn withdraw_after(
         &mut self,
         done: Vec<(ChName, ChanUndo)>,
