@@ -7,33 +7,33 @@ use crate::target::Target;
 use gr_base::{ChName, GoName, NoMemory, StepId};
 use std::alloc::Global;
 
-/// What an asker asks.
+/// What an asker may ask.
 #[derive(Debug, Drop)]
 pub enum Command {
     /// One step of the goroutine. At a select it takes the clause with this number, counted from 1, or the usual choice
     /// where no number is given.
     Step { go: GoName, case: Option<u32> },
-    /// Up to this many steps, from 1 to 1,000,000, by turns of the goroutines that are ready.
+    /// Up to this many steps, from 1 to 1,000,000, of the ready goroutines by turns.
     Run { count: u32 },
     /// To take the last step back.
     Undo,
     /// To take a step back with its consequences.
     Back(Target),
-    /// To take the steps again that were taken back last.
+    /// To take again the steps that were taken back last.
     Redo,
-    /// To put the steps that are kept in this order.
+    /// To put the kept steps in this order.
     Order(StepList),
     /// The steps that depend on the step, itself included.
     Dependents(StepId),
-    /// The steps on which the step depends, itself included.
+    /// The steps that the step depends on, itself included.
     Causes(StepId),
-    /// To end runs before a step on this line.
+    /// To set a breakpoint: runs end before a step on this line.
     Break(u32),
-    /// No longer to end runs there.
+    /// To clear the breakpoint on this line.
     Clear(u32),
-    /// To grant the workers this many steps, from 0 to 1,000,000, in place of what is left of the last grant.
+    /// To let the workers take this many steps, from 0 to 1,000,000. What is left of the last grant is dropped.
     Free(u32),
-    /// One step by turns out of the workers' grant, if that is above 0. A worker asks it, and no line says it.
+    /// The step of the next turn, out of the workers' grant if that is above 0. A worker asks it, and no line says it.
     Turn,
     /// How the goroutine stands: its status, its steps, its line and its frames.
     Show(GoName),
@@ -50,7 +50,7 @@ pub enum Command {
 impl Command {
     ghost use Rattle.gr_command.specs.Commands.{Names};
 
-    /// A copy of the command. The one error is that there is no memory for a name.
+    /// A copy of the command. The one error is out of memory for a name.
     pub fn copy(&self, alloc: Global) -> Result<Command, NoMemory>
         ensures ok { IfOk result (λ command. command ≡ self.now) }
         ensures needed { OnErr result (Names self.now) }
@@ -83,12 +83,12 @@ impl Command {
 /// What a line of a command stream says.
 #[derive(Debug, Drop)]
 pub enum Line {
-    /// To ask this of the session.
+    /// To ask the session this.
     Command(Command),
     /// To end the stream.
     Quit,
     /// Nothing: the line has no word.
     Blank,
-    /// No command, or the line is too long.
+    /// Nothing that is a command, or a line that is too long.
     Rejected,
 }

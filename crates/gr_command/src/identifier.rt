@@ -57,7 +57,7 @@ impl Model for Identifier {
 }
 
 impl Identifier {
-    /// The identifier that a word is, if it is one. The one error is want of memory for it.
+    /// The identifier that a word is, if it is one. The one error is out of memory for it.
     pub fn read(alloc: Global, word: &[u8]) -> Result<Option<Identifier>, NoMemory>
         ensures { IfOk result (λ name. name ≡ identifier_named word.now) }
     {
@@ -68,7 +68,7 @@ impl Identifier {
         Ok(Some(Identifier { bytes }))
     }
 
-    /// Its bytes.
+    /// The bytes of the identifier.
     pub fn as_slice(&self) -> &[u8]
         ensures value { result.now ≡ self.now }
         ensures valid { IsTrue (identifier self.now) }

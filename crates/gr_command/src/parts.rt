@@ -88,7 +88,7 @@ impl Written for (StepId, Kind) {
     }
 }
 
-// Appends who waits: the goroutine, and the clause where it waits in a select.
+// Appends who waits: the goroutine, and in a select the clause where it waits.
 #[tactic(auto, using(crate::proofs::Growing::grows_then))]
 fn put_waiter(text: &mut Vec<u8>, go: &GoName, case: Option<u32>) -> Result<(), NoMemory>
     ensures ok { OnOk result (text.new.items ≡ text.old.items ++ (go_text go.now ++ clause_text case)) }

@@ -1,4 +1,4 @@
-//! Pieces of replies. Each is appended to a text; where there is no room for it, a beginning of it may be.
+//! Pieces of replies. Each is appended to a text. Where there is no room for it, the text may end in a beginning of it.
 
 ghost use Rattle.std.specs.Prelude.{◌≡◌, ◌++◌, decimal, OnOk, OnErr};
 ghost use Rattle.gr_command.specs.Room.{Grows, IsFull};
@@ -30,7 +30,7 @@ pub(crate) fn put(text: &mut Vec<u8>, piece: &[u8]) -> Result<(), NoMemory>
     Ok(text.extend_from_slice(piece)?)
 }
 
-/// Makes room for so many bytes, where it can be had.
+/// Makes room for this many bytes, where it can be had.
 #[tactic(auto, using(crate::proofs::Growing::grows_same))]
 pub(crate) fn make_room(text: &mut Vec<u8>, bytes: usize)
     ensures items { text.new.items ≡ text.old.items }

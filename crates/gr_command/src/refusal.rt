@@ -17,11 +17,11 @@ pub enum Refusal {
     NoMemory,
     /// B1: no step is kept.
     NothingToUndo,
-    /// B2: no step of this name, or none as was asked for, is kept.
+    /// B2: no step of this name, or of this description, is kept.
     NotKept,
-    /// B3: the names are not those of the steps that are kept, each once.
+    /// B3: the names are not those of the kept steps, each once.
     NotTheSteps,
-    /// B5: no step may be done again.
+    /// B5: no step can be taken again.
     NothingToRedo,
     /// Q1: the log has no room for the step.
     LogFull,

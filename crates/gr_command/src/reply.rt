@@ -4,14 +4,14 @@ use crate::refusal::Refusal;
 use gr_base::{Fault, GoName, Kind, StepId, Value};
 use gr_channels::Waiter;
 
-/// Why many steps ended.
+/// Why a run ended.
 #[derive(Clone, Copy, Debug, PartialEq, Eq)]
 pub enum RunEnd {
     /// The program has ended.
     Ended,
     /// A fault stopped the program.
     Fault(Fault),
-    /// As many steps were taken as were asked for.
+    /// As many steps were taken as the run asked for.
     Count,
     /// No goroutine is ready.
     Stuck,
@@ -73,7 +73,7 @@ pub struct ChannelShown {
 pub enum Reply {
     /// The step was taken, and is of this kind.
     Stepped(StepId, Kind),
-    /// So many steps were taken, and this ended them.
+    /// This many steps were taken, and this ended them.
     Ran { steps: u64, end: RunEnd },
     /// The step was taken back.
     Undone(StepId),
@@ -81,11 +81,11 @@ pub enum Reply {
     Channel(ChannelShown),
     /// Lines that were printed, the oldest first.
     Lines(Vec<Vec<u8>>),
-    /// The steps that are kept, with their kinds, the oldest first.
+    /// The kept steps with their kinds, the oldest first.
     Log(Vec<(StepId, Kind)>),
-    /// These steps were asked for, or were taken back, or taken again, in the order of the log.
+    /// Steps that were asked for, taken back or taken again, in the order of the log.
     Steps(Vec<StepId>),
-    /// A growth was refused; these steps were taken back, or taken again, before that.
+    /// A growth was refused. Before that, these steps were taken back or taken again.
     PartlyDone(Vec<StepId>),
     /// These two steps conflict and would change places; the first is the earlier one.
     BreaksDependence { earlier: StepId, later: StepId },
@@ -93,9 +93,9 @@ pub enum Reply {
     Acknowledged,
     /// The workers may now take this many steps.
     Granted(u32),
-    /// The steps of the batch joined the log, so many.
+    /// The steps of the batch joined the log: this many.
     Committed(u32),
-    /// The steps of the batch were not taken: they are no longer steps of the program, or more than the grant.
+    /// The steps of the batch were not taken. They are no longer steps of the program, or more than the grant.
     Stale,
     Refused(Refusal),
 }

@@ -21,7 +21,7 @@ pub enum Target {
 }
 
 impl Target {
-    /// A copy of the target. The one error is that there is no memory for a name.
+    /// A copy of the target. The one error is out of memory for a name.
     pub fn copy(&self, alloc: Global) -> Result<Target, NoMemory>
         ensures { IfOk result (λ target. target ≡ self.now) }
     {

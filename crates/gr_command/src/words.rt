@@ -1,4 +1,4 @@
-//! Texts cut into words.
+//! Texts as words.
 
 ghost use Rattle.std.specs.Prelude.{◌≡◌, ◌++◌, ◌∷◌, [], MatchOption};
 ghost use Rattle.gr_command.specs.Words.{is_gap as gap, words_of, NoGap, BeginsWord, BeginsGap};

@@ -15,7 +15,7 @@ use crate::refusal::Refusal;
 use crate::reply::{ChannelShown, FrameShown, GoroutineShown, Reply, RunEnd};
 use gr_base::{Kind, NoMemory, StepId};
 
-/// The least that the name of a step takes in a list, with the space before it, as ` g0#1` does.
+/// The fewest bytes that the name of a step takes in a list, with the space before it, as in ` g0#1`.
 const SHORTEST_NAME: usize = 5;
 
 fn refused(why: Refusal) -> &'static [u8]
@@ -181,7 +181,7 @@ fn put_log(text: &mut Vec<u8>, steps: &[(StepId, Kind)]) -> Result<(), NoMemory>
     put_total(text, steps.len() as u64)
 }
 
-// Appends a count of steps and their names, as the end of a line. The most of the room is made at once.
+// Appends a count of steps and their names, as the end of a line. Most of the room is made at once.
 #[tactic(auto, using(crate::proofs::Growing::grows_then))]
 fn put_ids(text: &mut Vec<u8>, ids: &[StepId]) -> Result<(), NoMemory>
     ensures ok { OnOk result (text.new.items ≡ text.old.items ++ ids_text ids.now) }
@@ -283,8 +283,8 @@ fn put_reply(text: &mut Vec<u8>, reply: &Reply) -> Result<(), NoMemory>
     }
 }
 
-/// Appends the text of a reply: lines that end in newlines, those before the last after `| `. The one error is that the
-/// text has no room for it and that its growth was refused; then the text is as it was.
+/// Appends the text of a reply: lines that end in newlines, each but the last after `| `. The one error is that the text has
+/// no room and its growth was refused. The text is then as it was.
 #[tactic(auto, using(crate::proofs::Growing::cut_back))]
 pub fn write_reply(text: &mut Vec<u8>, reply: &Reply) -> Result<(), NoMemory>
     ensures ok { OnOk result (text.new.items ≡ text.old.items ++ reply_text reply.now) }

@@ -84,7 +84,7 @@ pub fn number_of(cells: &[Option<Value>], operand: &Operand) -> Option<i64>
     }
 }
 
-/// The number that the operand is, where it stands in a cell or in the code, or is what an operator gives on two such numbers.
+/// The number of an operand that stands in a cell or in the code, or of an operator on two such operands.
 #[inline]
 fn number_from(cells: &[Option<Value>], operand: &Operand) -> Option<i64>
     requires { rules.evaluate cells.now (operand_of operand.now) ≢ wrong }
@@ -118,8 +118,8 @@ fn of_nested(
     Some(on_ints(op, x, y))
 }
 
-/// What the operand gives, where it is a number, or an operator on numbers, or on what operators give on numbers, which stand in
-/// cells or in the code.
+/// What the operand gives, where it is a number. The number stands in a cell or in the code, or an operator gives it. The
+/// operands of that operator are such numbers, or operators on them.
 #[inline]
 pub fn of_numbers(cells: &[Option<Value>], operand: &Operand) -> Option<Result<Scalar, Fault>>
     requires { rules.evaluate cells.now (operand_of operand.now) ≢ wrong }
@@ -138,7 +138,7 @@ pub fn of_numbers(cells: &[Option<Value>], operand: &Operand) -> Option<Result<S
     }
 }
 
-/// The value of the operand, with its name where that lies. No operator makes a name.
+/// The value of the operand. A channel's name is lent from where it lies, since no operator makes a name.
 pub(crate) fn look<'a>(cells: &'a [Option<Value>], operand: &Operand) -> Result<Seen<'a>, Fault>
     requires { rules.evaluate cells.now (operand_of operand.now) ≢ wrong }
     ensures { rules.evaluate cells.now (operand_of operand.now) ≡ seen_outcome result }
@@ -182,7 +182,7 @@ fn evaluate_any(alloc: Global, cells: &[Option<Value>], operand: &Operand) -> Re
     Ok(look(cells, operand)?.to_value(alloc)?)
 }
 
-/// The value of the operand in a frame with these cells. Errors: the fault with which the program stops, and want of memory
+/// The value of the operand in a frame with these cells. Errors: the fault with which the program stops, and out of memory
 /// for the name of a channel.
 pub fn evaluate(alloc: Global, cells: &[Option<Value>], operand: &Operand) -> Result<Value, Stop>
     requires { rules.evaluate cells.now (operand_of operand.now) ≢ wrong }
@@ -196,7 +196,7 @@ pub fn evaluate(alloc: Global, cells: &[Option<Value>], operand: &Operand) -> Re
     }
 }
 
-/// The values of the operands, from left to right. Errors: the fault of the first that has one, and want of memory.
+/// The values of the operands, from left to right. Errors: the fault of the first that has one, and out of memory.
 pub fn evaluate_all(
     alloc: Global,
     cells: &[Option<Value>],

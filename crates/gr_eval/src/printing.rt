@@ -9,7 +9,7 @@ use gr_base::{NoMemory, Value, print_value};
 use gr_code::code::Piece;
 use std::alloc::Global;
 
-/// The texts of the pieces, each value in its place, with one space between them. Errors: want of memory.
+/// The texts of the pieces, each value in its place, with one space between them. Errors: out of memory.
 pub fn printed_line(alloc: Global, pieces: &[Piece], values: &[Value]) -> Result<Vec<u8>, NoMemory>
     requires { texts (pieces_of pieces.now) values.now ≢ wrong }
     ensures { IfOk result (λ line. line_of (pieces_of pieces.now) values.now ≡ gives line.items) }

@@ -1,5 +1,5 @@
-//! What a session tells of a running program and changes nothing by: how its goroutines and channels stand, what was printed, and
-//! which steps are kept.
+//! What a session tells of a running program without changing it: how its goroutines and channels stand, what was printed,
+//! and which steps are kept.
 #![tactic(auto)]
 
 pub mod showing;

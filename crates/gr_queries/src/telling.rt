@@ -86,7 +86,7 @@ fn is_printed(own: &GoUndo) -> bool
     }
 }
 
-/// How many lines of a goroutine were told.
+/// How many lines of a goroutine were told before.
 fn count_of(counts: &IndexMap<GoName, usize>, go: &GoName) -> usize
     ensures { result ≡ count_in counts.now go.now }
 {
@@ -96,7 +96,7 @@ fn count_of(counts: &IndexMap<GoName, usize>, go: &GoName) -> usize
     }
 }
 
-/// Tells the next line of a goroutine, if there is one, where so many lines of each were told before.
+/// Tells the next line of a goroutine, if there is one. `counts` has how many lines of each goroutine were told before.
 fn tell_next(
     alloc: Global,
     store: &Store,
