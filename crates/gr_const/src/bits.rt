@@ -1,5 +1,5 @@
-//! The operators on bits. The machine's numbers have 128 bits, those of constants have no end of them: the same bits
-//! come out.
+//! The operators on bits. The machine's numbers have 128 bits, and those of constants have bits without end. Both give the
+//! same bits.
 ghost use Rattle.std.specs.Prelude.{◌≡◌};
 ghost use Rattle.gr_const.specs.Bits.{both, either, differing, complement};
 

@@ -27,7 +27,7 @@ pub enum ConstError {
     Range,
 }
 
-/// The number as a constant; `Range` where it may be no part of a constant expression.
+/// The number as a constant. Errors: `Range` where it may not be a part of a constant expression.
 pub fn part(value: i128) -> Result<Constant, ConstError>
     ensures { result ≡ in_range (spec.part value) }
 {
@@ -37,7 +37,7 @@ pub fn part(value: i128) -> Result<Constant, ConstError>
     Err(ConstError::Range)
 }
 
-/// The number as a constant, where the machine has it: one that it has not is far out of range.
+/// The number as a constant. `None` stands for a number that the machine cannot hold, which is far out of range.
 pub fn part_of(value: Option<i128>) -> Result<Constant, ConstError>
     ensures some { IfSome value (λ n. result ≡ in_range (spec.part n)) }
     ensures none { IfNone value (result ≡ Err Range) }
@@ -97,8 +97,8 @@ fn of_truths(op: BinaryOp, a: bool, b: bool) -> Result<Constant, ConstError>
     }
 }
 
-/// The operator on two constants; a comparison of constants is a constant. Errors: `Form` where the operator is not for
-/// two such values, `Range` where the value is out of range, a divisor is 0 or a shift count negative.
+/// The operator on two constants; a comparison of constants is a constant. Errors: `Form` where the operator is not for two
+/// such values. `Range` where the value is out of range, a divisor is 0 or a shift count is negative.
 pub fn binary(op: BinaryOp, a: Constant, b: Constant) -> Result<Constant, ConstError>
     ensures ok { IfOk result (λ c. spec.binary op a b ≡ Some c) }
     ensures err { OnErr result (spec.binary op a b ≡ None) }

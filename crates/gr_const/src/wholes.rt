@@ -9,10 +9,10 @@ use crate::bits;
 use crate::constant::{ConstError, Constant, part, part_of};
 use gr_tree::BinaryOp;
 
-/// No number but 0 is a part of a constant expression when it is shifted left by so many bits.
+/// Shifted left by this many bits, no number but 0 is a part of a constant expression.
 const FAR_LEFT: i128 = 64;
 
-/// Shifted right by so many bits, each number of the machine is 0 or -1.
+/// Shifted right by this many bits, each number of the machine is 0 or -1.
 const FAR_RIGHT: i128 = 127;
 
 /// The product.

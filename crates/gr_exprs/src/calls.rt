@@ -46,7 +46,7 @@ pub struct Called {
     pub arguments: Vec<checked::Expr>,
 }
 
-/// The rule that a name breaks which is no type, or no function that may be called.
+/// The rule that is broken where a name is no type, or no function that may be called.
 pub fn unusable(functions: &Functions, scope: &Scope, name: &[u8]) -> RefusalCode
     ensures { result ≡ name_code (functions_of functions.now) (scope_of scope.now) name.now }
 {
@@ -60,7 +60,7 @@ pub fn unusable(functions: &Functions, scope: &Scope, name: &[u8]) -> RefusalCod
     }
 }
 
-// The rule that a name breaks as the callee of a call that has a value.
+// The rule that is broken where a name is no callee of a call that has a value.
 fn no_callee(functions: &Functions, scope: &Scope, name: &[u8]) -> RefusalCode
     ensures { result ≡ callee_code (functions_of functions.now) (scope_of scope.now) name.now }
 {

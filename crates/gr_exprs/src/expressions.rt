@@ -93,7 +93,7 @@ fn literal(n: u64) -> Result<Operand, RuleError>
     }
 }
 
-// The rule that a written type breaks which is none.
+// The rule that is broken where what is written is no type.
 fn no_type(functions: &Functions, scope: &Scope, tree: &TypeTree) -> RefusalCode
     ensures { result ≡ type_code (functions_of functions.now) (scope_of scope.now) (trees.type_of tree.now) }
 {

@@ -54,7 +54,7 @@ impl<T: Drop> From<AllocFailed<T>> for RuleError {
     }
 }
 
-/// The rule that a constant expression without a value breaks.
+/// The rule that is broken by a constant expression without a value.
 pub fn code_of(error: ConstError) -> RefusalCode
     ensures { result ≡ constant_code error }
 {

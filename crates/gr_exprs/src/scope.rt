@@ -20,7 +20,7 @@ pub struct Scope {
     variables: Vec<Variable>,
 }
 
-// The number of a name in these blocks, of which the last counts first.
+// The number of a name in these blocks. The last block is asked first.
 fn number_in(mut blocks: &[NameTable], name: &[u8]) -> Option<usize>
     ensures { result ≡ spec.in_blocks (blocks_of blocks.entry.now) name.now }
 {

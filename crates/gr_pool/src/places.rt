@@ -1,4 +1,4 @@
-//! Where a name stands, or belongs, in a list of names in order, which is kept as places in a list of known names.
+//! Where a name stands, or belongs, in a sorted list of names. The list is kept as places in a list of known names.
 
 ghost use Rattle.std.specs.Prelude.{◌≡◌, ◌<◌, ◌≤◌, length, drop, All, slice_get, IfOk, IfErr, IsTrue, true};
 ghost use Rattle.gr_pool.specs.Goroutines.{IsInOrder, names_at, greater, next_name, is_among, StandsAt, BelongsAt, IsKnownAt};

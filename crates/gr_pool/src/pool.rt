@@ -51,8 +51,8 @@ impl Pool {
         }
     }
 
-    /// Makes a name known, and room for it among the ready ones. A name that is known takes no memory. Refused, nothing
-    /// has changed.
+    /// Makes a name known, and makes room for it among the ready ones. A name that is already known takes no memory. Refused,
+    /// nothing has changed.
     pub fn know(&mut self, name: &GoName) -> Result<(), NoMemory>
         ensures known { OnOk result (self.new.known
             ≡ (if is_among name.now self.old.known then self.old.known else self.old.known ++ name.now ∷ [])) }
@@ -103,8 +103,8 @@ impl Pool {
         self.ready.is_empty()
     }
 
-    /// Makes a known goroutine ready. It takes no memory, and constant time where it is the last answer of `next_after` and
-    /// ready. The one that was made unready last is not searched for among the known ones.
+    /// Makes a known goroutine ready. It takes no memory. It takes constant time where the goroutine is the last answer of
+    /// `next_after` and is ready. The goroutine that was made unready last is found without a search.
     pub fn insert(&mut self, name: &GoName)
         requires { is_among name.now self.old.known ≡ true }
         ensures ready { self.new.ready ≡ with_name name.now self.old.ready }
@@ -131,8 +131,9 @@ impl Pool {
         let _ = self.ready.remove(place);
     }
 
-    /// The first ready goroutine after this one in name order, else the first of all. The time is constant where one alone
-    /// is ready, and where this one was the last answer and the ready ones are the same since; else it is logarithmic.
+    /// The first ready goroutine after this one in name order, or else the first of all. The time is constant where just one
+    /// is ready. It is constant too where this one was the last answer and the same goroutines are still ready. Otherwise it
+    /// is logarithmic.
     #[inline(always)]
     pub fn next_after(&self, name: &GoName) -> Option<&GoName>
         ensures next { option_copied result ≡ next_name name.now self.now.ready }

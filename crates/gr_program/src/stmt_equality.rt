@@ -18,7 +18,7 @@ fn is_same_heading(a: &Stmt, b: &Stmt) -> bool
     is_same_loop_heading(a, b) || is_same_plain_heading(a, b)
 }
 
-// The same, where they are no loops.
+// Whether two statements that are no loops are the same but for the statements in them.
 fn is_same_plain_heading(a: &Stmt, b: &Stmt) -> bool
     ensures { result ≡ (not (spec.loops (stmt_of a.now)) && spec.same_heading (stmt_of a.now) (stmt_of b.now)) }
 {
@@ -46,7 +46,7 @@ fn is_same_plain_heading(a: &Stmt, b: &Stmt) -> bool
     }
 }
 
-// The same, where they are loops.
+// Whether two loops are the same but for the statements in them.
 fn is_same_loop_heading(a: &Stmt, b: &Stmt) -> bool
     ensures { result ≡ (spec.loops (stmt_of a.now) && spec.same_heading (stmt_of a.now) (stmt_of b.now)) }
 {

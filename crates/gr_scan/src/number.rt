@@ -127,8 +127,8 @@ fn has_exponent(hexadecimal: bool, bytes: &[u8]) -> bool
     bytes.iter().any(|b| exponent(hexadecimal, *b))
 }
 
-// Whether a run that is no number is of a kind that is left out: it has an exponent, or ends in the `i` of an imaginary
-// number.
+// Whether a run that is no number is of a kind that is left out. Such a run has an exponent, or ends in the `i` of an
+// imaginary number.
 fn left_out(bytes: &[u8]) -> bool
     requires { 0 < length bytes.now }
     ensures { result ≡ is_left_out bytes.now }

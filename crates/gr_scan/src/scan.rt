@@ -196,11 +196,11 @@ fn byte_order_mark(text: &[u8]) -> usize
 
 /// The tokens of a text.
 pub fn scan(alloc: Global, text: &[u8]) -> Result<Vec<Token>, ScanError>
-    // What is answered are the tokens of the text.
+    // The answer is the list of tokens of the text.
     ensures tokens { IfOk result (λ v. IsScan text.now (tokens_of v.items)) }
-    // An error says that it has none.
+    // An error says that the text has none.
     ensures none { IfErr result (λ e. HasNoTokens e text.now) }
-    // It is the first fault of the text.
+    // The error is the first fault of the text.
     ensures fault { IfErr result (λ e. HasFault e text.now) }
     ensures too_long { (result ≡ Err TooLong) ↔ (TEXT_LIMIT < length text.now) }
 {

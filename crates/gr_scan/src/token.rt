@@ -102,7 +102,7 @@ pub struct Place {
     pub line: usize,
 }
 
-/// The place of a token in small numbers, as the token keeps it: no text is too long for them, and there are many tokens.
+/// The place of a token in 32-bit numbers, as the token keeps it. No text is too long for them, and tokens are many.
 #[derive(Clone, Copy, Debug, PartialEq, Eq)]
 pub struct Span {
     /// The number of bytes before the token.

@@ -46,9 +46,9 @@ pub(crate) struct Found<'a, T> {
     pub(crate) rest: &'a [Token],
 }
 
-/// This error, after which nothing is done with what was read before it.
+/// This error; what was read before it is dropped.
 ///
-/// A tree that is let go by this call is one thing to a proof; where `?` lets it go, it is taken apart there.
+/// A proof sees a tree that is dropped by this call as one value. Where `?` drops a tree, the proof takes it apart.
 pub(crate) fn abandon<V: Drop, T, E>(_read: V, error: E) -> Result<T, E>
     ensures { result ≡ Err error }
 {

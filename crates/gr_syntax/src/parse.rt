@@ -16,10 +16,11 @@ use std::alloc::Global;
 /// Why a list of tokens has no tree. A token is named by its index; the number of tokens stands for the end.
 #[derive(Clone, Copy, Debug, PartialEq, Eq, Drop)]
 pub enum ParseError {
-    /// No file has these tokens (P1). The token is the first one up to which no file can begin: tests show it, no clause does.
+    /// No file has these tokens (P1). The token is the first at which they stop being the beginning of a file. Tests show
+    /// that, and no clause.
     NoFile { token: usize },
-    /// No file has these tokens, and the token begins something of Go that the language leaves out (P2). It is the first one up
-    /// to which no file can begin: tests show it, no clause does.
+    /// No file has these tokens (P2), and the token begins something of Go that the language leaves out. It is the first at
+    /// which they stop being the beginning of a file. Tests show that, and no clause.
     LeftOut { token: usize },
     /// Every tree is higher than `gr_tree::HEIGHT_LIMIT` (P3): a part that begins at this token, or one around it, is too high.
     TooHigh { token: usize },
@@ -69,8 +70,8 @@ fn token_is_left_out(token: usize, tokens: &[Token]) -> bool
 
 /// The tree of the file that the tokens spell (Go: Source file organization).
 ///
-/// Where tokens are no file and too high besides, either may be said. The time is linear in the number of tokens, also
-/// where they are refused, and a recursion goes no deeper than `gr_tree::HEIGHT_LIMIT`.
+/// Where the tokens are no file and are too high besides, either error may be answered. The time is linear in the number of
+/// tokens, also where they are refused. Recursion goes no deeper than `gr_tree::HEIGHT_LIMIT`.
 pub fn parse(alloc: Global, tokens: &[Token]) -> Result<File, ParseError>
     // The tokens spell the answer, which is low enough.
     ensures tree { IfOk result (λ f. IsTreeOf (file_of f) (tokens_of tokens.now)) }

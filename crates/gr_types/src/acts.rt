@@ -141,7 +141,7 @@ fn return_value(
     ensures value { Agrees (optional expr_of) result
         (spec.returned_in (functions_of functions.now) (scope_of scope.now) (optional ty_of result_type.now)
         (optional tree_of expr.now)) }
-    // A value where none is wanted, or none where one is, is told as a wrong count.
+    // A value where none is wanted, and none where one is wanted, is a wrong number of values.
     ensures count { (is_some result_type.now ≡ is_some expr.now → ⊥) → result ≡ Err (faults.Broken codes.WrongCount) }
 {
     match (result_type, expr) {

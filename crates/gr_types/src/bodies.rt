@@ -79,7 +79,7 @@ fn labeled(
 #[tactic(auto, unfolding(crate::specs::Outlines::finished))]
 fn finish(alloc: Global, functions: &Functions, outline: Outline) -> Result<Function, CheckError>
     ensures value { Settles programs.function_of result (spec.finished (functions_of functions.now) (outline_of outline.entry)) }
-    // Where nothing else is wrong, a missing return is told, at the closing brace.
+    // Where nothing else is wrong, a missing return is refused, at the closing brace.
     ensures missing { spec_codes.TellsMissingReturn (functions_of functions.now) (outline_of outline.entry) result }
 {
     let Outline {

@@ -36,9 +36,9 @@ fn read(alloc: Global, file: &File) -> Result<Program, CheckError>
 
 /// The program of a file.
 pub fn check(alloc: Global, file: File) -> Result<Program, CheckError>
-    // What is answered is the program of this file.
+    // The answer is the program of this file.
     ensures program { IfOk result (λ p. ProgramOf (file_of file) (program_of p)) }
-    // A refusal means that the file has none; want of memory says nothing.
+    // A refusal means that the file has none. Out of memory says nothing.
     ensures none { IfErr result (λ e. HasNoProgram e (file_of file)) }
 {
     read(alloc, &file)

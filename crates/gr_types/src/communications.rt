@@ -30,7 +30,7 @@ pub enum Awaited {
         channel: checked::Expr,
         value: checked::Expr,
     },
-    /// A receive: what its value, and then whether there was one, are given to, as many as are asked for.
+    /// A receive, with the targets for its value and for whether there was one, as many as are asked for.
     Receive {
         targets: Vec<Option<usize>>,
         channel: checked::Expr,
@@ -88,7 +88,7 @@ pub fn send_of(
     Ok((channel.term, value))
 }
 
-// What a clause waits for that assigns to these names.
+// What is waited for by a clause that assigns to these names.
 #[tactic(auto, unfolding(crate::specs::FindingStatements::comm_in))]
 fn awaits_assigned(
     alloc: Global,
@@ -112,7 +112,7 @@ fn awaits_assigned(
     })
 }
 
-// What a clause waits for that defines these names.
+// What is waited for by a clause that defines these names.
 #[tactic(auto, unfolding(crate::specs::FindingStatements::comm_in))]
 fn awaits_defined(
     alloc: Global,

@@ -29,7 +29,7 @@ pub enum Nest<'a> {
 }
 
 /// What is around a statement: the functions of the program, the result of its own function, and the for and select
-/// statements that it stands in.
+/// statements around it.
 #[derive(Clone, Copy)]
 pub struct Context<'a> {
     pub functions: &'a Functions,
@@ -66,7 +66,7 @@ fn is_continued(label: Option<&[u8]>, around: &Around) -> bool
     }
 }
 
-// One further out. No text is long enough for as many statements around each other as there are numbers.
+// One further out. No text is long enough to nest as many statements as there are numbers.
 fn next(number: usize) -> Result<usize, RuleError>
     ensures value { Agrees (λ k. k) result (next_number (Some number)) }
     ensures code { Tells result codes.WrongLabel }

@@ -17,8 +17,8 @@ fn breaks_action(label: Option<&[u8]>, near: bool, action: &Action) -> bool
     }
 }
 
-/// Whether a break among these statements leaves the for or select around them, which has this label or none; `near` says
-/// that no other for or select lies between.
+/// Whether a break among these statements leaves the for or select statement around them. That statement has this label, or
+/// none. `near` says that no other for or select statement lies between.
 #[cycle(breaking)]
 pub fn breaks_in(label: Option<&[u8]>, near: bool, statements: &[Stmt]) -> bool
     ensures { result ≡ spec.breaks_in (optional (λ x. x.now) label.entry) near (statements_of statements.now) }
@@ -52,7 +52,7 @@ fn breaks_clause(label: Option<&[u8]>, near: bool, clause: &Clause) -> bool
     }
 }
 
-// Whether a break within this statement does.
+// Whether a break within this statement leaves the for or select statement that is meant.
 #[cycle(breaking)]
 fn breaks(label: Option<&[u8]>, near: bool, statement: &Stmt) -> bool
     ensures { result ≡ spec.breaks_of (optional (λ x. x.now) label.entry) near (statement_of statement.now) }

@@ -192,7 +192,7 @@ pub fn loop_parts(
     })
 }
 
-/// What takes the values of a range, which are of this type.
+/// The target for the values of a range, which have this type.
 #[tactic(auto, unfolding(crate::specs::FindingStatements::target_in))]
 pub fn range_target(
     alloc: Global,

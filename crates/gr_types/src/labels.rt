@@ -251,8 +251,8 @@ fn declare_one<'a>(
     }
 }
 
-/// The first label of a function's body that doesn't fit, if there is one: each label is declared once, is not blank, and is
-/// used. An error is want of memory.
+/// The first label of a function's body that doesn't fit, if there is one. A label fits if it is declared once, is not blank,
+/// and is used. The one error is out of memory.
 pub fn unfit_label(alloc: Global, body: &[Stmt]) -> Result<Option<UnfitLabel>, AllocError>
     ensures { IfOk result (λ r. is_none r ≡ spec.labels_fit (statements_of body.now)) }
 {

@@ -109,7 +109,7 @@ fn heading<'a>(
     outline_of_heading(alloc, func, parameters, wanted)
 }
 
-/// The functions that calls may name, by the headings of a file's functions, and what the headings say of each.
+/// The functions that calls may name, from the headings of a file's functions, and an outline of each.
 pub fn headings<'a>(
     alloc: Global,
     funcs: &'a [Func],

@@ -42,7 +42,7 @@ fn is_function(funcs: &[Func], name: &[u8]) -> bool
     false
 }
 
-// The rule that a written type breaks which is none.
+// The rule that is broken where what is written is no type.
 fn no_type(funcs: &[Func], tree: &TypeTree) -> RefusalCode
     ensures { result ≡ heading_type_code (functions_of funcs.now) (trees.type_of tree.now) }
 {

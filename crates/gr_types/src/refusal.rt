@@ -11,9 +11,9 @@ use std::alloc::{AllocError, AllocFailed};
 /// Why a file has no program.
 #[derive(Clone, Copy, Debug, PartialEq, Eq)]
 pub enum CheckError {
-    /// A rule is broken, and the number of bytes before the statement, heading or package clause that breaks it, or before
-    /// the closing brace that may be reached. Faults of the package clause come first, then those of headings, then those of
-    /// the earliest statement.
+    /// A rule is broken. The number counts the bytes before the statement, heading or package clause that breaks it, or
+    /// before the closing brace that may be reached. Faults of the package clause come first, then those of headings, then
+    /// those of the earliest statement.
     Refused { code: RefusalCode, at: usize },
     /// There was not enough memory, which says nothing about the file.
     Memory,

@@ -54,8 +54,8 @@ fn check_awaited(
     Ok(())
 }
 
-/// The error of a select in whose clauses this one was met. What any clause waits for is part of the select itself, so a rule
-/// that is broken there comes before one that is broken in a body.
+/// The error of a select, by the error that was met in its clauses. What a clause waits for is part of the select itself. So
+/// a rule that is broken there comes before one that is broken in a body.
 pub fn first_error(
     alloc: Global,
     functions: &Functions,

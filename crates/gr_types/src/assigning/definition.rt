@@ -90,7 +90,7 @@ fn old_taker(
     Ok(Taker::Old(target))
 }
 
-/// What takes a value of a type that a name is defined by.
+/// The target for the value of a name on the left of `:=`.
 pub fn taker_for(
     functions: &Functions,
     scope: &Scope,
@@ -142,7 +142,7 @@ fn define_each_target(
     Ok(settle_all(alloc, scope, names, takers)?)
 }
 
-/// What takes values of these types that names are defined by (`:=`): new names are declared.
+/// The targets for the values of the names on the left of `:=`. New names are declared.
 #[tactic(auto, using(crate::proofs::Taking::all_take_new_is))]
 pub fn define_targets(
     alloc: Global,
@@ -186,7 +186,7 @@ pub fn define_target(
     define_new_target(alloc, functions, scope, name, own)
 }
 
-// A value that a name which declares nothing new is defined by.
+// The value for a name on the left of `:=` that declares nothing new.
 fn old_share(
     functions: &Functions,
     scope: &Scope,
@@ -200,7 +200,7 @@ fn old_share(
     Ok((Taker::Old(target), term))
 }
 
-// What takes a value that a name is defined by, and the value.
+// The target for a name on the left of `:=`, and its value.
 fn share(
     functions: &Functions,
     scope: &Scope,

@@ -200,7 +200,7 @@ fn all_accept(scope: &Scope, targets: &[Option<usize>], types: &[Type]) -> Resul
     Ok(())
 }
 
-/// What takes a value of a type that is assigned to a name.
+/// The target for a value of a type that is assigned to a name.
 #[tactic(auto, using(crate::proofs::Taking::takes_is))]
 pub fn target_for(
     functions: &Functions,
@@ -215,8 +215,8 @@ pub fn target_for(
     Ok(target)
 }
 
-/// What takes values of these types that are assigned to names, the first to the first; there are as many types as names,
-/// or more.
+/// The targets for values of these types that are assigned to names, the first to the first. There are at least as many types
+/// as names.
 #[tactic(auto, using(crate::proofs::Taking::all_take_is))]
 pub fn targets_for(
     alloc: Global,
