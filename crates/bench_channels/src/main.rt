@@ -1,8 +1,8 @@
 //! Sends values through a channel and takes everything back: `bench_channels [CAPACITY [COUNT]]`. The buffer is filled and
-//! emptied in turn, COUNT / CAPACITY times; then each change is undone, the last first. Where none is given the capacity
-//! is 1, and the count 1,000.
+//! emptied in turn, COUNT / CAPACITY times. Then each change is undone, the last first. The capacity is 1 and the count 1,000
+//! where none is given.
 //!
-//! Exit status: 0; 1 where memory was wanted, or the words are no numbers of 32 bits, the first at least 1.
+//! Exit status: 0; 1 where memory ran out, or the words are no numbers of 32 bits, the first at least 1.
 #![tactic(auto)]
 
 ghost use Rattle.std.specs.Prelude.{◌<◌, IfSome};

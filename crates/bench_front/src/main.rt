@@ -1,7 +1,7 @@
-//! Scans, parses and checks a Go file again and again: `bench_front STAGE ROUNDS FILE`, where STAGE is the last stage to be
-//! run: `scan`, `parse` or `check`. It prints how many tokens or functions that stage found.
+//! Scans, parses and checks a Go file again and again: `bench_front STAGE ROUNDS FILE`. STAGE is the last stage to be run:
+//! `scan`, `parse` or `check`. It prints how many tokens or functions that stage found.
 //!
-//! Exit status: 0; 1 where memory was wanted, the words are not these, or FILE cannot be read or is refused.
+//! Exit status: 0; 1 where memory ran out, the words are not these, or FILE cannot be read or is refused.
 #![tactic(auto)]
 
 use gr_scan::scan::scan;
@@ -28,7 +28,7 @@ fn stage_named(word: &str) -> Option<Stage> {
     }
 }
 
-// One round: how many tokens or functions the last stage finds; `None` where the text is refused.
+// One round: how many tokens or functions the last stage finds. `None` where the text is refused.
 fn round(alloc: Global, stage: Stage, text: &[u8]) -> Option<usize> {
     let tokens = scan(alloc, text).ok()?;
     if let Stage::Scan = stage {

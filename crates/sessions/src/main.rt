@@ -1,9 +1,11 @@
-//! Runs the example sessions of the folder that it is run in: of each NAME.go the commands NAME.script, none where there is
-//! no such file, and the output NAME.expect, which ends in the line of the fault where there is one; it comes once from a session
-//! of its own, and once from a desk of a shared session. Where there is a file
-//! NAME.queries, the steps that the session keeps are also taken once more in fresh sessions: by NAME.again in the order of
-//! the log, by NAME.other and NAME.another in orders that respect dependence. The queries have to be answered alike. It prints
-//! `NAME: differs` for each that is not as expected, and at the end how many are.
+//! Runs the example sessions of the folder that it is run in. NAME.go is a source, NAME.script its commands, and NAME.expect
+//! the output. Without NAME.script there are no commands. The output ends in the line of the fault, where there is one. It
+//! has to come from a session of its own, and from a desk of a shared session.
+//!
+//! Where there is a file NAME.queries, fresh sessions also take the kept steps once more. NAME.again takes them in the order
+//! of the log, NAME.other and NAME.another in orders that respect dependence. All have to answer the queries alike.
+//!
+//! It prints `NAME: differs` for each that is not as expected, and at the end how many are.
 //!
 //! Exit status: 0 where all are as expected, else 1.
 #![tactic(auto)]

@@ -26,7 +26,7 @@ fn answers(
 }
 
 /// Whether the steps that a session keeps answer its queries alike in each of these orders. A session without queries has
-/// nothing to be compared.
+/// nothing to compare.
 pub fn is_replayed(rt: &HostRuntime, name: &str, source: &[u8], script: &[u8]) -> io::Result<bool> {
     let Ok(queries) = fs::read(rt, format!(in rt.alloc(); "{name}.queries")?.as_str()) else {
         return Ok(true);

@@ -57,7 +57,7 @@ fn await_room(
     parked.expect(rt, "memory for a sender")
 }
 
-/// Whether the buffer holds these numbers, and no others, in this order, and so many values have left it.
+/// Whether the buffer holds these numbers, and no others, in this order, after this many values have left it.
 fn show_buffer(rt: &impl Abort, channel: &Channel, head: u64, items: &[i64]) {
     assert_eq!(rt; channel.head(), head);
     assert_eq!(rt; channel.tail() - channel.head(), items.len() as u64);

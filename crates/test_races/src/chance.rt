@@ -30,7 +30,7 @@ fn step(alloc: Global, chance: &mut Pcg32) -> Option<StepId> {
     Some(StepId { go, n })
 }
 
-/// A command that changes a session; `None` where memory was wanted.
+/// A command that changes a session; `None` where memory ran out.
 pub fn draw(alloc: Global, chance: &mut Pcg32) -> Option<Command> {
     match below(chance, 20) {
         0 | 1 => Some(Command::Undo),

@@ -1,11 +1,11 @@
-//! Desks and workers that race: `racing DESKS WORKERS COMMANDS RACES FILE..`. In each race over a Go file a session is opened,
-//! which so many desks and workers share, each on a thread of its own. Each desk asks so many commands of those that change a
-//! session, drawn at random. When all have ended, the steps that are kept are taken once more in a fresh session. Both sessions
-//! have to tell the same of each goroutine, of what it printed and of each channel.
+//! Desks and workers that race: `test_races DESKS WORKERS COMMANDS RACES FILE..`. In each race over a Go file this many desks
+//! and workers share a session, each on a thread of its own. Each desk asks this many commands that change a session, drawn
+//! at random. When all have ended, a fresh session takes the kept steps once more. Both sessions have to tell the same of
+//! each goroutine, of what it printed and of each channel.
 //!
 //! For each file it writes how many races ended so, and what came of each race on standard error.
 //!
-//! Exit status: 0; 1 where a session differs, memory was wanted, or the words are not these.
+//! Exit status: 0; 1 where a session differs, memory ran out, or the words are not these.
 #![tactic(auto)]
 
 mod chance;
@@ -58,7 +58,7 @@ fn course_of<T: Threads + Wait + Sync>(
     })
 }
 
-// Races over a file, and tells of it. Whether it is as it should be.
+// Races over a file, and reports on it. Answers whether it is as it should be.
 fn is_alike<T: Threads + Wait + Sync>(
     rt: &HostRuntime,
     threads: &T,
@@ -83,7 +83,7 @@ fn is_alike<T: Threads + Wait + Sync>(
     Ok(true)
 }
 
-// Has callers race over a file so often, and tells how often it was as it should be. Whether it always was.
+// Has callers race over a file this often, and reports how often it was as it should be. Answers whether it always was.
 fn tell<T: Threads + Wait + Sync>(
     rt: &HostRuntime,
     threads: &T,

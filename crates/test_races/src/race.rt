@@ -11,7 +11,7 @@ use std::sync::atomic::{AtomicU64, Ordering};
 use std::thread;
 use std::thread::Threads;
 
-/// Who calls, and what each desk asks: so many commands, drawn by this seed and the desk's number.
+/// Who calls, and what each desk asks: this many commands, drawn by this seed and the desk's number.
 #[derive(Clone, Copy)]
 pub struct Load {
     pub desks: u32,
@@ -37,7 +37,7 @@ enum Caller<B: Room> {
     Works(Worker<B>),
 }
 
-// Asks that many commands, and ends early where memory is wanted.
+// Asks that many commands, and ends early where memory runs out.
 fn ask_all<B: Room, T: Wait>(
     rt: &T,
     alloc: Global,
@@ -76,7 +76,7 @@ fn call<B: Room, T: Wait>(
     }
 }
 
-// Has all call at once, and waits for all of them. Whether the threads could be started.
+// Has all call at once, and waits for all of them. Answers whether the threads could be started.
 #[tactic(auto, using(crate::proofs::Lent::session_send))]
 fn call_at_once<B: Room + Send + Sync, T: Threads + Wait + Sync>(
     rt: &T,
@@ -170,8 +170,8 @@ fn ended<B: Room>(alloc: Global, shared: Shared<B>, all: Vec<Caller<B>>) -> Opti
     }
 }
 
-/// Shares a session among desks and workers, has all desks ask what is drawn, and ends the sharing. `None` where a thread could
-/// not be started, memory was wanted, or the sharing does not end.
+/// Shares a session among desks and workers, has all desks ask what is drawn, and ends the sharing. `None` where a thread
+/// could not be started, memory ran out, or the sharing does not end.
 pub fn race_all<B: Room + Send + Sync, T: Threads + Wait + Sync>(
     rt: &T,
     alloc: Global,

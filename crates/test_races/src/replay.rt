@@ -55,7 +55,7 @@ fn take(alloc: Global, fresh: &mut Asked, id: &StepId, kind: Kind) -> Option<boo
     }
 }
 
-// Takes the steps of a log in a session that has taken none. Whether all are the same; `None` where memory was wanted.
+// Takes the steps of a log in a session that has taken none. Answers whether all are the same; `None` where memory ran out.
 fn take_all(alloc: Global, fresh: &mut Asked, log: &[(StepId, Kind)]) -> Option<bool> {
     for (id, kind) in log {
         if !take(alloc, fresh, id, *kind)? {
@@ -104,7 +104,7 @@ fn is_told_alike(
     Some(first.as_slice() == second.as_slice())
 }
 
-// Whether two sessions tell the same of a goroutine, of what it printed, and of so many channels that it made.
+// Whether two sessions tell the same of a goroutine, of what it printed, and of the first channels that it made, this many.
 fn is_alike(
     alloc: Global,
     one: &mut Asked,
@@ -127,7 +127,8 @@ fn is_alike(
     Some(true)
 }
 
-// How many goroutines the steps of a log know, where two sessions that took them tell the same of all goroutines and channels.
+// How many goroutines the steps of a log know. `None` unless two sessions that took them tell the same of all goroutines and
+// channels.
 fn compare(
     alloc: Global,
     one: &mut Asked,
@@ -164,8 +165,8 @@ fn compare_again(
     compare(alloc, shared, &mut fresh, log)
 }
 
-/// How many steps a session of the source keeps, and how many goroutines they know, where a fresh session takes the same steps
-/// and tells the same of all goroutines and channels. `None` where it does not, or memory was wanted.
+/// How many steps a session of the source keeps, and how many goroutines they know. A fresh session takes the same steps, and
+/// has to tell the same of all goroutines and channels. `None` where it does not, or memory ran out.
 pub fn replay(alloc: Global, source: &[u8], session: Session) -> Option<(usize, usize)> {
     let mut shared = Asked::new(session)?;
     let log = shared.log(alloc)?;

@@ -179,7 +179,7 @@ fn ends_so(served: &Result<(), ServeFault>, end: End) -> bool {
     }
 }
 
-// Serves a session that just opened. Says what came of it, and how many entries the journal has.
+// Serves a session that was just opened. Answers what came of it, and how many entries the journal has.
 fn serve_new<R: Read, W: Write>(
     alloc: Global,
     reader: &mut Counted<R>,

@@ -51,8 +51,7 @@ pub(crate) enum Errand {
     Break,
 }
 
-/// One who calls: a desk with its errand, and how many replies were those that the errand asks for; or a worker, which works so
-/// often at most.
+/// One who calls. A desk has its errand, and counts the replies that the errand asks for. A worker works at most this often.
 #[derive(Drop)]
 pub(crate) enum Caller<B: Room> {
     Asks(Desk<B>, Errand, u64),

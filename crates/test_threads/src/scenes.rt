@@ -120,7 +120,7 @@ fn without_a_desk<B: Room>(
     Some(unfinished)
 }
 
-// The same without one worker, where there are workers.
+// Ends the sharing without one worker, where there are workers, which is refused and hands back all.
 fn without_a_worker<B: Room>(
     shared: Shared<B>,
     desks: Vec<Desk<B>>,

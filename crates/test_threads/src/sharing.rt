@@ -1,5 +1,5 @@
-//! Desks and workers on threads: that calls succeed, that all entries stay, that workers take steps and are in batches at the
-//! same time, and that a batch whose goroutine changed is refused. Each scene shows that no sharing ends while a seat is missing.
+//! Desks and workers on threads. Calls succeed, all entries stay, and workers take steps and are in batches at the same time.
+//! A batch whose goroutine changed is refused. Each scene shows that no sharing ends while a seat is missing.
 ghost use Rattle.std.specs.Prelude.{◌≡◌};
 ghost use Rattle.gr_program.specs.Views.{program_of};
 
