@@ -1,6 +1,6 @@
--- Deterministic machines whose steps touch named objects; their logs, and taking steps back
--- (Lanese, Nishida, Palacios, Vidal, "A theory of reversibility for Erlang", 2018: a step keeps its history,
--- and causal-consistent undoing goes by it).
+-- Deterministic machines whose steps touch named objects; their logs, and how steps are taken back. A step keeps its
+-- history, and causal-consistent undoing goes by it (Lanese, Nishida, Palacios, Vidal, "A theory of reversibility for
+-- Erlang", 2018).
 use Rattle.std.specs.Prelude.{fold, ◌≡◌, Bool, true, ◌||◌, List, [], ◌∷◌, map, Option, Some, None, option_and_then}
 use Rattle.std.specs.List.{list_any}
 use Rattle.gr_causal.specs.Sequences.{In}

@@ -24,7 +24,8 @@ pub record ChangePlaces {A : Type 0} (clash : A → A → Bool) (L M : List A) (
   pub conflicts : clash x y ≡ true
   pub turned : Before M y x
 
--- y is the first step of M that some conflicting earlier step of the log follows, x the first such step in the log
+-- y is the first step of M that comes before a conflicting step which is earlier in the log; x is the earliest such step of
+-- the log
 pub record FirstToChange {A : Type 0} (clash : A → A → Bool) (L M : List A) (x y : A) : Type 0 where
   pub change : ChangePlaces clash L M x y
   pub first_in_order : (a b : A) → ChangePlaces clash L M a b → (b ≡ y) ⊎ Before M y b

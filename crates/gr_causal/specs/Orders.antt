@@ -1,5 +1,5 @@
--- Orders of a log that respect dependence: equivalence of traces (Mazurkiewicz, "Concurrent program schemes
--- and their interpretations", 1977), two steps being independent where they do not conflict.
+-- Orders of a log that respect dependence. This is equivalence of traces (Mazurkiewicz, "Concurrent program schemes and
+-- their interpretations", 1977), where two steps are independent if they do not conflict.
 use Rattle.std.specs.Prelude.{◌≡◌, Bool, true, false, List, ◌∷◌}
 use Rattle.gr_causal.specs.Sequences.{Before, Rearranges}
 

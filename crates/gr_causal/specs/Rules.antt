@@ -1,5 +1,5 @@
--- Machines given by rules of a structured operational semantics (Plotkin, 1981): the premises of a rule ask for
--- objects, one after another, and its conclusion writes cells; so what a step touches is read off its rule.
+-- Machines given by rules of a structured operational semantics (Plotkin, 1981). The premises of a rule ask for objects,
+-- one after another, and its conclusion writes cells. So what a step touches is read off its rule.
 use Rattle.std.specs.Prelude.{fold, ◌≡◌, Bool, true, List, [], ◌∷◌, ◌++◌, map, Option, Some, None}
 use Rattle.gr_causal.specs.Machine.{Machine}
 

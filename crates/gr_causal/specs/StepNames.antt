@@ -1,4 +1,4 @@
--- Names of steps: the owner of a step, and how many steps it had then taken; as a sequence number of an event within
+-- Names of steps: the owner of a step, and how many steps it had then taken. It is the sequence number of an event within
 -- its process (Lamport, "Time, clocks, and the ordering of events in a distributed system", 1978).
 use Rattle.std.specs.Prelude.{◌≡◌, ℕ, suc, ◌≤◌, Some}
 use Rattle.gr_causal.specs.Machine.{Machine, StepOf}

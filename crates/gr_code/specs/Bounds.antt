@@ -51,7 +51,7 @@ abbrev mutual
   EachFirstBelow n stop = Unit {0}
   EachFirstBelow n (then s ss) = FirstBelow n s × EachFirstBelow n ss
 
--- .. and in each statement that remains
+-- the variables of what is done first in each statement that remains are below a number
 abbrev pub RestBelow : ℕ → Rest → Type 0
 RestBelow n (closing place) = Unit {0}
 RestBelow n (following ss rest) = EachFirstBelow n ss × RestBelow n rest

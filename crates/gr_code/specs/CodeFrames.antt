@@ -13,8 +13,8 @@ use Rattle.gr_rules.specs.Frames.{assigned}
 use Rattle.gr_rules.specs.Deeds.{Sending, Receiving, Deed, Prints, Enters, Leaves, Starts, Makes, TakesLen, TakesCap, Closes, Communicates, Chooses, as_channel, as_int, as_truth, only, texts, spaced}
 use Rattle.gr_code.specs.Instructions.{Arm, DefaultArm, SendArm, ReceiveArm, Action, Assigns, AssignsReceived, Updates, ClosesChannel, PrintsLine, Sends, StartsFunction, Returns, GoesOn, Fails, Tests, Ranges, Turns, Instruction, Part, Decide, Perform, Choose, clauses_of}
 
--- The code of a function: the variables of its parameters, how many variables it has, and how many cells its frames have; its
--- instructions, with the first of which a call begins; and the line on which the statement of each begins.
+-- The code of a function: the variables of its parameters, how many variables it has, and how many cells its frames have. A
+-- call begins with the first of its instructions. Beside each instruction stands the line on which its statement begins.
 pub record FunctionCode : Type 0 where
   pub parameters : List (Option ℕ)
   pub variables : ℕ
@@ -59,19 +59,19 @@ asked_in all (Decides op left) = wrong
 
 -- from a frame
 module _ (f : CodeFrame) where
-  -- at another instruction
+  -- the frame at another instruction
   abbrev pub at_number : ℕ → CodeFrame
   at_number on = record f { number = on }
 
-  -- .. with a value in a temporary
+  -- the frame at another instruction, with a value in a temporary
   abbrev pub with_cell : ℕ → Value → ℕ → CodeFrame
   with_cell slot v on = record f { cells = slice_set f.cells slot (Some v); number = on }
 
-  -- .. with the value of a part, which is kept nowhere where the part is the whole statement
+  -- the frame at another instruction, with the value of a part; the value is dropped where the part is the whole statement
   abbrev pub with_part : Option ℕ → Value → ℕ → CodeFrame
   with_part slot v on = elim slot [ Some d ↦ with_cell d v on | None ↦ at_number on ]
 
-  -- .. with a value that was received, and whether it was sent
+  -- the frame at another instruction, with a value that was received, and whether it was sent
   abbrev pub with_received : Option (ℕ × ℕ) → Value × Bool → ℕ → CodeFrame
   with_received into got on = elim into [
     | Some slots ↦ record f { cells = slice_set (slice_set f.cells slots.0 (Some got.0)) slots.1 (Some (Truth got.1)); number = on }
@@ -139,7 +139,7 @@ module _ (f : CodeFrame) where
   past_arm_in (Some (ReceiveArm channel initial into on)) (Some got) = gives (with_received into got on)
   past_arm_in arm got = wrong
 
-  -- .. of a clause of a select, by its number from 1, or of any other instruction
+  -- past the communication of a clause of a select, by its number from 1, or of any other instruction
   abbrev pub past_in : Instruction → Option ℕ → Option (Value × Bool) → Outcome CodeFrame
   past_in (Part ask slot on) None got = past_part_in ask slot on got
   past_in (Perform action operands) None got = past_action_in action got

@@ -36,7 +36,7 @@ instruction_in code f = instruction_here (instruction_at code f)
 abbrev pub line_of : ProgramCode → CodeFrame → Option ℕ
 line_of code f = option_and_then (λ c. slice_get c.lines f.number) (slice_get code.functions f.function)
 
--- .. that of the innermost of these frames
+-- the line on which the statement of the innermost of these frames begins
 abbrev pub line_in : ProgramCode → List CodeFrame → Option ℕ
 line_in code [] = None
 line_in code (f ∷ below) = line_of code f
@@ -82,7 +82,7 @@ abbrev pub printing : ProgramCode → CodeGoroutine → List ℕ → List CodeFr
 printing code g line [] = wrong
 printing code g line (f ∷ below) = instruction_in code f >>= λ i. prints g line (after_in f i) below
 
--- the step that a task is, if it reaches no further than the goroutine, whose innermost frame is at this instruction
+-- the step that a task is, if it is local to the goroutine, whose innermost frame is at this instruction
 abbrev pub local_task : ProgramCode → CodeGoroutine → CodeFrame → List CodeFrame → Instruction → Task → Outcome (Kind × CodeGoroutine)
 local_task code g f below i (Steps on) = gives (Pure, with_frames g (on ∷ below))
 local_task code g f below i (Wants (Prints line)) = prints g line (after_in f i) below
@@ -100,7 +100,7 @@ abbrev pub local_in : ProgramCode → CodeGoroutine → List CodeFrame → Outco
 local_in code g [] = wrong
 local_in code g (f ∷ below) = instruction_in code f >>= λ i. local_by g (local_task code g f below i) (task f i)
 
--- the step of a goroutine that reaches no further than itself: its kind, and the goroutine after it
+-- the step of a goroutine that is local to it: its kind, and the goroutine after it
 abbrev pub local : ProgramCode → CodeGoroutine → Outcome (Kind × CodeGoroutine)
 local code g = local_in code g g.frames
 
@@ -122,7 +122,7 @@ is_local_action caller (Turns slot body after) = false
 is_local_action caller Returns = caller
 is_local_action caller _ = true
 
--- .. and the instruction
+-- whether the instruction asks for nothing beyond its goroutine, in which the frame has a caller or not
 abbrev pub is_local_instruction : Bool → Instruction → Bool
 is_local_instruction caller (Part ask slot on) = is_call ask
 is_local_instruction caller (Decide op left slot settled right) = true

@@ -42,7 +42,7 @@ pub data Action : Type 0 where
 pub data Instruction : Type 0 where
   -- a part; its value goes to a temporary, unless the part is the whole statement
   Part : (ask : Ask) (slot : Option ℕ) (on : ℕ) → Instruction
-  -- the left operand of `&&` or `||` goes to a temporary; where it settles, the right one is passed by
+  -- the left operand of `&&` or `||` goes to a temporary; where it settles, the right one is skipped
   Decide : (op : BinaryOp) (left : Operand) (slot settled right : ℕ) → Instruction
   Perform : (action : Action) (operands : Operands) → Instruction
   Choose : (arms : List Arm) → Instruction
@@ -152,7 +152,7 @@ module _ (s : Spot) where
   on_past_arm (Some (ReceiveArm channel zero into on)) (Some got) = gives (on_with (receiving s.temporaries into got) on)
   on_past_arm arm got = wrong
 
-  -- .. of a clause of a select, by its number from 1, or of any other instruction
+  -- past the communication of a clause of a select, by its number from 1, or of any other instruction
   abbrev pub on_past : Instruction → Option ℕ → Option (Value × Bool) → Outcome Spot
   on_past (Part ask slot on) None got = on_past_part ask slot on got
   on_past (Perform action operands) None got = on_past_action action got

@@ -1,5 +1,5 @@
--- Where a left operand settles `&&` or `||`, the instructions of the right one's parts are passed by, and plugging those parts
--- changes nothing.
+-- Where a left operand settles `&&` or `||`, the instructions of the right operand's parts are skipped, and plugging those
+-- parts changes nothing.
 use Rattle.std.specs.Prelude.{◌≡◌, ◌⊎◌, ℕ, zero, suc, ◌+◌, true, false, Option, Some, None, if◌then◌else◌}
 use Rattle.std.specs.Option.{option_or}
 use Rattle.gr_tree.specs.declared.expr.BinaryOp.{BinaryOp}

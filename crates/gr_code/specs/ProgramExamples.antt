@@ -1,5 +1,5 @@
--- A program with its code: statements one after the other that read variables, for which no temporary stands; and a function
--- with parameters and temporaries.
+-- A program with its code. It has statements one after the other that read variables, for which no temporary stands, and a
+-- function with parameters and temporaries.
 use Rattle.std.specs.Prelude.{ℕ, zero, suc, pos, false, [], ◌∷◌, Some, None}
 use Rattle.gr_tree.specs.declared.expr.BinaryOp.TheVariants.{LogicalAnd}
 use Rattle.gr_tree.specs.declared.expr.Direction.TheVariants.{Both}

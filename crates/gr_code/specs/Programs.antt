@@ -31,14 +31,15 @@ AskBelow m (Decides op left) = Below m left
 abbrev pub IsSlot : ℕ → ℕ → ℕ → Type 0
 IsSlot n m d = (n ≤ d) × (d < m)
 
--- .. where there is one, or two
+-- a temporary, if there is one; and two temporaries, if there are two
 abbrev pub IsSlotIfAny : ℕ → ℕ → Option ℕ → Type 0
 IsSlotIfAny n m slot = elim slot [ Some d ↦ IsSlot n m d | None ↦ Unit {0} ]
 
 abbrev pub AreSlotsIfAny : ℕ → ℕ → Option (ℕ × ℕ) → Type 0
 AreSlotsIfAny n m into = elim into [ Some slots ↦ IsSlot n m slots.0 × IsSlot n m slots.1 | None ↦ Unit {0} ]
 
--- in a function with n variables, m cells and so many instructions: variables, temporaries and instructions that there are
+-- the bounds of an instruction in a function with n variables, m cells and this many instructions: it names only variables,
+-- temporaries and instructions that exist
 module _ (n m count : ℕ) where
   abbrev pub ActionInBounds : Action → Type 0
   ActionInBounds (Assigns targets on) = TargetsBelow n targets × (on < count)
@@ -82,8 +83,8 @@ variable_count (FunctionIs name parameters result variables body last) = length 
 abbrev pub first_point : Function → Point
 first_point (FunctionIs name parameters result variables body last) = point_after (onto body (closing last))
 
--- The code of a function, whose instructions mean these points: a call begins with the first, each does what the rules do at
--- its point, and keeps to what there is.
+-- The code of a function, whose instructions mean these points. A call begins with the first. Each does what the rules do
+-- at its point, and stays in bounds.
 pub record FunctionFits (means : Meanings) (function : Function) (code : FunctionCode) : Type 0 where
   pub parameters : code.parameters ≡ parameter_variables function
   pub takes : TargetsBelow code.variables code.parameters
@@ -117,11 +118,11 @@ pub record ProgramFits (means : ℕ → Meanings) (p : Program) (code : ProgramC
 abbrev pub variables_in : ProgramCode → ℕ → ℕ
 variables_in code number = option_map_or (λ c. c.variables) (slice_get code.functions number) 0
 
--- .. how many instructions
+-- how many instructions a function has, by its code; none where there is none
 abbrev pub instructions_in : ProgramCode → ℕ → ℕ
 instructions_in code number = option_map_or (λ c. length c.instructions) (slice_get code.functions number) 0
 
--- .. and the line of an instruction's statement
+-- the line on which the statement of a frame's instruction begins
 abbrev pub line_at : ProgramCode → CodeFrame → Option ℕ
 line_at code f = option_and_then (λ c. slice_get c.lines f.number) (slice_get code.functions f.function)
 
@@ -142,7 +143,7 @@ module _ (means : ℕ → Meanings) (code : ProgramCode) where
   abbrev pub frame_of : CodeFrame → Frame
   frame_of f = frame_at (means f.function) f.function (spot_of code f)
 
-  -- .. where there is one
+  -- the frame of the rules that a frame of code means, where there is one
   abbrev pub frame_meant : Outcome CodeFrame → Outcome Frame
   frame_meant o = o >>= λ f. gives (frame_of f)
 

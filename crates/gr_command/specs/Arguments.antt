@@ -12,7 +12,7 @@ use Rattle.gr_scan.specs.Pieces.{is_letter, is_word}
 abbrev pub number_named : ℕ → List ℕ → Option ℕ
 number_named largest word = count_from (largest + 1) 0 word
 
--- .. or the number 0, which is spelt `0`
+-- the number from 0 to the largest that a word spells; 0 is spelt `0`
 abbrev pub number_or_zero_named : ℕ → List ℕ → Option ℕ
 number_or_zero_named largest word = if bytes_eq word (codes "0") then Some 0 else number_named largest word
 

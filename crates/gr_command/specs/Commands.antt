@@ -34,7 +34,8 @@ abbrev pub by_table : {A : Type 0} → List (List ℕ × (List (List ℕ) → Op
 by_table [] word words = None
 by_table (entry ∷ table) word words = if bytes_eq word entry.0 then entry.1 words else by_table table word words
 
--- each way but by its name to say which step is to be taken back, by its first word, and what it is with the words after that
+-- the ways, other than its name, to say which step is to be taken back: by the first word, what it is with the words after
+-- that
 abbrev pub targets_asked : List (List ℕ × (List (List ℕ) → Option Target))
 targets_asked =
     (codes "go", λ words. option_map targets.Start (one_named go_named words))

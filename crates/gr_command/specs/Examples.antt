@@ -89,7 +89,8 @@ LinesAreWritten =
     ≡ codes "ok g0.2#1 pick 2\n" ∷ codes "ok 8 ended\n" ∷ codes "ok 4 fault\n" ∷ codes "ok 0 memory\n"
     ∷ codes "ok g0#6\n" ∷ codes "ok\n" ∷ codes "ok 0\n" ∷ codes "no N3\n" ∷ []
 
--- replies to commands that take steps back, take them again or put them in an order, to questions about steps, to grants, and to batches
+-- replies to commands that take steps back, take them again or put them in an order; replies to questions about steps, to
+-- grants, and to batches
 abbrev pub StepsAreWritten : Type 0
 StepsAreWritten =
     map said_text (said.Steps (step_of [] 7 ∷ []) ∷ said.Steps (step_of [] 1 ∷ step_of (1 ∷ []) 12 ∷ []) ∷ said.Steps []

@@ -36,11 +36,11 @@ pub data Said : Type 0 where
   -- these two conflict and would change places
   BreaksDependence : (earlier later : StepId) → Said
   Acknowledged : Said
-  -- workers may take so many steps
+  -- workers may take this many steps
   Granted : (steps : ℕ) → Said
-  -- so many steps of a batch joined the log
+  -- this many steps of a batch joined the log
   Committed : (steps : ℕ) → Said
-  -- .. or none did, since they were of another program, goroutine or grant than is there
+  -- no step of a batch joined the log, since it is of another program, goroutine or grant than is there
   Stale : Said
   No : (why : Refusal) → Said
 
@@ -98,7 +98,7 @@ without_waits rules.finished = rules.finished
 abbrev pub told : GoroutineShown → GoroutineShown
 told g = record g { status = without_waits g.status }
 
--- why many steps ended, as the rules tell it; of want of memory they know nothing
+-- why many steps ended, as the rules tell it; they do not know out of memory
 abbrev pub end_in : RunEnd → Option turns.RunEnd
 end_in ends.Ended = Some turns.program_ended
 end_in (ends.Fault fault) = Some (turns.program_faulted fault)

@@ -122,7 +122,7 @@ channel_rows c =
 abbrev pub taken_text : StepId × Kind → List ℕ
 taken_text step = step_text step.0 ++ (codes " " ++ kind_text step.1)
 
--- so many steps, and why they ended
+-- this many steps, and why they ended
 abbrev pub ran_text : ℕ → RunEnd → List ℕ
 ran_text steps end = decimal steps ++ (codes " " ++ (end_text end ++ codes "\n"))
 

@@ -13,7 +13,7 @@ abbrev pub Stops : {A : Type 0} → Stop → Outcome A → Type 0
 Stops (Fault f) o = o ≡ faults f
 Stops NoMemory o = Unit {0}
 
--- memory is wanted for the name of a channel alone
+-- out of memory comes of the name of a channel alone
 abbrev pub WantsName : Stop → Outcome Value → Type 0
 WantsName (Fault f) o = Unit {0}
 WantsName NoMemory o = (v : Value) × (o ≡ gives v) × IsNamed v

@@ -35,7 +35,7 @@ channel_of c = (c.direction, (ty_of c.element, expr_of c.term))
 abbrev pub called_of : code_called.Called → Option Ty × Expr
 called_of c = (optional ty_of c.result, Call c.function (exprs_of c.arguments.items))
 
--- a fault says that there is nothing; want of memory says nothing
+-- a fault says that there is nothing; out of memory says nothing
 abbrev pub Rejects : {B : Type 0} → RuleError → Option B → Type 0
 Rejects (faults.Broken code) o = o ≡ None
 Rejects faults.Memory o = Unit {0}

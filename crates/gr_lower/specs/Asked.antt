@@ -1,4 +1,4 @@
--- The sizes that the code of statements is written with, in the order in which they are asked for, and then the rest.
+-- The sizes that the code of statements is written with, in the order in which they are asked for, followed by the rest.
 use Rattle.std.specs.Prelude.{ℕ, ◌+◌, List, [], ◌∷◌, ◌++◌, ◌≡◌}
 use Rattle.gr_program.specs.Programs as program
 use Rattle.gr_program.specs.Programs.{Stmt, Does, Block, If, For, Stmts, stop, then, Cases, no_case, default_case, send_case, receive_case}

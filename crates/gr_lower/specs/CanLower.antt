@@ -1,5 +1,5 @@
--- What a program needs to have code: its variables are those of its functions, and its expression statements calls and receives.
--- Each checked program has this.
+-- What a program needs to have code. Its variables are those of its functions, and its expression statements are calls and
+-- receives. Each checked program has this.
 use Rattle.std.specs.Prelude.{ℕ, ◌<◌, List, [], ◌∷◌, map, length, Option, Some, None}
 use Rattle.gr_program.specs.Programs as program
 use Rattle.gr_program.specs.Programs.{Expr, Receive, Call, Act, Opening, Opens, Stmt, Does, Block, If, For, Stmts, stop, then, Cases, no_case, default_case, send_case, receive_case, Function, FunctionIs, Program, ProgramIs}

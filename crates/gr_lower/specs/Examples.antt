@@ -77,7 +77,7 @@ nesting_code =
     ∷ Perform (Assigns (Some 0 ∷ []) 1) (one (operand.Variable 3))
     ∷ Perform Returns nothing ∷ []
 
--- the first so many instructions, and the points that they mean
+-- the first instructions, this many, and the points that they mean
 abbrev pub first_code : ℕ → (ℕ → Option Instruction) → List (Option Instruction)
 first_code zero code = []
 first_code (suc n) code = code 0 ∷ first_code n (λ k. code (k + 1))

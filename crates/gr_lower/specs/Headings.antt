@@ -18,14 +18,14 @@ abbrev pub ways_of : code_ways.Ways → List Way
 ways_of ways_of_code.Outside = []
 ways_of (ways_of_code.Inside' way p outer) = way_of way ∷ ways_of outer
 
--- an if, whose sides have so many instructions
+-- an if, whose sides have this many instructions
 abbrev pub if_heading : Option Opening → Operand → ℕ → ℕ → ℕ → ℕ → ℕ → List Way → List Instruction
 if_heading init condition n m d o on ways =
     let test = o + opening_size init in
     let first = test + (parts_in (one condition) + 1) in
     opening_code init d o test ways ++ performed (one condition) d test (Tests (entry n first on) (entry m (first + n) on))
 
--- where a turn of a for ends, whose body has so many instructions, and its post statement
+-- where a turn of a for ends, whose body and post statement have this many instructions
 abbrev pub turn_of : Option Opening → Option Expr → ℕ → ℕ → ℕ → ℕ
 turn_of init condition n m o =
     let test = o + opening_size init in

@@ -26,7 +26,7 @@ abbrev pub arm_cells : Arm → ℕ
 arm_cells (ReceiveArm channel initial (Some slots) on) = max (slots.0 + 1) (slots.1 + 1)
 arm_cells arm = 0
 
--- .. and at least so many
+-- how many cells a frame needs for the temporaries that the arms of a select give values, and no fewer than n
 abbrev pub arms_cells : ℕ → List Arm → ℕ
 arms_cells n [] = n
 arms_cells n (a ∷ rest) = arms_cells (max n (arm_cells a)) rest
@@ -42,7 +42,7 @@ abbrev pub cells_of : ℕ → List Instruction → ℕ
 cells_of n [] = n
 cells_of n (i ∷ rest) = cells_of (max n (cells_for i)) rest
 
--- the code of a body in a function with so many variables, and the points that it means
+-- the code of a body in a function with this many variables, and the points that it means
 abbrev pub body_code : ℕ → Stmts → List Instruction
 body_code n body = stmts_code body n 0 (size_in body) [] ++ Perform Returns nothing ∷ []
 

@@ -34,7 +34,7 @@ abbrev mutual
   left_in nothing d = nothing
   left_in (also a others) d = also (left a d) (left_in others (d + parts a))
 
--- the parts of a right operand, with the decision before them; where it settles, all of them are passed by
+-- the parts of a right operand, after their decision; where that settles, all of them are skipped
 abbrev pub right_code : BinaryOp → Operand → ℕ → ℕ → ℕ → (ℕ → ℕ → List Instruction) → List Instruction
 right_code op a n d o right = if decides op n then Decide op a d (o + 1 + n) (o + 1) ∷ right (d + 1) (o + 1) else right d o
 

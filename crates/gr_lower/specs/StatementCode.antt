@@ -1,5 +1,5 @@
--- The code of statements. `o` is the number of the first instruction, `d` the first free temporary, `on` the number of what
--- follows; where nothing has instructions of its own, that is next.
+-- The code of statements. `o` is the number of the first instruction, `d` the first free temporary, and `on` the number of
+-- what follows. Where nothing has instructions of its own, `on` comes next.
 use Rattle.std.specs.Prelude.{ℕ, zero, suc, ◌+◌, List, [], ◌∷◌, ◌++◌, slice_get, Option, Some, None, option_and_then}
 use Rattle.std.specs.Option.{option_map}
 use Rattle.gr_program.specs.Programs as program
@@ -31,7 +31,7 @@ turning depth ways = option_and_then (λ w. w.again) (slice_get ways depth)
 abbrev pub goes : Option ℕ → Instruction
 goes o = elim o [ Some on ↦ Perform (GoesOn on) nothing | None ↦ Perform Fails nothing ]
 
--- the first of so many instructions, if there are any
+-- the first of this many instructions, if there are any
 abbrev pub entry : ℕ → ℕ → ℕ → ℕ
 entry zero o on = on
 entry (suc n) o on = o
@@ -73,8 +73,8 @@ abbrev pub targets_code : List (Option ℕ) → ℕ → ℕ → List Instruction
 targets_code [] d on = []
 targets_code (k ∷ ks) d on = Perform (Assigns (k ∷ ks) on) (two (Variable d) (Variable (d + 1))) ∷ []
 
--- the arms of a select, whose clauses have their instructions from `o` on; the parts of their operands have temporaries from
--- `t` on
+-- The arms of a select, whose clauses have their instructions from `o` on. The parts of their operands have temporaries
+-- from `t` on.
 abbrev pub arms : Cases → ℕ → ℕ → ℕ → ℕ → List Arm
 arms no_case t d o on = []
 arms (default_case body others) t d o on = DefaultArm (entry (size_in body) o on) ∷ arms others t d (o + size_in body) on

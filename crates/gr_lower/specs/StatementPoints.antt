@@ -14,17 +14,17 @@ use Rattle.gr_lower.specs.Sizes.{returned, tested, act_size}
 abbrev pub plugged : ℕ → Operands → Operands
 plugged d es = unwrap_or (plug_all d es) es
 
--- .. with so many parts plugged, one after another
+-- the operands with this many parts plugged, one after another
 abbrev pub plugged_again : ℕ → ℕ → Operands → Operands
 plugged_again zero d es = es
 plugged_again (suc n) d es = plugged_again n (d + 1) (plugged d es)
 
--- so many points of a statement
+-- the first points of a statement, this many
 abbrev pub points : Place → Work → Rest → ℕ → ℕ → Operands → List Point
 points place work rest zero d es = []
 points place work rest (suc n) d es = at place work es rest ∷ points place work rest n (d + 1) (plugged d es)
 
--- .. those of its parts, and its own
+-- the points of a statement: those of its parts, and its own
 abbrev pub performed_points : Place → Work → Operands → Rest → ℕ → List Point
 performed_points place work es rest d = points place work rest (parts_in es + 1) d es
 

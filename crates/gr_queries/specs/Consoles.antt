@@ -27,7 +27,7 @@ untold counts texts q = drop (count_in counts q) (texts q)
 abbrev pub passed : List ℕ → (List ℕ → List (List ℕ)) → List ℕ → List (List ℕ)
 passed go texts q = if same_go q go then drop 1 (texts q) else texts q
 
--- the line that the step of a record printed, where these are the lines of its and of later steps, and the lines of later steps
+-- the line that the step of a record printed, from the lines of its and of later steps, and the lines of later steps
 abbrev pub line_of : Record → (List ℕ → List (List ℕ)) → List (List ℕ)
 line_of r texts = if is_printed r.change.own then take 1 (texts r.id.go) else []
 

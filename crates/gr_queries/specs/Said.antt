@@ -33,7 +33,7 @@ text_said (Some g) = said.Lines g.text
 abbrev pub log_said : (p : Program) → List (Logged p) → Said
 log_said p log = said.Log (map (λ l. (id_of p l, step_kind p l)) log)
 
--- .. and of records
+-- the steps of records, with their kinds
 abbrev pub records_said : List Record → Said
 records_said records = said.Log (map (λ r. (r.id, r.change.kind)) records)
 

@@ -1,4 +1,4 @@
--- What is there, where the rules do not refuse for want of it.
+-- What is there where the rules do not refuse because it is absent.
 use Rattle.std.proofs.Common.{◌≡◌, true, false, ◌||◌, List, [], ◌∷◌, Option, Some, None, option_map, refl, ◌∙◌, ap}
 use Rattle.std.specs.Prelude.{fold, is_some}
 use Rattle.std.proofs.lemmas.Bool.{and_from}

@@ -64,7 +64,7 @@ module _ (means : ℕ → Meanings) (p : Program) (code : ProgramCode) (e : Even
       → goroutine_of (frame_of means code) after
       ≡ record (onward (actor_of (frame_of means code) p e g f below) (goes_on (frame_of means code f))) { children = g.children + 1 }
 
-  -- .. where that is its task
+  -- code can go past its close where that is its task
   abbrev pub CompletionCanArrive : Type 0
   CompletionCanArrive = (c : Option ChName) → IsIn means p code g f below → task_of code g ≡ gives (Wants (Closes c)) → ¬ (arrived code Completion g ≡ wrong)
 

@@ -1,4 +1,5 @@
--- Faults of goroutines of code that the rules find beyond the goroutine, and counts of nil: each from the task to the step.
+-- Faults of goroutines of code that the rules find beyond the goroutine, and counts of nil. Each leads from the task to the
+-- step.
 use Rattle.std.specs.Prelude.{◌≡◌, ℕ, pos, negsuc, ◌+◌, ◌<◌, ◌≤◌, true, List, length, Option, Some, None}
 use Rattle.gr_base.specs.declared.names.ChName.{ChName}
 use Rattle.gr_base.specs.declared.values.Value as values

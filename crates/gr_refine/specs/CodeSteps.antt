@@ -1,5 +1,5 @@
--- Steps of goroutines of code that reach beyond themselves, but for communications: each from the task to the step of the machine's
--- attempt.
+-- Steps of goroutines of code that reach beyond themselves, except communications. Each leads from the task to the step of
+-- the machine's attempt.
 use Rattle.std.specs.Prelude.{◌≡◌, ℕ, pos, ◌+◌, ◌<◌, true, false, List, [], ◌∷◌, ◌++◌, length, Option, Some, None}
 use Rattle.std.specs.List.{list_all}
 use Rattle.gr_base.specs.declared.names.ChName.{ChName}

@@ -1,4 +1,4 @@
--- The steps of a goroutine that reach no further than itself, and the end of the program, by what the store contains.
+-- The local steps of a goroutine, and the end of the program, by what the store contains.
 use Rattle.std.specs.Prelude.{◌≡◌, ℕ, true, false, List, [], ◌∷◌, ◌++◌, Some, None}
 use Rattle.gr_base.specs.declared.values.Value.{Value}
 use Rattle.gr_base.specs.declared.kinds.Fault.{Fault}

@@ -1,4 +1,4 @@
--- The steps of goroutines of code that reach no further than themselves are steps of the rules.
+-- The local steps of goroutines of code are steps of the rules.
 use Rattle.std.specs.Prelude.{◌≡◌, ℕ, ◌+◌, List, Option, Some, None}
 use Rattle.gr_base.specs.declared.kinds.Kind.{Kind}
 use Rattle.gr_base.specs.declared.kinds.Kind.TheVariants as kinds

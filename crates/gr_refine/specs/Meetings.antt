@@ -23,7 +23,8 @@ use Rattle.gr_refine.specs.Partners.{is_waiting, waiters_in, as_ruled, met_cells
 abbrev pub thinned : List ℕ → Content → Content
 thinned n x = record x { senders = others n x.senders; receivers = others n x.receivers }
 
--- a goroutine that waited was met at a channel, which is this one by now: it is that goroutine, and waits on no other channel
+-- A goroutine that waited was met at a channel, which is this one by now. It is that goroutine, and waits on no other
+-- channel.
 abbrev pub met_in : Contents → ChName → Content → List ℕ → CodeGoroutine → List Wait → Contents
 met_in s c y n p ws = with_goroutine (with_gates (withdrawing (n ∷ [])) (with_channel s c (Some y)) (channels_but (c ∷ []) ws)) n (Some p)
 

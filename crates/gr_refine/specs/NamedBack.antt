@@ -36,7 +36,7 @@ at_channel c [] = []
 at_channel c (e ∷ es) = if same_channel c e.0 then e.1 ∷ at_channel c es else at_channel c es
 
 -- Changes of channels led to the contents after a step that wrote these objects, and later what the step wrote still
--- stands: the channels are there, with their capacities, and what the changes wrote is among what the step wrote.
+-- stands. The channels are there, with their capacities. What the changes wrote is among what the step wrote.
 pub record StandsLater (frame : CodeFrame → Frame) (os : List Object) (us : List (ChName × ChanUndo)) (after later : Contents) : Type 0 where
   pub fit : FitNamed us after.channels
   pub valid_after : AreChannels after

@@ -1,4 +1,5 @@
--- What is there, where the rules do not refuse for want of it: no state that a checked program reaches is refused as unsound.
+-- What is there where the rules do not refuse because it is absent. No state that a checked program reaches is refused as
+-- unsound.
 use Rattle.std.specs.Prelude.{◌≡◌, ℕ, Bool, true, List, Option, Some}
 use Rattle.std.specs.List.{list_all}
 use Rattle.gr_base.specs.declared.names.ChName.{ChName}

@@ -25,7 +25,7 @@ module _ (means : ℕ → Meanings) (code : ProgramCode) where
   LocalStepKeepsStanding = (p : Program) (g after : CodeGoroutine) (kind : Kind)
       → ProgramFits means p code → AllStand g.frames → local code g ≡ gives (kind, after) → AllStand after.frames
 
-  -- .. and so does what arrives
+  -- what arrives leaves the frames of its goroutine standing
   abbrev pub ArrivalKeepsStanding : Type 0
   ArrivalKeepsStanding = (p : Program) (a : Arrival) (g after : CodeGoroutine)
       → ProgramFits means p code → AllStand g.frames → arrived code a g ≡ gives after → AllStand after.frames
@@ -38,7 +38,7 @@ module _ (means : ℕ → Meanings) (code : ProgramCode) where
   abbrev pub GoneKeepsStanding : Type 0
   GoneKeepsStanding = (s : Contents) (n : List ℕ) → ContentsStand s → ContentsStand (with_goroutine s n None)
 
-  -- .. as do those that are made ready again, and changes of channels alone
+  -- goroutines that are made ready again leave the frames of all standing, and so do changes of channels alone
   abbrev pub WakingKeepsStanding : Type 0
   WakingKeepsStanding = (s : Contents) (names : List (List ℕ)) → ContentsStand s → ContentsStand (with_woken s names)
 

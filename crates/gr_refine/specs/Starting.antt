@@ -21,7 +21,7 @@ module _ (means : ℕ → Meanings) (p : Program) (code : ProgramCode) where
   BegunIsTheStart = (first : CodeFrame) → ProgramFits means p code → entered code code.main [] ≡ gives first
       → state_of (frame_of means code) (begun first) ≡ start p
 
-  -- .. where all frames stand, and no channel is there
+  -- in the contents with `main` entered all frames stand, and no channel is there
   abbrev pub BegunStands : Type 0
   BegunStands = (first : CodeFrame) → ProgramFits means p code → entered code code.main [] ≡ gives first
       → ContentsStand means code (begun first) × AreChannels (begun first)

@@ -53,7 +53,7 @@ abbrev pub ContentsArePutBack : Type 0
 ContentsArePutBack = (s t u : State) (os : List Object) → ((o : Object) → list_any (same o) os ≡ true → look u o ≡ look s o)
     → ((o : Object) → list_any (same o) os ≡ false → look u o ≡ look t o) → u ≡ fold put t (map (look s) os)
 
--- A channel before a step that wrote these objects, directly after it, later, and with the step taken back: the step did
+-- A channel before a step that wrote these objects, directly after it, later, and with the step taken back. The step did
 -- not touch it; or changed it; or made it, and nothing has entered it.
 pub data ChannelBack (os : List Object) (c : ChName) (before after later back : Option Content) : Type 0 where
   untouched : before ≡ after → back ≡ later → ChannelBack os c before after later back
@@ -64,7 +64,7 @@ pub data ChannelBack (os : List Object) (c : ChName) (before after later back : 
       → list_any (same (objects.Gate c)) os ≡ true → ChannelBack os c before after later back
 
 -- A step from the first contents to the second, which wrote these objects, is taken back from the third, where what it
--- wrote stands, and that gives the fourth.
+-- wrote stands. That gives the fourth.
 pub record TakesBack (frame : CodeFrame → Frame) (os : List Object) (before after later back : Contents) : Type 0 where
   pub stands : (o : Object) → list_any (same o) os ≡ true → look (state_of frame later) o ≡ look (state_of frame after) o
   pub run_back : list_any (same objects.Run) os ≡ true → back.run ≡ before.run

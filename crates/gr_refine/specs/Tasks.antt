@@ -23,8 +23,8 @@ use Rattle.gr_refine.specs.Standing.{AllStand}
 abbrev pub chooses : Outcome Task → Bool
 chooses o = elim o [ gives (Wants (Chooses ws)) ↦ true | _ ↦ false ]
 
--- whether a step with this task reaches no further than its goroutine, whose innermost frame has these below it; nothing is
--- asked where the task is wrong
+-- whether a step with this task is local to its goroutine, whose innermost frame has these below it; nothing is asked where
+-- the task is wrong
 abbrev pub stays_within : List CodeFrame → Outcome Task → Bool
 stays_within below (gives (Steps on)) = true
 stays_within below (gives (Wants (Prints line))) = true
@@ -54,7 +54,7 @@ module _ (means : ℕ → Meanings) (p : Program) (code : ProgramCode) (s : Cont
       → StepsTo (frame_of means code) (act_by (actor_of (frame_of means code) p e g f below) e.choice (deed_meant means code o)) s t report
       → StepsTo (frame_of means code) (attempt p e) s t report
 
-  -- .. and where the attempt is not refused as unsound, neither is that
+  -- where the attempt is not refused as unsound, its task is not either
   abbrev pub TaskIsSound : Type 0
   TaskIsSound = (o : Outcome Task) → Acts means p code s e g f below → task_of code g ≡ o → Sound (frame_of means code) s (attempt p e)
       → Sound (frame_of means code) s (act_by (actor_of (frame_of means code) p e g f below) e.choice (deed_meant means code o))
@@ -89,7 +89,7 @@ module _ (means : ℕ → Meanings) (p : Program) (code : ProgramCode) (s : Cont
   TaskIsThere = Acts means p code s e g f below → e.choice ≡ choices.Plain → Sound (frame_of means code) s (attempt p e)
       → ¬ (task_of code g ≡ wrong)
 
-  -- .. and one that stays within the goroutine is a local step
+  -- where the attempt is not refused as unsound, a task that stays within the goroutine is a local step
   abbrev pub LocalStepIsThere : Type 0
   LocalStepIsThere = Acts means p code s e g f below → e.choice ≡ choices.Plain → Sound (frame_of means code) s (attempt p e)
       → stays_within below (task_of code g) ≡ true → ¬ (local code g ≡ wrong)

@@ -34,8 +34,8 @@ with_frames a fs = record (a.before) { frames = fs; steps = a.before.steps + 1 }
 abbrev pub onward : Actor → Frame → Goroutine
 onward a f = with_frames a (f ∷ a.below)
 
--- a step of this goroutine: the clause that it picked, what it did with a channel, its kind, what becomes of the goroutine,
--- and what else it writes
+-- A step of this goroutine: the clause that it picked, what it did with a channel and its kind. Beside that, what becomes
+-- of the goroutine, and what else the step writes.
 abbrev pub does : Actor → Option ℕ → Option Operation → Kind → Goroutine → List Cell → Attempt
 does a clause operation kind g cells =
     perform (record { deed = kind; clause = clause; ordinal = a.before.steps + 1; printed = None; operation = operation }) (go_has a.name (Some g) ∷ cells)
@@ -63,7 +63,7 @@ abbrev pub without : List (List ℕ) → GateContent → GateContent
 without [] gate = gate
 without (name ∷ names) gate = without names (record gate { senders = others name gate.senders; receivers = others name gate.receivers })
 
--- the channels of these waits, each once, but for those that were seen
+-- the channels of these waits, each once, without those that were seen before
 abbrev pub channels_but : List ChName → List Wait → List ChName
 channels_but seen [] = []
 channels_but seen (w ∷ ws) =
@@ -91,8 +91,8 @@ abbrev pub met : Option ℕ → Option (Value × Bool) → Goroutine → List Fr
 met clause got g [] = wrong
 met clause got g (f ∷ fs) = past f clause got >>= λ f. gives (record g { status = ready; frames = f ∷ fs })
 
--- One that waits on the channel is met: it goes past its operation, ready, and the other channels on which it waits are
--- without it (Go: Select statements: only one communication of a select proceeds).
+-- One that waits on the channel is met. It goes past its operation and is ready, and the other channels on which it waits
+-- no longer have it (Go: Select statements: only one communication of a select proceeds).
 abbrev pub ask_met : {X : Type 0} → ChName → Waiter X → Option (Value × Bool) → (List Cell → Attempt) → Attempt
 ask_met c w got k = ask_waiter w.go (λ g ws. ask_withdrawn (w.go ∷ []) (channels_but (c ∷ []) ws) (λ cells.
     if_gives (λ partner. k (go_has w.go (Some partner) ∷ cells)) (met w.case got g g.frames)))

@@ -70,12 +70,14 @@ same_variable = pointwise nat_eq
 abbrev pub assigns : Program → State → List ℕ → List ℕ → Event → Bool
 assigns p s g x e = same_go g e.go && list_any (same_variable x) (assigned p s e)
 
--- the place of the last of some steps, where there is one, by that of the last after the first, and whether the first is one
+-- the place of the last of some steps, if there is one, from the place of the last after the first step, and from whether
+-- the first is one
 abbrev pub later : Option ℕ → Bool → Option ℕ
 later (Some i) b = Some (suc i)
 later None b = if b then Some 0 else None
 
--- the place of the last step of events from a state that gave a variable of the goroutine with this name a value, if one did
+-- the place of the last step that gave a variable of the goroutine with this name a value, among the steps of events from a
+-- state
 abbrev pub last_assignment : Program → State → List ℕ → List ℕ → List Event → Option ℕ
 last_assignment p s g x [] = None
 last_assignment p s g x (e ∷ es) = option_and_then (λ r. later (last_assignment p r.0 g x es) (assigns p s g x e)) ((machine p).step s e)

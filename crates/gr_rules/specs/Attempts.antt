@@ -31,8 +31,8 @@ pub data Operation : Type 0 where
   takes_cap_of : ChName → Operation
   closes : ChName → Operation
 
--- what is noted of a step: what it did, and the clause of a select that it picked; its ordinal among the steps of its
--- goroutine; the line that it printed; what it did with a channel
+-- What is noted of a step: what it did, the clause of a select that it picked, and its ordinal among the steps of its
+-- goroutine. Beside that, the line that it printed, and what it did with a channel.
 pub record Report : Type 0 where
   pub deed : Kind
   pub clause : Option ℕ

@@ -22,8 +22,8 @@ use Rattle.gr_rules.specs.Actors.{Actor, onward, does, fault, given, without, ch
 abbrev pub proceeds : Actor → Option ℕ → Operation → Kind → Option (Value × Bool) → List Cell → Attempt
 proceeds a clause operation kind got cells = given a (past a.frame clause got) (λ f. does a clause (Some operation) kind (onward a f) cells)
 
--- The first waiting receiver gets the value; with none it enters the buffer, where there is room (Go: Send statements: a send
--- on an unbuffered channel can proceed if a receiver is ready, on a buffered one if there is room).
+-- The first waiting receiver gets the value. With none, the value enters the buffer, where there is room (Go: Send
+-- statements: a send on an unbuffered channel can proceed if a receiver is ready, on a buffered one if there is room).
 abbrev pub send_to : Actor → Option ℕ → ChName → GateContent → Value → Attempt → List (Waiter (Unit {0})) → Attempt
 send_to a clause c gate v otherwise (w ∷ ws) = ask_met c w (Some (v, true)) (λ cells.
     proceeds a clause (sends_on c) Hand None (gate_has c (Some (without (w.go ∷ []) gate)) ∷ cells))
@@ -47,7 +47,7 @@ take a clause c gate item (w ∷ ws) = ask_tail c (λ n. ask_met c w None (λ ce
     gate_has c (Some (without (w.go ∷ []) gate)) ∷ head_has c (item.0 + 1) ∷ tail_has c (n + 1)
     ∷ slot_has c (item.0 % gate.capacity) (Some (n, w.value)) ∷ cells)))
 
--- With no item, the first waiting sender gives its value; with no sender either, a closed channel gives the zero value and
+-- With no item, the first waiting sender gives its value. With no sender either, a closed channel gives the zero value and
 -- `false` (Go: Receive operator).
 abbrev pub receive_from : Actor → Option ℕ → ChName → GateContent → Value → Attempt → Option (ℕ × Value) → List (Waiter Value) → Attempt
 receive_from a clause c gate zero otherwise (Some item) ws = take a clause c gate item ws
@@ -68,7 +68,7 @@ communicate a clause (Sending (Some c) _) otherwise = refuse unsound
 communicate a clause (Receiving (Some c) zero) otherwise = receive a clause c zero otherwise
 communicate a clause _ otherwise = otherwise
 
--- the wait of a communication, with the number of its clause in a select; on nil it waits in no queue, for good
+-- the wait of a communication, with the number of its clause in a select; on nil it waits in no queue, forever
 abbrev pub waits_for : Option ℕ → Communication → List Wait
 waits_for clause (Sending (Some c) v) = ToSend c clause ∷ []
 waits_for clause (Receiving (Some c) zero) = ToReceive c clause ∷ []

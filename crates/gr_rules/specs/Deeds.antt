@@ -1,4 +1,4 @@
--- What the next step of a frame is, its operands being evaluated, and where the frame stands after it.
+-- What the next step of a frame is, once its operands are evaluated, and where the frame stands after it.
 use Rattle.std.specs.Prelude.{ℕ, zero, suc, ℤ, ◌-◌, Bool, true, false, List, [], ◌∷◌, Option, Some, None, if◌then◌else◌}
 use Rattle.std.specs.List.{join_with_byte}
 use Rattle.gr_scan.specs.declared.token.Place.{Place}
@@ -170,8 +170,8 @@ cases_from (suc i) (receive_case targets channel initial body others) = cases_fr
 abbrev pub cases_at : Work → Cases
 cases_at work = elim work [ Select cases ↦ cases | _ ↦ no_case ]
 
--- The frame past the communication at which it stands: of its statement or its next part, or of the clause of its select
--- with a number, counted from 1. The goroutine that communicates and the one that it meets go on alike.
+-- The frame past the communication at which it stands. That is one of its statement or its next part, or of the clause of
+-- its select with a number, counted from 1. The goroutine that communicates and the one that it meets go on alike.
 abbrev pub past : Frame → Option ℕ → Option (Value × Bool) → Outcome Frame
 past f None got = past_next f (next_of f.point.operands) got
 past f (Some number) got = past_case f number (cases_from (number - 1) (cases_at f.point.work)) got

@@ -1,5 +1,5 @@
--- Evaluation of expressions without calls, receives, `make`, `len` and `cap`, which have steps of their own: from left to
--- right, operands before their operator (Go: Order of evaluation).
+-- Evaluation of expressions without calls, receives, `make`, `len` and `cap`, which have steps of their own. It goes from
+-- left to right, operands before their operator (Go: Order of evaluation).
 use Rattle.std.specs.Prelude.{Option, Some, List, [], ◌∷◌, slice_get, if◌then◌else◌}
 use Rattle.gr_base.specs.declared.values.Value.{Value}
 use Rattle.gr_rules.specs.Outcomes.{Outcome, gives, wrong, ◌>>=◌}

@@ -131,7 +131,7 @@ gate_after cells choice c = option_and_then (λ s. s.gates c) (after cells choic
 abbrev no_one_waits : ℕ → Bool → Option GateContent
 no_one_waits capacity closed = Some (record { capacity = capacity; closed = closed; senders = []; receivers = [] })
 
--- `main` receives from a full buffer of one place on which a goroutine waits to send 8: it gets the item, and 8 moves up
+-- `main` receives from a full buffer of one place on which a goroutine waits to send 8. It gets the item, and 8 moves up.
 abbrev full : List Cell
 full =
     stands main 1 0 ready ∷ stands (child 1) 0 8 (waiting (ToSend c None ∷ []))
@@ -226,7 +226,7 @@ AllAreWoken =
     × (status_after two_wait choices.Plain (child 2) ≡ Some ready)
     × (gate_after two_wait choices.Plain c ≡ no_one_waits 0 true)
 
--- `main` sends on a closed channel: the fault is a step, after which none is possible, and `main` stands where it stood
+-- `main` sends on a closed channel. The fault is a step, after which none is possible, and `main` stands where it stood.
 abbrev closed : List Cell
 closed = stands main 0 5 ready ∷ gate_has c (no_one_waits 0 true) ∷ []
 

@@ -27,7 +27,7 @@ abbrev pub AtTheLimits : Type 0
 AtTheLimits = Gives Divide least (negsuc 0) least × Gives Remainder least (negsuc 0) (pos 0) × Gives Add greatest (pos 1) least
     × Gives Multiply greatest greatest (pos 1) × (evaluate [] (Unary Negate (Done (Int least))) ≡ gives (Int least))
 
--- Go: Integer operators: a quotient is cut off towards zero, and the remainder has the sign of the dividend
+-- Go: Integer operators: a quotient is rounded toward zero, and the remainder has the sign of the dividend
 abbrev pub Quotients : Type 0
 Quotients = Gives Divide (negsuc 6) (pos 2) (negsuc 2) × Gives Remainder (negsuc 6) (pos 2) (negsuc 0)
     × Gives Divide (pos 7) (negsuc 1) (negsuc 2) × Gives Remainder (pos 7) (negsuc 1) (pos 1)

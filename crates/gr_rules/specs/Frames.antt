@@ -18,8 +18,8 @@ abbrev pub written : Option (Option Value) → ℕ → Value → Variables → O
 written None k v held = wrong
 written (Some old) k v held = gives (slice_set held k (Some v))
 
--- values given to variables, from left to right; the blank identifier keeps nothing (Go: Assignment statements). Values that no
--- variable is left for are dropped, as whether there was one where a clause of a select asks for the value alone.
+-- Values given to variables, from left to right. The blank identifier keeps nothing (Go: Assignment statements). Values
+-- without a variable are dropped: where a clause of a select asks for the value alone, whether there was one is dropped.
 abbrev pub assigned : List (Option ℕ) → List Value → Variables → Outcome Variables
 assigned [] vs held = gives held
 assigned (Some k ∷ ks) (v ∷ vs) held = written (slice_get held k) k v held >>= λ held. assigned ks vs held
@@ -48,7 +48,7 @@ abbrev pub is_over : Work → Operands → Bool
 is_over Eval (also (Done v) nothing) = true
 is_over _ _ = false
 
--- the frame with these operands, one part more being done
+-- the frame with these operands, after one more part is done
 abbrev pub filled : Frame → Operands → Frame
 filled f operands =
     if is_over f.point.work operands

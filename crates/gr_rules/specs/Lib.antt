@@ -1,4 +1,4 @@
--- The rules of steps: evaluation, where frames stand and what they do next, states, and for each event a step or a refusal.
+-- The rules of steps: evaluation, where frames stand and what they do next, states, and the step or refusal of each event.
 pub mod Outcomes
 pub mod Operators
 pub mod Operands

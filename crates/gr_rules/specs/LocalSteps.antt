@@ -7,8 +7,8 @@ use Rattle.gr_rules.specs.Goroutines.{Status, ready, Goroutine}
 use Rattle.gr_rules.specs.States.{State}
 use Rattle.gr_rules.specs.Steps.{is_deepest}
 
--- With these frames: a statement or part of one that touches nothing else, a line that is printed, a call that is not too deep,
--- or a return that is not out of the outermost frame.
+-- What a goroutine with these frames may do by a local step: a statement or part of one that touches nothing else, a print,
+-- a call that is not too deep, or a return that is not out of the outermost frame.
 abbrev pub stays_within : List Frame → Deed → Bool
 stays_within fs (Moves on) = true
 stays_within fs (Prints line) = true

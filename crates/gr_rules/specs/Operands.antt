@@ -31,7 +31,7 @@ value_of (Truth b) = values.Bool b
 value_of Empty = values.Unit
 value_of Nil = values.Chan None
 
--- an expression of which nothing is done yet; without a size `make` takes 0 (Go: Making slices, maps and channels)
+-- an expression before any part of it is done; without a size `make` takes 0 (Go: Making slices, maps and channels)
 abbrev mutual
   pub operand_of : Expr → Operand
   operand_of (program.Literally v) = Done (value_of v)

@@ -1,5 +1,6 @@
--- The next part of an expression: the first, operands before operators and from left to right, of its calls, receives,
--- `make`, `len` and `cap`, and of its `&&` and `||` whose right operand has a part (Go: Order of evaluation).
+-- The next part of an expression. Its parts are its calls, receives, `make`, `len` and `cap`, and its `&&` and `||` whose
+-- right operand has a part. The next one is the first, operands before operators and from left to right (Go: Order of
+-- evaluation).
 use Rattle.std.specs.Prelude.{ℕ, Bool, true, false, if◌then◌else◌}
 use Rattle.gr_tree.specs.declared.expr.BinaryOp.{BinaryOp}
 use Rattle.gr_tree.specs.declared.expr.BinaryOp.TheVariants.{LogicalAnd, LogicalOr}

@@ -1,4 +1,4 @@
--- Where a frame stands: the statement, its parts that are done replaced by their values, and what remains after it.
+-- Where a frame stands: the statement, with finished parts replaced by their values, and what remains after it.
 use Rattle.std.specs.Prelude.{ℕ, zero, suc, true, List, [], ◌∷◌, Option, Some, None, unwrap_or}
 use Rattle.std.specs.Option.{option_map_or, option_or}
 use Rattle.gr_scan.specs.declared.token.Place.{Place}
@@ -41,15 +41,15 @@ pub data Work : Type 0 where
   GoOn : Work
   -- a `break` or `continue` out of a statement that is not there, as in no checked program
   Astray : Work
-  -- an if or a for: what follows where the condition holds; what follows where it does not is what remains of the point
+  -- an if or a for: what follows where the condition holds; what remains of the point follows where it does not
   Test : (holds : Rest) → Work
   Range : (target : Option ℕ) (body : Stmts) → Work
   -- a turn of a range, whose channel is done
   Turn : (target : Option ℕ) (body : Stmts) → Work
   Select : (cases : Cases) → Work
 
--- A statement and where it begins, which tells it from the others of its function; its operands in source order; and what
--- remains after it.
+-- A statement and where it begins, which tells it from the others of its function. Beside that, its operands in source
+-- order, and what remains after it.
 pub record Point : Type 0 where
   pub place : Place
   pub work : Work
@@ -64,7 +64,7 @@ abbrev pub onto : Stmts → Rest → Rest
 onto stop rest = rest
 onto (then s ss) rest = following (then s ss) rest
 
--- what remains after a for or select statement around a place, of which so many more lie further inside
+-- what remains after a for or select statement around a place; this many more lie further inside
 abbrev pub outside : ℕ → Rest → Option Rest
 outside n (closing place) = None
 outside n (following ss rest) = outside n rest

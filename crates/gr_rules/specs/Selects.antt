@@ -23,7 +23,7 @@ ask_ready (Sending (Some c) v) k = ask_gate c (λ gate. ask_room c gate (λ room
 ask_ready (Receiving (Some c) zero) k = ask_gate c (λ gate. ask_item c gate (λ item. k (gate.closed || has_any gate.senders || is_some item)))
 ask_ready _ k = k false
 
--- this, where no clause can proceed
+-- this outcome, where no clause can proceed
 abbrev pub if_none_ready : List Communication → Attempt → Attempt
 if_none_ready [] then_this = then_this
 if_none_ready (c ∷ cs) then_this = ask_ready c (λ b. if b then refuse no_such_choice else if_none_ready cs then_this)

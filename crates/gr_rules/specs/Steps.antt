@@ -54,8 +54,8 @@ child a = a.name ++ (a.before.children + 1) ∷ []
 abbrev pub if_absent : Attempt → Option Goroutine → Attempt
 if_absent then_this child = elim child [ None ↦ then_this | Some g ↦ refuse unsound ]
 
--- The child is named after its parent, by how many children that has started; a name has at most 32 counts, each below 2^32
--- (Go: Go statements).
+-- The child is named after its parent, by how many children the parent has started. A name has at most 32 counts, each
+-- below 2^32 (Go: Go statements).
 abbrev pub go : Actor → ℕ → List Value → Attempt
 go a function vs =
     if nat_le most_counts (length a.name)

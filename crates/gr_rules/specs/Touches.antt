@@ -1,4 +1,4 @@
--- What a step reads and writes: a table by its kind, and by what it did with a channel. The rules touch just this.
+-- What a step reads and writes: a table by its kind, and by what it did with a channel. The rules touch exactly this.
 use Rattle.std.specs.Prelude.{◌≡◌, ◌↔◌, ℕ, zero, suc, ◌+◌, ◌%◌, List, [], ◌∷◌, ◌++◌, map, take, Option, Some, None}
 use Rattle.std.specs.List.{flat_map}
 use Rattle.std.specs.Option.{option_map_or}

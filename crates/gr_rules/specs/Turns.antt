@@ -25,8 +25,8 @@ pub record IsFirst (P : List ℕ → Type 0) (g : List ℕ) : Type 0 where
 abbrev pub IsLater : State → List ℕ → List ℕ → Type 0
 IsLater s last g = IsReady s g × (go_cmp last g ≡ Less)
 
--- Whose turn it is: the first ready goroutine after that of the last step; where there is none after it, or no last step, the
--- first ready one.
+-- Whose turn it is: the first ready goroutine after that of the last step. Where there is none after it, or no last step,
+-- it is the first ready one.
 abbrev pub HasTurn : State → Option (List ℕ) → List ℕ → Type 0
 HasTurn s None g = IsFirst (IsReady s) g
 HasTurn s (Some last) g = IsFirst (IsLater s last) g ⊎ (((h : List ℕ) → ¬ IsLater s last h) × IsFirst (IsReady s) g)
@@ -72,8 +72,8 @@ ends_by ended else_this = Some program_ended
 ends_by (faulted e) else_this = Some (program_faulted e)
 ends_by live else_this = else_this
 
--- Why no more steps are taken, if so: the first reason that holds, in the order of `RunEnd`. So many steps were wanted and so
--- many taken, the log has kept so many, and it is this goroutine's turn.
+-- Why no more steps are taken, if so: the first reason that holds, in the order of `RunEnd`. It goes by how many steps were
+-- wanted, how many were taken, how many the log has kept, and whose turn it is.
 abbrev pub why_end : State → List ℕ → ℕ → ℕ → ℕ → Option (List ℕ) → Option RunEnd
 why_end s breaks wanted taken kept turn = ends_by s.run (ends_live s breaks wanted taken kept turn)
 
@@ -82,7 +82,8 @@ abbrev pub IsTurn : State → Option (List ℕ) → Option (List ℕ) → Type 0
 IsTurn s last (Some g) = HasTurn s last g
 IsTurn s last None = (g : List ℕ) → ¬ IsReady s g
 
--- Steps by turns, each with the usual choice, from a state and a log to a state, a log, how many were taken, and why they ended.
+-- Steps by turns, each with the usual choice. They lead from a state and a log to a state, a log, how many were taken, and
+-- why they ended.
 pub data Runs (p : Program) (breaks : List ℕ) (wanted : ℕ) : ℕ → State → List (StepOf (machine p)) → State → List (StepOf (machine p)) → ℕ → RunEnd → Type 0 where
   stops : {taken : ℕ} {s : State} {log : List (StepOf (machine p))} {why : RunEnd} (turn : Option (List ℕ))
       → IsTurn s (last_owner p log) turn

@@ -12,8 +12,8 @@ use Rattle.gr_scan.specs.Strings.{part_of}
 use Rattle.gr_scan.specs.Pieces.{IsPiece, NoPiece}
 use Rattle.gr_scan.specs.Scan.{mark_size}
 
--- the fault of a run that begins with a digit, where it has one: it is digits of its base, but worth over 2^63; or it is no
--- such digits, but a number of a kind that is left out; or it is neither
+-- The fault of a run that begins with a digit, where it has one. It is digits of its base, but worth over 2^63. Or it is no
+-- such digits: then it is of a kind that is left out, or malformed.
 abbrev pub number_fault : (at : ℕ) → List ℕ → Option ScanError
 number_fault at s =
     if is_number s then (if nat_le (worth s) (2 ^ 63) then None else Some (TooGreat at)) else
@@ -43,21 +43,21 @@ wrong_in at escape (b ∷ s) = wrong_by at (part_of escape b) (wrong_in at false
 abbrev pub text_fault : (at : ℕ) → List ℕ → Option ScanError
 text_fault at text = wrong_in at false (drop 1 text)
 
--- where no piece begins there is a string literal that is none, the quote of a rune or of a raw string, which are left out,
--- or a byte that begins no token
+-- where no piece begins stands one of three things: a string literal that is none; the quote of a rune or of a raw string,
+-- which are left out; or a byte that begins no token
 abbrev pub stray_fault : (at : ℕ) → List ℕ → Option ScanError
 stray_fault at text =
     if slice_index text 0 == 34 then text_fault at text else
     (if slice_index text 0 == 39 || slice_index text 0 == 96 then Some (LeftOut at) else Some (Strange at))
 
--- the first fault of a text with `at` bytes before it: no piece begins here, or one that has a fault, or one that has none,
--- and the first fault comes after it
+-- The first fault of a text with `at` bytes before it. No piece begins here, or one that has a fault. Or the piece here has
+-- none, and the first fault comes after it.
 pub data FirstFault : ScanError → (at : ℕ) → List ℕ → Type 0 where
   stray : {e : ScanError} {at : ℕ} {text : List ℕ} → NoPiece text → 0 < length text → stray_fault at text ≡ Some e → FirstFault e at text
   here : {e : ScanError} {at : ℕ} {text : List ℕ} {p : Piece} {n : ℕ} → IsPiece p n text → piece_fault at p (take n text) ≡ Some e → FirstFault e at text
   later : {e : ScanError} {at : ℕ} {text : List ℕ} {p : Piece} {n : ℕ} → IsPiece p n text → piece_fault at p (take n text) ≡ None → FirstFault e (at + n) (drop n text) → FirstFault e at text
 
--- what each fault says of a text; want of memory says nothing
+-- what each fault says of a text; out of memory says nothing
 abbrev pub HasFault : ScanError → List ℕ → Type 0
 HasFault Memory text = Unit {0}
 HasFault TooLong text = TEXT_LIMIT < length text

@@ -62,7 +62,7 @@ abbrev pub is_exponent : (hexadecimal : Bool) → ℕ → Bool
 is_exponent true b = b == 112 || b == 80
 is_exponent false b = b == 101 || b == 69
 
--- whether a run that is no number is of a kind that the language leaves out: it has an exponent, or it ends in the `i` of
--- an imaginary number (Go: Floating-point literals, Imaginary literals)
+-- Whether a run that is no number is of a kind that the language leaves out. It has an exponent, or it ends in the `i` of
+-- an imaginary number (Go: Floating-point literals, Imaginary literals).
 abbrev pub is_left_out : List ℕ → Bool
 is_left_out s = slice_index s (length s - 1) == 105 || list_any (is_exponent (is_hexadecimal s)) s

@@ -26,9 +26,9 @@ IsRun n s = (k : ℕ) → k < n → is_word (slice_index s k) ≡ true
 abbrev pub Closes : List ℕ → ℕ → Type 0
 Closes s k = (slice_index s k ≡ 42) × (slice_index s (k + 1) ≡ 47)
 
--- `Spells piece s`: the bytes s are a piece of this kind. A general comment runs from `/*` to the first `*/` after it, and
--- an open one is the `/*` alone, so that it is the longest piece only where none follows. A number is a run of digits,
--- letters and `_`, whatever it is worth; a fraction is such a run and a point, or a point and a digit
+-- `Spells piece s`: the bytes s are a piece of this kind. A general comment runs from `/*` to the first `*/` after it. An
+-- open one is the `/*` alone, so it is the longest piece only where no `*/` follows. A number is a run of digits, letters
+-- and `_`, whatever it is worth. A fraction is such a run and a point, or a point and a digit.
 abbrev pub Spells : Piece → List ℕ → Type 0
 Spells Space s = (length s ≡ 1) × (is_space (slice_index s 0) ≡ true)
 Spells Newline s = s ≡ 10 ∷ []

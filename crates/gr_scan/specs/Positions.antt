@@ -8,6 +8,6 @@ use Rattle.gr_scan.specs.Scan.{newlines}
 abbrev pub since_newline : List ℕ → ℕ
 since_newline s = prefix_len (λ b. not (b == 10)) (reverse s)
 
--- the position of the byte that has so many bytes before it; past the end, where the text ends
+-- the position of the byte that has this many bytes before it; past the end, where the text ends
 abbrev pub position_of : List ℕ → (before : ℕ) → Position
 position_of text before = record { line = 1 + newlines (take before text); column = 1 + since_newline (take before text) }

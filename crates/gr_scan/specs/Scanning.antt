@@ -73,7 +73,7 @@ end_after i escape (b ∷ s) = end_by (part_of escape b) (i + 1) (end_after (i +
 abbrev pub text_end : List ℕ → Option ℕ
 text_end text = end_after 1 false (drop 1 text)
 
--- what a fault of the text says: want of memory and a text that is too long are none
+-- what a fault of the text says; out of memory and a text that is too long are none
 abbrev pub Tells : ScanError → Type 0 → Type 0
 Tells errors.Memory P = ⊥
 Tells errors.TooLong P = ⊥
@@ -86,7 +86,7 @@ Puts (Ok b) wanted None old new = ⊥
 Puts (Err errors.Memory) wanted o old new = Unit {0}
 Puts (Err error) wanted o old new = Tells error (o ≡ None)
 
--- what a fault says of a piece; want of memory says nothing
+-- what a fault says of a piece; out of memory says nothing
 abbrev pub Finds : ScanError → Option ScanError → Type 0
 Finds errors.Memory found = Unit {0}
 Finds error found = found ≡ Some error

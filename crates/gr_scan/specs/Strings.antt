@@ -37,8 +37,8 @@ is_left_out_escape b =
     b == 97 || b == 98 || b == 102 || b == 110 || b == 114 || b == 118 || b == 120 || b == 117 || b == 85
     || (nat_le 48 b && nat_le b 55)
 
--- what a byte after the opening quote is: a byte of the value, the backslash of an escape, the closing quote, one that the
--- language leaves out, or one that no string literal has there
+-- What a byte after the opening quote is: a byte of the value, the backslash of an escape, or the closing quote. Else it is
+-- one that the language leaves out, or one that no string literal has there.
 abbrev pub escape_part : Option ℕ → ℕ → Part
 escape_part (Some byte) b = Byte byte
 escape_part None b = if is_left_out_escape b then LeftOut else Malformed

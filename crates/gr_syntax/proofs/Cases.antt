@@ -129,7 +129,7 @@ operator_is {O} of mark all (At p (Sign m) ∷ ts) o q =
     (λ e is. absurd (cc))
 operator_is {O} of mark all _ o q = absurd (cc)
 
--- no mark is missed by want of height
+-- no mark is missed because of too little height
 pub need_low : {Z : Type 0} (m : Mark) (ts : List Tok) → need m ts ≡ Err High → Z
 unfolding need
 need_low m [] q = absurd (cc)

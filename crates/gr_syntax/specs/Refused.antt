@@ -49,7 +49,7 @@ pub record IsTooHigh (token : ℕ) (ts : List Tok) : Type 0 where
   pub long : 200 < length ts
   pub none : (f : FileTree) → SpellsFile f ts → file_height f ≤ 200 → ⊥
 
--- what each error says; want of memory says nothing
+-- what each error says; out of memory says nothing
 abbrev pub HasNoTree : ParseError → List Tok → Type 0
 HasNoTree (errors.NoFile token) ts = IsNoFile token ts × (left_out (slice_get ts token) ≡ false)
 HasNoTree (errors.LeftOut token) ts = IsNoFile token ts × (left_out (slice_get ts token) ≡ true)

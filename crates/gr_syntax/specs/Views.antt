@@ -28,7 +28,7 @@ found_of view f = (view f.value, f.height, tokens_of f.rest.now)
 abbrev pub Finds : {X Y : Type 0} → (X → Y) → List Token → Result (code.Found X) code_fault.ReadError → (List Tok → Result (Found Y) ReadError) → Type 0
 Finds view tokens result read = Gives (found_of view) result (read (tokens_of tokens))
 
--- the same of what goes on from this expression
+-- what a function found after this expression is what reading on from it gives, unless memory ran out
 abbrev pub Continues : {X Y : Type 0} → (X → Y) → code.Found Expr → Result (code.Found X) code_fault.ReadError → (Found Tree → Result (Found Y) ReadError) → Type 0
 Continues view first result read = Gives (found_of view) result (read (found_of tree_of first))
 

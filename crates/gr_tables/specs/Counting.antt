@@ -15,7 +15,7 @@ use Rattle.gr_tables.specs.NamedGoroutines.{IsCounted}
 abbrev pub CanTry : ProgramCode → Seen → Type 0
 CanTry code g = (g.content.status ≡ ready → ¬ (task_of code g.content ≡ wrong)) × IsCounted g
 
--- the goroutine was ready, and its step reaches no further than itself and is no fault: its ordinal, and what undoes it
+-- The goroutine was ready, and its step is local and no fault. It has the step's ordinal, and what undoes it.
 pub record StepsOn (code : ProgramCode) (r : ℕ × GoUndo) (a b : Seen) : Type 0 where
   pub is : IsStep (Pure, r.1) (local code a.content) a b
   pub ordinal : r.0 ≡ a.content.steps + 1

@@ -101,7 +101,7 @@ abbrev pub frees : List (ChName × ChanUndo) → ChName → Room
 frees [] q = each 0
 frees (e ∷ es) q = if same_channel q e.0 then plus (entered e.1) (minus (frees es q) (need e.1)) else frees es q
 
--- the room that taking them back needs at a channel
+-- the room at a channel that taking them back needs
 abbrev pub needs : List (ChName × ChanUndo) → ChName → Room
 needs [] q = each 0
 needs (e ∷ es) q = if same_channel q e.0 then plus (needs es q) (minus (need e.1) (frees es q)) else needs es q
@@ -110,8 +110,8 @@ needs (e ∷ es) q = if same_channel q e.0 then plus (needs es q) (minus (need e
 abbrev pub HasRooms : List (ChName × ChanUndo) → (ChName → Room) → Type 0
 HasRooms us rooms = (q : ChName) → Within (needs us q) (rooms q)
 
--- these changes lead from the first channels to the second: taking them back gives the contents of the first, needs no
--- memory directly after them, and leaves no less room than there was
+-- These changes lead from the first channels to the second. Taking them back gives the contents of the first, needs no
+-- memory directly after them, and leaves no less room than there was.
 pub record GoesBack (us : List (ChName × ChanUndo)) (old new : Channels) : Type 0 where
   pub back : (q : ChName) → chan_back us q (contents_of new q) ≡ contents_of old q
   pub fits : ChansFit us (contents_of new)
@@ -141,7 +141,7 @@ abbrev pub AreAtGates : List ChName → List (ChName × ChanUndo) → Type 0
 AreAtGates names [] = Unit {0}
 AreAtGates names (e ∷ es) = (is_at_gate e.1 ≡ true) × (list_any (same_channel e.0) names ≡ true) × AreAtGates names es
 
--- .. these changes are the first ones, and after them others of that kind
+-- these changes are the first ones, and the others after them each wrote a gate alone, that of a channel among these
 pub record MoreAtGates (names : List ChName) (done us : List (ChName × ChanUndo)) : Type 0 where
   pub more : List (ChName × ChanUndo)
   pub are : us ≡ done ++ more
@@ -198,8 +198,8 @@ TakeGoesBack name taken.Empty old new = seen_of new ≡ seen_of old
 abbrev pub ChangesJoin : Type 0
 ChangesJoin = (us vs : List (ChName × ChanUndo)) (a b c : Channels) → GoesBack us a b → GoesBack vs b c → GoesBack (us ++ vs) a c
 
--- changes taken back where they lead to, or from the same contents and no less room: the contents are those from which they
--- lead, and there is no less room than there was
+-- Changes are taken back from where they lead to, or from the same contents with no less room. The contents are then those
+-- from which they lead, and there is no less room than there was.
 abbrev pub ChangesGoBack : Type 0
 ChangesGoBack = (us : List (ChName × ChanUndo)) (a b c d : Channels) → GoesBack us a b → contents_of c ≡ contents_of b → KeepsRooms b c → TookBack us c d
     → (contents_of d ≡ contents_of a) × KeepsRooms a d

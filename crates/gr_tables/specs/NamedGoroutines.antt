@@ -59,7 +59,7 @@ pub record Changes (number : ℕ) (a b : Seen) (old new : Goroutines) : Type 0 w
   pub was : seen_at old number ≡ Some a
   pub sets : Sets number (Some b) old new
 
--- .. and this is true of what it was and of what it is
+-- the goroutine with the number changes, nothing else does, and this is true of what it was and of what it is
 abbrev pub ChangesBy : ℕ → (Seen → Seen → Type 0) → Goroutines → Goroutines → Type 0
 ChangesBy number R old new = (a : Seen) × (b : Seen) × Changes number a b old new × R a b
 
@@ -73,7 +73,7 @@ pub record KeepsContents (old new : Goroutines) : Type 0 where
 abbrev pub IsCounted : Seen → Type 0
 IsCounted g = g.content.steps + 1 < 2 ^ 64
 
--- its next step reaches no further than itself
+-- its next step is local
 abbrev pub StepsAlone : ProgramCode → Seen → Type 0
 StepsAlone code g = (¬ (local code g.content ≡ wrong)) × (is_local code g.content ≡ true) × IsCounted g
 

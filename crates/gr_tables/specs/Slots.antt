@@ -6,6 +6,6 @@ use Rattle.gr_goros.specs.Views.{Seen}
 abbrev pub SlotChanges : (Seen → Seen → Type 0) → Option Seen → Option Seen → Type 0
 SlotChanges R x y = (a : Seen) × (b : Seen) × (x ≡ Some a) × (y ≡ Some b) × R a b
 
--- .. with the same content, and no less room
+-- it is there before and after, with the same content, and no less room
 abbrev pub SlotKeeps : Option Seen → Option Seen → Type 0
 SlotKeeps x y = (a : Seen) × (b : Seen) × (x ≡ Some a) × (y ≡ Some b) × (b.content ≡ a.content) × (a.room ≤ b.room)

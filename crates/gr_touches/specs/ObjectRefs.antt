@@ -1,4 +1,4 @@
--- Objects that are named where their names are.
+-- Objects by names that are borrowed.
 use Rattle.std.specs.Prelude.{◌≡◌, IsTrue}
 use Rattle.std.proofs.Common.{refl, sym, ap, ◌∙◌}
 use Rattle.gr_rules.specs.States.{same}

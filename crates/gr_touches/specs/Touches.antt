@@ -43,12 +43,12 @@ abbrev pub if_any : {A : Type 0} → List A → Option (List A)
 if_any [] = None
 if_any (x ∷ xs) = Some (x ∷ xs)
 
--- a touch for each of so many steps one behind the other, the first of which stands at this place
+-- a touch for each of this many consecutive steps, the first of which stands at this place
 abbrev pub stretch : Bool → ℕ → ℕ → List Touch
 stretch w place zero = []
 stretch w place (suc count) = record { place = place; writes = w } ∷ stretch w (suc place) count
 
--- what is kept for an object of so many steps of a goroutine that reached no further
+-- what is kept for an object of this many steps of a goroutine that reached no further
 abbrev pub own_touches : List ℕ → ℕ → ℕ → Object → List Touch
 own_touches go place count o =
     if same Run o then stretch false place count else if same (Go go) o then stretch true place count else []

@@ -16,7 +16,7 @@ pub record AreInReach (l : Lanes) (origin : Origin) (count : ℕ) : Type 0 where
   pub ascending : (o : Object) → IsAscending 0 (list_of l o)
   pub reach : (o : Object) → InReach origin count (list_of l o)
 
--- of the lists that were walked, all that is wanted on the side of the origin is marked
+-- of the lists that were walked, all wanted touches on the side of the origin are marked
 abbrev pub AreWalked : Lanes → Origin → Wanted → List Bool → List Bool → Type 0
 AreWalked l origin which walked marks = (n : ℕ) → has_mark walked n ≡ true → (j : ℕ) → j < length marks → is_beyond origin (origin.base + j) ≡ true
     → hits which (list_numbered l n) (origin.base + j) ≡ true → has_mark marks j ≡ true

@@ -67,7 +67,7 @@ takers s [] ts = Some []
 takers s (x ∷ xs) [] = None
 takers s (x ∷ xs) (t ∷ ts) = taker s x t >>= λ k. takers s xs ts >>= λ ks. Some (k ∷ ks)
 
--- the same with the value's term
+-- what takes a value on the left of `:=`, with the value's term
 abbrev pub old_share : Scope → List ℕ → Value → Option (Taker × Expr)
 old_share s x v = target s x >>= λ k. fit s k v >>= λ p. Some (Old k, p)
 

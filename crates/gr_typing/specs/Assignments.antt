@@ -34,8 +34,8 @@ pub data AreGiven (fs : List Signature) (s : Scope) : List (List ℕ) → Trees 
       → AreGiven fs s xs es ks ps
       → AreGiven fs s (x ∷ xs) (tree.more e es) (k ∷ ks) (more p ps)
 
--- A name on the left of `:=`, seen from the scope s before the statement: one that the block declares already is
--- assigned, the blank identifier keeps nothing, and every other is declared, with its value's own type. After the names before it
+-- A name on the left of `:=`, seen from the scope s before the statement. One that the block declares already is assigned.
+-- The blank identifier keeps nothing. Every other name is declared, with its value's own type. After the names before it
 -- the scope is m, and n after this one.
 pub data IsDefined (s : Scope) : List ℕ → Value → Scope → Option ℕ → Expr → Scope → Type 0 where
   blank : {x : List ℕ} {v : Value} {t : Ty} {p : Expr} {m : Scope}

@@ -10,7 +10,7 @@ pub data Around : Type 0 where
   Choice : (label : Option (List ℕ)) → Around
 
 -- what is around a statement: the functions of the program, the result of its function, and the for and select statements
--- that it stands in, the innermost first
+-- around it, the innermost first
 pub data Context : Type 0 where
   Within : (functions : List Signature) (result : Option Ty) (around : List Around) → Context
 

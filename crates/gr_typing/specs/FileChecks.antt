@@ -63,8 +63,8 @@ abbrev pub ends_well : Option Ty → Statements → Bool
 ends_well None body = true
 ends_well (Some t) body = ends body
 
--- functions among these signatures, each of its own; its statements begin one after another, as in every text, so that no two
--- begin at one place
+-- Functions among these signatures, each with its own. Its statements begin one after another, as in every text, so that no
+-- two begin at one place.
 pub data AreFunctions (fs : List Signature) : List files.Function → List Signature → List Function → Type 0 where
   no_function : AreFunctions fs [] [] []
   one_function : {place closing : Place} {name y : List ℕ} {groups : List Group} {w : Option WrittenType}

@@ -23,8 +23,8 @@ pub data IsOpening (fs : List Signature) (s : Scope) : Option statements.Heading
   opening : {place : Place} {a : Simple} {b : Act} {n : Scope}
       → DoesSimple fs s a b n → IsOpening fs s (Some (statements.Heads place a)) (Some (Opens place b)) n
 
--- whether the post statement of a for declares variables, which the body would see before they hold values: it may not
--- (Go: For statements with for clause)
+-- Whether the post statement of a for declares variables. It may not, since the body would see them before they hold values
+-- (Go: For statements with for clause).
 abbrev pub declares : Option statements.Heading → Bool
 declares None = false
 declares (Some (statements.Heads place (statements.Define names values))) = true

@@ -19,8 +19,8 @@ type_written written.UnitType = Some UnitType
 type_written (written.Chan direction element) = chan_of direction (type_written element)
 type_written (written.ParenType inner) = type_written inner
 
--- a value of the first type may be given to a place of the second: the types are identical, or a channel that sends and
--- receives is given to one with the same elements
+-- A value of the first type may be given to a place of the second. The types are identical, or a channel that sends and
+-- receives is given to one with the same elements.
 abbrev pub assignable : Ty → Ty → Bool
 assignable (ChanType Both t) (ChanType e u) = same_type t u
 assignable t u = same_type t u

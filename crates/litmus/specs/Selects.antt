@@ -119,7 +119,7 @@ defaults = ProgramIs (
 abbrev pub none_ready : List Event
 none_ready = times 3 main (takes_default main ∷ steps (child 1) ∷ [])
 
--- the default looked at the channel; no clause may be picked that is not ready, and no default be taken where one is
+-- the default looked at the channel; no clause can be picked that is not ready, and the default is not taken where one is
 abbrev pub TakesDefault : Type 0
 TakesDefault =
     (kinds defaults none_ready ≡ Make ∷ Pure ∷ Go ∷ Default ∷ Buffer ∷ [])

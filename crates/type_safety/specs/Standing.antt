@@ -39,19 +39,19 @@ pub data StandsAs : Status → List Frame → Type 0 where
       → ¬ (deed f ≡ wrong) → StandsAt f ws → AllAwait f.function below → StandsAs (waiting ws) (f ∷ below)
   is_finished : StandsAs finished []
 
--- The values that the clauses of a select send, with the operands of its cases: each comes to one, or to a fault (Go: Select
--- statements).
+-- The values that the clauses of a select send, with the operands of its cases. Each comes to a value, or to a fault (Go:
+-- Select statements).
 abbrev pub ClausesSend : Variables → Cases → Operands → Type 0
 ClausesSend held (default_case body others) operands = ClausesSend held others operands
 ClausesSend held (send_case channel value body others) (also c (also e operands)) = (¬ (evaluate held e ≡ wrong)) × ClausesSend held others operands
 ClausesSend held (receive_case targets channel initial body others) (also c operands) = ClausesSend held others operands
 ClausesSend held _ _ = Unit {0}
 
--- .. of the statement, where that is a select
+-- the values that a statement sends, where it is a select: each comes to a value, or to a fault
 abbrev pub WorkSends : Variables → Work → Operands → Type 0
 WorkSends held work operands = elim work [ Select cases ↦ ClausesSend held cases operands | _ ↦ Unit {0} ]
 
--- .. at which a frame stands, no part of it being left
+-- the values that the select at which a frame stands sends, once no part of it is left
 abbrev pub FrameSends : Frame → Type 0
 FrameSends f = next_of f.point.operands ≡ Plain → WorkSends f.variables f.point.work f.point.operands
 
@@ -60,7 +60,7 @@ abbrev pub children_of : Option Goroutine → ℕ
 children_of None = 0
 children_of (Some g) = g.children
 
--- no goroutine has a name that begins with that of another and with a count beyond how many that started (Go: Go statements)
+-- no goroutine has a name that extends another's name by a count beyond how many that one started (Go: Go statements)
 abbrev pub AreFresh : State → Type 0
 AreFresh s = (name : List ℕ) (count : ℕ) (rest : List ℕ)
     → children_of (s.goroutines name) < count → s.goroutines (name ++ count ∷ rest) ≡ None
