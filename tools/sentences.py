@@ -47,7 +47,7 @@ def sentences(path):
     for line in lines_of(text):
         for piece in pieces(line):
             piece = re.sub(r"`[^`]*`", "CODE", piece)
-            piece = re.sub(r"!?\[([^\]]*)\]\([^)]*\)", r"\1", piece)
+            piece = re.sub(r"!?\[([^\]]*)\]\([^)]*\)", r"\1", piece).replace("**", "")
             for sentence in re.split(r"(?<=[.!?:;])\s+(?=[A-Z*'\"(])", piece):
                 if len(sentence.split()) > 1:
                     yield sentence
