@@ -48,7 +48,7 @@ def sentences(path):
         for piece in pieces(line):
             piece = re.sub(r"`[^`]*`", "CODE", piece)
             piece = re.sub(r"!?\[([^\]]*)\]\([^)]*\)", r"\1", piece).replace("**", "")
-            for sentence in re.split(r"(?<=[.!?:;])\s+(?=[A-Z*'\"(])", piece):
+            for sentence in re.split(r"(?<=[^.][.!?])\s+|(?<=[:;])\s+(?=[A-Z*'\"(])", piece):
                 if len(sentence.split()) > 1:
                     yield sentence
 
