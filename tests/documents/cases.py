@@ -119,8 +119,8 @@ STATUSES = {
 # Lines that the words of the page tell of, with the last line of their reply.
 LINES = {
     "`g00` and `g0.0` are no names": [("show g00", "? bad command"), ("show g0.0", "? bad command")],
-    "One over 4,294,967,295 makes no name": [("show g0.4294967295", "no N2"), ("show g0.4294967296", "? bad command")],
-    "for the number after `#` one over 18,446,744,073,709,551,615": [
+    "The greatest count is 4,294,967,295": [("show g0.4294967295", "no N2"), ("show g0.4294967296", "? bad command")],
+    "the greatest number after `#` is 18,446,744,073,709,551,615": [
         ("back g0#18446744073709551615", "no B2"),
         ("back g0#18446744073709551616", "? bad command"),
     ],
@@ -148,5 +148,5 @@ LINES = {
         ("back send g0/c1 4294967296", "? bad command"),
     ],
     "X is an identifier of the language, and no keyword.": [("back var g0 x", "no B2"), ("back var g0 for", "? bad command")],
-    "of no step the reply is `ok 0`": [("log", "ok 0")],
+    "Without any step the reply is `ok 0`": [("log", "ok 0")],
 }
