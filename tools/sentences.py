@@ -2,9 +2,11 @@
 """How long the sentences of the documents are.
 
     tools/sentences.py [--longest N] [DOCUMENT..]      (20 longest of each; all documents)
+    tools/sentences.py --check [DOCUMENT..]
 
 Prints for each document how many sentences it has, their median of words, and how many have over 35, and then the longest.
-Code blocks and headings are left out; a cell of a table and an entry of a list are sentences.
+Code blocks and headings are left out; a cell of a table and an entry of a list are sentences. With --check it prints only
+the sentences of over 35 words, without the tables that words/make.py makes, and the status is 1 where there are any.
 """
 import argparse
 import glob
@@ -22,8 +24,10 @@ def documents():
     return sorted(os.path.relpath(it, TOP) for it in found if "/out/" not in it and "/node_modules/" not in it)
 
 
-def lines_of(text):
-    """The lines outside code blocks and comments."""
+def lines_of(text, with_made):
+    """The lines outside code blocks and comments; with the tables that are made from `words`, or without them."""
+    if not with_made:
+        text = re.sub(r"<!-- words: (\w+) -->.*?<!-- end of \1 -->", "", text, flags=re.S)
     text = re.sub(r"<!--.*?-->", "", text, flags=re.S)
     fenced = False
     for line in text.splitlines():
@@ -40,11 +44,11 @@ def pieces(line):
     return [re.sub(r"^\s*([-*]|\d+\.)\s+", "", line)]
 
 
-def sentences(path):
+def sentences(path, with_made=True):
     """The sentences of a document, with code and links as one word each."""
     with open(os.path.join(TOP, path), encoding="utf-8") as file:
         text = file.read()
-    for line in lines_of(text):
+    for line in lines_of(text, with_made):
         for piece in pieces(line):
             piece = re.sub(r"`[^`]*`", "CODE", piece)
             piece = re.sub(r"!?\[([^\]]*)\]\([^)]*\)", r"\1", piece).replace("**", "")
@@ -53,12 +57,26 @@ def sentences(path):
                     yield sentence
 
 
+def too_long(paths):
+    """A line for each sentence that is too long."""
+    for path in paths:
+        for it in sentences(path, with_made=False):
+            if len(it.split()) > MOST:
+                yield f"{path}: a sentence of {len(it.split())} words: {it[:100]}"
+
+
 def main():
     parser = argparse.ArgumentParser(description=__doc__.splitlines()[0])
+    parser.add_argument("--check", action="store_true")
     parser.add_argument("--longest", type=int, default=20)
     parser.add_argument("documents", nargs="*")
     given = parser.parse_args()
-    for path in given.documents or documents():
+    paths = given.documents or documents()
+    if given.check:
+        told = list(too_long(paths))
+        print("\n".join(told) or f"no sentence has over {MOST} words")
+        return 1 if told else 0
+    for path in paths:
         found = sorted(sentences(path), key=lambda it: -len(it.split()))
         if not found:
             continue

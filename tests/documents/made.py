@@ -1,15 +1,25 @@
-"""What is made or counted by a script stands as it makes it: the words of the program, and the lines to read in
-THEOREMS."""
+"""What is made or counted by a script stands as it makes it: the words of the program, the lines to read in THEOREMS, and
+the length of sentences. Program and extension have one version."""
 
+import json
+import re
 import subprocess
 import sys
 
 from . import repository
 
-SCRIPTS = ("words/make.py", "tools/reading.py")
+SCRIPTS = ("words/make.py", "tools/reading.py", "tools/sentences.py")
+
+
+def check_versions(checks):
+    """The extension for editors has the version of the program."""
+    words = re.search(r"^version\n    text: (\S+)$", repository.read("words/program.txt"), flags=re.M)
+    extension = json.loads(repository.read("editors/vscode/package.json"))["version"]
+    checks.same("editors/vscode/package.json", "version", words and words[1], extension)
 
 
 def check(checks, program):
+    check_versions(checks)
     for name in SCRIPTS:
         words = [sys.executable, repository.path_of(name), "--check"]
         ran = subprocess.run(words, stdout=subprocess.PIPE, stderr=subprocess.STDOUT, text=True, cwd=repository.ROOT)
