@@ -16,7 +16,7 @@ use std::alloc::Global;
 use std::process::ExitCode;
 use std::{env, io};
 
-/// What passes: so many values, through a buffer of this capacity, which is at least 1.
+/// What passes: this many values, through a buffer of this capacity, which is at least 1.
 #[derive(Clone, Copy)]
 struct Load {
     capacity: u32,

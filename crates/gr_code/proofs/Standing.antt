@@ -101,7 +101,7 @@ module _ (means : ℕ → Meanings) (p : Program) (code : ProgramCode) (fits : P
       bounds : InBounds n m count i
       bounds = subst {_, _} (λ k. InBounds k m count i) same_variables (fit.bounds f.number i here)
 
-      -- .. which names what there is
+      -- the instruction names what there is
       pub bounded : InBounds n (length f.cells) (instructions_in code f.function) i
       bounded =
           let counted : count ≡ instructions_in code f.function = sym (ap (λ o. option_map_or (λ c. length c.instructions) o 0) st.is) in

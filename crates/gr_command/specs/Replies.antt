@@ -88,7 +88,7 @@ said_of (replies.Committed steps) = Committed steps
 said_of replies.Stale = Stale
 said_of (replies.Refused why) = No why
 
--- what is told of a status: not what is waited for
+-- a status as replies have it, without what is waited for
 abbrev pub without_waits : rules.Status → rules.Status
 without_waits rules.ready = rules.ready
 without_waits (rules.waiting waits) = rules.waiting []

@@ -1,4 +1,4 @@
--- How the lack of a value is told.
+-- What is answered where there is no value.
 use Rattle.std.specs.Prelude.{Option, Some, None, Result, Ok, Err}
 use Rattle.gr_const.specs.declared.constant.Constant.{Constant}
 use Rattle.gr_const.specs.declared.constant.ConstError.{ConstError}

@@ -7,7 +7,7 @@ ghost use Rattle.gr_rules.specs.Operators.{wrapped, divided, shifted};
 
 use gr_base::Fault;
 
-/// A shift by so many bits or more leaves none of them.
+/// A shift by this many bits or more leaves none of them.
 const BITS: i64 = 64;
 
 /// The farthest shift to the right that differs from a shorter one.

@@ -1,4 +1,4 @@
--- By which code a broken rule is told, where one value, name or type is looked at.
+-- The code of a broken rule, where one value, name or type is looked at.
 use Rattle.std.specs.Prelude.{◌≡◌, ℕ, ◌||◌, ◌&&◌, List, Option, Some, None, Result, Ok, Err, if◌then◌else◌, is_some, is_none, nat_eq}
 use Rattle.std.specs.Prelude as prelude
 use Rattle.std.specs.Cmp.Lexicographic.{pointwise}
@@ -14,7 +14,7 @@ use Rattle.gr_exprs.specs.declared.refusal.RuleError.{RuleError}
 use Rattle.gr_exprs.specs.declared.refusal.RuleError.TheVariants as faults
 use Rattle.gr_exprs.specs.Finding.{Typed}
 
--- a broken rule is told by this code
+-- a broken rule has this code
 abbrev pub Tells : {A : Type 0} → Result A RuleError → RefusalCode → Type 0
 Tells (Ok a) code = Unit {0}
 Tells (Err (faults.Broken told)) code = told ≡ code

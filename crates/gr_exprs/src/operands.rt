@@ -96,7 +96,7 @@ pub fn as_type(target: &Type, value: Operand) -> Result<checked::Expr, RuleError
     }
 }
 
-/// A value whose own type is this one, `int` or `bool`.
+/// A value whose own type is `kind`, which is `int` or `bool`.
 pub fn of_kind(kind: &Type, value: Operand) -> Result<checked::Expr, RuleError>
     ensures value { Agrees expr_of result (spec.of_kind (ty_of kind.now) (meaning_of value)) }
     ensures code { Tells result (value_code (meaning_of value) (spec.typed (meaning_of value))) }

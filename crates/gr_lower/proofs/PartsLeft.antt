@@ -87,7 +87,7 @@ mutual
       let q : PlainAll (left_in others (d + parts a)) = plain_left_in others (d + parts a) in
       record { asks = rw (p.asks, q.asks) refl; plugs = λ e. rw (p.plugs e, q.plugs e) refl; passes = rw (p.passes, q.passes) refl }
 
--- .. and the code has an instruction for each part
+-- the code has an instruction for each part
 length_right : (op : BinaryOp) (x : Operand) (n d o : ℕ) (right : ℕ → ℕ → List Instruction) → ((d o : ℕ) → length (right d o) ≡ n)
     → length (right_code op x n d o right) ≡ with_decision op n
 length_right op x zero d o right e = e d o

@@ -13,7 +13,7 @@ abbrev pub decides : BinaryOp → ℕ → Bool
 decides op zero = false
 decides op (suc n) = is_logical op
 
--- what is left of `&&`, `||` or another operator, the right operand being left with that first temporary
+-- what is left of `&&`, `||` or another operator; what is left of the right operand has that first temporary
 abbrev pub left_binary : BinaryOp → Operand → ℕ → ℕ → (ℕ → Operand) → Operand
 left_binary op a n d right = if decides op n then Decided op d (right (d + 1)) else Binary op a (right d)
 

@@ -19,7 +19,7 @@ use gr_code::code::{Arm, Instruction};
 use gr_program::program::Case;
 use std::alloc::Global;
 
-/// The first of so many instructions, if there are any, and else what follows.
+/// The first of this many instructions, if there are any, and else what follows.
 pub fn entry(many: usize, first: usize, on: usize) -> usize
     ensures { result ≡ spec_entry many first on }
 {

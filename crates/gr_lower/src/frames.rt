@@ -61,7 +61,7 @@ fn cells_for(instruction: &Instruction) -> Result<usize, NoMemory>
     }
 }
 
-/// The cells of so many variables, and of the temporaries of the instructions.
+/// The cells of this many variables, and of the temporaries of the instructions.
 pub fn cells_of(variables: usize, instructions: &[Instruction]) -> Result<usize, NoMemory>
     ensures { IfOk result (λ n. n ≡ spec.cells_of variables (instructions_of instructions.now)) }
 {

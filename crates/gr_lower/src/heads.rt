@@ -43,7 +43,7 @@ fn perform_tested(
     }
 }
 
-/// An if before its sides, which have so many instructions.
+/// An if before its sides, which have this many instructions.
 pub fn head_if(
     alloc: Global,
     out: &mut Vec<Instruction>,
@@ -69,7 +69,7 @@ pub fn head_if(
     perform_one(alloc, out, condition, first, Action::Test { holds, fails })
 }
 
-/// A for before its body; the body and the post statement have so many instructions. Answers where a turn ends.
+/// A for before its body. The body and the post statement have this many instructions. Answers where a turn ends.
 pub fn head_for(
     alloc: Global,
     out: &mut Vec<Instruction>,
@@ -130,7 +130,7 @@ fn take_turn(
     perform_none(alloc, out, Action::GoOn { on })
 }
 
-/// A loop over a channel before its body, which has so many instructions.
+/// A loop over a channel before its body, which has this many instructions.
 pub fn head_range(
     alloc: Global,
     out: &mut Vec<Instruction>,

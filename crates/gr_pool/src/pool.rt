@@ -20,7 +20,7 @@ pub struct Pool {
     ready: Vec<usize>,
     /// Where the last answer of `next_after` stood among the ready ones: a guess of where its next question begins.
     last: Cell<usize>,
-    /// Where the name that was made unready last stands among the known ones: a guess of which is made ready next.
+    /// Where the name that was made unready last stands among the known ones: a guess of the next that is made ready.
     gone: Cell<usize>,
 }
 
@@ -38,7 +38,7 @@ impl Model for Pool {
 }
 
 impl Pool {
-    /// A pool that knows nobody. It takes no memory.
+    /// A pool that knows no goroutine. It takes no memory.
     pub fn new(alloc: Global) -> Pool
         ensures { result ≡ record { known = []; ready = [] } }
     {

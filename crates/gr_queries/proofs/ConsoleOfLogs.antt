@@ -29,7 +29,7 @@ pub record Matches (p : Program) (r : Record) (l : Logged p) : Type 0 where
   pub go : l.event.go ≡ r.id.go
   pub printed : is_printed r.change.own ≡ is_some l.note.kind.printed
 
--- .. one by one
+-- records and steps that match, one by one
 abbrev pub Match : (p : Program) → List Record → List (Logged p) → Type 0
 Match p [] [] = Unit {0}
 Match p (r ∷ rs) (l ∷ ls) = Matches p r l × Match p rs ls
@@ -60,7 +60,7 @@ module _ (p : Program) where
   abbrev from_step : List ℕ → Logged p → List (Logged p) → Bool → List (List ℕ)
   from_step g l ls mine = if mine then cons_option l.note.kind.printed (console p (steps_by p g ls)) else console p (steps_by p g ls)
 
-  -- .. as a case of whether the step is its own
+  -- what a goroutine prints from a step on, by whether the step is its own
   from_here : (g : List ℕ) (l : Logged p) (ls : List (Logged p)) → console p (steps_by p g (l ∷ ls)) ≡ from_step g l ls (same_go g l.event.go)
   from_here g l ls = elim (cases_Bool (same_go g l.event.go)) [ inl e ↦ rw e refl | inr e ↦ rw e refl ]
 

@@ -58,7 +58,7 @@ pub shown_end : {A B C : Type 0} → (f : A → C) (g : B → C) (xs : List A) (
     → map g ys ≡ map f (take m xs) → map g ys ≡ map f xs
 shown_end f g xs ys n m end at so_far = so_far ∙ ap (map f) (take_end xs m (end ∙ ap (slice_get xs) at))
 
--- .. by its index
+-- what is shown of one item more, by its index
 pub shown_at : {A B C : Type 0} → (f : A → C) (g : B → C) (xs : List A) (ys new : List B) (n : ℕ) (x : A) (y : B) → n < length xs
     → x ≡ slice_index_or xs n x → g y ≡ f x → new ≡ ys ++ y ∷ [] → map g ys ≡ map f (take n xs) → map g new ≡ map f (take (n + 1) xs)
 shown_at f g xs ys new n x y within at is more so_far =

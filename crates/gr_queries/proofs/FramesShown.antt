@@ -45,7 +45,7 @@ get_function [] n f h = cc
 get_function (g ∷ fs) zero f h = ap (λ (x : declared.Function). Some (function_of x)) (some_inj (sym h))
 get_function (g ∷ fs) (suc n) f h = get_function fs n f h
 
--- .. as many as in the code
+-- there are as many functions as in the code
 functions_length : (fs : List declared.Function) → length (functions_of fs) ≡ length fs
 functions_length [] = refl
 functions_length (f ∷ fs) = ap suc (functions_length fs)
@@ -99,7 +99,7 @@ module _ (p : Program) (checked : IsChecked p) (fs : List CodeFrame) (stand : Al
       by_frames (f ∷ below) stand = λ none.
           let there = ap (λ c. line_of c f) coded ∙ line (meaning p) p (lowered p) (fits_of p checked) f stand.0 in cc
 
-  -- .. which is that of the rules
+  -- the line of the innermost frame is that of the rules
   line_is : option_and_then (line_of (lowered p)) (slice_get fs 0) ≡ next_line (map (frame_in p) fs)
   line_is = by_frames fs stand
     where
@@ -135,7 +135,7 @@ goroutine_answer p q s n m g what same there named tells =
     ap (λ x. said.Shown x what) named ∙ ap (said.Shown n) tells ∙ ap (λ x. said.Shown n (told (shown x (goroutine_of (frame_in x) g)))) same
     ∙ ap (λ o. goroutine_said p n (option_map (goroutine_of (frame_in p)) o)) there
 
--- .. and its lines
+-- the lines of a goroutine that is there are told
 pub text_answer : (p : Program) (s : Contents) (n : List ℕ) (g : CodeGoroutine) (lines text : List (List ℕ)) → Some g ≡ s.goroutines n → lines ≡ text
     → text ≡ g.text → said.Lines lines ≡ text_said ((state_in p s).goroutines n)
 text_answer p s n g lines text there copied is =

@@ -22,7 +22,7 @@ told_of r = (r.id, r.change.kind)
 abbrev pub logged_as : (p : Program) → Logged p → StepId × Kind
 logged_as p l = (id_of p l, step_kind p l)
 
--- the same of a record and of its step
+-- a record and its step tell the same
 told_alike : (p : Program) (s : Contents) (r : Record) (l : Logged p) (t : Contents) → Tells p s r l t → told_of r ≡ logged_as p l
 told_alike p s r l t tells =
     λ j. (record { go = sym (ap (λ e. e.go) tells.event) j; n = sym tells.ordinal j }, sym tells.kind j)

@@ -132,7 +132,7 @@ line_told counts s n g ls k l copy old new there is next counted same more =
     ap (λ m. drop m (texts_of s n)) (sym counted) ∙ ap (drop k) (text_is s n g ls there is) ∙ lines_from ls k ∙ ap bytes_in (drop_next ls k l next) in
     ap bytes_in more ∙ map_last (λ line. line.items) old copy ∙ ap (λ x. bytes_in old ++ x ∷ []) same ∙ ap (λ t. bytes_in old ++ take 1 t) (sym rest)
 
--- .. or there is none
+-- there is no next line
 pub none_untold : {A : Type 0} {S : Type 0} (counts : IndexMap (List ℕ) ℕ S) (s : Contents) (n : List ℕ) (g : CodeGoroutine)
     (ls : List (Vec ℕ A)) (k : ℕ)
     → Some g ≡ s.goroutines n → lines_of ls ≡ g.text → length ls ≤ k → k ≡ count_in counts n → untold counts (texts_of s) n ≡ []
@@ -154,7 +154,7 @@ told_on texts left rs n r before after all within at more passes so_far =
     ∙ ap (λ l. before ++ lines_told texts l) (sym (drop_next rs n r (is_there rs n r within at)))
     ∙ so_far
 
--- .. of a step that printed, and of one that did not
+-- one record more is told: of a step that printed, and of one that did not
 pub told_printed : (texts left : Texts) (rs : List Record) (n : ℕ) (r : Record) (before after all : List (List ℕ)) → n < length rs
     → r ≡ slice_index_or rs n r → is_printed r.change.own ≡ true → after ≡ before ++ take 1 (texts r.id.go) → left ≡ passed r.id.go texts
     → before ++ lines_told texts (drop n rs) ≡ all → after ++ lines_told left (drop (n + 1) rs) ≡ all

@@ -32,7 +32,7 @@ taken (gives on) below k after e = (on, refl, given_is e)
 taken (faults x) below k after e = absurd (faults_never x e)
 taken wrong below k after e = absurd (never e)
 
--- .. where they are wrong
+-- frames past an arrival that are wrong
 pub untaken : (o : Outcome CodeFrame) (below : List CodeFrame) (k : List CodeFrame → CodeGoroutine)
     → ((o >>= λ on. gives (on ∷ below)) >>= λ fs. gives (k fs)) ≡ wrong → o ≡ wrong
 untaken (gives on) below k e = absurd (never (sym e))

@@ -142,7 +142,7 @@ module _ (means : ℕ → Meanings) (p : Program) (code : ProgramCode) (fits : P
         (sym (ap (λ o. elim o [ Some k ↦ gives k | None ↦ wrong ]) j.1))
         (returns_by v c cs h eq stand.0 j.0 j.1 (resumed_in c j.0 v) refl)
 
-    -- .. whatever the task is
+    -- what the rules do, whatever the task is
     left_by : (o : Outcome Task) → task f i ≡ o → Left (local_by g (local_task code g f below i) o) o
     left_by (gives (Steps on)) eq = moves_by on eq
     left_by (gives (Wants (Moves on))) eq = tt

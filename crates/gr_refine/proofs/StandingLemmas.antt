@@ -30,7 +30,7 @@ given_on P Q (gives a) k h then_so = then_so a h
 given_on P Q (faults e) k h then_so = tt
 given_on P Q wrong k h then_so = tt
 
--- .. and where it is what it is
+-- what is given where something is given before, and which that is
 given_at : {A B : Type 0} (Q : B → Type 0) (o : Outcome A) (k : A → Outcome B) → ((a : A) → o ≡ gives a → IfGiven Q (k a)) → IfGiven Q (o >>= k)
 given_at Q (gives a) k then_so = then_so a refl
 given_at Q (faults e) k then_so = tt

@@ -44,7 +44,7 @@ module _ (means : ℕ → Meanings) (p : Program) (code : ProgramCode) where
   frameless : (g : CodeGoroutine) (clause : Option ℕ) (got : Option (values.Value × Bool)) → g.frames ≡ [] → arrived code (IsMet clause got) g ≡ wrong
   frameless g clause got none = ap (λ fs. frames_past code (IsMet clause got) fs >>= λ fs. gives (with_arrival (IsMet clause got) g fs)) none
 
-  -- .. and meets by that frame
+  -- a goroutine that is met is met by its innermost frame
   met_by : (g : CodeGoroutine) (clause : Option ℕ) (got : Option (values.Value × Bool)) (fs : List CodeFrame) → g.frames ≡ fs
       → met clause got (as_ruled g) (map (frame_of means code) g.frames) ≡ met clause got (as_ruled g) (map (frame_of means code) fs)
   met_by g clause got fs frames = ap (λ fs. met clause got (as_ruled g) (map (frame_of means code) fs)) frames

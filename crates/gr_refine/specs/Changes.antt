@@ -47,7 +47,7 @@ LeavingIsWritten = (frame : CodeFrame → Frame) (s : Contents) (c : ChName) (x 
     → IsChannel x → x.items ≡ v ∷ rest → y ≡ record x { head = x.head + 1; items = rest }
     → Writes frame s (with_channel s c (Some y)) (head_has c (x.head + 1) ∷ slot_has c (x.head % x.capacity) None ∷ [])
 
--- the front item leaves a full buffer, and another value enters; the queues may change with that
+-- the front item leaves a full buffer, and another value enters; the queues may change too
 abbrev pub MovingUpIsWritten : Type 0
 MovingUpIsWritten = (frame : CodeFrame → Frame) (s : Contents) (c : ChName) (x y : Content) (v w : Value) (rest : List Value) → s.channels c ≡ Some x
     → x.items ≡ v ∷ rest → length x.items ≡ x.capacity → y.capacity ≡ x.capacity → y.head ≡ x.head + 1 → y.items ≡ rest ++ w ∷ []

@@ -35,7 +35,7 @@ abbrev pub WaiterIsThere : Type 0
 WaiterIsThere = (frame : CodeFrame → Frame) (s : Contents) (n : List ℕ) (k : Goroutine → List Wait → Attempt)
     → Sound frame s (ask_waiter n k) → (g : CodeGoroutine) × (ws : List Wait) × (s.goroutines n ≡ Some g) × (g.status ≡ waiting ws)
 
--- and so are many
+-- goroutines that are asked for as waiters are there, and wait
 abbrev pub WithdrawnIsThere : Type 0
 WithdrawnIsThere = (frame : CodeFrame → Frame) (s : Contents) (names : List (List ℕ)) (cs : List ChName) (k : List Cell → Attempt)
     → Sound frame s (ask_withdrawn names cs k) → all_made s cs ≡ true

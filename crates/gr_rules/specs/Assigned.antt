@@ -44,7 +44,7 @@ abbrev pub targets_by : {A : Type 0} → Work → Next A → List (Option ℕ)
 targets_by work Plain = targets_of work
 targets_by work (Asks ask k) = []
 
--- A step that is a fault gives none a value, and nor does `go`: its parameters are the child's.
+-- A step that is a fault gives no variable a value, and `go` does not either: its parameters are the child's.
 abbrev pub given_by : Program → List Frame → Frame → Outcome Deed → List (List ℕ)
 given_by p fs f (gives (Moves on)) = names_in (function_of p f.function) (targets_by f.point.work (next_of f.point.operands))
 given_by p fs f (gives (Enters function vs)) = if is_deepest fs then [] else names_in (function_of p function) (parameters_of (function_of p function))

@@ -16,7 +16,7 @@ use Rattle.gr_rules.specs.Tells.{next_line, usual_choice}
 abbrev pub IsReady : State → List ℕ → Type 0
 IsReady s g = (x : Goroutine) × (s.goroutines g ≡ Some x) × (x.status ≡ ready)
 
--- g is the first, in the order of names, of those of which P holds
+-- g is the first, in the order of names, of the goroutines for which P holds
 pub record IsFirst (P : List ℕ → Type 0) (g : List ℕ) : Type 0 where
   pub holds : P g
   pub first : (h : List ℕ) → P h → ¬ (go_cmp h g ≡ Less)

@@ -64,7 +64,7 @@ end_by Backslash n other escape = escape
 end_by Close n other escape = Some n
 end_by _ n other escape = None
 
--- how many bytes a literal has of which i stand before these
+-- how many bytes a literal has, after i of them
 abbrev pub end_after : (i : ℕ) (escape : Bool) → List ℕ → Option ℕ
 end_after i escape [] = None
 end_after i escape (b ∷ s) = end_by (part_of escape b) (i + 1) (end_after (i + 1) false s) (end_after (i + 1) true s)

@@ -43,7 +43,7 @@ pub record IsNoFile (token : ℕ) (ts : List Tok) : Type 0 where
   pub within : token ≤ length ts
   pub none : (f : FileTree) → SpellsFile f ts → ⊥
 
--- no tree of at most 200 levels spells the tokens, of which there are enough for one of more levels
+-- no tree of at most 200 levels spells the tokens, and they are enough for one of more levels
 pub record IsTooHigh (token : ℕ) (ts : List Tok) : Type 0 where
   pub within : token ≤ length ts
   pub long : 200 < length ts

@@ -36,7 +36,7 @@ value_at [] i name v h = cc
 value_at (e ∷ es) zero name v h = ap (λ p. Some (p.1)) (some_inj h)
 value_at (e ∷ es) (suc i) name v h = value_at es i name v h
 
--- .. and the key
+-- the key at a number
 pub key_at : {X : Type 0} (es : List (List ℕ × X)) (i : ℕ) (name : List ℕ) (v : X) → slice_get es i ≡ Some (name, v) → slice_get (map (λ e. e.0) es) i ≡ Some name
 key_at [] i name v h = cc
 key_at (e ∷ es) zero name v h = ap (λ p. Some (p.0)) (some_inj h)
@@ -54,7 +54,7 @@ found_name names name i found =
     let at = position-Some (same_go name) names i [] found in
     slice_get-get_or names i [] at.0 ∙ ap Some (sym (same_text name (slice_index_or names i []) (sym at.1)))
 
--- .. and is among them
+-- a name that was found is among them
 any_there : (p : List ℕ → Bool) (xs : List (List ℕ)) (k : ℕ) (d : List ℕ) → k < length xs → p (slice_index_or xs k d) ≡ true → list_any p xs ≡ true
 any_there p [] k d w e = absurd (omega arith)
 any_there p (x ∷ xs) zero d w e = rw e refl

@@ -60,7 +60,7 @@ with_receiver w c = record c { receivers = c.receivers ++ w ∷ [] }
 abbrev pub once_closed : Content → Content
 once_closed c = record c { closed = true; senders = []; receivers = [] }
 
--- there is a channel of which this is true
+-- there is a channel, and this is true of it
 abbrev pub At : {X : Type 0} → (X → Type 0) → Option X → Type 0
 At holds None = ⊥
 At holds (Some x) = holds x

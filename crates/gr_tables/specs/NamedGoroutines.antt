@@ -42,7 +42,7 @@ room_or_none (Some g) = g.room
 abbrev pub go_rooms_of : Goroutines → List ℕ → ℕ
 go_rooms_of m name = room_or_none (seen_of m name)
 
--- there is a goroutine of which this is true
+-- there is a goroutine, and this is true of it
 abbrev pub At : {X : Type 0} → (X → Type 0) → Option X → Type 0
 At holds None = ⊥
 At holds (Some x) = holds x

@@ -177,7 +177,7 @@ pub none_refused : {A E : Type 0} {r : Result A E} {e : E} (a : Lanes) (t : Touc
 none_refused {r = r} {e = e} a t o other absent is =
     refused r e (AddsFor (o ∷ []) t a a) (FitsFor (o ∷ []) t a) a a is (λ q. refl) (no_room a o other absent t) (λ lists fits. fits)
 
--- the same for what a step read, and then for what it wrote
+-- a touch for what a step read, and then for what it wrote: refused for the first, refused for the others, or noted for all
 module _ (place : ℕ) (s : Record) (rs ws : List Object) (read : read_by s ≡ rs) (wrote : written_by s ≡ ws) where
   abbrev reading : Touch
   reading = record { place = place; writes = false }

@@ -246,7 +246,7 @@ run_numbered l o n ts run last is = subst (λ q. IsNumbered l q which_are.Writes
       | inr n ↦ rw n (once_more p xs)
     ]
 
--- .. where Run has what it had
+-- the list of each object after a change, where Run has what it had
 pub with_run : (old new : Lanes) (f : List Touch → List Touch) (o : Object) → new.run ≡ old.run
     → ((q : Object) → parts (λ k. k.0) old.run.items new.map q ≡ (if same o q then f (list_of old q) else list_of old q))
     → (q : Object) → list_of new q ≡ (if same o q then f (list_of old q) else list_of old q)

@@ -63,7 +63,7 @@ no_room l o other absent t fits =
     subst (λ n. length (t ∷ []) ≤ n) size (subst (λ (ts : List Touch). length ts ≤ capacity_of l o) (λ j. list j ++ one j) (fits.each o)) in
     omega (arith, all)
 
--- .. and no touch that could be taken
+-- an object without a lane has no touch that could be taken
 pub none_taken : (l : Lanes) (o : Object) → same objects.Run o ≡ false → get same l.map o ≡ None → TakesFor (o ∷ []) l l
 none_taken l o other absent before t had q =
     let list : list_of l o ≡ [] = rw other (ap (λ x. (unwrap_or x nothing).0) absent) in

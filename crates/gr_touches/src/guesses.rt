@@ -1,4 +1,4 @@
-//! Guesses of which lane an object has.
+//! Guesses of the lane of an object.
 
 ghost use Rattle.std.specs.Prelude.{◌<◌};
 

@@ -232,7 +232,7 @@ fn in_contact<'a>(front: ObjectRef<'a>, contact: &'a Contact, parts: Parts) -> T
     TouchedObjects::with_channel(Some(front), parts, channel, place, None, &[])
 }
 
-/// The objects that a step read which used one channel and met nobody.
+/// The objects that a step read. The step used one channel, and met no partner.
 #[inline]
 pub(crate) fn read_in(contact: &Contact) -> TouchedObjects<'_>
     ensures { seen_in result ≡ variants.Run ∷ reads_in (reached_on contact.now None) }
@@ -240,7 +240,7 @@ pub(crate) fn read_in(contact: &Contact) -> TouchedObjects<'_>
     in_contact(ObjectRef::Run, contact, contact.touched.read)
 }
 
-/// The objects that a step of the goroutine `own` wrote, which used one channel and met nobody.
+/// The objects that a step of goroutine `own` wrote. The step used one channel, and met no partner.
 #[inline]
 fn written_in<'a>(own: ObjectRef<'a>, contact: &'a Contact) -> TouchedObjects<'a>
     ensures { seen_in result ≡ seen own.entry ∷ writes_in (reached_on contact.now None) }

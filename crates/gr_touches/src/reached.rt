@@ -37,7 +37,7 @@ pub(crate) trait Reached {
         ensures { seen_in result ≡ read self.now };
 }
 
-/// A step that used one channel and met nobody.
+/// A step that used one channel, and met no partner.
 impl Reached for Contact {
     ghost use Rattle.std.specs.Prelude.{◌∷◌, None};
     ghost use Rattle.gr_base.specs.declared.objects.Object.TheVariants as objects;

@@ -1,4 +1,4 @@
--- By which code a broken rule is told, of statements, headings, labels and functions.
+-- The codes of broken rules of statements, headings, labels and functions.
 use Rattle.std.specs.Prelude.{◌≡◌, ℕ, Bool, false, ◌||◌, List, [], ◌∷◌, Option, Some, None, Result, Ok, Err, if◌then◌else◌, is_some, nat_eq, nat_lt}
 use Rattle.std.specs.Cmp.Lexicographic.{pointwise}
 use Rattle.gr_scan.specs.declared.token.Place.{Place}
@@ -48,13 +48,13 @@ abbrev pub earlier_of : RefusalCode → ℕ → Option UnfitLabel → RefusalCod
 earlier_of code at None = (code, at)
 earlier_of code at (Some label) = if nat_lt label.place.start at then (label_code label.fault, label.place.start) else (code, at)
 
--- a missing return is told at the closing brace
+-- a missing return is refused at the closing brace
 abbrev pub IsMissingReturn : {A : Type 0} → Place → Result A CheckError → Type 0
 IsMissingReturn closing (Ok a) = ⊥
 IsMissingReturn closing (Err (refusals.Refused code at)) = (code ≡ codes.MissingReturn) × (at ≡ closing.start)
 IsMissingReturn closing (Err refusals.Memory) = Unit {0}
 
--- where all statements and labels of a function fit and it does not end well, that is told
+-- where all statements and labels of a function fit and it does not end well, the missing return is refused
 abbrev pub TellsMissingReturn : {A : Type 0} → List Signature → Outline → Result A CheckError → Type 0
 TellsMissingReturn fs (OutlineOf (files.FunctionOf place name groups w body closing) parameters wanted s) result =
     (b : Checked) → labeled_in (Within fs wanted []) s body ≡ Some b → ends_well wanted body ≡ false → IsMissingReturn closing result

@@ -14,7 +14,7 @@ Block = List (List ℕ × ℕ)
 pub data Scope : Type 0 where
   In : (here : Block) (around : List Block) (variables : List Declared) → Scope
 
--- what a block says of a name, and what blocks say of which the last counts first
+-- what a block says of a name, and what blocks say, the last one first
 abbrev pub in_block : Block → List ℕ → Option ℕ
 in_block [] x = None
 in_block (entry ∷ block) x = if pointwise nat_eq x entry.0 then Some entry.1 else in_block block x

@@ -41,7 +41,7 @@ unary_type unaries.Complement IntType = Some IntType
 unary_type unaries.Not BoolType = Some BoolType
 unary_type _ _ = None
 
--- `==` and `!=` are for values one of which may be given to a place of the other's type
+-- `==` and `!=` are for two values if one may be given to a place of the other's type
 abbrev pub compared : Ty → Ty → Option Ty
 compared t u = if assignable t u || assignable u t then Some BoolType else None
 

@@ -33,7 +33,7 @@ program = ProgramIs (
     ∷ []) 9
     ∷ []) 1
 
--- three sends, of which the last waits; the receive takes the front value, and the third value enters the buffer
+-- Three sends, the last of which waits. The receive takes the front value, and the third value enters the buffer.
 abbrev pub full : List Event
 full = times 5 main (steps (child 1) ∷ steps (child 2) ∷ steps (child 3) ∷ [])
 

@@ -58,7 +58,7 @@ deep n = elim (called 0 (Int (pos 5) ∷ []) again) [ gives f ↦ Some (record (
 abbrev pub Depths : Type 0
 Depths = (kind_from main (deep 999) ≡ Some Call) × (kind_from main (deep 1000) ≡ Some (Fault CallDepth))
 
--- a goroutine that has started so many, and one that has made so many channels
+-- a goroutine that has started this many goroutines, and one that has made this many channels
 abbrev pub parent_of : ℕ → Option Goroutine
 parent_of n = elim (called 1 [] begin) [ gives f ↦ Some (record (started f) { children = n }) | _ ↦ None ]
 

@@ -1,4 +1,4 @@
-//! Channels of which each change is made, looked at and taken back, as a run of a program leaves them.
+//! Channels: each change is made, looked at and taken back, as a run of a program leaves them.
 
 mod again;
 mod refusals;

@@ -63,7 +63,7 @@ fn reads_a_file(rt: HostRuntime) -> Result<(), Fail> {
     Ok(())
 }
 
-// A file of one statement, `x := ((..1..))`, with so many pairs of parentheses.
+// A file of one statement, `x := ((..1..))`, with this many pairs of parentheses.
 fn parenthesized(alloc: Global, pairs: usize) -> Result<Option<ParseError>, Fail> {
     let mut text = b"package m; func f() { x := ".to_vec(alloc)?;
     for _ in 0..pairs {

@@ -28,7 +28,7 @@ parameters_below : {fs : List Signature} {g : Signature} {name : List ℕ} {para
     → TargetsBelow (length variables) (map variable_of parameters)
 parameters_below (bodies.function targets body ending) = targets_below targets
 
--- .. and bodies by the judgement
+-- functions by the judgement of their bodies
 functions_can : (fs gs : List Signature) {functions : List files.Function} {own others : List Signature}
     {checked : List Function}
     → AreFunctions fs functions own checked → SortedFunctions gs others checked → CanLowerAll checked

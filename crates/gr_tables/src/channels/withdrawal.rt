@@ -9,7 +9,7 @@ use crate::channels::Channels;
 use gr_base::{ChName, GoName, NoMemory};
 use gr_channels::ChanUndo;
 
-/// Whether the change took nobody out.
+/// Whether the change took no waiter out.
 fn takes_nothing_back(undo: &ChanUndo) -> bool
     ensures { result ≡ is_empty undo.now }
 {

@@ -1,4 +1,4 @@
-//! Guesses of which number a goroutine has.
+//! Guesses of the number of a goroutine.
 
 ghost use Rattle.std.specs.Prelude.{◌<◌};
 
