@@ -123,7 +123,7 @@ eqb_swap a b = elim (true_or_false (b == a)) [
   | inr f ↦ ne_eqb a b (λ e. absurd (let q : true ≡ false = sym (eq-eqb b a (sym e)) ∙ f in cc)) ∙ sym f
 ]
 
--- steps of workers w and v at mailboxes k and l, of which the first changes its mailbox if x is true and the second if y is
+-- steps of workers w and v at mailboxes k and l; the first changes its mailbox if x is true, and the second if y is
 by_flags : (w v k l : ℕ) (x y : Bool)
     → (meets same (worker w ∷ cond x (mailbox k ∷ []) []) ((worker v ∷ mailbox l ∷ []) ++ (worker v ∷ cond y (mailbox l ∷ []) []))
     || meets same (worker v ∷ cond y (mailbox l ∷ []) []) ((worker w ∷ mailbox k ∷ []) ++ (worker w ∷ cond x (mailbox k ∷ []) [])))

@@ -1,5 +1,5 @@
--- What has no statements in it, a heading or a communication that is refused as too high is long: a level takes a token at
--- least.
+-- What is refused as too high is long, since a level takes a token at least: statements with no statements in them, headings
+-- and communications.
 use Rattle.std.proofs.Common.{◌≡◌, ℕ, zero, suc, ◌+◌, ◌<◌, ◌≤◌, max, Bool, true, false, List, [], ◌∷◌, length, ap, arith, ltb-true}
 use Rattle.std.specs.Prelude.{Option, Some, None, Ok, Err, nat_lt}
 use Rattle.std.proofs.lemmas.Option.{same_Some}

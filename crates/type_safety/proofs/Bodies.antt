@@ -90,8 +90,8 @@ pub data SortedOpening (d : Setting) (nests : List Nest) (live : List ℕ) : Opt
   opening : {place : Place} {act : Act} → SortedAct d nests live act true
       → SortedOpening d nests live (Some (Opens place act))
 
--- statements inside these nests, where the variables with these numbers hold values; and clauses of a select, the channels
--- and values of which are these operands
+-- Statements inside these nests, where the variables with these numbers hold values. Clauses of a select, whose channels and
+-- values are these operands.
 mutual
   pub data SortedStmt (d : Setting) : List Nest → List ℕ → Stmt → Bool → Type 0 where
     does : {nests : List Nest} {live : List ℕ} {place : Place} {act : Act} {z : Bool}

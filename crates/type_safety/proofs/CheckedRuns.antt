@@ -1,5 +1,5 @@
--- Type safety of checked programs, progress and preservation: in every state that a run reaches a goroutine that is ready
--- has a step, no event is unsound, and goroutines stand at operations and calls.
+-- Type safety of checked programs, as progress and preservation. In every state that a run reaches, a ready goroutine has a
+-- step, no event is unsound, and goroutines stand at operations and calls.
 use Rattle.std.proofs.Common.{◌≡◌, ℕ, List, [], ◌∷◌, Option, Some, None, refl, sym, subst}
 use Rattle.gr_tree.specs.Files.{FileTree}
 use Rattle.gr_base.specs.declared.events.Event.{Event}

@@ -1,5 +1,4 @@
--- Progress: of the events of a state that a run of a checked program reaches none is unsound, and a goroutine that is ready
--- has a step.
+-- Progress. In a state that a run of a checked program reaches, no event is unsound, and each ready goroutine has a step.
 use Rattle.std.proofs.Common.{◌≡◌, ℕ, List, [], ◌∷◌, length, Option, Some, None, refl, sym, subst}
 use Rattle.gr_base.specs.declared.events.Choice.{Choice}
 use Rattle.gr_base.specs.declared.events.Choice.TheVariants as choices

@@ -191,8 +191,8 @@ abbrev pub AttemptFine : Type 0
 AttemptFine = (fs : List Signature) (p : Program) (made : Made) (s : State) (e : Event)
     → Going fs p made s → Fine (λ r. r ≡ unsound → ⊥) fs made s (attempt p e)
 
--- 5. Checked programs: what names stand for holds a value; the variables so far are the first of the function's; a scope
--- with more names in its block and more variables.
+-- 5. Checked programs. `Live`: what names stand for holds a value. `Begins`: the variables so far are the first of the
+-- function's. `Grows`: a scope, and one with more names in its block and more variables.
 abbrev pub Live : Scope → List ℕ → Type 0
 Live s live = (x : List ℕ) (k : ℕ) → variable_named s x ≡ Some k → sequences.In k live
 

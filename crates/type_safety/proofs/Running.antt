@@ -27,8 +27,8 @@ use Rattle.type_safety.proofs.Sorts.{Sort, IntSort, BoolSort, ChanSort, sort_of,
 use Rattle.type_safety.proofs.Bodies.{Nest, Loops, Chooses, ArePieces, SortedStmts, SortedClauses}
 use Rattle.type_safety.specs.Standing.{StandsAt, AreFresh}
 
--- What remains of a body, from inside these nests on, where the variables with these numbers hold values; the truth says
--- whether control may come to it.
+-- What remains of a body, from inside these nests on, where the variables with these numbers hold values. The truth value
+-- says whether control may come to it.
 pub data SortedRest (d : Setting) (made : Made) : List Nest → List ℕ → Bool → Rest → Type 0 where
   closes : {live : List ℕ} {z : Bool} {place : Place} → (z ≡ true → d.result ≡ None)
       → SortedRest d made [] live z (closing place)

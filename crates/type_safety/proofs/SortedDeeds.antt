@@ -1,4 +1,4 @@
--- Preservation: what a frame that has sorts asks for are values of their sorts, or it is a fault, and the frame goes on with
+-- Preservation. What a frame that has sorts asks for are values of their sorts, or it is a fault. The frame goes on with
 -- sorts.
 use Rattle.std.proofs.Common.{◌≡◌, ℕ, pos, Bool, true, false, if◌then◌else◌, arith, List, [], ◌∷◌, ◌++◌, map, Option, Some, None, refl, sym, ◌∙◌, ap, subst, inr}
 use Rattle.gr_scan.specs.declared.token.Place.{Place}
