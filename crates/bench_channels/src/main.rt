@@ -23,7 +23,7 @@ struct Load {
     count: u32,
 }
 
-// The number that a word of the command line names, where there is such a word.
+/// The number that a word of the command line names, where there is such a word.
 fn number(word: Option<&String>, otherwise: u32) -> Option<u32> {
     match word {
         Some(word) => word.parse::<u32>().ok(),
@@ -31,7 +31,7 @@ fn number(word: Option<&String>, otherwise: u32) -> Option<u32> {
     }
 }
 
-// The load that the words of the command line name.
+/// The load that the words of the command line name.
 fn read_load(words: &[String]) -> Option<Load>
     ensures { IfSome result (λ load. 0 < load.capacity) }
 {
@@ -64,7 +64,7 @@ struct Carried {
     passed_undone: u64,
 }
 
-// Sends the values, and takes everything back.
+/// Sends the values, and takes everything back.
 fn carry(alloc: Global, load: Load) -> Result<Carried, NoMemory>
     requires { 0 < load.capacity }
 {

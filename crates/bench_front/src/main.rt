@@ -28,7 +28,7 @@ fn stage_named(word: &str) -> Option<Stage> {
     }
 }
 
-// One round: how many tokens or functions the last stage finds. `None` where the text is refused.
+/// One round: how many tokens or functions the last stage finds. `None` where the text is refused.
 fn round(alloc: Global, stage: Stage, text: &[u8]) -> Option<usize> {
     let tokens = scan(alloc, text).ok()?;
     if let Stage::Scan = stage {
@@ -42,7 +42,7 @@ fn round(alloc: Global, stage: Stage, text: &[u8]) -> Option<usize> {
     Some(program.functions.len())
 }
 
-// What the last of this many rounds finds, 0 where there is none.
+/// What the last of this many rounds finds, 0 where there is none.
 fn rounds(alloc: Global, stage: Stage, count: u32, text: &[u8]) -> Option<usize> {
     let mut found = 0;
     for _ in 0..count {

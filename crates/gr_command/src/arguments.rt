@@ -10,7 +10,7 @@ use crate::words::next_word;
 use gr_base::{ChName, GoName, NoMemory, StepId, read_ch, read_go, read_step};
 use std::alloc::Global;
 
-// The number with one more digit, if it is then from 1 to `largest`.
+/// The number with one more digit, if it is then from 1 to `largest`.
 fn push_digit(largest: u64, n: u64, byte: u8) -> Option<u64>
     ensures value { result ≡ with_digit (largest + 1) n byte }
     ensures range { IfSome result (λ longer. longer ≤ largest) }

@@ -13,7 +13,7 @@ use crate::words::next_word;
 use gr_base::{ChName, GoName, NoMemory, read_ch, read_go, read_step};
 use std::alloc::Global;
 
-// A channel, and which of its sends or receives, if the text has just two words that name that.
+/// A channel, and which of its sends or receives, if the text has just two words that name that.
 fn communication(alloc: Global, text: &[u8]) -> Result<Option<(ChName, u32)>, NoMemory>
     ensures { IfOk result (λ named. named ≡ both_named ch_named ordinal_named (words_of text.now)) }
 {
@@ -32,7 +32,7 @@ fn communication(alloc: Global, text: &[u8]) -> Result<Option<(ChName, u32)>, No
     Ok(read_ch(alloc, channel)?.map(|channel| (channel, number)))
 }
 
-// A goroutine and the name of a variable, if the text has just two words that name that.
+/// A goroutine and the name of a variable, if the text has just two words that name that.
 fn variable(alloc: Global, text: &[u8]) -> Result<Option<(GoName, Identifier)>, NoMemory>
     ensures { IfOk result (λ named. named ≡ both_named go_named identifier_named (words_of text.now)) }
 {
@@ -51,7 +51,7 @@ fn variable(alloc: Global, text: &[u8]) -> Result<Option<(GoName, Identifier)>, 
     Ok(read_go(alloc, go)?.map(|go| (go, name)))
 }
 
-// Which step a word and the text after it ask for, in each way but by its name.
+/// Which step a word and the text after it ask for, in each way but by its name.
 fn by_way(alloc: Global, word: &[u8], rest: &[u8]) -> Result<Option<Target>, NoMemory>
     ensures { IfOk result (λ target. target ≡ by_table targets_asked word.now (words_of rest.now)) }
 {

@@ -16,7 +16,7 @@ fn state_word(closed: bool) -> &'static [u8]
     if closed { b" closed" } else { b" open" }
 }
 
-// Appends a capacity and whether the channel is closed.
+/// Appends a capacity and whether the channel is closed.
 #[tactic(auto, using(crate::proofs::Growing::grows_then))]
 fn put_capacity(text: &mut Vec<u8>, capacity: u32, closed: bool) -> Result<(), NoMemory>
     ensures ok { OnOk result (text.new.items ≡ text.old.items ++ capacity_text capacity closed) }
@@ -28,7 +28,7 @@ fn put_capacity(text: &mut Vec<u8>, capacity: u32, closed: bool) -> Result<(), N
     put(text, state_word(closed))
 }
 
-// Appends the row of a channel itself.
+/// Appends the row of a channel itself.
 #[tactic(auto, using(crate::proofs::Growing::grows_then))]
 fn put_capacity_row(text: &mut Vec<u8>, capacity: u32, closed: bool) -> Result<(), NoMemory>
     ensures ok { OnOk result (text.new.items ≡ text.old.items ++ row (capacity_text capacity closed)) }
@@ -40,7 +40,7 @@ fn put_capacity_row(text: &mut Vec<u8>, capacity: u32, closed: bool) -> Result<(
     put(text, b"\n")
 }
 
-// Appends a list behind its name.
+/// Appends a list behind its name.
 #[tactic(auto, using(crate::proofs::Growing::grows_then))]
 fn put_list<W: Written>(text: &mut Vec<u8>, name: &[u8], items: &[W]) -> Result<(), NoMemory>
     ensures ok { OnOk result (text.new.items ≡ text.old.items ++ list_text name.now W.text_of items.now) }
@@ -51,7 +51,7 @@ fn put_list<W: Written>(text: &mut Vec<u8>, name: &[u8], items: &[W]) -> Result<
     put_spaced(text, items)
 }
 
-// Appends the row of a list.
+/// Appends the row of a list.
 #[tactic(auto, using(crate::proofs::Growing::grows_then))]
 fn put_list_row<W: Written>(text: &mut Vec<u8>, name: &[u8], items: &[W]) -> Result<(), NoMemory>
     ensures ok { OnOk result (text.new.items ≡ text.old.items ++ row (list_text name.now W.text_of items.now)) }
@@ -63,7 +63,7 @@ fn put_list_row<W: Written>(text: &mut Vec<u8>, name: &[u8], items: &[W]) -> Res
     put(text, b"\n")
 }
 
-// Appends the rows of those that wait.
+/// Appends the rows of those that wait.
 #[tactic(auto, using(crate::proofs::Growing::grows_then))]
 fn put_queues(
     text: &mut Vec<u8>,

@@ -130,7 +130,7 @@ fn has_word_bytes(bytes: &[u8]) -> bool
     bytes.iter().all(|byte| is_word_byte(*byte))
 }
 
-// Whether a word has letters, digits and `_` alone, and no digit first.
+/// Whether a word has letters, digits and `_` alone, and no digit first.
 fn is_name(word: &[u8]) -> bool
     ensures { result ≡ name word.now }
 {

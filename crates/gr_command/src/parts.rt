@@ -88,7 +88,7 @@ impl Written for (StepId, Kind) {
     }
 }
 
-// Appends who waits: the goroutine, and in a select the clause where it waits.
+/// Appends who waits: the goroutine, and in a select the clause where it waits.
 #[tactic(auto, using(crate::proofs::Growing::grows_then))]
 fn put_waiter(text: &mut Vec<u8>, go: &GoName, case: Option<u32>) -> Result<(), NoMemory>
     ensures ok { OnOk result (text.new.items ≡ text.old.items ++ (go_text go.now ++ clause_text case)) }
@@ -99,7 +99,7 @@ fn put_waiter(text: &mut Vec<u8>, go: &GoName, case: Option<u32>) -> Result<(), 
     put_clause(text, case)
 }
 
-// Appends the clause that waits, if there is one.
+/// Appends the clause that waits, if there is one.
 #[tactic(auto, using(crate::proofs::Growing::grows_same, crate::proofs::Growing::grows_then))]
 fn put_clause(text: &mut Vec<u8>, case: Option<u32>) -> Result<(), NoMemory>
     ensures ok { OnOk result (text.new.items ≡ text.old.items ++ clause_text case) }
@@ -150,7 +150,7 @@ impl Written for (Vec<u8>, Value) {
     }
 }
 
-// Appends each variable with its value.
+/// Appends each variable with its value.
 fn put_variables(text: &mut Vec<u8>, variables: &[(Vec<u8>, Value)]) -> Result<(), NoMemory>
     ensures ok { OnOk result (text.new.items ≡ text.old.items ++ each_spaced variable_text (map variable_in variables.now)) }
     ensures full { OnErr result (IsFull text.old (each_spaced variable_text (map variable_in variables.now))) }
@@ -172,7 +172,7 @@ impl Written for FrameShown {
     }
 }
 
-// A status as it stands between a name and a count of steps.
+/// A status as it stands between a name and a count of steps.
 fn status_word(status: Status) -> &'static [u8]
     ensures { result.now ≡ status_text (status_in status) }
 {
@@ -183,7 +183,7 @@ fn status_word(status: Status) -> &'static [u8]
     }
 }
 
-// Appends the line of the next step, if there is one.
+/// Appends the line of the next step, if there is one.
 #[tactic(auto, using(crate::proofs::Growing::grows_same, crate::proofs::Growing::grows_then))]
 fn put_line(text: &mut Vec<u8>, line: Option<usize>) -> Result<(), NoMemory>
     ensures ok { OnOk result (text.new.items ≡ text.old.items ++ line_text line) }
@@ -197,7 +197,7 @@ fn put_line(text: &mut Vec<u8>, line: Option<usize>) -> Result<(), NoMemory>
     put_number(text, line as u64)
 }
 
-// Appends a status, a count of steps and the line of the next step.
+/// Appends a status, a count of steps and the line of the next step.
 #[tactic(auto, using(crate::proofs::Growing::grows_then))]
 fn put_standing(
     text: &mut Vec<u8>,

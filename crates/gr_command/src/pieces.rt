@@ -50,7 +50,7 @@ pub(crate) fn put_number(text: &mut Vec<u8>, n: u64) -> Result<(), NoMemory>
     put(text, buffer.format(n).as_bytes())
 }
 
-// Appends this after a space.
+/// Appends this after a space.
 #[tactic(auto, using(crate::proofs::Growing::grows_then))]
 fn put_after_space<W: Written>(text: &mut Vec<u8>, item: &W) -> Result<(), NoMemory>
     ensures ok { OnOk result (text.new.items ≡ text.old.items ++ spaced (W.text_of item.now)) }

@@ -27,7 +27,7 @@ pub const RUN_LIMIT: u64 = 1_000_000;
 /// The most steps that one `free` may grant.
 pub const GRANT_LIMIT: u64 = 1_000_000;
 
-// A step of the goroutine that the text names, with the clause of a select if a second word names that.
+/// A step of the goroutine that the text names, with the clause of a select if a second word names that.
 fn step(alloc: Global, text: &[u8]) -> Result<Option<Line>, NoMemory>
     ensures { IfOk result (λ line. line ≡ step_asked (words_of text.now)) }
 {
@@ -47,7 +47,7 @@ fn step(alloc: Global, text: &[u8]) -> Result<Option<Line>, NoMemory>
     Ok(read_go(alloc, name)?.map(|go| Line::Command(Command::Step { go, case })))
 }
 
-// To take many steps, if the text is one word that says how many.
+/// To take many steps, if the text is one word that says how many.
 fn run(text: &[u8]) -> Option<Line>
     ensures { result ≡ about (number_named 1_000_000) Run (words_of text.now) }
 {
@@ -57,7 +57,7 @@ fn run(text: &[u8]) -> Option<Line>
     }))
 }
 
-// To grant the workers steps, if the text is one word that says how many.
+/// To grant the workers steps, if the text is one word that says how many.
 fn free(text: &[u8]) -> Option<Line>
     ensures { result ≡ about (number_or_zero_named 1_000_000) Free (words_of text.now) }
 {
@@ -65,14 +65,14 @@ fn free(text: &[u8]) -> Option<Line>
     Some(Line::Command(Command::Free(steps as u32)))
 }
 
-// To take a step back, if the text says which.
+/// To take a step back, if the text says which.
 fn back(alloc: Global, text: &[u8]) -> Result<Option<Line>, NoMemory>
     ensures { IfOk result (λ line. line ≡ back_asked (words_of text.now)) }
 {
     Ok(read_target(alloc, text)?.map(|target| Line::Command(Command::Back(target))))
 }
 
-// To put the steps that the text names in their order, if it has a word and each names a step.
+/// To put the steps that the text names in their order, if it has a word and each names a step.
 fn order(alloc: Global, text: &[u8]) -> Result<Option<Line>, NoMemory>
     ensures { IfOk result (λ line. line ≡ order_asked (words_of text.now)) }
 {
@@ -82,7 +82,7 @@ fn order(alloc: Global, text: &[u8]) -> Result<Option<Line>, NoMemory>
     Ok(read_steps(alloc, text)?.map(|ids| Line::Command(Command::Order(ids))))
 }
 
-// The command of one word, if no word follows it.
+/// The command of one word, if no word follows it.
 fn alone(line: Line, rest: &[u8]) -> Option<Line>
     ensures { result ≡ if_alone line (words_of rest.now) }
 {
@@ -101,7 +101,7 @@ fn without_return(line: &[u8]) -> &[u8]
     }
 }
 
-// What a word and the text after it ask, if they are a question.
+/// What a word and the text after it ask, if they are a question.
 fn question(alloc: Global, word: &[u8], rest: &[u8]) -> Result<Option<Line>, NoMemory>
     ensures ok { IfOk result (λ line. line ≡ by_table questions word.now (words_of rest.now)) }
     ensures needed { OnErr result (MayName (word.now ∷ words_of rest.now)) }
@@ -130,7 +130,7 @@ fn question(alloc: Global, word: &[u8], rest: &[u8]) -> Result<Option<Line>, NoM
     Ok(None)
 }
 
-// What a word and the text after it ask, if they are a command.
+/// What a word and the text after it ask, if they are a command.
 fn asked(alloc: Global, word: &[u8], rest: &[u8]) -> Result<Option<Line>, NoMemory>
     ensures ok { IfOk result (λ line. line ≡ by_table commands word.now (words_of rest.now)) }
     ensures needed { OnErr result (MayName (word.now ∷ words_of rest.now)) }

@@ -9,7 +9,7 @@ fn is_gap(byte: u8) -> bool
     byte == b' ' || byte == b'\t'
 }
 
-// The text from its first word on.
+/// The text from its first word on.
 fn from_word(text: &[u8]) -> &[u8]
     ensures words { words_of result.now ≡ words_of text.now }
     ensures first { BeginsWord result.now }
@@ -24,7 +24,7 @@ fn from_word(text: &[u8]) -> &[u8]
     rest
 }
 
-// A word, and what follows it.
+/// A word, and what follows it.
 fn split_word(text: &[u8]) -> (&[u8], &[u8])
     ensures cut { text.now ≡ result.0.now ++ result.1.now }
     ensures word { NoGap result.0.now }

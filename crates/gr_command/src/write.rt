@@ -36,7 +36,7 @@ fn refused(why: Refusal) -> &'static [u8]
     }
 }
 
-// Appends that a line with a breakpoint comes next.
+/// Appends that a line with a breakpoint comes next.
 #[tactic(auto, using(crate::proofs::Growing::grows_then))]
 fn put_break(text: &mut Vec<u8>, line: u32) -> Result<(), NoMemory>
     ensures ok { OnOk result (text.new.items ≡ text.old.items ++ end_text (ends.Break line)) }
@@ -47,7 +47,7 @@ fn put_break(text: &mut Vec<u8>, line: u32) -> Result<(), NoMemory>
     put_number(text, u64::from(line))
 }
 
-// Appends why many steps ended.
+/// Appends why many steps ended.
 fn put_reason(text: &mut Vec<u8>, end: RunEnd) -> Result<(), NoMemory>
     ensures ok { OnOk result (text.new.items ≡ text.old.items ++ end_text end) }
     ensures full { OnErr result (IsFull text.old (end_text end)) }
@@ -86,7 +86,7 @@ fn put_undone(text: &mut Vec<u8>, id: &StepId) -> Result<(), NoMemory>
     put(text, b"\n")
 }
 
-// Appends a number of steps and why they ended.
+/// Appends a number of steps and why they ended.
 #[tactic(auto, using(crate::proofs::Growing::grows_then))]
 fn put_end(text: &mut Vec<u8>, end: RunEnd) -> Result<(), NoMemory>
     ensures ok { OnOk result (text.new.items ≡ text.old.items ++ (codes " " ++ (end_text end ++ codes "\n"))) }
@@ -109,7 +109,7 @@ fn put_ran(text: &mut Vec<u8>, steps: u64, end: RunEnd) -> Result<(), NoMemory>
     put_end(text, end)
 }
 
-// Appends each frame as a row.
+/// Appends each frame as a row.
 fn put_frames(text: &mut Vec<u8>, frames: &[FrameShown]) -> Result<(), NoMemory>
     ensures ok { OnOk result (text.new.items ≡ text.old.items ++ rows frame_text (map frame_in frames.now)) }
     ensures full { OnErr result (IsFull text.old (rows frame_text (map frame_in frames.now))) }
@@ -140,7 +140,7 @@ fn put_channel_shown(text: &mut Vec<u8>, channel: &ChannelShown) -> Result<(), N
     put(text, b"ok\n")
 }
 
-// Appends each line as a row.
+/// Appends each line as a row.
 fn put_line_rows(text: &mut Vec<u8>, lines: &[Vec<u8>]) -> Result<(), NoMemory>
     ensures ok { OnOk result (text.new.items ≡ text.old.items ++ rows (λ line. line) (lines_in lines.now)) }
     ensures full { OnErr result (IsFull text.old (rows (λ line. line) (lines_in lines.now))) }
@@ -159,7 +159,7 @@ fn put_lines(text: &mut Vec<u8>, lines: &[Vec<u8>]) -> Result<(), NoMemory>
     put(text, b"ok\n")
 }
 
-// Appends the last line of a log.
+/// Appends the last line of a log.
 #[tactic(auto, using(crate::proofs::Growing::grows_then))]
 fn put_total(text: &mut Vec<u8>, n: u64) -> Result<(), NoMemory>
     ensures ok { OnOk result (text.new.items ≡ text.old.items ++ total_text n) }
@@ -181,7 +181,7 @@ fn put_log(text: &mut Vec<u8>, steps: &[(StepId, Kind)]) -> Result<(), NoMemory>
     put_total(text, steps.len() as u64)
 }
 
-// Appends a count of steps and their names, as the end of a line. Most of the room is made at once.
+/// Appends a count of steps and their names, as the end of a line. Most of the room is made at once.
 #[tactic(auto, using(crate::proofs::Growing::grows_then))]
 fn put_ids(text: &mut Vec<u8>, ids: &[StepId]) -> Result<(), NoMemory>
     ensures ok { OnOk result (text.new.items ≡ text.old.items ++ ids_text ids.now) }
@@ -225,7 +225,7 @@ fn put_breaks(text: &mut Vec<u8>, earlier: &StepId, later: &StepId) -> Result<()
     put(text, b"\n")
 }
 
-// Appends two steps.
+/// Appends two steps.
 #[tactic(auto, using(crate::proofs::Growing::grows_then))]
 fn put_pair(text: &mut Vec<u8>, first: &StepId, second: &StepId) -> Result<(), NoMemory>
     ensures ok { OnOk result (text.new.items ≡ text.old.items ++ pair_text first.now second.now) }

@@ -60,7 +60,7 @@ pub fn unusable(functions: &Functions, scope: &Scope, name: &[u8]) -> RefusalCod
     }
 }
 
-// The rule that is broken where a name is no callee of a call that has a value.
+/// The rule that is broken where a name is no callee of a call that has a value.
 fn no_callee(functions: &Functions, scope: &Scope, name: &[u8]) -> RefusalCode
     ensures { result ≡ callee_code (functions_of functions.now) (scope_of scope.now) name.now }
 {
@@ -107,7 +107,7 @@ pub fn resolve(functions: &Functions, scope: &Scope, name: &[u8]) -> Result<Call
     }
 }
 
-// Values that are given to parameters of these types.
+/// Values that are given to parameters of these types.
 fn given_all(
     alloc: Global,
     parameters: &[Type],
@@ -182,7 +182,7 @@ fn with_value(called: Called) -> Result<Operand, RuleError>
     }
 }
 
-// The one value among these.
+/// The one value among these.
 fn only(mut values: VecDeque<Operand>) -> Result<Operand, RuleError>
     ensures { Agrees meaning_of result (calling.only_of (meanings_of values.items)) }
 {

@@ -53,7 +53,7 @@ fn constant_named(name: &[u8]) -> Option<Operand>
     }
 }
 
-// A name that stands for no variable.
+/// A name that stands for no variable.
 fn predeclared(functions: &Functions, scope: &Scope, name: &[u8]) -> Result<Operand, RuleError>
     ensures value { Agrees meaning_of result
         (spec.if_unknown (scopes.function_in (functions_of functions.now) name.now) (spec.named_constant name.now)) }
@@ -93,7 +93,7 @@ fn literal(n: u64) -> Result<Operand, RuleError>
     }
 }
 
-// The rule that is broken where what is written is no type.
+/// The rule that is broken where what is written is no type.
 fn no_type(functions: &Functions, scope: &Scope, tree: &TypeTree) -> RefusalCode
     ensures { result ≡ type_code (functions_of functions.now) (scope_of scope.now) (trees.type_of tree.now) }
 {

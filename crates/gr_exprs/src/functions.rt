@@ -14,12 +14,12 @@ use std::alloc::{AllocError, Global};
 #[derive(Drop)]
 pub struct Functions {
     signatures: Vec<Signature>,
-    // The number of the first function with a name.
+    /// The number of the first function with a name.
     numbers: NameTable,
     ghost found: { Finds (block_of numbers) (signs_of signatures.items) },
 }
 
-// The table with a function, if it is the first with its name.
+/// The table with a function, if it is the first with its name.
 fn with_function(
     alloc: Global,
     mut table: NameTable,

@@ -12,15 +12,15 @@ use std::alloc::{AllocError, Global};
 /// The variables of a function so far, and the names in scope at a place.
 #[derive(Drop)]
 pub struct Scope {
-    // The names of the block of the place.
+    /// The names of the block of the place.
     here: NameTable,
-    // The names of the blocks around it, the nearest last.
+    /// The names of the blocks around it, the nearest last.
     around: Vec<NameTable>,
-    // The variables by their numbers.
+    /// The variables by their numbers.
     variables: Vec<Variable>,
 }
 
-// The number of a name in these blocks. The last block is asked first.
+/// The number of a name in these blocks. The last block is asked first.
 fn number_in(mut blocks: &[NameTable], name: &[u8]) -> Option<usize>
     ensures { result ≡ spec.in_blocks (blocks_of blocks.entry.now) name.now }
 {

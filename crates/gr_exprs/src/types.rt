@@ -21,7 +21,7 @@ pub fn is_assignable(from: &Type, to: &Type) -> bool
     }
 }
 
-// The type with this name.
+/// The type with this name.
 fn named(name: &[u8]) -> Option<Type>
     ensures { optional ty_of result ≡ spec.type_written (trees.TypeName name.now) }
 {

@@ -96,7 +96,7 @@ pub fn perform_one(
     perform(out, action, operands)
 }
 
-// Writes the parts of two expressions, and then what is done with what is left of them.
+/// Writes the parts of two expressions, and then what is done with what is left of them.
 fn perform_two(
     alloc: Global,
     out: &mut Vec<Instruction>,
@@ -132,7 +132,7 @@ pub fn perform_none(
     perform(out, action, Vec::new(alloc))
 }
 
-// A `return`, which may have no value.
+/// A `return`, which may have no value.
 fn give_back(
     alloc: Global,
     out: &mut Vec<Instruction>,
@@ -150,7 +150,7 @@ fn give_back(
     }
 }
 
-// A call or a receive that is a statement.
+/// A call or a receive that is a statement.
 fn whole(
     alloc: Global,
     out: &mut Vec<Instruction>,
@@ -213,7 +213,7 @@ fn two_targets(
     Ok(targets)
 }
 
-// A receive of two values, which are assigned by a step of its own.
+/// A receive of two values, which are assigned by a step of its own.
 fn receive_two(
     alloc: Global,
     out: &mut Vec<Instruction>,
@@ -264,7 +264,7 @@ fn pieces(alloc: Global, values: &[Printed]) -> Result<Vec<Piece>, NoMemory>
     Ok(found)
 }
 
-// The parts of what is printed, and what is left of it.
+/// The parts of what is printed, and what is left of it.
 fn lower_printed(
     alloc: Global,
     out: &mut Vec<Instruction>,
@@ -307,7 +307,7 @@ fn print(
     perform(out, Action::Print { pieces, on }, operands)
 }
 
-// A jump; one that leads nowhere is in no checked program.
+/// A jump; one that leads nowhere is in no checked program.
 fn go_on(alloc: Global, out: &mut Vec<Instruction>, to: Option<usize>) -> Result<(), NoMemory>
     ensures code { OnOk result (instructions_of out.new.items ≡ instructions_of out.old.items ++ goes to ∷ []) }
     ensures grown { OnOk result (vec_len out.new ≡ vec_len out.old + 1) }

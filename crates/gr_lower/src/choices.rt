@@ -26,7 +26,7 @@ pub fn entry(many: usize, first: usize, on: usize) -> usize
     if many == 0 { on } else { first }
 }
 
-// Where a clause lays what it receives, if it assigns it.
+/// Where a clause lays what it receives, if it assigns it.
 fn into(targets: &[Option<usize>], first: usize) -> Result<Option<(usize, usize)>, NoMemory>
     ensures { IfOk result (λ x. x ≡ spec_into targets.now first) }
 {
@@ -36,7 +36,7 @@ fn into(targets: &[Option<usize>], first: usize) -> Result<Option<(usize, usize)
     Ok(Some((first, sum(first, 1)?)))
 }
 
-// The parts of the operands of a clause, the first with the temporary `next`, and the arm of the clause, which leads to `to`.
+/// The parts of the operands of a clause, the first with the temporary `next`, and the arm of the clause, which leads to `to`.
 fn lower_arm(
     alloc: Global,
     out: &mut Vec<Instruction>,

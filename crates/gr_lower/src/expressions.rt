@@ -41,7 +41,7 @@ fn decided(alloc: Global, op: BinaryOp, slot: usize, right: Operand) -> Result<O
     Ok(Operand::Decided(op, slot, Box::new(alloc, right)?))
 }
 
-// A part after those of its operands, which begin at an instruction, the first with the temporary `first`.
+/// A part after those of its operands, which begin at an instruction, the first with the temporary `first`.
 fn part(
     out: &mut Vec<Instruction>,
     ask: Ask,
@@ -68,7 +68,7 @@ fn part(
     Ok(Operand::Variable(slot))
 }
 
-// The decision of `&&` or `||` before the parts of its right operand.
+/// The decision of `&&` or `||` before the parts of its right operand.
 fn decide(
     out: &mut Vec<Instruction>,
     op: BinaryOp,
@@ -158,7 +158,7 @@ pub fn lower_expr(
     }
 }
 
-// The rest of a binary expression, whose left operand is done: its right operand, after a decision where that has parts.
+/// The rest of a binary expression, whose left operand is done: its right operand, after a decision where that has parts.
 #[cycle(lowering)]
 fn lower_right(
     alloc: Global,

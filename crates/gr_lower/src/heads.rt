@@ -21,7 +21,7 @@ use gr_program::program::Opening;
 use gr_program::{Expr, Literal};
 use std::alloc::Global;
 
-// A test with a condition that may be missing.
+/// A test with a condition that may be missing.
 fn perform_tested(
     alloc: Global,
     out: &mut Vec<Instruction>,
@@ -99,7 +99,7 @@ pub fn head_for(
     Ok(turn)
 }
 
-// What a turn of a loop over a channel does before the body.
+/// What a turn of a loop over a channel does before the body.
 fn take_turn(
     alloc: Global,
     out: &mut Vec<Instruction>,

@@ -34,7 +34,7 @@ fn count_variables(variables: &[Variable]) -> usize
     variables.len()
 }
 
-// The instructions of a body, in a function with this many variables. Its closing brace comes last.
+/// The instructions of a body, in a function with this many variables. Its closing brace comes last.
 fn lower_body(alloc: Global, body: &[Stmt], variables: usize) -> Result<Vec<Instruction>, NoMemory>
     ensures { IfOk result (λ xs. instructions_of xs.items ≡ body_code variables (stmts_of body.now)) }
 {

@@ -26,7 +26,7 @@ pub fn is_logic(op: BinaryOp) -> bool
     }
 }
 
-// The parts of a right operand, with the decision before them.
+/// The parts of a right operand, with the decision before them.
 fn decided(op: BinaryOp, right: usize) -> Result<usize, NoMemory>
     ensures { IfOk result (λ n. n ≡ with_decision op right) }
 {

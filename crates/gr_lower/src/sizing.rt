@@ -17,7 +17,7 @@ use gr_program::program::{Case, Opening, Printed};
 use gr_program::{Act, Expr, Stmt};
 use std::alloc::Global;
 
-// A call or a receive is over with its last part.
+/// A call or a receive is over with its last part.
 fn whole_size(value: &Expr) -> Result<usize, NoMemory>
     ensures { IfOk result (λ n. n ≡ spec_whole (operand_of (expr_of value.now))) }
 {
@@ -166,7 +166,7 @@ pub fn size_of_all(alloc: Global, sizes: &mut Sizes, stmts: &[Stmt]) -> Result<u
     Ok(found)
 }
 
-// How many instructions a clause has after the select, before those of others.
+/// How many instructions a clause has after the select, before those of others.
 #[cycle(sizing)]
 fn size_of_case(alloc: Global, sizes: &mut Sizes, case: &Case) -> Result<usize, NoMemory>
     ensures noted { OnOk result ((others : Cases) (rest : List ℕ) → sizes.old ≡ asked_among others rest
@@ -201,7 +201,7 @@ fn size_of_cases(alloc: Global, sizes: &mut Sizes, cases: &[Case]) -> Result<usi
     Ok(found)
 }
 
-// How many parts the operands of a clause have, before those of others.
+/// How many parts the operands of a clause have, before those of others.
 fn count_case(case: &Case) -> Result<usize, NoMemory>
     ensures { IfOk result (λ n. (others : Cases)
         → parts_in (case_operands (case_on case.now others)) ≡ n + parts_in (case_operands others)) }

@@ -118,7 +118,7 @@ pub fn lower_stmts(
     Ok(())
 }
 
-// The code of a clause after the select.
+/// The code of a clause after the select.
 #[cycle(writing)]
 fn lower_case(
     alloc: Global,
@@ -148,7 +148,7 @@ fn lower_case(
     }
 }
 
-// The code of the clauses of a select.
+/// The code of the clauses of a select.
 #[cycle(writing)]
 fn lower_cases(
     alloc: Global,

@@ -32,7 +32,7 @@ pub fn are_same_targets(a: &[Option<usize>], b: &[Option<usize>]) -> bool
     a == b
 }
 
-// Whether both are assignments, and the same.
+/// Whether both are assignments, and the same.
 fn is_same_assignment(a: &Act, b: &Act) -> bool
     ensures { result ≡ (spec.assigns (act_of a.now) && spec.same_act (act_of a.now) (act_of b.now)) }
 {
@@ -70,7 +70,7 @@ fn is_same_assignment(a: &Act, b: &Act) -> bool
     }
 }
 
-// Whether both are an assignment with an operator, a send or a go, and the same.
+/// Whether both are an assignment with an operator, a send or a go, and the same.
 fn is_same_passing(a: &Act, b: &Act) -> bool
     ensures { result ≡ (spec.passes (act_of a.now) && spec.same_act (act_of a.now) (act_of b.now)) }
 {
@@ -111,7 +111,7 @@ fn is_same_passing(a: &Act, b: &Act) -> bool
     }
 }
 
-// Whether both are something else, and the same.
+/// Whether both are something else, and the same.
 fn is_same_other(a: &Act, b: &Act) -> bool
     ensures { result ≡ (not (spec.assigns (act_of a.now)) &&
         (not (spec.passes (act_of a.now)) && spec.same_act (act_of a.now) (act_of b.now))) }

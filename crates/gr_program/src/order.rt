@@ -8,7 +8,7 @@ ghost use Rattle.gr_program.specs.Views.{opening_of, stmt_of, stmts_of, cases_of
 use crate::program::{Case, Opening, Stmt};
 use gr_scan::token::Place;
 
-// The start of what stands at this place, if it comes after the last one.
+/// The start of what stands at this place, if it comes after the last one.
 fn next_start(last: usize, place: Place) -> Option<usize>
     ensures { result ≡ spec.next_start last place.start }
 {
@@ -28,7 +28,7 @@ fn after_opening(last: usize, opening: &Option<Box<Opening>>) -> Option<usize>
     }
 }
 
-// The last start of these statements, if each begins after the one before it.
+/// The last start of these statements, if each begins after the one before it.
 #[cycle(ordering)]
 fn after_body(last: usize, body: &[Stmt]) -> Option<usize>
     ensures { result ≡ spec.after_body (stmts_of body.now) last }

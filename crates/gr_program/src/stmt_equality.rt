@@ -10,7 +10,7 @@ use crate::act_equality::{
 use crate::expr_equality::{is_same_expr, is_same_if_any, is_same_literal};
 use crate::program::{Case, Stmt};
 
-// Whether two statements are the same but for the statements in them.
+/// Whether two statements are the same but for the statements in them.
 #[tactic(auto, using(crate::proofs::SameLists::either_kind))]
 fn is_same_heading(a: &Stmt, b: &Stmt) -> bool
     ensures { result ≡ spec.same_heading (stmt_of a.now) (stmt_of b.now) }
@@ -18,7 +18,7 @@ fn is_same_heading(a: &Stmt, b: &Stmt) -> bool
     is_same_loop_heading(a, b) || is_same_plain_heading(a, b)
 }
 
-// Whether two statements that are no loops are the same but for the statements in them.
+/// Whether two statements that are no loops are the same but for the statements in them.
 fn is_same_plain_heading(a: &Stmt, b: &Stmt) -> bool
     ensures { result ≡ (not (spec.loops (stmt_of a.now)) && spec.same_heading (stmt_of a.now) (stmt_of b.now)) }
 {
@@ -46,7 +46,7 @@ fn is_same_plain_heading(a: &Stmt, b: &Stmt) -> bool
     }
 }
 
-// Whether two loops are the same but for the statements in them.
+/// Whether two loops are the same but for the statements in them.
 fn is_same_loop_heading(a: &Stmt, b: &Stmt) -> bool
     ensures { result ≡ (spec.loops (stmt_of a.now) && spec.same_heading (stmt_of a.now) (stmt_of b.now)) }
 {
@@ -88,7 +88,7 @@ fn is_same_loop_heading(a: &Stmt, b: &Stmt) -> bool
     }
 }
 
-// Whether two clauses are the same but for their bodies.
+/// Whether two clauses are the same but for their bodies.
 fn is_same_awaited(a: &Case, b: &Case) -> bool
     ensures { result ≡ spec.same_awaited (case_on a.now no_case) (case_on b.now no_case) }
 {

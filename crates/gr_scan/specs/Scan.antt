@@ -115,7 +115,7 @@ pub record IsScan (text : List ℕ) (ts : List Tok) : Type 0 where
   pub are : all_items (mark_size text) 1 pieces ≡ Some items
   pub tokens : ts ≡ with_semicolons false items
 
--- every fault but want of memory says that the text has no tokens
+-- every fault but out of memory says that the text has no tokens
 abbrev pub HasNoTokens : ScanError → List ℕ → Type 0
 HasNoTokens errors.Memory text = Unit {0}
 HasNoTokens error text = (ts : List Tok) → IsScan text ts → ⊥

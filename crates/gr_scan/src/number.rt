@@ -19,7 +19,7 @@ fn hex_digit(b: u8) -> bool
     digit(b) || (b >= b'a' && b <= b'f') || (b >= b'A' && b <= b'F')
 }
 
-// What a digit is worth.
+/// What a digit is worth.
 fn units(b: u8) -> u64
     ensures { result ≡ digit_value b }
 {
@@ -38,7 +38,7 @@ fn digit_of(base: u64, b: u8) -> bool
     hex_digit(b) && units(b) < base
 }
 
-// The base of a number, and the length of the prefix that tells it.
+/// The base of a number, and the length of the prefix that tells it.
 fn prefix(bytes: &[u8]) -> (u64, usize)
     requires { 0 < length bytes.now }
     ensures prefix { result ≡ prefix_of bytes.now }
@@ -55,7 +55,7 @@ fn prefix(bytes: &[u8]) -> (u64, usize)
     }
 }
 
-// Whether a digit stands at this place, or a `_` before a digit.
+/// Whether a digit stands at this place, or a `_` before a digit.
 fn part(base: u64, digits: &[u8], at: usize) -> bool
     requires { at < length digits.now }
     ensures { result ≡ is_part base digits.now at }
@@ -74,7 +74,7 @@ fn all_digits(base: u64, digits: &[u8]) -> bool
     true
 }
 
-// What a number is worth with one more digit; `None` where that is over 2^63.
+/// What a number is worth with one more digit; `None` where that is over 2^63.
 fn with_digit(base: u64, value: u64, b: u8) -> Option<u64>
     requires { value ≤ 2 ^ 63 }
     ensures some { IfSome result (λ n. (n ≡ spec.with_digit base value b) × (n ≤ 2 ^ 63)) }
@@ -90,7 +90,7 @@ fn with_digit(base: u64, value: u64, b: u8) -> Option<u64>
     Some(next)
 }
 
-// What digits are worth; `None` where that is over 2^63.
+/// What digits are worth; `None` where that is over 2^63.
 fn value(base: u64, digits: &[u8]) -> Option<u64>
     requires { 0 < base }
     ensures some { IfSome result (λ n. (n ≡ value_after base 0 digits.now) × (n ≤ 2 ^ 63)) }
@@ -103,14 +103,14 @@ fn value(base: u64, digits: &[u8]) -> Option<u64>
     Some(value)
 }
 
-// Whether a number is a hexadecimal, by its prefix.
+/// Whether a number is a hexadecimal, by its prefix.
 fn hexadecimal(bytes: &[u8]) -> bool
     ensures { result ≡ is_hexadecimal bytes.now }
 {
     byte(bytes, 0) == b'0' && (byte(bytes, 1) == b'x' || byte(bytes, 1) == b'X')
 }
 
-// Whether a byte is the letter of an exponent.
+/// Whether a byte is the letter of an exponent.
 fn exponent(hexadecimal: bool, b: u8) -> bool
     ensures { result ≡ is_exponent hexadecimal b }
 {
@@ -127,8 +127,8 @@ fn has_exponent(hexadecimal: bool, bytes: &[u8]) -> bool
     bytes.iter().any(|b| exponent(hexadecimal, *b))
 }
 
-// Whether a run that is no number is of a kind that is left out. Such a run has an exponent, or ends in the `i` of an
-// imaginary number.
+/// Whether a run that is no number is of a kind that is left out. Such a run has an exponent, or ends in the `i` of an
+/// imaginary number.
 fn left_out(bytes: &[u8]) -> bool
     requires { 0 < length bytes.now }
     ensures { result ≡ is_left_out bytes.now }

@@ -100,7 +100,7 @@ pub fn byte(text: &[u8], at: usize) -> u8
     if at < text.len() { text[at] } else { 0 }
 }
 
-// How far the bytes of names go on.
+/// How far the bytes of names go on.
 fn run_end(text: &[u8], from: usize) -> usize
     requires { from ≤ length text.now }
     ensures low { from ≤ result }
@@ -116,7 +116,7 @@ fn run_end(text: &[u8], from: usize) -> usize
     text.len()
 }
 
-// How far a line goes on.
+/// How far a line goes on.
 fn line_end(text: &[u8], from: usize) -> usize
     requires { from ≤ length text.now }
     ensures low { from ≤ result }
@@ -132,7 +132,7 @@ fn line_end(text: &[u8], from: usize) -> usize
     text.len()
 }
 
-// How far a general comment goes on, its `*/` included; `None` where nothing closes it.
+/// How far a general comment goes on, its `*/` included; `None` where nothing closes it.
 fn comment_end(text: &[u8]) -> Option<usize>
     ensures some { IfSome result (λ n. IsFirstEnd n text.now) }
     ensures none { IfNone result ((k : ℕ) → 2 ≤ k → Closes text.now k → ⊥) }

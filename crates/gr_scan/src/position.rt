@@ -18,7 +18,7 @@ pub fn newlines(bytes: &[u8]) -> usize
     bytes.iter().filter(|byte| **byte == b'\n').count()
 }
 
-// How many bytes stand after the last newline.
+/// How many bytes stand after the last newline.
 fn since_newline(bytes: &[u8]) -> usize
     ensures count { result ≡ since_newline bytes.now }
     ensures few { result ≤ length bytes.now }

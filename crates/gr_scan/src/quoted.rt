@@ -28,7 +28,7 @@ fn plain(b: u8) -> bool
     b == b'\t' || (b >= b' ' && b <= b'~') || b >= 0x80
 }
 
-// The byte that a backslash and this byte stand for.
+/// The byte that a backslash and this byte stand for.
 fn escaped(b: u8) -> Option<u8>
     ensures { result ≡ escape_of b }
 {
@@ -40,7 +40,7 @@ fn escaped(b: u8) -> Option<u8>
     }
 }
 
-// Whether a backslash and this byte are an escape that the language leaves out.
+/// Whether a backslash and this byte are an escape that the language leaves out.
 fn left_out(b: u8) -> bool
     ensures { result ≡ is_left_out_escape b }
 {
@@ -63,7 +63,7 @@ fn read_escape(b: u8) -> Part
     }
 }
 
-// What a byte is; `escape` says whether a backslash before it escapes it.
+/// What a byte is; `escape` says whether a backslash before it escapes it.
 fn read_byte(escape: bool, b: u8) -> Part
     ensures { result ≡ part_of escape b }
 {

@@ -91,7 +91,7 @@ fn push(tokens: &mut Vec<Token>, kind: Kind, span: Span) -> Result<(), AllocErro
     Ok(())
 }
 
-// Puts the semicolon at the end of a line that wants one.
+/// Puts the semicolon at the end of a line that wants one.
 fn end_line(tokens: &mut Vec<Token>, wanted: bool, at: u32, line: u32) -> Result<(), AllocError>
     ensures { OnOk result (tokens_of tokens.new.items ≡ tokens_of tokens.old.items ++ semicolon wanted at line) }
 {
@@ -106,7 +106,7 @@ fn end_line(tokens: &mut Vec<Token>, wanted: bool, at: u32, line: u32) -> Result
     Ok(())
 }
 
-// Adds a keyword or a name; answers whether a line that ends in it wants a semicolon.
+/// Adds a keyword or a name; answers whether a line that ends in it wants a semicolon.
 #[tactic(auto, using(crate::proofs::Goes::tokens_of_push))]
 fn put_word(
     alloc: Global,
@@ -126,7 +126,7 @@ fn put_word(
     Ok(true)
 }
 
-// Adds what a piece is; answers whether the line so far wants a semicolon at its end.
+/// Adds what a piece is; answers whether the line so far wants a semicolon at its end.
 fn put(
     alloc: Global,
     tokens: &mut Vec<Token>,

@@ -35,7 +35,7 @@ use gr_program::{Act, Literal, Type};
 use gr_tree::{Action, BinaryOp, Expr, Simple};
 use std::alloc::Global;
 
-// The variable that a name stands for, which is a whole number.
+/// The variable that a name stands for, which is a whole number.
 #[tactic(auto, unfolding(crate::specs::FindingStatements::number_variable, crate::specs::FindingStatements::variable_in))]
 fn number_variable(functions: &Functions, scope: &Scope, name: &[u8]) -> Result<usize, RuleError>
     ensures value { Agrees (λ k. k) result (spec.number_variable (scope_of scope.now) name.now) }
@@ -50,7 +50,7 @@ fn number_variable(functions: &Functions, scope: &Scope, name: &[u8]) -> Result<
     }
 }
 
-// An assignment of a variable's value and this one, joined by an operator that gives a whole number.
+/// An assignment of a variable's value and this one, joined by an operator that gives a whole number.
 fn update_by(op: BinaryOp, variable: usize, value: Operand) -> Result<Act, RuleError>
     ensures { Agrees act_of result (spec.updated op variable (meaning_of value)) }
 {
@@ -68,7 +68,7 @@ fn update_by(op: BinaryOp, variable: usize, value: Operand) -> Result<Act, RuleE
     })
 }
 
-// An assignment with an operator.
+/// An assignment with an operator.
 #[tactic(auto, unfolding(crate::specs::FindingStatements::simple_in))]
 fn update(
     alloc: Global,
@@ -86,7 +86,7 @@ fn update(
     update_by(op, variable, value)
 }
 
-// An increment or a decrement.
+/// An increment or a decrement.
 fn by_one(op: BinaryOp, variable: usize) -> Act
     ensures { act_of result ≡ spec.by_one op variable }
 {
@@ -129,7 +129,7 @@ pub fn simple(
     }
 }
 
-// The value that a return gives, in a function with this result.
+/// The value that a return gives, in a function with this result.
 #[tactic(auto, unfolding(crate::specs::FindingStatements::returned_in))]
 fn return_value(
     alloc: Global,
@@ -154,14 +154,14 @@ fn return_value(
     }
 }
 
-// Which of the statements around a place a break leaves.
+/// Which of the statements around a place a break leaves.
 fn break_of(label: &Option<Vec<u8>>, nest: &Nest) -> Result<usize, RuleError>
     ensures { Agrees (λ k. k) result (first_where (is_left (optional trees.name_of label.now)) (nest_of nest.now)) }
 {
     break_depth(label.as_deref(), nest)
 }
 
-// Which of the statements around a place a continue begins anew.
+/// Which of the statements around a place a continue begins anew.
 fn continue_of(label: &Option<Vec<u8>>, nest: &Nest) -> Result<usize, RuleError>
     ensures { Agrees (λ k. k) result (first_where (is_continued (optional trees.name_of label.now)) (nest_of nest.now)) }
 {

@@ -37,7 +37,7 @@ fn label_code(fault: LabelError) -> RefusalCode
     }
 }
 
-// The rule that is broken first, and where: that of a statement, or that of a label.
+/// The rule that is broken first, and where: that of a statement, or that of a label.
 fn earlier(code: RefusalCode, at: usize, unfit: Option<UnfitLabel>) -> (RefusalCode, usize)
     ensures { result ≡ spec_codes.earlier_of code at unfit }
 {
@@ -47,7 +47,7 @@ fn earlier(code: RefusalCode, at: usize, unfit: Option<UnfitLabel>) -> (RefusalC
     }
 }
 
-// The statements of a body, among which every label fits.
+/// The statements of a body, among which every label fits.
 fn labeled(
     alloc: Global,
     context: &Context,
@@ -75,7 +75,7 @@ fn labeled(
     }
 }
 
-// The function of an outline.
+/// The function of an outline.
 #[tactic(auto, unfolding(crate::specs::Outlines::finished))]
 fn finish(alloc: Global, functions: &Functions, outline: Outline) -> Result<Function, CheckError>
     ensures value { Settles programs.function_of result (spec.finished (functions_of functions.now) (outline_of outline.entry)) }

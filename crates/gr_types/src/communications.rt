@@ -88,7 +88,7 @@ pub fn send_of(
     Ok((channel.term, value))
 }
 
-// What is waited for by a clause that assigns to these names.
+/// What is waited for by a clause that assigns to these names.
 #[tactic(auto, unfolding(crate::specs::FindingStatements::comm_in))]
 fn awaits_assigned(
     alloc: Global,
@@ -112,7 +112,7 @@ fn awaits_assigned(
     })
 }
 
-// What is waited for by a clause that defines these names.
+/// What is waited for by a clause that defines these names.
 #[tactic(auto, unfolding(crate::specs::FindingStatements::comm_in))]
 fn awaits_defined(
     alloc: Global,

@@ -66,7 +66,7 @@ fn is_continued(label: Option<&[u8]>, around: &Around) -> bool
     }
 }
 
-// One further out. No text is long enough to nest as many statements as there are numbers.
+/// One further out. No text is long enough to nest as many statements as there are numbers.
 fn next(number: usize) -> Result<usize, RuleError>
     ensures value { Agrees (λ k. k) result (next_number (Some number)) }
     ensures code { Tells result codes.WrongLabel }

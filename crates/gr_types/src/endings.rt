@@ -52,7 +52,7 @@ fn breaks_clause(label: Option<&[u8]>, near: bool, clause: &Clause) -> bool
     }
 }
 
-// Whether a break within this statement leaves the for or select statement that is meant.
+/// Whether a break within this statement leaves the for or select statement that is meant.
 #[cycle(breaking)]
 fn breaks(label: Option<&[u8]>, near: bool, statement: &Stmt) -> bool
     ensures { result ≡ spec.breaks_of (optional (λ x. x.now) label.entry) near (statement_of statement.now) }
@@ -82,7 +82,7 @@ fn returns(action: &Action) -> bool
     }
 }
 
-// Whether a for has neither a condition nor a range.
+/// Whether a for has neither a condition nor a range.
 fn is_endless(head: &ForHead) -> bool
     ensures { result ≡ spec.is_endless (for_of head.now) }
 {

@@ -24,7 +24,7 @@ use gr_program::{Act, Printed, Type};
 use gr_tree::{Expr, UnaryOp};
 use std::alloc::Global;
 
-// The one argument of a call.
+/// The one argument of a call.
 #[tactic(auto, unfolding(gr_exprs::specs::Finding::only_in))]
 fn only(
     alloc: Global,
@@ -82,7 +82,7 @@ fn print_one(
     }
 }
 
-// What `println` prints, in order.
+/// What `println` prints, in order.
 fn print_all(
     alloc: Global,
     functions: &Functions,
@@ -111,7 +111,7 @@ fn print(
     Ok(Act::Print(print_all(alloc, functions, scope, arguments)?))
 }
 
-// A call that may only stand where its value is used, or that may not stand at all.
+/// A call that may only stand where its value is used, or that may not stand at all.
 fn unused(
     alloc: Global,
     functions: &Functions,
@@ -152,7 +152,7 @@ fn without_result(called: Called) -> Act
     Act::Eval(checked::forms::call(called.function, called.arguments))
 }
 
-// A call of a function, whose result is dropped.
+/// A call of a function, whose result is dropped.
 fn run_function(
     alloc: Global,
     functions: &Functions,
@@ -187,7 +187,7 @@ fn run_call(
     run_built_in(alloc, functions, scope, name, arguments)
 }
 
-// A receive whose value is dropped.
+/// A receive whose value is dropped.
 fn run_receive(
     alloc: Global,
     functions: &Functions,
@@ -201,7 +201,7 @@ fn run_receive(
     Ok(Act::Eval(checked::Expr::Receive(Box::new(alloc, channel)?, zero)))
 }
 
-// An expression that is no statement.
+/// An expression that is no statement.
 fn no_statement(
     alloc: Global,
     functions: &Functions,

@@ -65,7 +65,7 @@ fn header_act(
     }
 }
 
-// A statement of a heading; what it breaks stands at its own place.
+/// A statement of a heading; what it breaks stands at its own place.
 #[tactic(auto, unfolding(crate::specs::FindingStatements::opening_in))]
 fn opening(
     alloc: Global,
@@ -84,7 +84,7 @@ fn opening(
     Ok(Some(Box::new(alloc, Opening { place, act })?))
 }
 
-// The post statement of a for, which may not be a definition.
+/// The post statement of a for, which may not be a definition.
 #[tactic(auto, unfolding(crate::specs::FindingStatements::post_in))]
 fn post_statement(
     alloc: Global,

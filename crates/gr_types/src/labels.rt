@@ -30,7 +30,7 @@ pub struct UnfitLabel {
     pub fault: LabelError,
 }
 
-// Names, each once, in the order in which they were added.
+/// Names, each once, in the order in which they were added.
 #[derive(Drop)]
 struct NameSet<'a> {
     names: IndexSet<&'a [u8]>,
@@ -68,7 +68,7 @@ fn add_used<'a>(used: &mut NameSet<'a>, action: &'a Action) -> Result<(), AllocE
     }
 }
 
-// Adds the labels that break and continue name.
+/// Adds the labels that break and continue name.
 #[cycle(gathering)]
 fn gather<'a>(used: &mut NameSet<'a>, statements: &'a [Stmt]) -> Result<(), AllocError>
     ensures { OnOk result (names_of used.new ≡ with_names (names_of used.old) (spec.uses_in (statements_of statements.now))) }
@@ -119,7 +119,7 @@ fn gather_one<'a>(used: &mut NameSet<'a>, statement: &'a Stmt) -> Result<(), All
     }
 }
 
-// What is wrong with a label, where these are declared before it.
+/// What is wrong with a label, where these are declared before it.
 fn fault_of(used: &NameSet, declared: &NameSet, name: &[u8]) -> Option<LabelError>
     ensures { is_none result ≡ (not (name_specs.is_blank name.now) &&
         (not (name_specs.among (names_of declared.now) name.now) && name_specs.among (names_of used.now) name.now)) }
@@ -135,7 +135,7 @@ fn fault_of(used: &NameSet, declared: &NameSet, name: &[u8]) -> Option<LabelErro
     }
 }
 
-// Declares a label, unless it doesn't fit.
+/// Declares a label, unless it doesn't fit.
 fn declare<'a>(
     used: &NameSet,
     declared: &mut NameSet<'a>,
@@ -152,7 +152,7 @@ fn declare<'a>(
     Ok(None)
 }
 
-// Declares the labels of these statements, up to the first that doesn't fit.
+/// Declares the labels of these statements, up to the first that doesn't fit.
 #[cycle(declaring)]
 fn declare_all<'a>(
     used: &NameSet,

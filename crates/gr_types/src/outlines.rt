@@ -34,7 +34,7 @@ pub struct Outline<'a> {
     pub scope: Scope,
 }
 
-// Whether a function may have this name after those that are known.
+/// Whether a function may have this name after those that are known.
 fn name_fits(functions: &Functions, name: &[u8]) -> bool
     ensures { result ≡ spec.name_fits (functions_of functions.now) name.now }
 {
@@ -50,7 +50,7 @@ fn is_bare(name: &[u8], types: &[Type], wanted: &Option<Type>) -> bool
     }
 }
 
-// Whether this is no `main` with parameters or a result.
+/// Whether this is no `main` with parameters or a result.
 fn fits_main(name: &[u8], types: &[Type], wanted: &Option<Type>) -> bool
     ensures { result ≡ spec.fits_main (Sign name.now (types_of types.now) (optional ty_of wanted.now)) }
 {
@@ -90,7 +90,7 @@ fn outline_of_heading<'a>(
     ))
 }
 
-// The heading of a function after those that are known.
+/// The heading of a function after those that are known.
 #[tactic(auto, unfolding(crate::specs::Outlines::heading_in))]
 fn heading<'a>(
     alloc: Global,

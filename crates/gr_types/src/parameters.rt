@@ -42,7 +42,7 @@ fn is_function(funcs: &[Func], name: &[u8]) -> bool
     false
 }
 
-// The rule that is broken where what is written is no type.
+/// The rule that is broken where what is written is no type.
 fn no_type(funcs: &[Func], tree: &TypeTree) -> RefusalCode
     ensures { result ≡ heading_type_code (functions_of funcs.now) (trees.type_of tree.now) }
 {
@@ -97,7 +97,7 @@ impl Parameters {
         !is_predeclared(name) && (is_blank(name) || !self.scope.is_here(name))
     }
 
-    // Takes one more parameter.
+    /// Takes one more parameter.
     fn take(&mut self, alloc: Global, name: &[u8], own: &Type) -> Result<(), RuleError>
         ensures { Agrees (λ u. taken_of self.new) result (spec.take (taken_of self.old) name.now (ty_of own.now)) }
     {
@@ -114,7 +114,7 @@ impl Parameters {
         Ok(())
     }
 
-    // Takes parameters of one type.
+    /// Takes parameters of one type.
     fn take_each(&mut self, alloc: Global, names: &[Vec<u8>], own: &Type) -> Result<(), RuleError>
         ensures { Agrees (λ u. taken_of self.new) result
             (spec.take_each (taken_of self.old) (trees.names_of names.now) (ty_of own.now)) }

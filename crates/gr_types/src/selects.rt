@@ -35,7 +35,7 @@ pub fn placed_awaits(
     }
 }
 
-// Checks what the clauses of the select at a place wait for.
+/// Checks what the clauses of the select at a place wait for.
 fn check_awaited(
     alloc: Global,
     functions: &Functions,

@@ -74,7 +74,7 @@ pub fn body(
     Ok(steps)
 }
 
-// What a statement does; `label` is the label directly before it. A label before an empty statement does nothing.
+/// What a statement does; `label` is the label directly before it. A label before an empty statement does nothing.
 #[cycle(checking)]
 #[tactic(auto, unfolding(crate::specs::FindingStatements::statement_in))]
 fn statement(
@@ -129,7 +129,7 @@ fn block(
     Ok(checked::forms::block(steps))
 }
 
-// An if as far as its block; it stays in the block of the if.
+/// An if as far as its block; it stays in the block of the if.
 #[cycle(checking)]
 fn tested(
     alloc: Global,
@@ -167,7 +167,7 @@ fn only_if(
     Ok(forms::conditional(place, parts, steps, Vec::new(alloc)))
 }
 
-// An if whose block is known, with the block of its else.
+/// An if whose block is known, with the block of its else.
 #[cycle(checking)]
 fn if_else(
     alloc: Global,
@@ -189,7 +189,7 @@ fn if_else(
     Ok(forms::conditional(place, parts, steps, otherwise))
 }
 
-// An if whose block is known, with the if after its else.
+/// An if whose block is known, with the if after its else.
 #[cycle(checking)]
 fn if_else_if(
     alloc: Global,
@@ -240,7 +240,7 @@ fn for_step(
     }
 }
 
-// A loop whose heading is known; the context is that of its body.
+/// A loop whose heading is known; the context is that of its body.
 #[cycle(checking)]
 fn loop_step(
     alloc: Global,
@@ -261,7 +261,7 @@ fn loop_step(
     Ok(forms::repeated(place, parts, steps))
 }
 
-// A range whose heading is known; the context is that of its body.
+/// A range whose heading is known; the context is that of its body.
 #[cycle(checking)]
 fn range_step(
     alloc: Global,
@@ -310,7 +310,7 @@ fn select(
     }
 }
 
-// The clauses of the select at a place; the context is that of their bodies.
+/// The clauses of the select at a place; the context is that of their bodies.
 #[cycle(checking)]
 fn cases(
     alloc: Global,

@@ -20,7 +20,7 @@ use std::sync::Wait;
 use std::thread::Threads;
 use std::{fs, io};
 
-// Whether a session and a desk both give this output.
+/// Whether a session and a desk both give this output.
 fn both_give<T: Threads + Wait + Sync>(
     rt: &HostRuntime,
     threads: &T,
@@ -37,7 +37,7 @@ fn both_give<T: Threads + Wait + Sync>(
     }
 }
 
-// Whether the session of this name is as expected.
+/// Whether the session of this name is as expected.
 fn is_expected<T: Threads + Wait + Sync>(
     rt: &HostRuntime,
     threads: &T,
@@ -63,7 +63,7 @@ fn is_expected<T: Threads + Wait + Sync>(
     is_replayed(rt, name, source.as_slice(), script.as_slice())
 }
 
-// The names of the sessions, in order.
+/// The names of the sessions, in order.
 fn sessions(rt: &HostRuntime) -> io::Result<Vec<String>> {
     let mut names = Vec::new(rt.alloc());
     for entry in fs::read_dir(rt, ".")? {

@@ -8,7 +8,7 @@ use std::{fs, io};
 /// What takes the steps of a session once more: in the order of its log, and in two others that respect dependence.
 const ORDERS: [&str; 3] = ["again", "other", "another"];
 
-// What is answered to the queries after these commands.
+/// What is answered to the queries after these commands.
 fn answers(
     alloc: Global,
     source: &[u8],

@@ -38,7 +38,7 @@ pub fn output_of_desk<T: Threads + Wait + Sync>(
     told(file, writer.into_inner(), ended)
 }
 
-// What was written, and the line of a fault.
+/// What was written, and the line of a fault.
 fn told(file: &str, mut text: Vec<u8>, ended: Result<(), DebugFault>) -> Result<Vec<u8>, NoMemory> {
     if let Err(fault) = ended {
         let _status = report(&fault, file, &mut text)?;

@@ -11,7 +11,7 @@ fn read(alloc: Global, text: &[u8]) -> Result<Result<File, ParseError>, Fail> {
     Ok(parse(alloc, tokens.as_slice()))
 }
 
-// What is said of a file of one function with this body.
+/// What is said of a file of one function with this body.
 fn body_error(alloc: Global, body: &[u8]) -> Result<ParseError, Fail> {
     let mut text = b"package m; func f() {".to_vec(alloc)?;
     text.extend_from_slice(body)?;
@@ -63,7 +63,7 @@ fn reads_a_file(rt: HostRuntime) -> Result<(), Fail> {
     Ok(())
 }
 
-// A file of one statement, `x := ((..1..))`, with this many pairs of parentheses.
+/// A file of one statement, `x := ((..1..))`, with this many pairs of parentheses.
 fn parenthesized(alloc: Global, pairs: usize) -> Result<Option<ParseError>, Fail> {
     let mut text = b"package m; func f() { x := ".to_vec(alloc)?;
     for _ in 0..pairs {
@@ -179,7 +179,7 @@ fn refuses_at_the_first_wrong_token(rt: HostRuntime) -> Result<(), Fail> {
     Ok(())
 }
 
-// However long the tokens are, they are no file before they are too high.
+/// However long the tokens are, they are no file before they are too high.
 #[test]
 fn refuses_long_texts_at_the_first_wrong_token(rt: HostRuntime) -> Result<(), Fail> {
     let alloc = rt.alloc();
@@ -202,7 +202,7 @@ fn refuses_long_texts_at_the_first_wrong_token(rt: HostRuntime) -> Result<(), Fa
     Ok(())
 }
 
-// Only what the refused token itself begins is said to be left out.
+/// Only what the refused token itself begins is said to be left out.
 #[test]
 fn left_out_marks_elsewhere_do_not_count(rt: HostRuntime) -> Result<(), Fail> {
     let alloc = rt.alloc();

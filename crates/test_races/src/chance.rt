@@ -7,7 +7,7 @@ use rand_core::utils::NextWord;
 use rand_pcg::Pcg32;
 use std::alloc::Global;
 
-// A number below the limit.
+/// A number below the limit.
 fn below(chance: &mut Pcg32, limit: u32) -> u32
     requires { 0 < limit }
     ensures { result < limit }
@@ -15,7 +15,7 @@ fn below(chance: &mut Pcg32, limit: u32) -> u32
     chance.next_word() % limit
 }
 
-// The goroutine of `main`, or one of the first few that another one started.
+/// The goroutine of `main`, or one of the first few that another one started.
 fn goroutine(alloc: Global, chance: &mut Pcg32) -> Option<GoName> {
     let mut name = GoName::main(alloc).ok()?;
     for _ in 0..below(chance, 3) {

@@ -35,7 +35,7 @@ struct Course {
     goroutines: usize,
 }
 
-// Races over a source. `None` where something is not as it should be.
+/// Races over a source. `None` where something is not as it should be.
 fn course_of<T: Threads + Wait + Sync>(
     rt: &T,
     alloc: Global,
@@ -58,7 +58,7 @@ fn course_of<T: Threads + Wait + Sync>(
     })
 }
 
-// Races over a file, and reports on it. Answers whether it is as it should be.
+/// Races over a file, and reports on it. Answers whether it is as it should be.
 fn is_alike<T: Threads + Wait + Sync>(
     rt: &HostRuntime,
     threads: &T,
@@ -83,7 +83,7 @@ fn is_alike<T: Threads + Wait + Sync>(
     Ok(true)
 }
 
-// Has callers race over a file this often, and reports how often it was as it should be. Answers whether it always was.
+/// Has callers race over a file this often, and reports how often it was as it should be. Answers whether it always was.
 fn tell<T: Threads + Wait + Sync>(
     rt: &HostRuntime,
     threads: &T,
@@ -106,7 +106,7 @@ fn tell<T: Threads + Wait + Sync>(
     Ok(alike == races)
 }
 
-// How many races there are over each file, and the load of the first.
+/// How many races there are over each file, and the load of the first.
 fn settings(desks: &str, workers: &str, commands: &str, races: &str) -> Option<(u32, Load)> {
     let load = Load {
         desks: desks.parse().ok()?,

@@ -30,14 +30,14 @@ pub struct Raced {
     pub worked: usize,
 }
 
-// One who calls on a thread of its own: a desk with what it asks, or a worker.
+/// One who calls on a thread of its own: a desk with what it asks, or a worker.
 #[derive(Drop)]
 enum Caller<B: Room> {
     Asks(Desk<B>, Load),
     Works(Worker<B>),
 }
 
-// Asks that many commands, and ends early where memory runs out.
+/// Asks that many commands, and ends early where memory runs out.
 fn ask_all<B: Room, T: Wait>(
     rt: &T,
     alloc: Global,
@@ -56,7 +56,7 @@ fn ask_all<B: Room, T: Wait>(
     }
 }
 
-// A desk asks its commands, and the last one that is done has the workers end. A worker takes steps until then.
+/// A desk asks its commands, and the last one that is done has the workers end. A worker takes steps until then.
 fn call<B: Room, T: Wait>(
     rt: &T,
     alloc: Global,
@@ -76,7 +76,7 @@ fn call<B: Room, T: Wait>(
     }
 }
 
-// Has all call at once, and waits for all of them. Answers whether the threads could be started.
+/// Has all call at once, and waits for all of them. Answers whether the threads could be started.
 #[tactic(auto, using(crate::proofs::Lent::session_send))]
 fn call_at_once<B: Room + Send + Sync, T: Threads + Wait + Sync>(
     rt: &T,
@@ -116,7 +116,7 @@ fn desks<B: Room, T: Wait>(
     Some(all)
 }
 
-// The desks, and the workers.
+/// The desks, and the workers.
 fn callers<B: Room, T: Wait>(
     rt: &T,
     alloc: Global,
@@ -131,7 +131,7 @@ fn callers<B: Room, T: Wait>(
     Some(all)
 }
 
-// The seats of those who called.
+/// The seats of those who called.
 fn seats<B: Room>(
     alloc: Global,
     mut callers: Vec<Caller<B>>,
@@ -161,7 +161,7 @@ fn counted<B: Room>(finished: Finished<B>) -> Raced {
     }
 }
 
-// Ends the sharing.
+/// Ends the sharing.
 fn ended<B: Room>(alloc: Global, shared: Shared<B>, all: Vec<Caller<B>>) -> Option<Raced> {
     let (desks, workers) = seats(alloc, all)?;
     match finish(shared, desks, workers) {

@@ -6,7 +6,7 @@ use gr_command::{Command, Reply, write_reply};
 use gr_share::{DeskId, Session};
 use std::alloc::Global;
 
-// A session, with one who asks it.
+/// A session, with one who asks it.
 #[derive(Drop)]
 struct Asked {
     session: Session,
@@ -15,7 +15,7 @@ struct Asked {
 }
 
 impl Asked {
-    // `None` where there are too many askers.
+    /// `None` where there are too many askers.
     fn new(mut session: Session) -> Option<Asked> {
         let desk = session.enrol().ok()?;
         Some(Asked { session, desk })
@@ -25,7 +25,7 @@ impl Asked {
         Some(self.session.ask(alloc, self.desk, command).ok()?.reply)
     }
 
-    // The steps that are kept.
+    /// The steps that are kept.
     fn log(&mut self, alloc: Global) -> Option<Vec<(StepId, Kind)>> {
         match self.ask(alloc, Command::Log)? {
             Reply::Log(steps) => Some(steps),
@@ -33,7 +33,7 @@ impl Asked {
         }
     }
 
-    // The text of the reply.
+    /// The text of the reply.
     fn told(&mut self, alloc: Global, command: Command) -> Option<Vec<u8>> {
         let reply = self.ask(alloc, command)?;
         let mut text = Vec::new(alloc);
@@ -42,7 +42,7 @@ impl Asked {
     }
 }
 
-// Takes a step once more. Whether it is the same.
+/// Takes a step once more. Whether it is the same.
 fn take(alloc: Global, fresh: &mut Asked, id: &StepId, kind: Kind) -> Option<bool> {
     let case = match kind {
         Kind::Pick(clause) => Some(clause),
@@ -55,7 +55,7 @@ fn take(alloc: Global, fresh: &mut Asked, id: &StepId, kind: Kind) -> Option<boo
     }
 }
 
-// Takes the steps of a log in a session that has taken none. Answers whether all are the same; `None` where memory ran out.
+/// Takes the steps of a log in a session that has taken none. Answers whether all are the same; `None` where memory ran out.
 fn take_all(alloc: Global, fresh: &mut Asked, log: &[(StepId, Kind)]) -> Option<bool> {
     for (id, kind) in log {
         if !take(alloc, fresh, id, *kind)? {
@@ -65,7 +65,7 @@ fn take_all(alloc: Global, fresh: &mut Asked, log: &[(StepId, Kind)]) -> Option<
     Some(true)
 }
 
-// How many steps of this kind a goroutine took.
+/// How many steps of this kind a goroutine took.
 fn count(log: &[(StepId, Kind)], go: &GoName, kind: Kind) -> u32 {
     let mut found = 0u32;
     for (id, its) in log {
@@ -76,7 +76,7 @@ fn count(log: &[(StepId, Kind)], go: &GoName, kind: Kind) -> u32 {
     found
 }
 
-// `g0`, and the goroutines that the steps of a log started.
+/// `g0`, and the goroutines that the steps of a log started.
 fn goroutines(alloc: Global, log: &[(StepId, Kind)]) -> Option<Vec<GoName>> {
     let mut names = Vec::new(alloc);
     names.push(GoName::main(alloc).ok()?).ok()?;
@@ -104,7 +104,7 @@ fn is_told_alike(
     Some(first.as_slice() == second.as_slice())
 }
 
-// Whether two sessions tell the same of a goroutine, of what it printed, and of the first channels that it made, this many.
+/// Whether two sessions tell the same of a goroutine, of what it printed, and of the first channels that it made, this many.
 fn is_alike(
     alloc: Global,
     one: &mut Asked,
@@ -127,8 +127,8 @@ fn is_alike(
     Some(true)
 }
 
-// How many goroutines the steps of a log know. `None` unless two sessions that took them tell the same of all goroutines and
-// channels.
+/// How many goroutines the steps of a log know. `None` unless two sessions that took them tell the same of all goroutines and
+/// channels.
 fn compare(
     alloc: Global,
     one: &mut Asked,
@@ -145,7 +145,7 @@ fn compare(
     Some(names.len())
 }
 
-// A fresh session that took the steps of a log.
+/// A fresh session that took the steps of a log.
 fn again(alloc: Global, source: &[u8], log: &[(StepId, Kind)]) -> Option<Asked> {
     let session = Session::open(alloc, source).ok()?;
     let mut fresh = Asked::new(session)?;

@@ -15,17 +15,17 @@ use std::io;
 use std::io::{ErrorKind, Read, Write};
 use std::test::Fail;
 
-// When a device fails.
+/// When a device fails.
 #[derive(Clone, Copy)]
 enum Failing {
     Never,
-    // Where no byte is left, or no room.
+    /// Where no byte is left, or no room.
     AtTheEnd,
-    // At every other call, the first among them, with an error of this kind.
+    /// At every other call, the first among them, with an error of this kind.
     EveryOther(ErrorKind),
 }
 
-// Gives bytes.
+/// Gives bytes.
 #[derive(Drop)]
 struct Lines<'a> {
     bytes: &'a [u8],
@@ -51,7 +51,7 @@ impl Read for Lines<'_> {
     }
 }
 
-// Counts bytes, as far as there is room.
+/// Counts bytes, as far as there is room.
 #[derive(Drop)]
 struct Paper {
     room: usize,
@@ -85,7 +85,7 @@ impl Write for Paper {
     }
 }
 
-// A session that is served with devices that fail, and what is to come of it.
+/// A session that is served with devices that fail, and what is to come of it.
 #[derive(Clone, Copy)]
 struct Trial {
     name: &'static str,
@@ -95,7 +95,7 @@ struct Trial {
     writing: Failing,
     end: End,
     entries: usize,
-    // How many failures are counted, how many bytes go out, and how many are not read.
+    /// How many failures are counted, how many bytes go out, and how many are not read.
     failures: (u64, u64),
     taken: usize,
     left: usize,
@@ -179,7 +179,7 @@ fn ends_so(served: &Result<(), ServeFault>, end: End) -> bool {
     }
 }
 
-// Serves a session that was just opened. Answers what came of it, and how many entries the journal has.
+/// Serves a session that was just opened. Answers what came of it, and how many entries the journal has.
 fn serve_new<R: Read, W: Write>(
     alloc: Global,
     reader: &mut Counted<R>,
@@ -191,7 +191,7 @@ fn serve_new<R: Read, W: Write>(
     Some((served, session.journal().len()))
 }
 
-// Whether a trial comes out as it says.
+/// Whether a trial comes out as it says.
 fn comes_out(alloc: Global, trial: &Trial) -> Option<bool> {
     let mut reader = Counted::new(Lines {
         bytes: trial.lines,
@@ -302,7 +302,7 @@ fn reports_faults(rt: HostRuntime) -> Result<(), Fail> {
     Ok(())
 }
 
-// The file and the number of workers, where the words ask for a session.
+/// The file and the number of workers, where the words ask for a session.
 fn session_in<'a>(alloc: Global, words: &'a [&'a str]) -> Option<(&'a str, u32)> {
     match settings(alloc, words) {
         Ok(Settings::Debug { file, workers }) => Some((file, workers)),

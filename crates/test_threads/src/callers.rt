@@ -13,7 +13,7 @@ use std::thread::Threads;
 use std::time::{Clock, Duration};
 use std::{io, thread};
 
-// Takes as many bytes as there is room, and then fails.
+/// Takes as many bytes as there is room, and then fails.
 #[derive(Drop)]
 struct Full {
     room: usize,
@@ -80,7 +80,7 @@ pub(crate) fn reply<B: Room, T: Wait>(
     Some(text)
 }
 
-// 1 where the line got this reply.
+/// 1 where the line got this reply.
 fn said<B: Room, T: Wait>(
     rt: &T,
     alloc: Global,
@@ -95,7 +95,7 @@ fn said<B: Room, T: Wait>(
     }
 }
 
-// How many of a hundred questions were answered.
+/// How many of a hundred questions were answered.
 fn ask_a_hundred<B: Room, T: Wait>(
     rt: &T,
     alloc: Global,
@@ -111,7 +111,7 @@ fn ask_a_hundred<B: Room, T: Wait>(
     answers
 }
 
-// 1 where the reply to the line comes to begin like this, which is asked up to 10,000 times.
+/// 1 where the reply to the line comes to begin like this, which is asked up to 10,000 times.
 fn wait_until<B: Room, T: Wait + Clock>(
     rt: &T,
     alloc: Global,
@@ -189,7 +189,7 @@ fn serve_in_vain<B: Room, T: Wait>(
     u64::from(matches!(served, Err(ServeFault::Write)))
 }
 
-// Does an errand, and counts the replies that it asks for.
+/// Does an errand, and counts the replies that it asks for.
 fn run<B: Room, T: Wait + Clock>(
     rt: &T,
     alloc: Global,
@@ -212,7 +212,7 @@ fn run<B: Room, T: Wait + Clock>(
     }
 }
 
-// Does the errand, or works.
+/// Does the errand, or works.
 fn call<B: Room, T: Wait + Clock>(
     rt: &T,
     alloc: Global,

@@ -41,7 +41,7 @@ pub(crate) struct Outcome {
     pub(crate) met: bool,
 }
 
-// All who call: a desk for each errand, and the workers.
+/// All who call: a desk for each errand, and the workers.
 fn callers<B: Room, T: Wait>(
     rt: &T,
     alloc: Global,
@@ -70,7 +70,7 @@ fn stale_calls<B: Room>(me: &Worker<B>) -> u64 {
     stale
 }
 
-// The seats of those who called, and how many answers and stale batches they had.
+/// The seats of those who called, and how many answers and stale batches they had.
 #[derive(Drop)]
 struct Seats<B: Room> {
     desks: Vec<Desk<B>>,
@@ -108,7 +108,7 @@ fn seats_of<B: Room>(alloc: Global, mut callers: Vec<Caller<B>>) -> Option<Seats
     Some(seats)
 }
 
-// Ends the sharing without one desk, which is refused and hands back all.
+/// Ends the sharing without one desk, which is refused and hands back all.
 fn without_a_desk<B: Room>(
     shared: Shared<B>,
     mut desks: Vec<Desk<B>>,
@@ -120,7 +120,7 @@ fn without_a_desk<B: Room>(
     Some(unfinished)
 }
 
-// Ends the sharing without one worker, where there are workers, which is refused and hands back all.
+/// Ends the sharing without one worker, where there are workers, which is refused and hands back all.
 fn without_a_worker<B: Room>(
     shared: Shared<B>,
     desks: Vec<Desk<B>>,
@@ -138,7 +138,7 @@ fn without_a_worker<B: Room>(
     Some(unfinished)
 }
 
-// Ends the sharing, which is refused without a desk, and without a worker.
+/// Ends the sharing, which is refused without a desk, and without a worker.
 fn finish_at_last<B: Room>(
     shared: Shared<B>,
     desks: Vec<Desk<B>>,

@@ -15,11 +15,11 @@ use std::marker::Brand;
 use std::sync::Wait;
 use std::test::Fail;
 
-// Two goroutines that take 21 steps each, 20 of them by themselves.
+/// Two goroutines that take 21 steps each, 20 of them by themselves.
 const SPINNING: &[u8] =
     b"package main\nfunc spin(n int) { for i := 0; i < n; i++ { } }\nfunc main() {\n\tgo spin(9)\n\tgo spin(9)\n\tselect {}\n}\n";
 
-// Starts both, and lets the workers take steps.
+/// Starts both, and lets the workers take steps.
 const STARTED: [&[u8]; 4] = [b"step g0", b"step g0", b"step g0", b"free 1000"];
 
 const PRINTING: &[u8] = b"package main\nfunc main() { println(-9223372036854775808) }\n";
@@ -30,7 +30,7 @@ const HANDING: &[u8] =
 const HANDED: &[u8] =
     b"step g0\nstep g0\nstep g0\nstep g0\nstep g0.1\nstep g0.1\nstep g0\nstep g0\ncauses g0#4\nback g0.1#1\nshow g0\nconsole\n";
 
-// What a scene is to come to; `None` is for what its schedule decides.
+/// What a scene is to come to; `None` is for what its schedule decides.
 #[derive(Clone, Copy)]
 struct Wanted {
     answers: u64,
@@ -61,7 +61,7 @@ struct Act {
     wanted: Wanted,
 }
 
-// A scene in which nobody calls, and what it comes to.
+/// A scene in which nobody calls, and what it comes to.
 const EMPTY: Scene<'static> = Scene {
     source: SPINNING,
     first: &[],
@@ -80,7 +80,7 @@ const ANYTHING: Wanted = Wanted {
     met: None,
 };
 
-// Workers take all steps, whose grant is the same in each schedule.
+/// Workers take all steps, whose grant is the same in each schedule.
 const SPUN: Wanted = Wanted {
     answers: 2,
     grant: Some(958),

@@ -45,7 +45,7 @@ fn declare_all(
     Ok(())
 }
 
-// The variables that names stand for on the left of an assignment.
+/// The variables that names stand for on the left of an assignment.
 fn variables(
     alloc: Global,
     scope: &Scope,
@@ -60,7 +60,7 @@ fn variables(
     Ok(variables)
 }
 
-// A zero value for each name.
+/// A zero value for each name.
 fn zeros(alloc: Global, names: &[Vec<u8>], own: &Type) -> Result<Vec<checked::Expr>, AllocError>
     ensures { IfOk result (λ v. exprs_of v.items ≡ assignments.zeros (names_of names.now) (ty_of own.now)) }
 {
@@ -104,7 +104,7 @@ pub fn declare(
     declare_zeros(alloc, scope, names, &own)
 }
 
-// The type that is written, if one is.
+/// The type that is written, if one is.
 fn written_of(
     alloc: Global,
     functions: &Functions,
@@ -119,7 +119,7 @@ fn written_of(
     }
 }
 
-// A value for a variable, with the variable's type.
+/// A value for a variable, with the variable's type.
 #[tactic(auto, unfolding(crate::specs::FindingStatements::declared_as))]
 fn typed_as(
     alloc: Global,
@@ -137,7 +137,7 @@ fn typed_as(
     }
 }
 
-// Declares a name by a value: the variable, and the value.
+/// Declares a name by a value: the variable, and the value.
 fn declare_one(
     alloc: Global,
     scope: &mut Scope,
@@ -154,7 +154,7 @@ fn declare_one(
     Ok((scope.number_of(name), term))
 }
 
-// Declares names by their values: the variables, and the values.
+/// Declares names by their values: the variables, and the values.
 fn declare_each(
     alloc: Global,
     scope: &mut Scope,
@@ -203,7 +203,7 @@ fn declare_by_values(
     Ok(Act::Assign { targets, values })
 }
 
-// The type of a variable that takes a value of a type.
+/// The type of a variable that takes a value of a type.
 fn type_for(alloc: Global, written: &Option<Type>, own: Type) -> Result<Type, RuleError>
     ensures { Agrees ty_of result (parts.type_for (optional ty_of written.now) (ty_of own)) }
 {
@@ -218,7 +218,7 @@ fn type_for(alloc: Global, written: &Option<Type>, own: Type) -> Result<Type, Ru
     }
 }
 
-// Declares two names by a receive: for the value, and for whether there was one.
+/// Declares two names by a receive: for the value, and for whether there was one.
 fn declare_by_receive(
     alloc: Global,
     functions: &Functions,

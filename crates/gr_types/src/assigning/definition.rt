@@ -186,7 +186,7 @@ pub fn define_target(
     define_new_target(alloc, functions, scope, name, own)
 }
 
-// The value for a name on the left of `:=` that declares nothing new.
+/// The value for a name on the left of `:=` that declares nothing new.
 fn old_share(
     functions: &Functions,
     scope: &Scope,
@@ -200,7 +200,7 @@ fn old_share(
     Ok((Taker::Old(target), term))
 }
 
-// The target for a name on the left of `:=`, and its value.
+/// The target for a name on the left of `:=`, and its value.
 fn share(
     functions: &Functions,
     scope: &Scope,

@@ -30,7 +30,7 @@ use gr_program::Type;
 use indexmap::IndexSet;
 use std::alloc::{AllocError, Global};
 
-// Whether no name but the blank identifier stands twice among these.
+/// Whether no name but the blank identifier stands twice among these.
 fn are_distinct(alloc: Global, names: &[Vec<u8>]) -> Result<bool, AllocError>
     ensures { IfOk result (λ b. b ≡ names_spec.are_distinct [] (names_of names.now)) }
 {
@@ -232,7 +232,7 @@ pub fn targets_for(
     Ok(targets)
 }
 
-// A value that is given to the variable with a number.
+/// A value that is given to the variable with a number.
 fn given_variable(scope: &Scope, number: usize, value: Operand) -> Result<checked::Expr, RuleError>
     ensures { Agrees expr_of result (pure.given_variable (scope_of scope.now) number (meaning_of value)) }
 {
