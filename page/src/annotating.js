@@ -172,6 +172,12 @@ export class Annotating {
     else if (name === "g0") this.functionOf.set(name, "main");
   }
 
+  // Whether the statement of each step is found, or will be.
+  get isWhole() {
+    const { session } = this.page;
+    return Boolean(session && session.log.length <= WHOLE && !session.follower.lost);
+  }
+
   // What the picture does not show, in words, or "".
   get missing() {
     const { session } = this.page;

@@ -7,6 +7,7 @@ import { openExpanded, stepCommand } from "./mirror.js";
 import { compareNames, goroutineOf, parseGoroutine } from "./protocol.js";
 import { readScene } from "./scene.js";
 import { printsOf } from "./statements.js";
+import { channelsOf } from "./operations.js";
 import { sentValue } from "./values.js";
 
 const AT_ONCE = 2000; // steps taken, or undone, in one exchange without questions
@@ -199,12 +200,14 @@ export class Follower {
     const { line, frames } = parseGoroutine(replies[0]);
     const statement = this.statements.at(line);
     const clause = /^pick (\d+)$/.exec(step.kind);
-    const sent = sentValue((clause ? statement?.clauses[Number(clause[1]) - 1] : statement?.text) || "", frames[0]?.variables || []);
+    const variables = frames[0]?.variables || [];
+    const sent = sentValue((clause ? statement?.clauses[Number(clause[1]) - 1] : statement?.text) || "", variables);
+    const channels = channelsOf(step.kind, statement || null, variables);
     const states = replies.slice(commands.length - sleepers.length);
     const woke = sleepers.filter((id, at) => parseGoroutine(states[at]).state !== "waiting" && !this.wakers.has(id));
     for (const id of woke) this.wakers.set(id, step.id);
     const printed = this.isUnsure && step.kind === "pure" ? newLines(replies[1], replies[3]) : [];
-    this.notes.set(step.id, { line: this.statements.lineOf(line), statement, printed, woke, causes: null, edges: null, sent, received: "" });
+    this.notes.set(step.id, { line: this.statements.lineOf(line), statement, printed, woke, causes: null, edges: null, sent, received: "", channels });
   }
 
   // Gives each step of a `println` the line that it printed, from the text of its goroutine.

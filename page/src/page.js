@@ -114,6 +114,7 @@ export class Page {
     this.pointing.clear();
     this.past.leave();
     this.views.picture.hidden.clear();
+    this.views.picture.channel = "";
     this.views.stories.restart();
     this.views.transcript.clear();
     this.views.transcript.remark("The source is checked, and its program stands before its first step.");
@@ -309,22 +310,6 @@ export class Page {
     if (session) views.picture.show(session.log, this.annotating.functions(), this.note, this.annotating.edges());
     views.overview.draw();
     views.columns.show(this);
-  }
-
-  // Shows or hides the column of a goroutine.
-  /** @param {string} name */
-  toggleColumn(name) {
-    const { picture, overview } = this.views;
-    if (!picture.hidden.delete(name)) picture.hidden.add(name);
-    picture.place();
-    overview.draw();
-  }
-
-  // Draws the arrows of the order of waiting, or leaves them out.
-  toggleOrder() {
-    const { picture } = this.views;
-    picture.hasOrder = !picture.hasOrder;
-    picture.drawSoon();
   }
 
   // Scrolls the source to where the chosen goroutine stands.

@@ -289,7 +289,7 @@ export function drawRows(place, edges, drawing, from, to) {
   const near = marksNear(place);
   const crosses = (/** @type {Edge} */ { from: source, to: target }) => {
     const [one, other] = [source, target].map((id) => place.log.row(id));
-    if (one < 0 || other < 0 || ![source, target].every((id) => place.lefts.has(goroutineOf(id)))) return false;
+    if (one < 0 || other < 0 || !place.rows.has(one) || !place.rows.has(other) || ![source, target].every((id) => place.lefts.has(goroutineOf(id)))) return false;
     return place.rows.place(one) <= last && place.rows.place(other) >= from;
   };
   const arrows = edges.filter(crosses).map((edge) => drawEdge(place, edge, view, near));

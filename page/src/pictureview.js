@@ -1,5 +1,6 @@
 // The space-time picture in the page: only the rows in view are drawn. It tells of pointing, choosing and dragging.
 
+import { worksOn } from "./operations.js";
 import { headOf, labelWidth, layOut } from "./layout.js";
 import { DEFINITIONS, NOTHING_POINTED, cycleHeight, cycleWidth, drawNames, drawRows } from "./picture.js";
 import { Rows } from "./rows.js";
@@ -49,6 +50,7 @@ export class PictureView {
     this.isFolded = false;
     /** @type {Set<string>} */
     this.hidden = new Set();
+    this.channel = ""; // the one whose operations alone are shown, or "" for all
     this.labels = "statement";
     this.hasOrder = true; // whether arrows of the order of waiting are drawn
     /** @type {{log: import("./log.js").Log, functions: Map<string, string>, notes: (id: string) => Note | undefined} | null} */
@@ -152,7 +154,8 @@ export class PictureView {
       const id = log.id(row);
       return id === this.view.pointed || Boolean(notes(id)?.printed.length);
     };
-    return new Rows(log, { isFolded: this.isFolded, hidden: this.hidden, isKept });
+    const isShown = this.channel ? worksOn(log, notes, this.channel) : null;
+    return new Rows(log, { isFolded: this.isFolded, hidden: this.hidden, isKept, isShown });
   }
 
   // Lays out the rows around the view; of a log that has changed, these are other ones.
@@ -234,7 +237,7 @@ export class PictureView {
   /** @param {string | null} id */
   row(id) {
     const row = this.shown?.log.row(id) ?? -1;
-    return row < 0 || !this.rows ? null : this.rows.place(row);
+    return row < 0 || !this.rows?.has(row) ? null : this.rows.place(row);
   }
 
   // The button beside the step that is pointed at.

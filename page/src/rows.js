@@ -1,5 +1,5 @@
-// Which steps of the log have a row of the picture: all, or those of the goroutines that are shown, with runs of own statements folded
-// to one row.
+// Which steps of the log have a row of the picture: all, or those of the goroutines and the channel that are shown, with runs of own
+// statements folded to one row.
 
 import { word } from "./edges.js";
 
@@ -9,16 +9,17 @@ const LEAST = 3; // steps that are worth a fold
 export class Rows {
   /**
    * @param {import("./log.js").Log} log
-   * @param {{isFolded?: boolean, hidden?: Set<string>, isKept?: (row: number) => boolean}} how
+   * @param {{isFolded?: boolean, hidden?: Set<string>, isKept?: (row: number) => boolean, isShown?: ((row: number) => boolean) | null}} how
    */
-  constructor(log, { isFolded = false, hidden = new Set(), isKept = () => false } = {}) {
+  constructor(log, { isFolded = false, hidden = new Set(), isKept = () => false, isShown = null } = {}) {
     this.log = log;
     this.hidden = hidden;
+    this.isShown = isShown;
     /** @type {number[] | null} */
     this.starts = null; // of each row of the picture, the first step of the log in it
     /** @type {Map<number, number>} */
     this.counts = new Map(); // of each fold, how many steps it has
-    if (isFolded || hidden.size) this.starts = this.chosen(isFolded, isKept);
+    if (isFolded || hidden.size || isShown) this.starts = this.chosen(isFolded, isKept);
   }
 
   /**
@@ -26,11 +27,12 @@ export class Rows {
    * @param {(row: number) => boolean} isKept
    */
   chosen(isFolded, isKept) {
-    const { log } = this;
+    const { log, isShown } = this;
     const starts = [];
-    const isOwn = (/** @type {number} */ row) => FOLDED.has(word(log.kinds[row])) && !isKept(row);
+    const isLeft = (/** @type {number} */ row) => this.hidden.has(log.columns[row].name) || Boolean(isShown && !isShown(row));
+    const isOwn = (/** @type {number} */ row) => FOLDED.has(word(log.kinds[row])) && !isKept(row) && !isLeft(row);
     for (let row = 0; row < log.length; row++) {
-      if (this.hidden.has(log.columns[row].name)) continue;
+      if (isLeft(row)) continue;
       let end = row + 1;
       while (isFolded && isOwn(row) && end < log.length && log.columns[end] === log.columns[row] && isOwn(end)) end++;
       starts.push(row);
@@ -69,5 +71,14 @@ export class Rows {
       else high = middle;
     }
     return low;
+  }
+
+  // Whether a step of the log is in the picture: in a row of its own, or in a fold.
+  /** @param {number} row */
+  has(row) {
+    if (!this.starts) return row < this.log.length;
+    const place = this.place(row);
+    const start = this.starts[place];
+    return start <= row && row < start + this.count(place);
   }
 }

@@ -14,7 +14,7 @@ interface Step { id: string; goroutine: string; number: number; kind: string; ro
 interface Edge { from: string; to: string; kind: string }
 interface Note {
   line: number; statement: Statement | null; printed: string[]; woke: string[];
-  causes: Map<string, number> | null; edges: Edge[] | null; sent: string; received: string;
+  causes: Map<string, number> | null; edges: Edge[] | null; sent: string; received: string; channels: string[];
 }
 
 interface Token { text: string; at: number; line: number; column: number }

@@ -70,3 +70,15 @@ export function sentValue(text, variables) {
   if (named) return named.value;
   return sent ? String(new Sum(sent, variables).read() ?? "") : "";
 }
+
+const CHANNEL = /^g0(\.\d+)*\/c\d+$/;
+
+// The channels that a text names by variables.
+/**
+ * @param {string} text
+ * @param {Variable[]} variables
+ */
+export function channelsIn(text, variables) {
+  const named = new Set(text.match(/[A-Za-z_]\w*/g));
+  return variables.filter(({ name, value }) => named.has(name) && CHANNEL.test(value)).map(({ value }) => value);
+}

@@ -2,17 +2,16 @@
 
 import { describeStep, showChosen } from "./chosen.js";
 import { Editor } from "./editor.js";
+import { Filter } from "./filter.js";
 import { NOTHING } from "./scene.js";
 import { Overview } from "./overview.js";
 import { PictureView } from "./pictureview.js";
 import { Stories } from "./stories.js";
 import { Transcript } from "./transcript.js";
-import { enable, field, find, inSteps, make } from "./element.js";
+import { enable, field, find, inSteps } from "./element.js";
 import { showChannels, showConsole, showGoroutines } from "./panes.js";
 
 /** @typedef {import("./page.js").Page} Page */
-
-const MOST_COLUMNS = 200; // that can be switched off
 
 // What the last command came to, and how far a long run is.
 const status = {
@@ -99,22 +98,6 @@ const state = {
   },
 };
 
-// Which goroutines have a column.
-const columns = {
-  shown: "",
-  /** @param {Page} page */
-  show(page) {
-    const { picture } = page.views;
-    const names = page.session?.log.names.slice(0, MOST_COLUMNS) || [];
-    const shown = names.map((name) => `${name} ${page.annotating.functionOf.get(name)} ${picture.hidden.has(name)}`).join();
-    if (columns.shown === shown) return;
-    columns.shown = shown;
-    const box = (/** @type {string} */ name) => make("label", {}, make("input", { type: "checkbox", checked: !picture.hidden.has(name), onchange: () => page.toggleColumn(name) }), ` ${name} ${page.annotating.functionOf.get(name) || ""}`);
-    const order = make("input", { type: "checkbox", checked: picture.hasOrder, onchange: () => page.toggleOrder() });
-    find("columns-list").replaceChildren(...names.map(box), make("label", {}, order, " order of waiting"));
-  },
-};
-
 const past = {
   /** @param {Page} page */
   show(page) {
@@ -166,7 +149,8 @@ export function makeViews(given, later, words, on, stepsOf) {
       channels: (/** @type {Scene} */ scene) => showChannels(find("channels"), scene, on),
       console: (/** @type {Tail} */ tail) => showConsole(find("console"), tail, on),
     },
-    status, refusal, controls, state, columns, past,
+    status, refusal, controls, state, past,
+    columns: new Filter(find("columns-list"), picture, later),
     chosen: { show: showChosen },
     nothing: NOTHING,
   };

@@ -182,6 +182,26 @@ async function stories(hands) {
   equal("and comes out as it is told", await hands.texts("#console li"), ["balance 30"]);
 }
 
+// The picture of the operations of one channel: where it was made, and what was done with it, with the arrows between these steps.
+async function oneChannel(hands) {
+  const { browser } = hands;
+  const menu = "document.querySelector('#columns-list select')";
+  await hands.story("deadlock");
+  await hands.key("r");
+  await hands.idle();
+  equal("the channels of the session can be chosen", await browser.run(`[...${menu}.options].map((it) => it.value)`), ["", "g0/c1", "g0/c2", "g0/c3"]);
+  for (const [channel, steps, arrows] of [["g0/c1", ["g0#1", "g0#4", "g0.1#1", "g0.2#3"], 1], ["g0/c3", ["g0#6", "g0#10"], 0]]) {
+    await browser.run(`${menu}.value = "${channel}", ${menu}.dispatchEvent(new Event("change"))`);
+    await hands.idle();
+    equal(`the operations of ${channel} are shown alone`, await hands.drawn(), steps);
+    equal("with the arrows between them", await browser.run("[...document.querySelectorAll('#picture .drawn .edge')].length"), arrows);
+  }
+  await hands.act("undo");
+  await browser.run(`${menu}.value = "", ${menu}.dispatchEvent(new Event("change"))`);
+  await hands.idle();
+  holds("then all are", (await hands.drawn()).length > 10);
+}
+
 async function pictures(hands) {
   const { browser } = hands;
   await hands.story("deadlock");
@@ -202,16 +222,16 @@ async function pictures(hands) {
   await hands.act("fold");
   holds("own statements fold", (await browser.run(rows)) <= all);
   await hands.act("fold");
-  await browser.run("rewind.page.toggleColumn('g0.1')");
+  await browser.run("rewind.page.views.columns.toggle('g0.1')");
   await hands.idle();
   equal("a goroutine can be hidden", [...new Set((await hands.drawn()).map((id) => id.split("#")[0]))], ["g0"]);
-  await browser.run("rewind.page.toggleColumn('g0.1')");
+  await browser.run("rewind.page.views.columns.toggle('g0.1')");
   await hands.story("deadlock");
   await hands.key("r");
-  await browser.run("rewind.page.toggleOrder()");
+  await browser.run("rewind.page.views.columns.toggleOrder()");
   await hands.idle();
   equal("the arrows of the order of waiting can be left out", await browser.run("[...document.querySelectorAll('#picture .drawn .edge')].map((it) => it.getAttribute('class'))"), ["edge start", "edge start"]);
-  await browser.run("rewind.page.toggleOrder()");
+  await browser.run("rewind.page.views.columns.toggleOrder()");
   const png = await browser.run("rewind.savePicture(rewind.page).then((text) => rewind.asPng(text)).then((it) => [it.type, it.size > 10000])");
   equal("a picture can be saved as PNG", png, ["image/png", true]);
   holds("a saved picture has a legend", (await browser.run("rewind.savePicture(rewind.page)")).includes("order of waiting"));
@@ -255,7 +275,7 @@ async function presentation(hands) {
   await browser.size(1280, 800);
 }
 
-const LESSONS = [links, files, moves, usualKeys, pasts, clicks, previews, stories, pictures, messages, comparisons, presentation, exercises];
+const LESSONS = [links, files, moves, usualKeys, pasts, clicks, previews, stories, pictures, oneChannel, messages, comparisons, presentation, exercises];
 
 export async function lessons(browser) {
   for (const lesson of LESSONS) await lesson(new Hands(browser));

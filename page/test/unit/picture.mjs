@@ -3,6 +3,7 @@
 import { Log } from "../../src/log.js";
 import { Rows } from "../../src/rows.js";
 import { edgePath } from "../../src/curves.js";
+import { channelsOf, worksOn } from "../../src/operations.js";
 import { escaped, shortened } from "../../src/labels.js";
 import { layOut } from "../../src/layout.js";
 import { drawRows, NOTHING_POINTED, sideOf } from "../../src/picture.js";
@@ -49,6 +50,21 @@ function folds() {
   equal("a goroutine that is hidden has no rows", [filtered.length, filtered.at(0)], [1, 3]);
 }
 
+// A goroutine that has made two channels and sends on the first: of a select all clauses count, of a pick the one that was picked.
+function filters() {
+  const variables = [{ name: "a", value: "g0/c1" }, { name: "b", value: "g0/c2" }, { name: "n", value: "7" }];
+  const send = { text: "a <- n", clauses: [] };
+  const select = { text: "select", clauses: ["a <- n", "v := <-b"] };
+  const found = [["buffer", send], ["select-wait", select], ["pick 2", select], ["pure", send], ["take", { text: "v := <-next()", clauses: [] }]];
+  equal("the channels that a step works on", found.map(([kind, statement]) => channelsOf(kind, statement, variables)), [["g0/c1"], ["g0/c1", "g0/c2"], ["g0/c2"], [], []]);
+  const log = logOf(["g0", "make"], ["g0", "make"], ["g0", "pure"], ["g0", "buffer"], ["g0", "take"], ["g0", "close"]);
+  const notes = new Map([["g0#4", { channels: ["g0/c1"] }], ["g0#5", { channels: ["g0/c2"] }], ["g0#6", { channels: [] }]]);
+  const rows = new Rows(log, { isShown: worksOn(log, (id) => notes.get(id), "g0/c2") });
+  equal("a channel's operations, where it was made, and those of no known channel", rows.starts, [1, 4, 5]);
+  equal("steps that are in the picture", [0, 1, 2, 4].map((row) => rows.has(row)), [false, true, false, true]);
+  equal("a channel that no step made", worksOn(log, () => undefined, "g0/c3"), null);
+}
+
 function sides() {
   const view = { ...NOTHING_POINTED, pointed: "g0#2", causes: new Map([["g0", [1, 2]], ["g0.1", [1, 1]]]), consequences: new Map([["g0.1", [3, 5]]]) };
   const side = (goroutine, number) => sideOf({ id: `${goroutine}#${number}`, goroutine, number, kind: "pure", row: 0 }, view);
@@ -58,6 +74,7 @@ function sides() {
 export function picture() {
   edges();
   folds();
+  filters();
   sides();
   equal("a text that XML cannot hold", escaped("a\ufffe<b>\u0001&\ud800"), "a\ufffd&#60;b&#62;\ufffd&#38;\ufffd");
   equal("a long statement is cut", shortened("total := first + second", 12), "total := fi…");
