@@ -30,7 +30,7 @@ if [ -n "$removes" ]; then
   exit 0
 fi
 
-program=$top/bin/rewind
+program=${REWIND_PROGRAM:-$top/bin/rewind}
 kind='the proved program'
 if [ ! -x "$program" ]; then
   program=$top/bin/rewind-quick

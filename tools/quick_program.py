@@ -1,7 +1,7 @@
 #!/usr/bin/env python3
-"""Compiles a module of `quick_module.py`, and links it with the toolchain's C library.
+"""Compiles an LLVM module of the program, and links it with the toolchain's C library.
 
-    tools/quick_program.py MODULE.bc PROGRAM
+    tools/quick_program.py [--static] MODULE.bc PROGRAM      (--static: with the system's C library in it, and no symbols)
 """
 import os
 import shlex
@@ -13,13 +13,15 @@ import tempfile
 import kit
 
 TARGET = ["--target=x86_64-unknown-linux-gnu", "-march=x86-64", "--no-default-config", "-no-canonical-prefixes", "-fintegrated-cc1"]
+STATIC = ["-static-pie", "-s", "-Wl,--build-id=none"]
 CODE = ["-ffunction-sections", "-fdata-sections", "-mllvm", "-no-trap-after-noreturn", "-mllvm", "-trap-unreachable", "-fPIE", "-O2"]
 
 
 def main():
-    if len(sys.argv) != 3:
+    static = STATIC if sys.argv[1:2] == ["--static"] else []
+    if len(sys.argv) != (4 if static else 3):
         sys.exit(__doc__)
-    module, program = sys.argv[1:]
+    module, program = sys.argv[-2:]
     if not os.path.isfile(module):
         kit.stop(f"there is no module {module}")
     kit.writable(program)
@@ -31,7 +33,7 @@ def main():
         words = ["clang", *TARGET, *CODE, "-c", "-x", "ir", module, "-o", f"{work}/program.o"]
         subprocess.run(words, executable=f"{folder}/toolchain/bin/clang", check=True)
         parts = [f"{work}/program.o", f"{folder}/c/libos_c.a", f"{folder}/c/liblibc_c.a"]
-        subprocess.run([*linker, *parts, "-o", f"{program}.part", "-Wl,--gc-sections"], check=True)
+        subprocess.run([*linker, *parts, "-o", f"{program}.part", "-Wl,--gc-sections", *static], check=True)
     os.replace(f"{program}.part", program)
 
 

@@ -1,7 +1,7 @@
 #!/usr/bin/env python3
 """Packs the extension for VS Code, with the adapter, its library and the program, into a file that VS Code installs.
 
-    tools/vsix.py PROGRAM OUT
+    tools/vsix.py [--stored] PROGRAM OUT     (--stored: nothing is compressed, for an archive that is)
 
 The same files give the same bytes: each entry has a fixed time, and they stand in the order of their names.
 """
@@ -71,10 +71,10 @@ def content_types():
     )
 
 
-def pack(program, out):
+def pack(program, out, method):
     with open(os.path.join(EXTENSION, "package.json"), encoding="utf-8") as file:
         package = json.load(file)
-    with zipfile.ZipFile(out, "w") as archive:
+    with zipfile.ZipFile(out, "w", method) as archive:
         write(archive, "extension.vsixmanifest", manifest(package).encode(), False)
         write(archive, "[Content_Types].xml", content_types().encode(), False)
         for name, path in files(program).items():
@@ -84,22 +84,23 @@ def pack(program, out):
 
 def write(archive, name, content, runs):
     entry = zipfile.ZipInfo(name, TIME)
-    entry.compress_type = zipfile.ZIP_DEFLATED
+    entry.compress_type = archive.compression
     entry.create_system = 3
     entry.external_attr = (0o100755 if runs else 0o100644) << 16
     archive.writestr(entry, content, compresslevel=9)
 
 
 def main():
-    if len(sys.argv) != 3:
-        print("usage: tools/vsix.py PROGRAM OUT", file=sys.stderr)
+    is_stored = sys.argv[1:2] == ["--stored"]
+    if len(sys.argv) != 3 + is_stored:
+        print("usage: tools/vsix.py [--stored] PROGRAM OUT", file=sys.stderr)
         return 2
-    program, out = sys.argv[1:]
+    program, out = sys.argv[-2:]
     if not os.access(program, os.X_OK):
         print(f"vsix: there is no program {program}: build one by 'make quick' or 'make'", file=sys.stderr)
         return 2
     os.makedirs(os.path.dirname(os.path.abspath(out)), exist_ok=True)
-    pack(program, out)
+    pack(program, out, zipfile.ZIP_STORED if is_stored else zipfile.ZIP_DEFLATED)
     print(f"{out}: {os.path.getsize(out):,} bytes")
     return 0
 

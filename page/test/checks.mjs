@@ -1,6 +1,6 @@
 // Compares, counts what holds, and tells what does not.
 
-const LONGEST = 400;
+const LONGEST = 3000;
 export const counts = { passed: 0, failed: 0, skipped: 0 };
 
 const inOneLine = (text) => text.replaceAll(/\s*\n\s*/g, " ").slice(0, LONGEST);

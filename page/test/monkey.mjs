@@ -111,12 +111,11 @@ async function round(hands, program, seed) {
     await hands.idle();
     const shown = await hands.browser.run(`(${shownInPage})()`);
     const told = await toldNatively(native, shown.goroutines.map(([it]) => it), shown.channels.map(([it]) => it));
-    const same = Object.fromEntries(Object.keys(told).map((key) => [key, shown[key]]));
     const before = counts.failed;
-    equal(`round ${seed}, ${name}: what is shown`, same, told);
+    for (const key of Object.keys(told)) equal(`round ${seed}, ${name}: ${key}`, shown[key], told[key]);
     equal(`round ${seed}, ${name}: every step has its edges`, [shown.noted, shown.lost], [shown.log.length, ""]);
     await clausesAgree(native, shown, `round ${seed}, ${name}`);
-    if (counts.failed > before) console.log(done.map((it) => it.slice(0, 60)).join(" | "));
+    if (counts.failed > before) console.log(done.join(" | "));
   } finally {
     native.close();
   }
