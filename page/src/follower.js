@@ -151,14 +151,20 @@ export class Follower {
     const session = await this.session();
     const asked = this.questionsFor(steps);
     const replies = await session.askAll(asked.flatMap(({ commands }) => commands), "tail");
+    /** @type {Map<string, (Note | undefined)[]>} */
+    const printing = new Map(); // of each goroutine, its steps that print
     let at = 0;
     for (const one of asked) {
-      const some = replies.slice(at, at + one.commands.length);
-      at += one.commands.length;
-      if (!this.check(one.step, some[one.commands.indexOf(stepCommand(one.step, this.clauses))].last)) break;
-      if (one.step.row < this.log.changedFrom) this.keep(one, some); // else the step was taken back meanwhile
+      const { step, commands } = one;
+      const some = replies.slice(at, at + commands.length);
+      at += commands.length;
+      if (!this.check(step, some[commands.indexOf(stepCommand(step, this.clauses))].last)) break;
+      const note = this.noteOf(one, some);
+      const isKept = step.row < this.log.changedFrom; // else the step was taken back meanwhile
+      if (isKept) this.keep(step, note);
+      if (step.kind === "pure" && printsOf(note.statement)) printing.set(step.goroutine, [...(printing.get(step.goroutine) || []), isKept ? note : undefined]);
     }
-    if (!this.isUnsure) await this.takePrinted(session, steps);
+    if (!this.isUnsure) await this.takePrinted(session, printing);
   }
 
   // Around each step: where it stands before it, and after it whether those that wait still do. Where a statement does not tell
@@ -195,38 +201,41 @@ export class Follower {
   /**
    * @param {Asked} asked
    * @param {any[]} replies
+   * @returns {Note}
    */
-  keep({ step, sleepers, commands }, replies) {
+  noteOf({ step, sleepers, commands }, replies) {
     const { line, frames } = parseGoroutine(replies[0]);
-    const statement = this.statements.at(line);
+    const statement = this.statements.at(line) || null;
     const clause = /^pick (\d+)$/.exec(step.kind);
     const variables = frames[0]?.variables || [];
     const sent = sentValue((clause ? statement?.clauses[Number(clause[1]) - 1] : statement?.text) || "", variables);
-    const channels = channelsOf(step.kind, statement || null, variables);
+    const channels = channelsOf(step.kind, statement, variables);
     const states = replies.slice(commands.length - sleepers.length);
     const woke = sleepers.filter((id, at) => parseGoroutine(states[at]).state !== "waiting" && !this.wakers.has(id));
-    for (const id of woke) this.wakers.set(id, step.id);
     const printed = this.isUnsure && step.kind === "pure" ? newLines(replies[1], replies[3]) : [];
-    this.notes.set(step.id, { line: this.statements.lineOf(line), statement, printed, woke, causes: null, edges: null, sent, received: "", channels });
+    return { line: this.statements.lineOf(line), statement, printed, woke, causes: null, edges: null, sent, received: "", channels };
   }
 
-  // Gives each step of a `println` the line that it printed, from the text of its goroutine.
+  /**
+   * @param {Step} step
+   * @param {Note} note
+   */
+  keep({ id }, note) {
+    for (const wait of note.woke) this.wakers.set(wait, id);
+    this.notes.set(id, note);
+  }
+
+  // Gives each step of a `println` the line that it printed, from the end of the text of its goroutine. Of a step that was taken back
+  // meanwhile the line stands there too.
   /**
    * @param {RemoteSession} session
-   * @param {Step[]} steps
+   * @param {Map<string, (Note | undefined)[]>} printing
    */
-  async takePrinted(session, steps) {
-    /** @type {Map<string, Note[]>} */
-    const printing = new Map();
-    for (const { id, goroutine, kind } of steps) {
-      const note = this.notes.get(id);
-      if (!note || kind !== "pure" || !printsOf(note.statement)) continue;
-      printing.set(goroutine, [...(printing.get(goroutine) || []), note]);
-    }
+  async takePrinted(session, printing) {
     const texts = await session.questions([...printing.keys()].map((name) => `text ${name}`), "tail");
     [...printing.values()].forEach((notes, which) => {
       const lines = texts[which].lines.slice(-notes.length);
-      notes.forEach((note, at) => (note.printed = [lines[at]]));
+      notes.forEach((note, at) => note && (note.printed = [lines[at]]));
     });
   }
 

@@ -1,6 +1,7 @@
 // unit.mjs: the modules that need no browser. The last line counts the checks.
 
 import { counts, failed } from "./checks.mjs";
+import { followers } from "./unit/follower.mjs";
 import { lesson } from "./unit/lesson.mjs";
 import { logs } from "./unit/log.mjs";
 import { picture } from "./unit/picture.mjs";
@@ -8,7 +9,7 @@ import { replies } from "./unit/replies.mjs";
 import { runs } from "./unit/runs.mjs";
 import { statements } from "./unit/statements.mjs";
 
-const PARTS = { logs, statements, replies, runs, picture, lesson };
+const PARTS = { logs, followers, statements, replies, runs, picture, lesson };
 
 for (const [name, part] of Object.entries(PARTS)) {
   try {

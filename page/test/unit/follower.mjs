@@ -1,0 +1,47 @@
+// The session that goes along the log: a step keeps the line that it printed, also where a later step is taken back meanwhile.
+
+import { Follower } from "../../src/follower.js";
+import { Log } from "../../src/log.js";
+import { parseReplies } from "../../src/protocol.js";
+import { shaped } from "../../src/shapes.js";
+import { Statements } from "../../src/statements.js";
+import { equal } from "../checks.mjs";
+
+const SOURCE = "package main\nfunc main() {\nprintln(2)\nprintln(3)\nprintln(5)\n}\n";
+
+// A session in which each step of g0 prints its line; after the steps of the first exchange, `meanwhile` happens.
+function printing(statements, meanwhile) {
+  const printed = [];
+  const lines = statements.all.map(({ expandedLine }) => expandedLine);
+  const answer = (command) => {
+    if (command === "show g0") return `| g0 ready ${printed.length} line ${lines[printed.length]}\n| main\nok\n`;
+    if (command === "text g0") return `${printed.map((it) => `| ${it}\n`).join("")}ok\n`;
+    printed.push([2, 3, 5][printed.length]);
+    return `ok g0#${printed.length} pure\n`;
+  };
+  return {
+    status: null,
+    async askAll(commands, shape = "replies") {
+      const texts = commands.map(answer);
+      meanwhile(commands);
+      return texts.flatMap((text) => shaped(text, shape));
+    },
+    questions(commands, shape) {
+      return this.askAll(commands, shape);
+    },
+    close() {},
+  };
+}
+
+export async function followers() {
+  const statements = new Statements(SOURCE);
+  const log = new Log();
+  for (const step of ["g0#1 pure", "g0#2 pure", "g0#3 pure"]) log.apply("step g0", parseReplies(`ok ${step}\n`)[0]);
+  const follower = new Follower(null, statements, log, new Map());
+  follower.remote = printing(statements, (commands) => {
+    if (commands.includes("step g0")) log.apply("undo", parseReplies("ok g0#3\n")[0]);
+  });
+  await follower.annotate(0, log.length);
+  const printed = ["g0#1", "g0#2", "g0#3"].map((id) => follower.notes.get(id)?.printed);
+  equal("steps that stay keep their own lines where one after them was taken back", printed, [["2"], ["3"], undefined]);
+}
