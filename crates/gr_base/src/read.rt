@@ -1,7 +1,7 @@
-//! Readers of names: each reads the texts that its printer writes, and no other. They fail only where there is no
-//! memory for the name.
+//! Readers of names: each reads the texts that its printer writes, and no other. They fail only where the text is a name,
+//! and there is no memory for it.
 
-ghost use Rattle.std.specs.Prelude.{◌≡◌, ◌==◌, ◌+◌, ◌<◌, ◌≤◌, IfOk, IfSome, length, position};
+ghost use Rattle.std.specs.Prelude.{◌≡◌, ◌==◌, ◌+◌, ◌<◌, ◌≤◌, IfOk, IfSome, OnErr, IsSome, length, position, is_some};
 ghost use Rattle.std.specs.List.{before_first, after_first};
 ghost use Rattle.gr_base.specs.Names.{with_digit, count_from, counts_from, go_named, ch_named, step_named};
 
@@ -12,7 +12,8 @@ use std::alloc::Global;
 /// The goroutine that the text names, if it names one: `g0`, and for each count a dot and the count in decimal. A count
 /// is from 1 to 4,294,967,295 and has no leading zero.
 pub fn read_go(alloc: Global, text: &[u8]) -> Result<Option<GoName>, NoMemory>
-    ensures { IfOk result (λ name. name ≡ go_named text.now) }
+    ensures named { IfOk result (λ name. name ≡ go_named text.now) }
+    ensures memory { OnErr result (IsSome (go_named text.now)) }
 {
     let Some(counts) = text.strip_prefix(b"g0") else {
         return Ok(None);
@@ -26,7 +27,8 @@ pub fn read_go(alloc: Global, text: &[u8]) -> Result<Option<GoName>, NoMemory>
 
 /// The channel that the text names, if it names one: a goroutine, `/c` and a count in decimal, as those of goroutines.
 pub fn read_ch(alloc: Global, text: &[u8]) -> Result<Option<ChName>, NoMemory>
-    ensures { IfOk result (λ name. name ≡ ch_named text.now) }
+    ensures named { IfOk result (λ name. name ≡ ch_named text.now) }
+    ensures memory { OnErr result (IsSome (ch_named text.now)) }
 {
     let (go, count) = parts(text, b'/');
     let Some((b'c', digits)) = count.split_first() else {
@@ -44,7 +46,8 @@ pub fn read_ch(alloc: Global, text: &[u8]) -> Result<Option<ChName>, NoMemory>
 /// The step that the text names, if it names one: a goroutine, `#` and an ordinal in decimal, from 1 to
 /// 18,446,744,073,709,551,615 and with no leading zero.
 pub fn read_step(alloc: Global, text: &[u8]) -> Result<Option<StepId>, NoMemory>
-    ensures { IfOk result (λ step. step ≡ step_named text.now) }
+    ensures named { IfOk result (λ step. step ≡ step_named text.now) }
+    ensures memory { OnErr result (IsSome (step_named text.now)) }
 {
     let (go, digits) = parts(text, b'#');
     let Some(n) = read_count(u64::MAX, digits) else {
@@ -77,8 +80,12 @@ fn first_place(text: &[u8], mark: u8) -> Option<usize>
 
 // The goroutine with the counts that the text spells, with a dot between two of them.
 fn read_counts(alloc: Global, text: &[u8]) -> Result<Option<GoName>, NoMemory>
-    ensures { IfOk result (λ name. name ≡ counts_from 0 text.now) }
+    ensures named { IfOk result (λ name. name ≡ counts_from 0 text.now) }
+    ensures memory { OnErr result (IsSome (counts_from 0 text.now)) }
 {
+    if !spells_counts(text) {
+        return Ok(None);
+    }
     let mut counts = Vec::new(alloc);
     let mut count = 0;
     for byte in text {
@@ -100,6 +107,27 @@ fn read_counts(alloc: Global, text: &[u8]) -> Result<Option<GoName>, NoMemory>
     }
     counts.push(count as u32)?;
     Ok(Some(GoName::from_counts(counts)?))
+}
+
+// The text spells counts, with a dot between two of them.
+fn spells_counts(text: &[u8]) -> bool
+    ensures { result ≡ is_some (counts_from 0 text.now) }
+{
+    let mut count = 0;
+    for byte in text {
+        if *byte == b'.' {
+            if count == 0 {
+                return false;
+            }
+            count = 0;
+        } else {
+            let Some(longer) = push_digit(u64::from(u32::MAX), count, *byte) else {
+                return false;
+            };
+            count = longer;
+        }
+    }
+    count > 0
 }
 
 // The number from 1 to `largest` that the digits spell, if they spell one with no leading zero.
