@@ -1,4 +1,5 @@
--- A receive and a send on one channel conflict exactly where they share what `OneBuffer` lists.
+-- A receive and a send on one channel conflict exactly where they share what `OneBuffer` lists; a send that faults conflicts with
+-- every step.
 use Rattle.std.proofs.Common.{◌≡◌, ◌↔◌, ◌⊎◌, ℕ, true, ◌||◌, List, [], ◌∷◌, ◌++◌, Some, refl, sym, ◌∙◌, ap, subst, inl, inr}
 use Rattle.gr_base.specs.declared.names.ChName.{ChName}
 use Rattle.gr_base.specs.declared.events.Event.{Event}
@@ -18,7 +19,7 @@ use Rattle.gr_rules.specs.Steps.{machine}
 use Rattle.gr_rules.specs.Touches.{Touches, senders_at, slot_at_head, slot_at_tail, woken, taken, with_channel, and_always, row, table, AsTheTable}
 use Rattle.gr_laws.specs.Reached.{Logged}
 use Rattle.gr_laws.specs.Dependence.{clash}
-use Rattle.gr_laws.specs.OneBuffer.{IsReceive, IsSend, Shares, one_goroutine, one_slot, sender_moves, receiver_waits, sender_waits, sender_met, receiver_met}
+use Rattle.gr_laws.specs.OneBuffer.{IsReceive, IsSend, FaultsAtSend, Shares, one_goroutine, one_slot, sender_moves, receiver_waits, sender_waits, sender_met, receiver_met}
 use Rattle.gr_laws.specs.Touched.{TellTouches}
 use Rattle.gr_laws.proofs.CellLemmas.{no_truth}
 use Rattle.gr_laws.proofs.AttemptTouches.{touched_as}
@@ -254,4 +255,24 @@ buffer_clash p s s' t t' a b c ha hb ra sb =
           (shares c s t a.event.go b.event.go ka kb ra.1 sb.1 (sym same_clash ∙ h))),
       λ h. same_clash ∙ clashes c s t a.event.go b.event.go ka kb ra.1 sb.1
           (subst (λ w. Shares c s t ka kb xa.writes w) wb (subst (λ w. Shares c s t ka kb w b.note.writes) wa h)),
+    )
+
+-- a send that faults writes `Run`, which every step touches
+pub fault_clash : (p : Program) (s s' t t' : State) (a b : Logged p) (c : ChName)
+    → (machine p).step s a.event ≡ Some (s', a.note) → (machine p).step t b.event ≡ Some (t', b.note)
+    → FaultsAtSend c b.note.kind
+    → In Run b.note.writes × In Run ((machine p).touches a.note) × (clash p a b ≡ true)
+fault_clash p s s' t t' a b c ha hb faulted =
+    let ta = touched_as p s a.event s' a.note ha in
+    let tb = touched_as p t b.event t' b.note hb in
+    let rowb = row_is t b.event b.note (sends_on c) faulted.0 in
+    let wb = tb.written ∙ ap (λ (x : Touches). x.writes) rowb in
+    let ends : In Run (and_always b.event (with_channel t (sends_on c) b.note.kind.deed)).writes =
+    subst (λ k. In Run (and_always b.event (with_channel t (sends_on c) k)).writes) (sym faulted.1.1) (inr (inl refl)) in
+    let writes : In Run b.note.writes = subst (In Run) (sym wb) ends in
+    let reads : In Run ((machine p).touches a.note) = (ta.touched Run).1 (inl refl) in (
+      writes,
+      reads,
+      or_right (meets same a.note.writes ((machine p).touches b.note)) (meets same b.note.writes ((machine p).touches a.note))
+          (meets_in b.note.writes ((machine p).touches a.note) Run writes reads),
     )

@@ -1,8 +1,10 @@
--- When a receive and a send on one channel conflict: the two ends of a buffer are separate objects.
+-- When a receive and a send on one channel conflict: the two ends of a buffer are separate objects. A send that faults conflicts
+-- with every step.
 use Rattle.std.specs.Prelude.{◌≡◌, ℕ, true, List, [], Some}
 use Rattle.gr_base.specs.declared.names.ChName.{ChName}
+use Rattle.gr_base.specs.declared.kinds.Fault.{Fault}
 use Rattle.gr_base.specs.declared.kinds.Kind.{Kind}
-use Rattle.gr_base.specs.declared.kinds.Kind.TheVariants.{Take, Meet, RecvWait, Hand, SendWait}
+use Rattle.gr_base.specs.declared.kinds.Kind.TheVariants.{Take, Meet, RecvWait, Hand, SendWait, Fault as Faulted}
 use Rattle.gr_base.specs.declared.objects.Object.{Object}
 use Rattle.gr_base.specs.declared.objects.Object.TheVariants.{Go}
 use Rattle.gr_causal.specs.Sequences.{In}
@@ -17,6 +19,10 @@ IsReceive c r = (r.operation ≡ Some (receives_from c)) × (receives r.deed ≡
 
 abbrev pub IsSend : ChName → Report → Type 0
 IsSend c r = (r.operation ≡ Some (sends_on c)) × (sends r.deed ≡ true)
+
+-- the step came to a send on the channel, which faults
+abbrev pub FaultsAtSend : ChName → Report → Type 0
+FaultsAtSend c r = (r.operation ≡ Some (sends_on c)) × ((e : Fault) × (r.deed ≡ Faulted e))
 
 -- What a receive from one state, which took its item, met a sender or waits, and a send from another have in common; with
 -- what each wrote.

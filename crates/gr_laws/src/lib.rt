@@ -38,7 +38,7 @@ ghost use Rattle.gr_laws.specs.Consoles.{text_of, steps_by};
 ghost use Rattle.gr_laws.specs.Dependence.{clash, AreTheDependents, AreTheCauses, StepName, step_name, ordered_by};
 ghost use Rattle.gr_laws.specs.TakingBack.{MayGoBack};
 ghost use Rattle.gr_laws.specs.Folding.{as_value, wrapped_value};
-ghost use Rattle.gr_laws.specs.OneBuffer.{IsReceive, IsSend, Shares};
+ghost use Rattle.gr_laws.specs.OneBuffer.{IsReceive, IsSend, FaultsAtSend, Shares};
 ghost use Rattle.gr_laws.specs.Refusals.{HasStatus, StandsReady, is_select, HasNoSuch};
 ghost use Rattle.gr_laws.specs.Touched.{AreTouched, TellTouches, read_only};
 
@@ -100,14 +100,20 @@ pub fn law_of_touches()
 {}
 
 /// The two ends of a buffer are separate objects: a receive and a send on one channel conflict exactly where they share a
-/// goroutine or a slot of the buffer, a waiting sender moves up, one of them waits, or a value goes from hand to hand.
+/// goroutine or a slot of the buffer, a waiting sender moves up, one of them waits, or a value goes from hand to hand. A send
+/// that faults writes whether the program runs, which every step touches, and so conflicts with every step.
 pub fn law_of_one_buffer()
-    ensures { (p : Program) (s u t v : State) (receive send : Logged p) (c : ChName)
+    ensures exactly { (p : Program) (s u t v : State) (receive send : Logged p) (c : ChName)
         → (machine p).step s receive.event ≡ Some (u, receive.note)
         → (machine p).step t send.event ≡ Some (v, send.note)
         → IsReceive c receive.note.kind → IsSend c send.note.kind
         → (clash p receive send ≡ true)
         ↔ Shares c s t receive.note.kind.deed send.note.kind.deed receive.note.writes send.note.writes }
+    ensures faults { (p : Program) (s u t v : State) (other send : Logged p) (c : ChName)
+        → (machine p).step s other.event ≡ Some (u, other.note)
+        → (machine p).step t send.event ≡ Some (v, send.note)
+        → FaultsAtSend c send.note.kind
+        → In Run send.note.writes × In Run ((machine p).touches other.note) × (clash p other send ≡ true) }
 {}
 
 /// A local step writes its own goroutine alone, and reads `Run` and its own goroutine alone.
