@@ -174,7 +174,7 @@ impl Channel {
     /// Takes the front item, for which the first waiting sender's value moves up, or meets the first waiting sender, as
     /// the Go specification's "Receive operator" says. Refused, nothing has changed.
     pub fn take(&mut self) -> Result<Taken, NoMemory>
-        requires { CanEnter self.old.content }
+        requires { ¬ (self.old.content.senders ≡ []) → CanEnter self.old.content }
         ensures rule { IfOk result (λ r. TakeRule self.old.content r self.new.content) }
         ensures undone { IfOk result (λ r. TakeUndone r self.old self.new) }
         ensures err { OnErr result (self.new ≡ self.old) }
@@ -197,7 +197,7 @@ impl Channel {
 
     /// Takes the front item, whose copy is here.
     fn take_front(&mut self, value: Value) -> Taken
-        requires counted { CanEnter self.old.content }
+        requires counted { ¬ (self.old.content.senders ≡ []) → CanEnter self.old.content }
         requires front { slice_get self.old.content.items 0 ≡ Some value }
         ensures rule { TakeRule self.old.content result self.new.content }
         ensures undone { TakeUndone result self.old self.new }
