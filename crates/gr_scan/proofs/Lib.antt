@@ -16,3 +16,4 @@ pub mod Unique
 pub mod Values
 pub mod Goes
 pub mod FirstFaults
+pub mod Rising

@@ -4,6 +4,7 @@ pub mod Strings
 pub mod Pieces
 pub mod Numbers
 pub mod Scan
+pub mod Rising
 pub mod Faults
 pub mod Positions
 pub mod Scanning

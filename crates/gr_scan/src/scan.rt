@@ -3,6 +3,7 @@ ghost use Rattle.std.specs.Prelude.{◌≡◌, ◌+◌, ◌-◌, ◌<◌, ◌≤
 ghost use Rattle.gr_scan.specs.Marks.{keywords, mark_in};
 ghost use Rattle.gr_scan.specs.Tokens.{Tok, At, place_of_span, token_of, tokens_of};
 ghost use Rattle.gr_scan.specs.Scan.{IsScan, HasNoTokens, items_of, keyword_or_name, line_after, mark_size, semicolon, word_ends};
+ghost use Rattle.gr_scan.specs.Rising.{RiseFrom};
 ghost use Rattle.gr_scan.specs.Scan as spec;
 ghost use Rattle.gr_scan.specs.Pieces.{Spells};
 ghost use Rattle.gr_scan.specs.Scanning.{Puts, Finds};
@@ -233,6 +234,11 @@ pub fn scan(alloc: Global, text: &[u8]) -> Result<Vec<Token>, ScanError>
 /// A text has at most one list of tokens.
 pub fn one_list()
     ensures { (text : List ℕ) (a b : List Tok) → IsScan text a → IsScan text b → a ≡ b }
+{}
+
+/// The tokens of a text stand one after another.
+pub fn tokens_in_order()
+    ensures { (text : List ℕ) (ts : List Tok) → IsScan text ts → RiseFrom 0 ts }
 {}
 
 /// A text has at most one first fault.

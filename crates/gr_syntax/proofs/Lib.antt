@@ -35,3 +35,5 @@ pub mod Functions
 pub mod FilesLong
 pub mod Files
 pub mod FileTurns
+pub mod Rising
+pub mod RisingStatements

@@ -22,3 +22,4 @@ pub mod TakenGroups
 pub mod TakerRows
 pub mod Taking
 pub mod TreeRows
+pub mod TreesOfTexts

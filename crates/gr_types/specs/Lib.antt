@@ -15,3 +15,4 @@ pub mod LabelTables
 pub mod Evaluating
 pub mod Declaring
 pub mod Codes
+pub mod Texts
