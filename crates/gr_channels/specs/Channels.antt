@@ -47,6 +47,6 @@ pub record Within (a b : Room) : Type 0 where
 abbrev pub plus : Room → Room → Room
 plus a b = record { items = a.items + b.items; senders = a.senders + b.senders; receivers = a.receivers + b.receivers }
 
--- the same room in each of the three
+-- this much room in each of the three
 abbrev pub each : ℕ → Room
 each n = record { items = n; senders = n; receivers = n }

@@ -61,7 +61,7 @@ abbrev pub AllCanSend : Variables → List Arm → Type 0
 AllCanSend cells [] = Unit {0}
 AllCanSend cells (a ∷ arms) = CanSend cells a × AllCanSend cells arms
 
--- .. of each clause of the select at which the innermost frame stands
+-- each clause of the select at which the innermost frame stands can send
 abbrev pub SendsAt : Variables → Instruction → Type 0
 SendsAt cells (Part ask slot on) = Unit {0}
 SendsAt cells (Decide op left slot settled right) = Unit {0}
@@ -83,7 +83,7 @@ abbrev pub is_select_in : ProgramCode → List CodeFrame → Bool
 is_select_in code [] = false
 is_select_in code (f ∷ below) = is_choice (instruction_in code f)
 
--- .. and it has these clauses
+-- the next instruction is that of a select with these clauses
 abbrev pub SelectsIn : ProgramCode → List CodeFrame → List Arm → Type 0
 SelectsIn code [] arms = ⊥
 SelectsIn code (f ∷ below) arms = instruction_in code f ≡ gives (Choose arms)

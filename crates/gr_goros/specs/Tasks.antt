@@ -62,7 +62,7 @@ TaskIs (tasks.Steps u) o old new = (o ≡ gives (Steps new)) × (frame_before u 
 TaskIs (tasks.Prints line) o old new = (o ≡ gives (Wants (Prints line.items))) × (new ≡ old)
 TaskIs (tasks.Leaves v) o old new = (o ≡ gives (Wants (Leaves v))) × (new ≡ old)
 
--- .. or a fault, or there was no memory, and the frame is as it was
+-- the task is what the frame comes to; or there was a fault, or no memory, and the frame is as it was
 abbrev pub Does : Result Task Stop → Outcome frames.Task → CodeFrame → CodeFrame → Type 0
 Does (Ok t) o old new = TaskIs t o old new
 Does (Err s) o old new = Stops s o × (new ≡ old)

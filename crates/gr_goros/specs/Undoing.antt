@@ -43,7 +43,7 @@ at_spot s f = record f { function = s.function; number = s.number }
 abbrev pub frame_before : FrameUndo → CodeFrame → CodeFrame
 frame_before u f = record f { number = u.number; cells = restored u.cells f.cells }
 
--- .. in the function with this number
+-- a frame of the function with this number, before it went on
 abbrev pub frame_in : ℕ → FrameUndo → CodeFrame → CodeFrame
 frame_in function u f = record (frame_before u f) { function = function }
 

@@ -53,7 +53,7 @@ fn give(cells: &mut Vec<Option<Value>>, parameters: &[Option<usize>], number: us
 }
 
 /// Gives the values of operands, in a frame with its own cells, to parameters from left to right. Errors: the fault of the first
-/// that has one, and want of memory.
+/// that has one, and out of memory.
 #[inline]
 #[tactic(auto, using(crate::proofs::CallLemmas::begins, crate::proofs::CallLemmas::right_here, crate::proofs::CallLemmas::stops_here))]
 fn pass(
@@ -77,7 +77,7 @@ fn pass(
 
 impl Frame {
     /// The frame of the function with a number, whose parameters have the values of operands in this one. Errors: the fault of
-    /// the first that has one, and want of memory.
+    /// the first that has one, and out of memory.
     #[tactic(auto, using(crate::proofs::CodeLemmas::found_function, crate::proofs::CodeLemmas::no_function, crate::proofs::CallLemmas::operands_right, crate::proofs::CallLemmas::none_called))]
     fn call(
         &self,
@@ -151,7 +151,7 @@ impl Goroutine {
         }
     }
 
-    /// .. where it can have no more frames.
+    /// Calls a function where the goroutine can have no more frames.
     #[tactic(auto, using(crate::proofs::CallLemmas::call_evaluates, crate::proofs::CallLemmas::call_deep, crate::proofs::CallLemmas::call_faults))]
     fn call_too_deep(
         &mut self,

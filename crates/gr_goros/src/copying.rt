@@ -11,7 +11,7 @@ use std::alloc::Global;
 
 /// What can be copied.
 pub(crate) trait Copied: Sized + Drop {
-    /// The same once more.
+    /// A copy.
     fn copied(&self, alloc: Global) -> Result<Self, NoMemory>
         ensures { IfOk result (λ copy. copy ≡ self.now) };
 }

@@ -149,7 +149,7 @@ impl Frame {
         }
     }
 
-    /// .. of a statement without operands.
+    /// Takes the step of a statement without operands, if it is one over whole numbers.
     #[inline(always)]
     fn step_without_operands(&mut self, action: &Action) -> Option<IntChange>
         ensures counts { ChangesInts result (performed self.old (action_of action.now) nothing) self.old self.new }
@@ -161,7 +161,7 @@ impl Frame {
         }
     }
 
-    /// .. of a statement with one operand.
+    /// Takes the step of a statement with one operand, if it is one over whole numbers.
     #[inline(always)]
     #[tactic(auto, using(crate::proofs::TaskLemmas::updated_is))]
     fn step_with_one(&mut self, action: &Action, operand: &Operand) -> Option<IntChange>
@@ -178,7 +178,7 @@ impl Frame {
         }
     }
 
-    /// .. of a statement with two operands.
+    /// Takes the step of a statement with two operands, if it is one over whole numbers.
     #[inline]
     fn step_with_two(
         &mut self,

@@ -97,7 +97,7 @@ impl Frame {
         }
     }
 
-    /// The same once more.
+    /// A copy of the frame.
     pub fn copy(&self, alloc: Global) -> Result<Frame, NoMemory>
         ensures { IfOk result (λ copy. copy ≡ self.now) }
     {
@@ -117,7 +117,7 @@ impl Frame {
         self.function as usize
     }
 
-    /// The same, as it is kept.
+    /// The number of the function, as it is kept.
     #[inline]
     pub(crate) fn kept_function(&self) -> u32
         ensures { result ≡ self.now.function }
@@ -319,7 +319,7 @@ impl Frame {
         cells::put_back(&mut self.cells, cells);
     }
 
-    /// .. in the function with a number.
+    /// Takes the change back, in the function with a number.
     #[inline]
     pub(crate) fn undo_in(&mut self, function: u32, undo: FrameUndo)
         ensures { self.new ≡ frame_in function undo self.old }

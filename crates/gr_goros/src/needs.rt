@@ -304,7 +304,7 @@ fn need_of_action(
 }
 
 /// What an instruction asks for beyond the goroutine, or to return from the outermost frame. Errors: the fault of an operand,
-/// and want of memory.
+/// and out of memory.
 pub(crate) fn need_of(alloc: Global, frame: &Frame, instruction: &Instruction) -> Result<Need, Stop>
     requires right { ¬ (frames.task frame.now (instruction_of instruction.now) ≡ wrong) }
     requires sends { SendsAt frame.now.cells (instruction_of instruction.now) }

@@ -41,7 +41,7 @@ impl Frame {
         }
     }
 
-    /// .. past a receive that is a part.
+    /// Goes on past a receive that is a part.
     fn pass_part(
         &mut self,
         ask: &Ask,
@@ -59,7 +59,7 @@ impl Frame {
         }
     }
 
-    /// .. past a statement that sends or receives.
+    /// Goes on past a statement that sends or receives. Refused, nothing has changed.
     fn pass_action(
         &mut self,
         alloc: Global,
@@ -84,7 +84,7 @@ impl Frame {
         }
     }
 
-    /// .. past a clause of a select.
+    /// Goes on past a clause of a select. Refused, nothing has changed.
     fn pass_arm(
         &mut self,
         alloc: Global,

@@ -47,7 +47,7 @@ fn only_value(mut values: Vec<Value>) -> Value
     }
 }
 
-/// The value of the one operand. Errors: its fault, and want of memory.
+/// The value of the one operand. Errors: its fault, and out of memory.
 #[inline]
 pub(crate) fn only(
     alloc: Global,
@@ -66,7 +66,7 @@ pub(crate) fn only(
 
 impl Frame {
     /// What its instruction comes to, which is no call and asks for nothing beyond the goroutine. Where that is a step of the
-    /// frame, the frame went on; else it is as it was. Errors: the fault of an operand, and want of memory.
+    /// frame, the frame went on; else it is as it was. Errors: the fault of an operand, and out of memory.
     #[inline]
     pub(crate) fn task(
         &mut self,

@@ -37,7 +37,7 @@ abbrev pub one_or_none : ChName → Option ChanUndo → Few (ChName × ChanUndo)
 one_or_none c None = Empty
 one_or_none c (Some undo) = One (c, undo)
 
--- .. and the change of its channel: its goroutine came to stand in a queue, which it leaves when that is taken back
+-- the change of the channel of a wait: its goroutine came to stand in a queue, and leaves it when that is taken back
 abbrev pub queue_left_by : Operation → ChanUndo
 queue_left_by (SendsOn c) = ParkedSender
 queue_left_by (ReceivesFrom c) = ParkedReceiver

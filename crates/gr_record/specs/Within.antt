@@ -19,7 +19,7 @@ use Rattle.gr_record.specs.Records.{goroutines_changed, channels_changed, begun_
 abbrev pub IsAmong : Object → List Object → Type 0
 IsAmong o os = list_any (same o) os ≡ true
 
--- .. and that of each name is
+-- the object of each name is one of these
 abbrev pub EachIsAmong : {N U : Type 0} → (N → Object) → List (N × U) → List Object → Type 0
 EachIsAmong object [] os = Unit {0}
 EachIsAmong object (e ∷ es) os = IsAmong (object e.0) os × EachIsAmong object es os

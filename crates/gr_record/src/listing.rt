@@ -19,7 +19,7 @@ pub struct Listing {
 impl Listing {
     ghost use Rattle.gr_record.specs.Listings.{IsCoded};
 
-    /// The program with its code. The one error is want of memory.
+    /// The program with its code. The one error is out of memory.
     pub fn new(alloc: Global, program: Arc<Program>) -> Result<Listing, NoMemory>
         ensures program { IfOk result (λ listing. listing.program ≡ program) }
         ensures code { IfOk result IsCoded }
