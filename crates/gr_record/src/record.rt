@@ -1,13 +1,15 @@
 //! Records of steps.
 
-ghost use Rattle.std.specs.Prelude.{◌≡◌, option_copied};
+ghost use Rattle.std.specs.Prelude.{◌≡◌, option_copied, IfOk};
 ghost use Rattle.gr_record.specs.Effects.{effect_in, kind_of_wait, queue_left_by};
 ghost use Rattle.gr_record.specs.Parts.{begun_in, channel_in};
+ghost use Rattle.gr_record.specs.Records.{event_of, is_printed};
 
 use crate::few::Few;
-use gr_base::{ChName, Choice, GoName, Kind, Object, StepId};
+use gr_base::{ChName, Choice, Event, GoName, Kind, NoMemory, Object, StepId};
 use gr_channels::ChanUndo;
 use gr_tables::{GoUndo, Spot};
+use std::alloc::Global;
 use std::marker::Model;
 
 /// What a step did with a channel.
@@ -176,6 +178,28 @@ impl Change {
             Form::Further(kind, _, _) => *kind,
         }
     }
+
+    /// Whether the step printed a line.
+    pub fn printed(&self) -> bool
+        ensures { result ≡ is_printed self.now.own }
+    {
+        match &self.form {
+            Form::Alone(_, own) => wrote_line(own),
+            Form::Waits(_) => false,
+            Form::Passes(_, own, _) => wrote_line(own),
+            Form::Further(_, own, _) => wrote_line(own),
+        }
+    }
+}
+
+/// Whether a goroutine's change is a line that it printed.
+fn wrote_line(own: &GoUndo) -> bool
+    ensures { result ≡ is_printed own.now }
+{
+    match own {
+        GoUndo::Printed(_) => true,
+        _ => false,
+    }
 }
 
 impl Waiting {
@@ -207,4 +231,31 @@ pub struct Record {
     pub id: StepId,
     pub choice: Choice,
     pub change: Change,
+}
+
+impl Record {
+    /// The event whose step it is. It takes no memory: a name is shared.
+    pub fn event(&self, alloc: Global) -> Result<Event, NoMemory>
+        ensures { IfOk result (λ event. event ≡ event_of self.now) }
+    {
+        let go = self.id.go.copy(alloc)?;
+        Ok(Event {
+            go,
+            choice: self.choice,
+        })
+    }
+
+    /// The kind of the step.
+    pub fn kind(&self) -> Kind
+        ensures { result ≡ self.now.change.kind }
+    {
+        self.change.kind()
+    }
+
+    /// Whether the step printed a line.
+    pub fn printed(&self) -> bool
+        ensures { result ≡ is_printed self.now.change.own }
+    {
+        self.change.printed()
+    }
 }
