@@ -1,7 +1,7 @@
 //! The step of a goroutine that comes to wait (Go: Send statements, Receive operator, Select statements).
 
-ghost use Rattle.std.specs.Prelude.{◌≡◌, ◌∷◌, [], ◌++◌, true, false, Some, None, option_map, map, length, IfOk, IfErr, OnOk};
-ghost use Rattle.std.specs.Prelude.{OnErr, IsOk, List, Option};
+ghost use Rattle.std.specs.Prelude.{◌≡◌, ◌^◌, ◌≤◌, ◌∷◌, [], ◌++◌, true, false, Some, None, option_map, map, length, vec_len, vec_capacity};
+ghost use Rattle.std.specs.Prelude.{IfOk, IfErr, OnOk, OnErr, IsOk, List, Option};
 ghost use Rattle.gr_base.specs.declared.events.Choice.TheVariants as choices;
 ghost use Rattle.gr_base.specs.declared.kinds.Kind.TheVariants as kinds;
 ghost use Rattle.gr_rules.specs.Outcomes.{gives, faults};
@@ -55,11 +55,17 @@ use gr_record::record::{Beyond, Change, Contact, Form, Operation, Touched, Waiti
 use gr_tables::channels::Channels;
 use std::alloc::Global;
 
-/// The clauses of a select, each with its number, counted from 1.
-fn numbered(alloc: Global, clauses: Vec<Clause>) -> Result<Vec<(Option<u32>, Clause)>, NoMemory>
-    ensures { IfOk result (λ pending. pending_of pending.items ≡ rules_of_selects.numbered 1 (communications_of clauses.items)) }
+/// The clauses of a select, each with its number, counted from 1, on a list with room for them. It takes no memory, and is refused
+/// only at 2^32 clauses or more.
+fn numbered(
+    mut pending: Vec<(Option<u32>, Clause)>,
+    clauses: Vec<Clause>,
+) -> Result<Vec<(Option<u32>, Clause)>, NoMemory>
+    requires empty { pending.items ≡ [] }
+    requires room { vec_len clauses ≤ vec_capacity pending }
+    ensures ok { IfOk result (λ pending. pending_of pending.items ≡ rules_of_selects.numbered 1 (communications_of clauses.items)) }
+    ensures refused { OnErr result (2 ^ 32 ≤ length clauses.items) }
 {
-    let mut pending = Vec::with_capacity(alloc, clauses.len())?;
     let mut number: u32 = 0;
     for clause in clauses {
         let Some(next) = number.checked_add(1) else {
@@ -363,7 +369,8 @@ impl Objects {
     {
         let alloc = self.alloc;
         let sides = sides(alloc, &self.channels, &clauses)?;
-        let pending = numbered(alloc, clauses)?;
+        let room = Vec::with_capacity(alloc, clauses.len())?;
+        let pending = numbered(room, clauses)?;
         self.wait_for(turn, Kind::SelectWait, None, &sides, &pending)
     }
 }

@@ -11,5 +11,6 @@ loop-clause-preserved c =
       told = numbered_next c.loop-clause.pending.items c.push_reserved.new.self.items c.loop-clause.number c.in-Some-checked_add.next c.in-Some.clause _ _ _ steps.0
           c.in-Some-checked_add.ensures.1 c.push_reserved.ensures.items c.loop-clause.invariant.told;
       counted = omega arith;
+      passed = omega (arith, short, c.loop-clause.invariant.passed, c.in-Some-checked_add.ensures.1);
       room = omega (arith, c.push_reserved.ensures.capacity, c.push_reserved.ensures.len);
     }

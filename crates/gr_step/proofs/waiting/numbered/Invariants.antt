@@ -10,5 +10,6 @@ invariant-loop-clause l = record {
   told : pending_of l.pending.items ++ rules_of_selects.numbered (l.number + 1) (communications_of (into_iter_items l.clause-iterator))
       ≡ rules_of_selects.numbered 1 (communications_of l.fn.clauses.items);
   counted : into_iter_len l.clause-iterator ≡ length (into_iter_items l.clause-iterator);
+  passed : l.number + length (into_iter_items l.clause-iterator) ≡ length l.fn.clauses.items;
   room : vec_len l.pending + length (into_iter_items l.clause-iterator) ≤ vec_capacity l.pending;
 }

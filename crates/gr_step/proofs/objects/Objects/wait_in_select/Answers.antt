@@ -32,7 +32,7 @@ wait_for-requires-clause-parks c = can_park (program_in c.args.turn.now.listing.
 pub wait_for-requires-clause-made : goal.wait_for-requires-clause-made
 wait_for-requires-clause-made c =
     let f = contents_of c.args.self.now.channels in
-    subst (λ ws. AreMade ws f) (sym (ap pending_of c.deref-3.ensures.value ∙ c.in_ok-pending.ensures))
+    subst (λ ws. AreMade ws f) (sym (ap pending_of c.deref-3.ensures.value ∙ c.in_ok-pending.ensures.ok))
     (waits_made (program_in c.args.turn.now.listing.now) c.args.turn.now.event.now c.args.turn.now.number c.args.self.now c.requires.may.acting None kinds.SelectWait
     (numbered 1 (communications_of c.args.clauses.items)) c.requires.sound)
 
@@ -52,7 +52,7 @@ returns-clause-ok c =
     (λ change k. waits_in_select p e c.args.turn.now.number c.args.self.now c.wait_for.new.self c.requires.may.acting None sides change cs refl c.requires.task
     looked c.requires.sound
     (subst (λ ws. Parks e c.args.turn.now.number kinds.SelectWait None sides ws change c.args.self.now c.wait_for.new.self)
-    (ap pending_of c.deref-3.ensures.value ∙ c.in_ok-pending.ensures) k))
+    (ap pending_of c.deref-3.ensures.value ∙ c.in_ok-pending.ensures.ok) k))
     c.wait_for.ensures.ok
 
 pub returns-clause-room : goal.returns-clause-room
