@@ -5,6 +5,9 @@ use Rattle.gr_program.specs.Programs.{Program}
 use Rattle.gr_rules.specs.Goroutines.{ready}
 use Rattle.gr_rules.specs.States.{live}
 use Rattle.gr_code.specs.Goroutines.{CodeGoroutine}
+use Rattle.gr_goros.specs.Needs.{NeedIs}
+use Rattle.gr_goros.specs.declared.needs.Need.{Need}
+use Rattle.gr_lower.specs.Lowered.{lowered}
 use Rattle.gr_refine.specs.Contents.{Contents}
 use Rattle.gr_tables.specs.NamedGoroutines.{name_at, seen_of}
 use Rattle.gr_step.specs.declared.objects.Objects.{Objects}
@@ -30,6 +33,12 @@ pub record HasReady (s : Contents) (go : List ℕ) (g : CodeGoroutine) : Type 0 
   pub runs : s.run ≡ live
   pub there : s.goroutines go ≡ Some g
   pub is_ready : g.status ≡ ready
+
+-- a goroutine is ready, while the program runs, and its next step asks for this
+pub record Needs (p : Program) (s : Contents) (go : List ℕ) (need : Need) : Type 0 where
+  pub goroutine : CodeGoroutine
+  pub has : HasReady s go goroutine
+  pub asks : NeedIs need (lowered p) goroutine
 
 -- some such goroutine contains this
 abbrev pub IsSomeReady : Contents → CodeGoroutine → Type 0

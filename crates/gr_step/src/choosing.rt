@@ -6,6 +6,7 @@ ghost use Rattle.gr_rules.specs.Tells.{ready_clauses};
 ghost use Rattle.gr_refine.specs.Partners.{can_send as may_send, can_receive as may_receive, can_proceed as may_proceed};
 ghost use Rattle.gr_goros.specs.Views.{communication_of, communications_of};
 ghost use Rattle.gr_step.specs.Choices.{Selects, IsAtSelect, HasNoChoice, ready_from};
+ghost use Rattle.gr_step.specs.Guard.{IsUp, Needs};
 ghost use Rattle.gr_record.specs.Listings.{program_in, state_in, IsCoded};
 ghost use Rattle.gr_step.specs.Objects.{contents_in};
 ghost use Rattle.gr_record.specs.Running.{Running};
@@ -76,6 +77,20 @@ impl Objects {
             }
         }
         Ok(numbers)
+    }
+
+    /// What the next step of a goroutine asks for, where it is ready, in a program that runs.
+    pub fn need(&self, listing: &Listing, go: &GoName) -> Result<Option<Need>, NoMemory>
+        requires coded { IsCoded listing.now }
+        requires running { Running (program_in listing.now) (contents_in self.now) }
+        ensures { IfOk result (λ o. MatchOption o (¬ IsUp (contents_in self.now) go.now)
+            (λ need. Needs (program_in listing.now) (contents_in self.now) go.now need)) }
+    {
+        let Ok(ready) = self.ready_goroutine(go) else {
+            return Ok(None);
+        };
+        let need = ready.goroutine.next_need(self.alloc, &listing.code)?;
+        Ok(Some(need))
     }
 
     /// The goroutine of a name, where it is ready at a select, in a program that runs.

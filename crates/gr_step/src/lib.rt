@@ -33,7 +33,7 @@ mod usual;
 mod waiting;
 mod waking;
 
-pub use gr_goros::{Frame, GoUndo, Goroutine, Status};
+pub use gr_goros::{Frame, GoUndo, Goroutine, Need, Status};
 pub use gr_record::Record;
 pub use gr_record::record::{Beyond, Change, Form};
 pub use leasing::{LentCopy, LocalRun};

@@ -1,13 +1,15 @@
 //! The store of a running program.
 
 ghost use Rattle.std.specs.Prelude.{◌≡◌, ◌+◌, ◌-◌, ◌<◌, ◌^◌, min, option_copied, option_map, Some, None, IfOk, IfErr, IfSome};
-ghost use Rattle.std.specs.Prelude.{OnOk, OnErr, IsOk};
+ghost use Rattle.std.specs.Prelude.{OnOk, OnErr, IsOk, MatchOption};
 ghost use Rattle.gr_program.specs.Views.{program_of};
 ghost use Rattle.gr_code.specs.CodeViews.{program_code_of};
 ghost use Rattle.gr_code.specs.Goroutines.{CodeGoroutine};
 ghost use Rattle.gr_goros.specs.Undoing.{undone};
+ghost use Rattle.gr_refine.specs.Contents.{Contents};
 ghost use Rattle.gr_rules.specs.Tells.{ready_clauses, usual_choice as usual_by_rules};
 ghost use Rattle.gr_step.specs.Choices.{HasManyClauses, usual_event};
+ghost use Rattle.gr_step.specs.Guard.{IsUp, Needs};
 ghost use Rattle.gr_record.specs.Running.{IsChecked};
 ghost use Rattle.gr_step.specs.Premises.{Acting, CanCount, OfGoroutine};
 ghost use Rattle.gr_record.specs.Taking.{IsRecord};
@@ -20,7 +22,7 @@ use crate::turn::Turn;
 use gr_base::{ChName, Choice, Event, GoName, Kind, NoMemory, StepId};
 use gr_channels::Channel;
 use gr_code::code::Code;
-use gr_goros::Goroutine;
+use gr_goros::{Goroutine, Need};
 use gr_program::program::Program;
 use gr_record::Listing;
 use gr_record::record::{Change, Form, Record};
@@ -41,7 +43,7 @@ impl Store {
     ghost use Rattle.gr_step.specs.Objects.{run_of};
     ghost use Rattle.gr_step.specs.Stores.{program_at, contents_at, state_at, taken_at, IsRun, IsStart, HasRoomFor, SameListing};
 
-    /// A checked program before its first step. The one error is want of memory.
+    /// A checked program before its first step. The one error is out of memory.
     pub fn start(alloc: Global, program: Arc<Program>) -> Result<Store, NoMemory>
         requires { IsChecked (program_of program.value) }
         ensures { IfOk result (λ store. IsStart (program_of program.value) store) }
@@ -67,7 +69,7 @@ impl Store {
     }
 
     /// Takes the step of an event, if it is one. Errors: the program is over; there is no such goroutine; it is done; it waits;
-    /// the choice is not possible here: the first of these that holds. Want of memory only where it is a step. Refused, nothing
+    /// the choice is not possible here: the first of these that holds. Out of memory only where it is a step. Refused, nothing
     /// has changed.
     pub fn step(&mut self, event: Event) -> Result<Record, StepRefused>
         requires run { IsRun self.old }
@@ -89,7 +91,7 @@ impl Store {
 
     /// Takes the step of a goroutine with its usual choice: at a select the lowest clause that can proceed, else the default
     /// clause, else to wait. Errors: the program is over; there is no such goroutine; it is done; it waits: the first of these
-    /// that holds. Want of memory only where it is a step, and at a select of 2^32 clauses or more. Refused, nothing has changed.
+    /// that holds. Out of memory only where it is a step, and at a select of 2^32 clauses or more. Refused, nothing has changed.
     pub fn step_usual(&mut self, go: GoName) -> Result<Record, StepRefused>
         requires run { IsRun self.old }
         requires counted { CanCount (contents_at self.old) }
@@ -190,10 +192,13 @@ impl Store {
     }
 
     /// Takes the step of a record back, where what it wrote stands. It takes memory only where there is no room, as there is
-    /// directly after the step. Refused, nothing has changed, and the record is handed back.
+    /// directly after the step. Then the contents are those before the step. Refused, nothing has changed, and the record is
+    /// handed back.
     pub fn unstep(&mut self, step: Record) -> Result<Event, (Record, NoMemory)>
         requires { CanGoBack step.id.go step.change (contents_at self.old) }
         ensures back { OnOk result (contents_at self.new ≡ taken_back step.id.go step.change (contents_at self.old)) }
+        ensures before { (s : Contents) → IsRecord (program_at self.old) s step (contents_at self.old)
+            → OnOk result (contents_at self.new ≡ s) }
         ensures event { IfOk result (λ event. event ≡ event_of step) }
         ensures err { OnErr result (contents_at self.new ≡ contents_at self.old) }
         ensures returned { IfErr result (λ e. e.0 ≡ step) }
@@ -206,6 +211,16 @@ impl Store {
             Ok(()) => Ok(Event { go: id.go, choice }),
             Err((change, error)) => Err((Record { id, choice, change }, error)),
         }
+    }
+
+    /// What the next step of a goroutine asks for. There is none where the program does not run, or the goroutine is not there or
+    /// not ready.
+    pub fn need(&self, go: &GoName) -> Result<Option<Need>, NoMemory>
+        requires { IsRun self.now }
+        ensures { IfOk result (λ o. MatchOption o (¬ IsUp (contents_at self.now) go.now)
+            (λ need. Needs (program_at self.now) (contents_at self.now) go.now need)) }
+    {
+        self.objects.need(&self.listing, go)
     }
 
     /// The clauses that a goroutine may pick, by their numbers from 1: none, where it does not stand ready at a select.
