@@ -103,7 +103,7 @@ pub record IsLease (l : LentCopy) : Type 0 where
   pub was_ready : (goroutine_lent l).status ≡ ready
   pub counted : (loan_of l).steps ≡ length (records_led l)
 
--- the same goroutine is lent of the same program
+-- the goroutine that is lent, and its program, are those of another copy
 pub record SameLoan (old new : LentCopy) : Type 0 where
   pub program : program_lent new ≡ program_lent old
   pub name : name_lent new ≡ name_lent old

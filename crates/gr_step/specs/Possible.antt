@@ -47,7 +47,7 @@ abbrev pub arm_at : List Arm → ℕ → Option Arm
 arm_at arms zero = None
 arm_at arms (suc i) = slice_get arms i
 
--- the same of a choice, by the arms
+-- whether a choice can be taken, by the arms of its select
 abbrev pub arms_go : Contents → Variables → List Arm → Choice → Bool
 arms_go s cells arms Plain = false
 arms_go s cells arms (Pick i) = option_map_or (arm_goes s cells) (arm_at arms i) false

@@ -9,7 +9,7 @@ use Rattle.gr_step.specs.declared.refusal.StepRefused.{StepRefused}
 use Rattle.gr_step.specs.declared.refusal.StepRefused.TheVariants as refusals
 use Rattle.gr_record.specs.Listings.{state_in}
 
--- why an event is refused: the reason of the rules, or want of memory, of which they know nothing
+-- why an event is refused: the reason of the rules, or out of memory, which they do not know
 abbrev pub SaysWhy : Program → Contents → Event → StepRefused → Type 0
 SaysWhy p s e refusals.Over = refusal p (state_in p s) e ≡ Some rules.program_is_over
 SaysWhy p s e refusals.NotThere = refusal p (state_in p s) e ≡ Some rules.no_such_goroutine

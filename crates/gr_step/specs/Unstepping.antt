@@ -27,7 +27,7 @@ IsForgotten begun old new = (q : List ℕ) → goroutines_of new q ≡ (if is_go
 abbrev pub IsUnmade : Option ChName → Channels → Channels → Type 0
 IsUnmade made old new = (q : ChName) → contents_of new q ≡ (if is_channel q made then None else contents_of old q)
 
--- .. and with changes of channels taken back
+-- without the channel that was made, and with changes of channels taken back
 abbrev pub AreUndone : Option ChName → List (ChName × ChanUndo) → Channels → Channels → Type 0
 AreUndone made us old new = (q : ChName) → contents_of new q ≡ (if is_channel q made then None else chan_back us q (contents_of old q))
 

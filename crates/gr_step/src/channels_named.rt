@@ -132,7 +132,7 @@ fn channels_to_leave(
     Ok(names)
 }
 
-/// .. of a goroutine that waits, by its status.
+/// The channels that a goroutine with this status is still to leave, where it waits and left a queue of this channel.
 #[tactic(auto, using(crate::proofs::PrepareLemmas::alone_leaves_none))]
 pub(crate) fn still_to_leave(
     alloc: Global,

@@ -130,8 +130,8 @@ impl LentCopy {
     }
 }
 
-/// The same name, whose counts no other name shares. Whoever takes steps on a copy shares them with a record of each, and how
-/// many names share them is counted in memory that other threads then do not write.
+/// A name equal to this one, whose counts no other name shares. Whoever takes steps on a copy shares them with a record of each
+/// step. How many names share them is counted in memory that other threads then do not write.
 fn own_name(alloc: Global, go: &GoName) -> Result<GoName, NoMemory>
     ensures { IfOk result (λ name. name ≡ go.now) }
 {

@@ -188,7 +188,7 @@ fn park_for_all(
     Ok(undos)
 }
 
-/// The same, mostly for one.
+/// Puts a goroutine at the end of the queues for these communications, mostly for one alone. Refused, no content has changed.
 pub(crate) fn park_for_few(
     channels: &mut Channels,
     alloc: Global,

@@ -159,7 +159,7 @@ impl Objects {
         }
     }
 
-    /// .. of a step that communicated over one channel, and met nobody.
+    /// Takes back what a step did that communicated over one channel, and met nobody.
     #[inline(never)]
     fn take_passage_back(
         &mut self,
@@ -185,7 +185,7 @@ impl Objects {
         Ok(())
     }
 
-    /// .. of a step whose goroutine came to wait, which needs no room.
+    /// Takes back what a step did whose goroutine came to wait, which needs no room.
     #[inline(never)]
     fn take_wait_back(&mut self, go: &GoName, waiting: Waiting)
         requires { CanGoBack go.now (effect_in (Waits waiting)) (contents_in self.old) }
@@ -197,7 +197,7 @@ impl Objects {
         undo_at(&mut self.goroutines, go, GoUndo::Parked(waiting.spot)).unwrap();
     }
 
-    /// .. of a step that reached beyond its goroutine.
+    /// Takes back what a step did that reached beyond its goroutine. Refused, nothing has changed.
     #[inline(never)]
     fn take_beyond_back(
         &mut self,

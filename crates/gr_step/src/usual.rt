@@ -42,7 +42,7 @@ impl Objects {
     }
 
     /// The choice of a goroutine that is ready, where none is asked for: at a select the lowest clause that can proceed, else the
-    /// default clause, else to wait. It takes no memory; want of memory stands for clauses whose number 32 bits do not hold.
+    /// default clause, else to wait. It takes no memory. Out of memory stands for clauses whose number 32 bits do not hold.
     pub(crate) fn usual_choice_at(
         &self,
         listing: &Listing,
