@@ -19,7 +19,7 @@ use Rattle.gr_rules.specs.Attempts.{closes}
 use Rattle.gr_rules.specs.Actors.{Actor, channels_but, fault}
 use Rattle.gr_rules.specs.Communications.{once, close_open}
 use Rattle.gr_rules.specs.Deeds.{Closes}
-use Rattle.gr_rules.specs.Goroutines.{ready, waiting}
+use Rattle.gr_rules.specs.Goroutines.{waiting}
 use Rattle.gr_rules.specs.States.{same, same_go, updated}
 use Rattle.gr_rules.specs.Steps.{attempt}
 use Rattle.gr_rules.specs.Touches.{Touches, table, touches, woken, senders_at, receivers_at}
@@ -41,7 +41,7 @@ use Rattle.gr_refine.specs.Standing.{ContentsStand}
 use Rattle.gr_refine.proofs.CodeStepLemmas.{close_of_code, close_finds_waiters}
 use Rattle.gr_refine.proofs.NameLemmas.{go_is}
 use Rattle.gr_refine.proofs.StandingLemmas.{arrival_keeps_standing, change_keeps_standing, waking_keeps_standing, same_goroutines_stand}
-use Rattle.gr_goros.specs.Views.{Seen, is_finished}
+use Rattle.gr_goros.specs.Views.{is_finished}
 use Rattle.gr_goros.specs.declared.undo.GoUndo.{GoUndo}
 use Rattle.gr_lower.specs.Lowered.{lowered, meaning}
 use Rattle.gr_tables.specs.NamedChannels.{contents_of, seen_of, rooms_of, HasRooms}

@@ -42,7 +42,7 @@ use Rattle.gr_record.specs.declared.record.Operation.TheVariants.{TakesLenOf, Ta
 use Rattle.gr_record.specs.Listings.{frame_in, state_in}
 use Rattle.gr_step.specs.Objects.{contents_in, run_of}
 use Rattle.gr_step.specs.Premises.{Acting}
-use Rattle.gr_record.specs.Records.{operation_of, stops}
+use Rattle.gr_record.specs.Records.{operation_of}
 use Rattle.gr_step.specs.Room.{HasRoom}
 use Rattle.gr_record.specs.Taking.{Takes}
 use Rattle.gr_step.proofs.ArrivalLemmas.{Arrived, arrived_here, can_arrive}

@@ -12,7 +12,7 @@ use Rattle.gr_channels.specs.Channels.{Seen}
 use Rattle.gr_program.specs.Programs.{Program}
 use Rattle.gr_rules.specs.Outcomes.{wrong}
 use Rattle.gr_rules.specs.Deeds.{past}
-use Rattle.gr_rules.specs.Goroutines.{Status, ready, waiting}
+use Rattle.gr_rules.specs.Goroutines.{Status, waiting}
 use Rattle.gr_rules.specs.States.{same_go}
 use Rattle.gr_rules.specs.Attempts.{Operation}
 use Rattle.gr_rules.specs.Actors.{channels_but}
@@ -23,7 +23,7 @@ use Rattle.gr_refine.specs.Contents.{Contents}
 use Rattle.gr_refine.specs.Arriving.{HasClauseHere, IsIn}
 use Rattle.gr_refine.specs.Partners.{Meets, is_waiting}
 use Rattle.gr_refine.proofs.ArrivingLemmas.{passing_can_arrive}
-use Rattle.gr_refine.proofs.NameLemmas.{go_is, go_other}
+use Rattle.gr_refine.proofs.NameLemmas.{go_other}
 use Rattle.gr_lower.specs.Lowered.{lowered, meaning}
 use Rattle.gr_goros.specs.declared.undo.GoUndo.{GoUndo}
 use Rattle.gr_goros.specs.Undoing.{need}

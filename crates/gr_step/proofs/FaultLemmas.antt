@@ -37,7 +37,7 @@ use Rattle.gr_step.specs.Beyonds.{Stops}
 use Rattle.gr_record.specs.Listings.{frame_in, state_in}
 use Rattle.gr_step.specs.Objects.{contents_in}
 use Rattle.gr_step.specs.Premises.{Acting}
-use Rattle.gr_record.specs.Records.{operation_of, stops}
+use Rattle.gr_record.specs.Records.{operation_of}
 use Rattle.gr_record.specs.Taking.{Takes}
 use Rattle.gr_step.proofs.NeedNoFrameLemmas.{need_none}
 use Rattle.gr_step.proofs.ChoiceLemmas.{are_channels}

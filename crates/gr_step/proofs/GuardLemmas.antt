@@ -1,10 +1,9 @@
 -- A goroutine that is not ready, or whose program does not run: it has no choice, and no step of its own. The usual choice of one that is
 -- ready is a step.
-use Rattle.std.proofs.Common.{◌≡◌, ◌∙◌, ℕ, false, List, Option, Some, None, refl, sym, ap}
-use Rattle.std.specs.Prelude.{is_some, option_map}
+use Rattle.std.proofs.Common.{◌≡◌, ◌∙◌, ℕ, List, Option, Some, None, refl, sym, ap}
+use Rattle.std.specs.Prelude.{option_map}
 use Rattle.gr_program.specs.Programs.{Program}
 use Rattle.gr_rules.specs.Goroutines.{Status, ready, waiting, finished}
-use Rattle.gr_rules.specs.LocalSteps.{is_local, is_local_at}
 use Rattle.gr_rules.specs.States.{Run, live, ended, faulted}
 use Rattle.gr_rules.specs.Steps.{refusal}
 use Rattle.gr_code.specs.Goroutines.{CodeGoroutine}

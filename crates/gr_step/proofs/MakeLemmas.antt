@@ -1,7 +1,7 @@
 -- The step that makes a channel.
-use Rattle.std.proofs.Common.{◌≡◌, ◌≤◌, ◌<◌, ◌+◌, ◌^◌, ℕ, ℤ, pos, negsuc, Bool, true, false, if◌then◌else◌, [], ◌∷◌, ◌++◌, Option, Some, None, Global}
+use Rattle.std.proofs.Common.{◌≡◌, ◌≤◌, ◌<◌, ◌+◌, ◌^◌, ℕ, ℤ, pos, negsuc, Bool, true, false, if◌then◌else◌, [], ◌∷◌, ◌++◌, Option, Some, None}
 use Rattle.std.proofs.Common.{refl, sym, ap, subst, ◌∙◌, arith}
-use Rattle.std.specs.Prelude.{option_map, Box}
+use Rattle.std.specs.Prelude.{option_map}
 use Rattle.gr_base.specs.declared.names.ChName.{ChName}
 use Rattle.gr_base.specs.declared.events.Choice.TheVariants.{Plain}
 use Rattle.gr_base.specs.declared.events.Event.{Event}
@@ -45,7 +45,7 @@ use Rattle.gr_record.specs.Listings.{frame_in, state_in}
 use Rattle.gr_step.specs.Objects.{contents_in, run_of}
 use Rattle.gr_step.specs.Premises.{Acting}
 use Rattle.gr_record.specs.Parts.{reads_in}
-use Rattle.gr_record.specs.Records.{operation_of, beyond, stops, go_back, goroutines_changed, channels_changed, made_by, is_go, is_channel, writes_of, reads_of}
+use Rattle.gr_record.specs.Records.{operation_of, go_back, goroutines_changed, channels_changed, is_go, is_channel, writes_of, reads_of}
 use Rattle.gr_record.specs.Records.{taken_back, GoesFit, NeedNoFrame, CanGoBack}
 use Rattle.gr_record.specs.Within.{IsAmong, EachIsAmong, PartsAreAmong, IsUnused, ChangesWithin}
 use Rattle.gr_record.specs.Taking.{Takes}

@@ -1,5 +1,5 @@
 -- Whether a line was printed, by the goroutine before and after the change.
-use Rattle.std.proofs.Common.{◌≡◌, ◌+◌, ◌-◌, ◌<◌, ◌++◌, ℕ, suc, true, false, List, [], ◌∷◌, length, refl, sym, ap, ◌∙◌}
+use Rattle.std.proofs.Common.{◌≡◌, ◌-◌, ◌<◌, ◌++◌, ℕ, suc, true, false, List, [], ◌∷◌, length, refl, sym, ap, ◌∙◌}
 use Rattle.std.proofs.Common.{arith, length-append, length-take}
 use Rattle.gr_code.specs.Goroutines.{CodeGoroutine}
 use Rattle.gr_goros.specs.Undoing.{undone, front, Fits}

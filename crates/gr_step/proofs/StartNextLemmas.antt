@@ -1,7 +1,7 @@
 -- The step that starts a goroutine.
 use Rattle.std.proofs.Common.{◌≡◌, ◌≤◌, ◌<◌, ◌+◌, ◌^◌, ◌++◌, ℕ, zero, suc, Bool, true, false, if◌then◌else◌, List, [], ◌∷◌, length, slice_get, Option}
-use Rattle.std.proofs.Common.{Some, None, Global, refl, sym, ap, subst, ◌∙◌, arith}
-use Rattle.std.specs.Prelude.{option_map, Box}
+use Rattle.std.proofs.Common.{Some, None, refl, sym, ap, subst, ◌∙◌, arith}
+use Rattle.std.specs.Prelude.{option_map}
 use Rattle.std.specs.List.{list_any}
 use Rattle.gr_base.specs.declared.events.Choice.TheVariants.{Plain}
 use Rattle.gr_base.specs.declared.events.Event.{Event}
@@ -42,7 +42,7 @@ use Rattle.gr_record.specs.Listings.{frame_in, state_in}
 use Rattle.gr_step.specs.Objects.{contents_in, run_of}
 use Rattle.gr_step.specs.Premises.{Acting}
 use Rattle.gr_record.specs.Parts.{reads_in}
-use Rattle.gr_record.specs.Records.{operation_of, beyond, stops, go_back, goroutines_changed, channels_changed, is_go, writes_of, reads_of}
+use Rattle.gr_record.specs.Records.{operation_of, go_back, goroutines_changed, channels_changed, is_go, writes_of, reads_of}
 use Rattle.gr_record.specs.Records.{is_channel, taken_back, GoFitsAt, GoesFit, NeedNoFrame, CanGoBack}
 use Rattle.gr_record.specs.Within.{IsAmong, EachIsAmong, PartsAreAmong, ChangesWithin}
 use Rattle.gr_record.specs.Taking.{Takes}

@@ -21,7 +21,7 @@ use Rattle.gr_tables.proofs.ByNumber.{seen_named}
 use Rattle.gr_step.proofs.ObjectLemmas.{change_was, change_is}
 use Rattle.gr_step.proofs.NeedNoFrameLemmas.{need_none}
 use Rattle.gr_goros.specs.declared.undo.GoUndo.{GoUndo}
-use Rattle.gr_tables.specs.NamedChannels.{withdrawn, MoreAtGates}
+use Rattle.gr_tables.specs.NamedChannels.{MoreAtGates}
 use Rattle.gr_tables.proofs.Withdrawals.{gates_join}
 use Rattle.gr_channels.specs.declared.changes.ChanUndo.{ChanUndo}
 use Rattle.gr_refine.proofs.MeetingLemmas.{named}

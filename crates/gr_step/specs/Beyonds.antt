@@ -1,5 +1,5 @@
 -- What steps that meet no other goroutine reach beyond their own, and how a fault stops the program.
-use Rattle.std.specs.Prelude.{◌≡◌, ◌+◌, ◌≤◌, ℕ, ℤ, pos, negsuc, Bool, true, false, List, [], ◌∷◌, Option, Some, None, option_map}
+use Rattle.std.specs.Prelude.{◌≡◌, ◌+◌, ◌≤◌, ℕ, ℤ, pos, negsuc, Bool, true, false, List, [], ◌∷◌, Option, Some, None}
 use Rattle.gr_base.specs.declared.names.ChName.{ChName}
 use Rattle.gr_base.specs.declared.kinds.Fault.{Fault}
 use Rattle.gr_base.specs.declared.kinds.Kind.TheVariants as kinds
@@ -8,7 +8,7 @@ use Rattle.gr_base.specs.declared.objects.Object.TheVariants as objects
 use Rattle.gr_rules.specs.Limits.{most_places}
 use Rattle.gr_rules.specs.States as rules
 use Rattle.gr_code.specs.Goroutines.{CodeGoroutine, faulted, finished}
-use Rattle.gr_goros.specs.Undoing.{undone, need, Fits}
+use Rattle.gr_goros.specs.Undoing.{undone, Fits}
 use Rattle.gr_refine.specs.Contents.{Contents, with_goroutine}
 use Rattle.gr_goros.specs.declared.undo.GoUndo.{GoUndo}
 use Rattle.gr_tables.specs.NamedGoroutines.{ChangesBy, ComesTo}
@@ -35,15 +35,15 @@ pub record ReachesAll (did : Option Operation) (read written : List Object) (beg
   pub makes : made_in b ≡ made
   pub stops : b.stops ≡ stopped
 
--- .. started and made nothing
+-- it reached so, and started and made nothing
 abbrev pub Reaches : Option Operation → List Object → List Object → Bool → Beyond → Type 0
 Reaches did read written stopped b = ReachesAll did read written None None stopped b
 
--- .. of a change that reaches beyond its goroutine
+-- the change reaches beyond its goroutine, and so
 abbrev pub ReachesBeyond : Option Operation → List Object → List Object → Bool → Effect → Type 0
 ReachesBeyond did read written stopped c = elim c.beyond [ Some b ↦ Reaches did read written stopped b | None ↦ ⊥ ]
 
--- .. made a channel of this name, or started a goroutine of this name
+-- it made a channel of this name, or started a goroutine of this name, and reached nothing else
 abbrev pub ReachesChannel : ChName → Beyond → Type 0
 ReachesChannel name b = ReachesAll None [] (objects.Gate name ∷ []) None (Some name) false b
 

@@ -1,5 +1,5 @@
 -- A goroutine that comes to wait: the queues in which it comes to stand, and what that leaves in a record.
-use Rattle.std.specs.Prelude.{◌≡◌, ℕ, true, false, List, [], ◌∷◌, map, fold, Option, Some, None, option_map}
+use Rattle.std.specs.Prelude.{◌≡◌, ℕ, true, false, List, [], ◌∷◌, map, fold, Option, None, option_map}
 use Rattle.std.specs.List.{list_all}
 use Rattle.gr_base.specs.declared.names.ChName.{ChName}
 use Rattle.gr_base.specs.declared.events.Event.{Event}

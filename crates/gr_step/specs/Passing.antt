@@ -1,5 +1,5 @@
 -- Goroutines that go on with what arrives, and what the change of a step tells that reached beyond its goroutine.
-use Rattle.std.specs.Prelude.{◌≡◌, ℕ, List, [], ◌∷◌, Option, Some, None, false}
+use Rattle.std.specs.Prelude.{◌≡◌, ℕ, List, ◌∷◌, Option, Some, None, false}
 use Rattle.gr_base.specs.declared.names.ChName.{ChName}
 use Rattle.gr_base.specs.declared.kinds.Kind.{Kind}
 use Rattle.gr_base.specs.declared.objects.Object.{Object}
@@ -12,8 +12,7 @@ use Rattle.gr_code.specs.CodeFrames.{ProgramCode}
 use Rattle.gr_code.specs.Goroutines.{CodeGoroutine, Arrival, CanCount, arrived}
 use Rattle.gr_goros.specs.Undoing.{undone, Fits}
 use Rattle.gr_goros.specs.declared.undo.GoUndo.{GoUndo}
-use Rattle.gr_tables.specs.NamedChannels as channels
-use Rattle.gr_tables.specs.NamedChannels.{contents_of, withdrawn, ChansFit, HasRooms, Follows, MoreAtGates}
+use Rattle.gr_tables.specs.NamedChannels.{contents_of, withdrawn, Follows, MoreAtGates}
 use Rattle.gr_tables.specs.NamedGoroutines.{At, goroutines_of}
 use Rattle.gr_step.specs.declared.objects.Objects.{Objects}
 use Rattle.gr_record.specs.Effects.{Effect}
@@ -54,7 +53,7 @@ pub record BothArrive (code : ProgramCode) (n m : List ℕ) (passes meets : Arri
   pub goes : ArrivesAt code n passes own f between
   pub meeting : ArrivesAt code m meets met between h
 
--- .. and the second waits on none of these channels any more
+-- two goroutines go past their communication, and the second waits on none of these channels any more
 pub record Exchanges (code : ProgramCode) (n m : List ℕ) (passes meets : Arrival) (names : List ChName) (own met : GoUndo)
     (done changed : List (ChName × ChanUndo)) (old new : Objects) : Type 0 where
   pub both : BothArrive code n m passes meets own met (goroutines_of old.goroutines) (goroutines_of new.goroutines)

@@ -1,5 +1,5 @@
 -- What a step has ready that reaches beyond its goroutine, before it changes anything.
-use Rattle.std.specs.Prelude.{◌≡◌, ℕ, List, [], ◌∷◌, ◌++◌, map, length, false, Option, Some, None, option_map}
+use Rattle.std.specs.Prelude.{◌≡◌, ℕ, List, [], ◌∷◌, ◌++◌, map, length, false, Some, None, option_map}
 use Rattle.gr_base.specs.declared.names.ChName.{ChName}
 use Rattle.gr_base.specs.declared.events.Event.{Event}
 use Rattle.gr_base.specs.declared.kinds.Kind.{Kind}
@@ -15,7 +15,7 @@ use Rattle.gr_code.specs.Goroutines.{CodeGoroutine, Arrival}
 use Rattle.gr_refine.specs.Meetings.{NamesChannels}
 use Rattle.gr_goros.specs.declared.undo.GoUndo.{GoUndo}
 use Rattle.gr_tables.specs.NamedChannels.{contents_of, rooms_of, ChansFit, HasRooms}
-use Rattle.gr_tables.specs.NamedGoroutines.{At, goroutines_of, name_at}
+use Rattle.gr_tables.specs.NamedGoroutines.{goroutines_of, name_at}
 use Rattle.gr_step.specs.declared.objects.Objects.{Objects}
 use Rattle.gr_record.specs.declared.record.Beyond.{Beyond}
 use Rattle.gr_record.specs.Effects.{Effect}

@@ -1,11 +1,8 @@
 -- What a contract sees of a store.
-use Rattle.std.specs.Prelude.{◌≡◌, ◌+◌, ℕ, List, [], min, Some, None}
-use Rattle.gr_base.specs.declared.events.Event.{Event}
+use Rattle.std.specs.Prelude.{◌≡◌, ℕ}
 use Rattle.gr_program.specs.Programs.{Program}
 use Rattle.gr_rules.specs.States.{State, start}
 use Rattle.gr_refine.specs.Contents.{Contents}
-use Rattle.gr_record.specs.declared.listing.Listing.{Listing}
-use Rattle.gr_step.specs.declared.objects.Objects.{Objects}
 use Rattle.gr_step.specs.declared.store.Store.{Store}
 use Rattle.gr_record.specs.declared.record.Record.{Record}
 use Rattle.gr_record.specs.Listings.{program_in, state_in, IsCoded}

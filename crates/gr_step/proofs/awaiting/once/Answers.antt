@@ -1,4 +1,4 @@
-use Rattle.std.proofs.Common.{◌++◌, ◌∷◌, [], ap, ◌∙◌, arith, false, true}
+use Rattle.std.proofs.Common.{◌++◌, ◌∷◌, [], ap, ◌∙◌, arith}
 use Rattle.gr_step.proofs.WaitingOnLemmas.{known_next, told_again, told_new}
 use Rattle.gr_step.proofs.awaiting.once.Goals as goal
 

@@ -1,4 +1,4 @@
-use Rattle.std.proofs.Common.{◌∙◌, ◌∷◌, [], ◌++◌, map, true, Some, None, ap}
+use Rattle.std.proofs.Common.{◌∷◌, [], ◌++◌, map, true, Some, None}
 use Rattle.gr_base.specs.declared.objects.Object.TheVariants.{Go, Gate, Head, Tail}
 use Rattle.gr_rules.specs.Attempts.{receives_from}
 use Rattle.gr_rules.specs.Actors.{channels_but}

@@ -1,4 +1,4 @@
-use Rattle.std.proofs.Common.{◌∙◌, ◌∷◌, [], refl, ap}
+use Rattle.std.proofs.Common.{◌∷◌, [], refl}
 use Rattle.gr_base.specs.declared.objects.Object.TheVariants.{Gate, Head}
 use Rattle.gr_rules.specs.Attempts.{receives_from}
 use Rattle.gr_rules.specs.Touches.{slot_numbered}

@@ -1,4 +1,4 @@
-use Rattle.std.proofs.Common.{◌≡◌, ◌<◌, ◌∙◌, false, true, length, [], refl, sym, subst}
+use Rattle.std.proofs.Common.{◌≡◌, ◌<◌, ◌∙◌, false, length, [], refl, sym, subst}
 use Rattle.gr_channels.specs.Channels.{Content}
 use Rattle.gr_tables.specs.NamedChannels.{At}
 use Rattle.gr_record.specs.Listings.{program_in}

@@ -6,7 +6,7 @@ use Rattle.gr_goros.specs.Needs.{SelectsIn, is_select_in}
 use Rattle.gr_rules.specs.Tells.{usual_choice}
 use Rattle.gr_lower.specs.Lowered.{lowered}
 use Rattle.gr_record.specs.Listings.{program_in, state_in}
-use Rattle.gr_step.specs.Choices.{HasManyClauses, IsAtSelect}
+use Rattle.gr_step.specs.Choices.{IsAtSelect}
 use Rattle.gr_step.specs.Guard.{HasReady}
 use Rattle.gr_step.specs.Objects.{contents_in}
 use Rattle.gr_step.specs.Possible.{usual_of}

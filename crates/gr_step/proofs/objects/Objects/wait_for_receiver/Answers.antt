@@ -1,13 +1,9 @@
-use Rattle.std.proofs.Common.{[], ◌∷◌, Some, None, refl}
-use Rattle.gr_rules.specs.Deeds.{Sending, Receiving}
+use Rattle.std.proofs.Common.{Some, refl}
+use Rattle.gr_rules.specs.Deeds.{Sending}
 use Rattle.gr_rules.specs.Outcomes.{gives}
-use Rattle.gr_rules.specs.Goroutines.{ToSend, ToReceive}
 use Rattle.gr_rules.specs.Touches.{side}
-use Rattle.gr_code.specs.Goroutines.{parked}
 use Rattle.gr_refine.specs.Contents.{state_of}
-use Rattle.gr_goros.specs.declared.undo.GoUndo.TheVariants.{Parked}
 use Rattle.gr_tables.specs.NamedChannels.{contents_of}
-use Rattle.gr_tables.specs.NamedGoroutines.{ChangesBy, ComesTo}
 use Rattle.gr_step.specs.Parks.{with_channels}
 use Rattle.gr_step.proofs.WaitForLemmas.{parks_to_send}
 use Rattle.gr_step.proofs.objects.Objects.wait_for_receiver.Goals as goal

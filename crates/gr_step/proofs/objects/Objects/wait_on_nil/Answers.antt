@@ -1,4 +1,4 @@
-use Rattle.std.proofs.Common.{◌∙◌, [], ◌∷◌, None, sym, ap}
+use Rattle.std.proofs.Common.{◌∙◌, [], ◌∷◌, None, ap}
 use Rattle.gr_rules.specs.Touches.{side}
 use Rattle.gr_laws.specs.Touched.{each_once}
 use Rattle.gr_refine.specs.Contents.{state_of}
