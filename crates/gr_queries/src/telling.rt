@@ -5,7 +5,6 @@ ghost use Rattle.gr_program.specs.Programs.{Program};
 ghost use Rattle.gr_laws.specs.Reached.{Logged};
 ghost use Rattle.gr_refine.specs.Contents.{Contents};
 ghost use Rattle.gr_command.specs.Replies.{lines_in, said_of};
-ghost use Rattle.gr_step.specs.Records.{is_printed as printed_by};
 ghost use Rattle.gr_step.specs.Stores.{program_at, contents_at};
 ghost use Rattle.gr_step.specs.Kept.{Kept};
 ghost use Rattle.gr_queries.specs.Said.{console_said, log_said, records_said};
@@ -13,7 +12,7 @@ ghost use Rattle.gr_queries.specs.Consoles.{OfEachLog, count_in, lines_told, pas
 
 use gr_base::{GoName, Kind, NoMemory, StepId};
 use gr_command::Reply;
-use gr_step::{Change, Form, GoUndo, Record, Store};
+use gr_step::{Record, Store};
 use indexmap::IndexMap;
 use std::alloc::Global;
 
@@ -56,34 +55,12 @@ fn lines_printed(alloc: Global, store: &Store, records: &[Record]) -> Result<Vec
     let mut lines = Vec::new(alloc);
     let mut counts = IndexMap::new(alloc);
     for record in records {
-        if !has_printed(&record.change) {
+        if !record.printed() {
             continue;
         }
         tell_next(alloc, store, &record.id.go, &mut counts, &mut lines)?;
     }
     Ok(lines)
-}
-
-/// Whether a step printed a line.
-fn has_printed(change: &Change) -> bool
-    ensures { result ≡ printed_by change.now.own }
-{
-    match change.form() {
-        Form::Alone(_, own) => is_printed(own),
-        Form::Waits(_) => false,
-        Form::Passes(_, own, _) => is_printed(own),
-        Form::Further(_, own, _) => is_printed(own),
-    }
-}
-
-/// Whether a line was printed.
-fn is_printed(own: &GoUndo) -> bool
-    ensures { result ≡ printed_by own.now }
-{
-    match own {
-        GoUndo::Printed(_) => true,
-        _ => false,
-    }
 }
 
 /// How many lines of a goroutine were told before.
