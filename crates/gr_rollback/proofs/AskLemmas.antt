@@ -14,7 +14,7 @@ use Rattle.gr_rollback.specs.declared.machine.Machine.{Machine}
 use Rattle.gr_rollback.specs.Asking.{TellsSteps}
 use Rattle.gr_rollback.specs.Machines.{steps_of, Stands}
 use Rattle.gr_rollback.specs.Pasts.{Timeline, id_of, ids_of}
-use Rattle.gr_rollback.proofs.AlikeLemmas.{Both, names_alike}
+use Rattle.gr_rollback.proofs.OrderByNamesLemmas.{Both, names_alike}
 use Rattle.gr_rollback.proofs.BackLemmas.{named_here}
 use Rattle.gr_rollback.proofs.DependenceLemmas.{dependents_alike, causes_alike}
 use Rattle.gr_rollback.proofs.OrderLemmas.{IsOf, id_is, conflict_is, kept_both}

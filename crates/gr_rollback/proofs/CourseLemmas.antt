@@ -44,7 +44,7 @@ use Rattle.gr_rollback.specs.Steps.{Keeps}
 use Rattle.gr_step.proofs.KeptLemmas.{kept_is_run}
 use Rattle.gr_rollback.proofs.Basics.{or_left, neither}
 use Rattle.gr_rollback.proofs.KeptLemmas.{kept_length}
-use Rattle.gr_rollback.proofs.OwnLemmas.{own_is_ready, others_stay, met_was_there, stays_ready}
+use Rattle.gr_rollback.proofs.OwnerLemmas.{own_is_ready, others_stay, met_was_there, stays_ready}
 
 -- a course of a world is one
 pub is_course : (p : Program) (w : Past p) (c : Course) → Holds p w c → IsCourse c

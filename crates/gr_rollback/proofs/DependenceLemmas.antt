@@ -2,7 +2,7 @@
 use Rattle.std.proofs.Common.{◌≡◌, ℕ, zero, suc, Bool, ◌||◌, List, [], ◌∷◌, ◌++◌, refl, sym, ap₂, inl, inr}
 use Rattle.gr_causal.specs.Dependence.{hits, collect, dependents, causes}
 use Rattle.gr_causal.proofs.ListLemmas.{true_or_false}
-use Rattle.gr_rollback.proofs.AlikeLemmas.{Both, both_push}
+use Rattle.gr_rollback.proofs.OrderByNamesLemmas.{Both, both_push}
 
 module _ {A B : Type 0} (R : A → B → Type 0) (c : A → A → Bool) (d : B → B → Bool) (conflicts : (x u : A) (y v : B) → R x y → R u v → c x u ≡ d y v) where
   hits_alike : (ds : List A) (es : List B) (r : A) (q : B) → Both R ds es → R r q → hits c ds r ≡ hits d es q

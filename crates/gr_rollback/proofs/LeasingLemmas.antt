@@ -41,7 +41,7 @@ use Rattle.gr_rollback.specs.Machines.{again_of}
 use Rattle.gr_rollback.specs.Pasts.{Past, Timeline, events_in}
 use Rattle.gr_rollback.specs.Readiness.{HasReady, IsAsIn, IsReadyIn}
 use Rattle.gr_rollback.proofs.CourseLemmas.{log_length, logged, runs_at, same_program, stays, tells}
-use Rattle.gr_rollback.proofs.StandLemmas.{stands_alone}
+use Rattle.gr_rollback.proofs.MachineLemmas.{stands_alone}
 use Rattle.gr_rollback.proofs.StepLemmas.{running_of}
 
 -- the steps behind those that are kept

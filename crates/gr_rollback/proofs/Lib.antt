@@ -1,8 +1,8 @@
 pub mod Basics
 mod PoolLemmas
 pub mod KeptLemmas
-mod OwnLemmas
-mod BringLemmas
+mod OwnerLemmas
+mod PoolBackLemmas
 mod CourseLemmas
 mod StepLemmas
 mod UndoLemmas
@@ -10,20 +10,20 @@ mod StartLemmas
 mod TurnLemmas
 mod NextTurn
 mod RedoLemmas
-mod AlikeLemmas
+mod OrderByNamesLemmas
 mod OrderLemmas
 mod ReorderLemmas
 mod RoomLemmas
 mod MarkLemmas
-mod StandLemmas
-mod WalkLemmas
+mod MachineLemmas
+mod UnwindLemmas
 mod BackLemmas
 mod DependenceLemmas
 mod AskLemmas
 mod LeasingLemmas
 mod LendingLemmas
-mod CountedLemmas
-mod PlainLemmas
+mod JoinLemmas
+mod ChoiceLemmas
 pub use Rattle.gr_goros.proofs.goroutine.Goroutine.TheSendSync as GoroutineSendSync
 pub use Rattle.gr_depend.proofs.log.Log.TheSendSync as LogSendSync
 pub use Rattle.gr_refine.proofs.NameLemmas

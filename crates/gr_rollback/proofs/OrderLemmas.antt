@@ -23,7 +23,7 @@ use Rattle.gr_step.proofs.OrderLemmas.{records_once, rearranged_by_records}
 use Rattle.gr_step.proofs.RecordLemmas.{conflicts_alike}
 use Rattle.gr_rollback.specs.Pasts.{id_of}
 use Rattle.gr_rollback.specs.Backs.{names_in}
-use Rattle.gr_rollback.proofs.AlikeLemmas.{Both, both_push, names_alike, Answers, orders_alike}
+use Rattle.gr_rollback.proofs.OrderByNamesLemmas.{Both, both_push, names_alike, Answers, orders_alike}
 
 -- a list in another order has as many items
 swaps_count : {A : Type 0} (conflicts : A → A → Bool) (old new : List A) → Swaps conflicts old new → length new ≡ length old

@@ -19,7 +19,7 @@ use Rattle.gr_rollback.specs.Courses.{Holds}
 use Rattle.gr_rollback.specs.Pasts.{Past}
 use Rattle.gr_rollback.specs.Stepping.{event_meant}
 use Rattle.gr_rollback.specs.Steps.{IsNoStep}
-use Rattle.gr_rollback.proofs.OwnLemmas.{step_is_allowed}
+use Rattle.gr_rollback.proofs.OwnerLemmas.{step_is_allowed}
 
 -- a run leads to what the store of a course contains
 pub running_of : (p : Program) (w : Past p) (c : Course) → Holds p w c → Running p (contents_at c.store)

@@ -3,7 +3,7 @@ use Rattle.std.proofs.lemmas.List.{drop_all}
 use Rattle.gr_pool.specs.Goroutines.{is_among}
 use Rattle.gr_rollback.specs.Prior.{BringsBack}
 use Rattle.gr_rollback.specs.Readiness.{names_met}
-use Rattle.gr_rollback.proofs.BringLemmas.{brings_none, brings_on}
+use Rattle.gr_rollback.proofs.PoolBackLemmas.{brings_none, brings_on}
 use Rattle.gr_rollback.proofs.PoolLemmas.{among_here, met_here}
 use Rattle.gr_rollback.proofs.bringing.bring_all_back.Goals as goal
 

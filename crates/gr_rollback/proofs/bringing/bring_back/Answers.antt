@@ -1,5 +1,5 @@
 use Rattle.std.proofs.Common.{refl}
-use Rattle.gr_rollback.proofs.BringLemmas.{brings_ready, brings_unready, brings_same}
+use Rattle.gr_rollback.proofs.PoolBackLemmas.{brings_ready, brings_unready, brings_same}
 use Rattle.gr_rollback.proofs.bringing.bring_back.Goals as goal
 
 pub returns-in-Ready : goal.returns-in-Ready

@@ -2,7 +2,7 @@ use Rattle.std.proofs.Common.{ap, subst, ◌∙◌}
 use Rattle.gr_pool.specs.Goroutines.{is_among}
 use Rattle.gr_step.specs.Fews.{members}
 use Rattle.gr_rollback.specs.Prior.{BringsBack, Loses}
-use Rattle.gr_rollback.proofs.BringLemmas.{brings_more}
+use Rattle.gr_rollback.proofs.PoolBackLemmas.{brings_more}
 use Rattle.gr_rollback.proofs.bringing.bring_beyond_back.Goals as goal
 
 pub bring_back-requires : goal.bring_back-requires

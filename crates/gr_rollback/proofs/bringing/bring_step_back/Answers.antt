@@ -1,5 +1,5 @@
 use Rattle.gr_step.specs.Form.TheVariants.{Alone, Waits, Passes}
-use Rattle.gr_rollback.proofs.BringLemmas.{brings_in, brings_own, brings_waiting}
+use Rattle.gr_rollback.proofs.PoolBackLemmas.{brings_in, brings_own, brings_waiting}
 use Rattle.gr_rollback.proofs.bringing.bring_step_back.Goals as goal
 
 pub returns-in-Alone : goal.returns-in-Alone

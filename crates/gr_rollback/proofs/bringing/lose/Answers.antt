@@ -1,7 +1,7 @@
 use Rattle.std.proofs.Common.{sym, subst}
 use Rattle.std.specs.Prelude.{option_copied}
 use Rattle.gr_rollback.specs.Prior.{Loses}
-use Rattle.gr_rollback.proofs.BringLemmas.{loses_none, loses_one}
+use Rattle.gr_rollback.proofs.PoolBackLemmas.{loses_none, loses_one}
 use Rattle.gr_rollback.proofs.bringing.lose.Goals as goal
 
 pub returns-in-Some : goal.returns-in-Some

@@ -2,7 +2,7 @@ use Rattle.std.proofs.Common.{◌∷◌, sym, subst}
 use Rattle.gr_step.specs.Record.{Record}
 use Rattle.gr_step.specs.Stores.{contents_at}
 use Rattle.gr_rollback.specs.Readiness.{HasReady, KnowsThere, Settles, others_of}
-use Rattle.gr_rollback.proofs.BringLemmas.{own_known, met_known, ready_before, ready_again, knows_still}
+use Rattle.gr_rollback.proofs.PoolBackLemmas.{own_known, met_known, ready_before, ready_again, knows_still}
 use Rattle.gr_rollback.proofs.keeping.undo_record.Goals as goal
 
 pub bring_step_back-requires-clause-own : goal.bring_step_back-requires-clause-own

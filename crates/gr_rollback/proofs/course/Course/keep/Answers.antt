@@ -2,7 +2,7 @@ use Rattle.std.proofs.Common.{subst}
 use Rattle.gr_step.specs.Stores.{program_at, contents_at}
 use Rattle.gr_step.proofs.RecordLemmas.{no_object_twice}
 use Rattle.gr_rollback.specs.Steps.{Kept}
-use Rattle.gr_rollback.proofs.CountedLemmas.{joined_or_not, nothing_taken}
+use Rattle.gr_rollback.proofs.JoinLemmas.{joined_or_not, nothing_taken}
 use Rattle.gr_rollback.proofs.CourseLemmas.{can_count, is_course, logged, tells}
 use Rattle.gr_rollback.proofs.course.Course.keep.Goals as goal
 

@@ -2,7 +2,7 @@ use Rattle.std.proofs.Common.{◌≡◌, [], ◌∷◌, ◌++◌, reverse, inl, 
 use Rattle.gr_causal.specs.Sequences.{In}
 use Rattle.gr_depend.specs.Logs.{records_of}
 use Rattle.gr_depend.specs.Room.{CanTake}
-use Rattle.gr_rollback.proofs.WalkLemmas.{turned}
+use Rattle.gr_rollback.proofs.UnwindLemmas.{turned}
 use Rattle.gr_rollback.proofs.course.Course.put_together.Goals as goal
 
 pub push_reserved-requires-clause-once : goal.push_reserved-requires-clause-once

@@ -1,6 +1,6 @@
 use Rattle.std.proofs.Common.{◌-◌, false, refl, sym, ap, ◌∙◌, get_or}
 use Rattle.gr_depend.specs.Logs.{records_of}
-use Rattle.gr_rollback.proofs.WalkLemmas.{last_goes, removal_goes_on, aside_goes_on}
+use Rattle.gr_rollback.proofs.UnwindLemmas.{last_goes, removal_goes_on, aside_goes_on}
 use Rattle.gr_rollback.proofs.course.Course.unwind_last.Goals as goal
 
 pub remove_last-requires-clause-goes : goal.remove_last-requires-clause-goes

@@ -3,7 +3,7 @@ use Rattle.gr_depend.specs.Logs.{records_of}
 use Rattle.gr_depend.specs.Room.{CanTake}
 use Rattle.gr_rollback.specs.Walks.{IsNew}
 use Rattle.gr_rollback.proofs.BackLemmas.{within_list, marks_count, marks_tell, rolls, takes_none, takes_all, takes_some, named_here, not_named, aside_is_kept}
-use Rattle.gr_rollback.proofs.WalkLemmas.{way_begins}
+use Rattle.gr_rollback.proofs.UnwindLemmas.{way_begins}
 use Rattle.gr_rollback.proofs.machine.Machine.back.Goals as goal
 
 pub returns-in_default-clause-back : goal.returns-in_default-clause-back

@@ -1,6 +1,6 @@
 use Rattle.std.proofs.Common.{reverse, ap}
 use Rattle.gr_program.specs.Views.{program_of}
-use Rattle.gr_rollback.proofs.StandLemmas.{stands_alone}
+use Rattle.gr_rollback.proofs.MachineLemmas.{stands_alone}
 use Rattle.gr_rollback.specs.Pasts.{first_past}
 use Rattle.gr_rollback.proofs.machine.Machine.start.Goals as goal
 

@@ -1,7 +1,7 @@
 use Rattle.std.proofs.Common.{reverse, refl, ap}
 use Rattle.std.proofs.lemmas.Result.{err_from_is_err_and}
 use Rattle.gr_rollback.proofs.RedoLemmas.{stands_still}
-use Rattle.gr_rollback.proofs.StandLemmas.{takes}
+use Rattle.gr_rollback.proofs.MachineLemmas.{takes}
 use Rattle.gr_rollback.proofs.machine.Machine.step_usual.Goals as goal
 
 pub returns-in_err-told-clause-taken : goal.returns-in_err-told-clause-taken

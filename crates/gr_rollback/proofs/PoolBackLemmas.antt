@@ -18,7 +18,7 @@ use Rattle.gr_step.specs.Records.{begun_by, go_back, go_undone, is_go, taken_bac
 use Rattle.gr_rollback.specs.Prior.{changes_back, BringsBack, BringsStepBack, Loses}
 use Rattle.gr_rollback.specs.Readiness.{IsAsIn, HasAllReady, KnowsThere, HasReady, Settles, AllKnown, met_by, others_of}
 use Rattle.gr_rollback.proofs.Basics.{some_inj, or_right, true_not_false, neither}
-use Rattle.gr_rollback.proofs.OwnLemmas.{back_none, fitting, met_is_there, others_stay, own_is_there}
+use Rattle.gr_rollback.proofs.OwnerLemmas.{back_none, fitting, met_is_there, others_stay, own_is_there}
 use Rattle.gr_rollback.proofs.PoolLemmas.{with_itself, without_itself, with_others, without_others}
 
 -- a goroutine that is as it was, in a pool that has it as it did
