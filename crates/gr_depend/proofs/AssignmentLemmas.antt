@@ -180,7 +180,7 @@ module _ (p : Program) (fits : ProgramFits (meaning p) p (lowered p)) (g x : Lis
   last_given_alike s t rs ls stand kept =
       same_name p (find gives (reverse rs)) (last_place s ls) ls (last_alike s t rs ls stand (chain_of p s rs ls t kept))
 
--- .. in a run of a checked program
+-- what a record says that its step gave values is what the rules say, in a run of a checked program
 pub record_gave : (p : Program) (s t : Contents) (r : Record) → Running p s → IsRecord p s r t → gave p (lowered p) r ≡ assigned p (state_in p s) (event_of r)
 record_gave p s t r running is = gave_alike p s r t is (checked_fits running.program.file p running.program.checked) running.stand
 

@@ -68,7 +68,7 @@ module _ (f : CodeFrame) (below : List CodeFrame) where
     abbrev back : List (List ℕ × GoUndo) → Option CodeGoroutine → Option CodeGoroutine
     back us x = back_at same_go go_undone us n x
 
-    -- .. where all of these were
+    -- what is told of where the goroutine stood before these changes is so
     abbrev AllStood : List (List ℕ × GoUndo) → Option CodeGoroutine → Type 0
     AllStood us x = (g : CodeGoroutine) → back us x ≡ Some g → g.frames ≡ f ∷ below → Stood (spot_before n us) x g
 

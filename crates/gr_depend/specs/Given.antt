@@ -62,7 +62,7 @@ spot_in (undos.Finished f n cells) = Some (record { function = f; number = n })
 spot_in (undos.Faulted s) = Some s
 spot_in (undos.Retried s) = None
 
--- .. before changes of goroutines, by the first of its own that keeps it
+-- where the innermost frame of a goroutine stood before changes of goroutines, by the first of its own that keeps it
 abbrev pub spot_before : List ℕ → List (List ℕ × GoUndo) → Option Spot
 spot_before n [] = None
 spot_before n (e ∷ es) = if same_go n e.0 then option_or (spot_in e.1) (spot_before n es) else spot_before n es

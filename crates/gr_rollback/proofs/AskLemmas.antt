@@ -46,7 +46,7 @@ module _ (p : Program) (w : Timeline p) (m : Machine) (s : Stands p w m) where
           (dependents_alike (IsOf p) conflict_of (clash p) (λ a b k l. conflict_is p a b k l) (steps_of m) w.past.log place both);
     }
 
-    -- .. and of all that it depends on
+    -- the names of the step at a place and of all that it depends on
     pub tells_causes : ids ≡ map (λ r. r.id) (causes conflict_of (steps_of m) place) → TellsSteps p w.past.log id (causes (clash p) w.past.log) ids
     tells_causes are = record {
       place = place;

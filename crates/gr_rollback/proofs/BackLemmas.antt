@@ -87,7 +87,7 @@ module _ (at : ℕ) (marks : List Bool) (rs : List Record) (count : length marks
   consequences : dependents conflict_of rs at ≡ marked marks (drop at rs)
   consequences = sym members
 
-  -- .. of which those behind a place are the last
+  -- the consequences behind a place are the last of them
   pub last_of_them : (front tail : List Record) (before after : List Bool) → rs ≡ front ++ tail → marks ≡ before ++ after → length before + at ≡ length front
       → dependents conflict_of rs at ≡ marked before (drop at front) ++ marked after tail
   last_of_them front tail before after parts split place =
@@ -297,7 +297,7 @@ module _ (p : Program) (w : Timeline p) (old : Machine) (s : Stands p w old) (at
             (stands_after (kept (clash p) log at) later stays goes);
       }
 
-  -- .. and where it did not, the last of its consequences are back
+  -- where the log did not come down to the place, the last of the consequences are back
   pub takes_some : (id : StepId) → IsNamed p log id at → (ids : List StepId) → ids ≡ reverse r.ids.items → TakesSomeBack p w id ids new
   takes_some id named ids are =
       let others = subst (λ rs. AreTheOthers (steps_of old) gone rs) stay_marked

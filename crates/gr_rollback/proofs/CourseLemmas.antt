@@ -54,7 +54,7 @@ is_course p w c s = subst (λ q. (v : Past q) → Holds q v c → IsCourse c) s.
 pub log_length : (p : Program) (w : Past p) (c : Course) → Holds p w c → length (records_of c.log) ≡ length w.log
 log_length p w c s = kept_length p s.begins (records_of c.log) w.log (contents_at c.store) s.kept
 
--- .. and so no count passes the greatest number
+-- no count passes the greatest number
 small : (n m limit top : ℕ) → n ≤ m → m ≤ limit → limit + 1 < top → n + 1 < top
 small n m limit top a b c = omega arith
 
@@ -79,7 +79,7 @@ module _ (p : Program) (w : Past p) (c : Course) (s : Holds p w c) where
         limit_is_small;
   }
 
--- the same program, whose run leads to what the store contains
+-- a store with the listing of another has its program, and a run of it leads to what the store contains
 pub same_program : (old new : Store) → SameListing old new → program_at new ≡ program_at old
 same_program old new same = ap program_in same
 
@@ -155,7 +155,7 @@ module _ (p : Program) (s t : Contents) (r : Record) (is : IsRecord p s r t) whe
   pub own_was_ready : IsReadyIn s r.id.go
   own_was_ready = own_is_ready (frame_in p) p (event_of r) s t is.takes.report is.takes.steps
 
-  -- .. and is so after it, where the step reached no further and left its status as it was
+  -- its goroutine is ready after it, where the step reached no further and left its status as it was
   pub own_stays_ready : r.change.beyond ≡ None → KeepsStatus r.change.own → IsReadyIn t r.id.go
   own_stays_ready = stays_ready r.id.go r.change s t own_was_ready is.takes.back is.takes.fits
 

@@ -29,7 +29,7 @@ module _ {A B : Type 0} (R : A → B → Type 0) (c : A → A → Bool) (d : B �
   dependents_alike [] (q ∷ K) i both = absurd both
   dependents_alike (r ∷ L) [] i both = absurd both
 
-  -- .. and its causes
+  -- the causes of a place are alike
   pub causes_alike : (L : List A) (K : List B) (i : ℕ) → Both R L K → Both R (causes c L i) (causes d K i)
   causes_alike [] [] i both = tt
   causes_alike (r ∷ L) (q ∷ K) zero both = (both.0, tt)

@@ -164,7 +164,7 @@ module _ (p : Program) (w : Past p) (old : Course) (l : LentCopy) (s : Holds p w
   pub stays_in_pool : HasReady old.pool after
   stays_in_pool = ready_stays old.pool before (name_lent l) (goroutine_lent l) (goroutine_led_to l) s.pool lent.there lease.was_ready led.is_ready
 
--- .. whose steps have joined the log
+-- the steps of a lease have joined the log
 pub record JoinsAll (old : Course) (l : LentCopy) (new : Course) : Type 0 where
   pub log : records_of new.log ≡ records_of old.log ++ records_led l
   pub contents : contents_at new.store ≡ with_goroutine (contents_at old.store) (name_lent l) (Some (goroutine_led_to l))

@@ -64,7 +64,7 @@ module _ (p : Program) (w : Past p) (c : Course) (s : Holds p w c) (order : IsIn
       let owner : last_owner p w.log ≡ Some r.id.go = ap (last_owner p) last.log_is ∙ last_is p last.before last.last ∙ ap (λ e. Some e.go) last.tells.event in
       subst (λ o. IsTurn w.state o (next_name r.id.go c.pool.ready)) (sym owner) (turn_after w.state r.id.go c.pool.ready are_ready)
 
-  -- .. and before the first
+  -- whose turn it is before the first step
   pub turn_of_none : records_of c.log ≡ [] → IsTurn w.state (last_owner p w.log) (next_name c.first c.pool.ready)
   turn_of_none is =
       let none = none_kept p s.begins w.log (contents_at c.store) (rw is at s.kept) in

@@ -120,7 +120,7 @@ module _ (p : Program) (s t : Contents) (end : State) (records : List Record) (l
       (subst (λ o. Answers (IsOf p) o (ordered_by p (names_in ids) log)) by_records
       (orders_alike (IsOf p) conflict_of (clash p) told (step_name p) same_name (name_is p) (λ a b k l. conflict_is p a b k l) (names_in ids) records log both))
 
-  -- .. and one that does
+  -- an order that respects dependence
   pub record TakesOrder (ids : List StepId) (new : List Record) : Type 0 where
     pub steps : List (Logged p)
     pub order : ordered_by p (names_in ids) log ≡ accepted steps

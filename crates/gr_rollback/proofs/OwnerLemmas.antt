@@ -115,7 +115,7 @@ met_is_there (u ∷ us) f q fit t = elim (cases_Bool (same_go q u.0)) [
       (met_is_there us f q fit.1 (sym (ap (λ b. b || is_among q (names_met us)) e) ∙ t))
 ]
 
--- .. and was there before it, unless the step started it
+-- a goroutine that a step met was there before it, unless the step started it
 pub met_was_there : (n : List ℕ) (c : Effect) (t : Contents) (q : List ℕ) → CanGoBack n c t → is_among q (names_met (beyond [] (λ b. members b.met) c)) ≡ true
     → is_go q (begun_by c) ≡ false → (g : CodeGoroutine) × ((taken_back n c t).goroutines q ≡ Some g)
 met_was_there n c t q can among other =

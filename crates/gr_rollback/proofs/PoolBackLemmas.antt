@@ -58,7 +58,7 @@ module _ (n : List ℕ) (u : GoUndo) (old new : pools.Goroutines) (s : Contents)
     | inr e ↦ others q e (ap (is_among q) is ∙ with_others q n old.ready e)
   ]
 
-  -- .. that was not
+  -- a goroutine that was not ready before the change
   pub brings_unready : ((g : CodeGoroutine) → (undone u g).status ≡ ready → ⊥) → new.ready ≡ without_name n old.ready → HasAllReady new t
   brings_unready down is q = elim (cases_Bool (same_go q n)) [
     | inl e ↦ subst (IsAsIn new t) (sym (go_is q n e)) (record {
@@ -68,7 +68,7 @@ module _ (n : List ℕ) (u : GoUndo) (old new : pools.Goroutines) (s : Contents)
     | inr e ↦ others q e (ap (is_among q) is ∙ without_others q n old.ready e)
   ]
 
-  -- .. that was so if it is after it
+  -- a goroutine that was ready before the change if it is after it
   pub brings_same : ((g : CodeGoroutine) → (undone u g).status ≡ g.status) → new ≡ old → HasAllReady new t
   brings_same keeps is q = elim (cases_Bool (same_go q n)) [
     | inl e ↦ subst (IsAsIn new t) (sym (go_is q n e)) (record {
@@ -186,7 +186,7 @@ module _ (n : List ℕ) (c : Effect) (s : Contents) (can : CanGoBack n c s) wher
     pub knows_still : KnowsThere new s
     knows_still q g there = ap (is_among q) known_are ∙ has.knows q g there
 
-    -- .. and those after it again, where it was not taken back
+    -- the pool has those again that are ready after the step, where it was not taken back
     pub ready_again : (last : pools.Goroutines) → Settles (n ∷ others_of c) s new last → HasReady last s
     ready_again last settles = record {
       knows = λ q g there. ap (is_among q) settles.known ∙ knows_still q g there;

@@ -118,7 +118,7 @@ settles_ready s n old new up ready known = record {
   others = λ h f. ap (is_among h) ready ∙ with_others h n old.ready (sym (only_name h n) ∙ f);
 }
 
--- .. and not, where it is not
+-- a goroutine that is not ready is made unready
 pub settles_unready : (s : Contents) (n : List ℕ) (old new : pools.Goroutines) → (IsReadyIn s n → ⊥) → new.ready ≡ without_name n old.ready → new.known ≡ old.known
     → Settles (n ∷ []) s old new
 settles_unready s n old new down ready known = record {

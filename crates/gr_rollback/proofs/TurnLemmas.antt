@@ -20,7 +20,7 @@ no_less e f = cc
 not_before : (h g : List ℕ) → h ≡ g → go_cmp h g ≡ Less → ⊥
 not_before h g e less = no_less (ties_itself g) (ap (λ x. go_cmp x g) (sym e) ∙ less)
 
--- .. nor before one that comes before it
+-- no name comes before one that comes before it
 not_back : (h g : List ℕ) → go_cmp g h ≡ Less → go_cmp h g ≡ Less → ⊥
 not_back h g later less = no_less (ties_itself h) (less_trans h g h less later)
 

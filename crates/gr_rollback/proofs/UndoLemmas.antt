@@ -103,7 +103,7 @@ module _ (p : Program) (w : Past p) (old new : Course) (e : Event) (s : Holds p 
 with_one : (n m limit : ℕ) → m ≡ n + 1 → m ≤ limit → n + 1 ≤ limit
 with_one n m limit a b = omega arith
 
--- .. and a machine whose last step it was
+-- a machine whose last step is taken back
 module _ (p : Program) (w : Timeline p) (old new : Machine) (s : Stands p w old) (listing : SameListing old.course.store new.course.store) (back : RetractsLast old new) where
   pub undoes : (id : StepId) → id ≡ back.course.step.id → Undoes p w id new
   undoes id is =

@@ -256,7 +256,7 @@ removal_goes_on at marks c r d q (Ok done) within m is ok same room still start 
 removal_goes_on at marks c r d q (Err why) within m is ok same room still start rolls way =
     subst (IsOnTheWay start at marks d) (sym still) (way_stays start at marks c r d way same room)
 
--- .. and of laying it aside
+-- a rollback goes on where the last step is laid aside
 pub aside_goes_on : (at : ℕ) (marks : List Bool) (c : Course) (r : Rollback) (d : Course) (q : Rollback) (front : List Record) (step : Record)
     → at < length (records_of c.log) → (m : Bool) → get_or marks ((length (records_of c.log) - 1) - at) m ≡ false
     → records_of c.log ≡ front ++ step ∷ [] → d.store ≡ c.store → d.pool ≡ c.pool → d.first ≡ c.first → records_of d.log ≡ front

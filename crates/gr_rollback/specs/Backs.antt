@@ -34,7 +34,7 @@ pub record LosesAll (p : Program) (w : Past p) (place : ℕ) (u : Past p) : Type
   pub log : u.log ≡ kept (clash p) w.log place
   pub run : IsRun p u.log u.state
 
--- .. or only the last of its consequences are, the others having stayed
+-- The last of its consequences are taken back, but not all: others have stayed.
 pub record LosesSome (p : Program) (w : Past p) (place : ℕ) (gone : List (Logged p)) (u : Past p) : Type 0 where
   pub left : List (Logged p)
   pub last : dependents (clash p) w.log place ≡ left ++ gone
@@ -121,7 +121,7 @@ pub record Reorders (p : Program) (w : Timeline p) (ids : List StepId) (m : Mach
   pub order : ordered_by p (names_in ids) w.past.log ≡ accepted log
   pub stands : Stands p (record { past = record { log = log; state = w.past.state }; again = [] }) m
 
--- .. or two steps that conflict and would change places
+-- what `reorder` answers where two steps conflict and would change places
 pub record Breaks (p : Program) (w : Timeline p) (ids : List StepId) (first second : StepId) : Type 0 where
   pub earlier : Logged p
   pub later : Logged p

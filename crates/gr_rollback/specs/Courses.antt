@@ -31,7 +31,7 @@ pub record Holds (p : Program) (w : Past p) (c : Course) : Type 0 where
   pub short : length (records_of c.log) ≤ LOG_LIMIT
   pub first : c.first ≡ []
 
--- .. of some past
+-- the course is that of some past
 pub record IsCourse (c : Course) : Type 0 where
   pub past : Past (program_at c.store)
   pub holds : Holds (program_at c.store) past c

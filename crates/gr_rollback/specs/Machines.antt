@@ -43,7 +43,7 @@ pub record Stands (p : Program) (w : Timeline p) (m : Machine) : Type 0 where
   pub can_go : CanGo p w.past.state w.again
   pub short : length (steps_of m) + length w.again ≤ LOG_LIMIT
 
--- .. of some world
+-- the machine is that of some world
 pub record IsMachine (m : Machine) : Type 0 where
   pub world : Timeline (program_at (store_of m))
   pub stands : Stands (program_at (store_of m)) world m

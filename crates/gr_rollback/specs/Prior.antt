@@ -18,7 +18,7 @@ IsPrior priors.Ready before after = before ≡ ready
 IsPrior priors.Unready before after = before ≡ ready → ⊥
 IsPrior priors.Same before after = before ≡ after
 
--- .. of the change that replaced this, in each goroutine
+-- what is told of the status before the change that replaced this, in each goroutine
 abbrev pub TellsPrior : Prior → GoUndo → Type 0
 TellsPrior prior u = (g : CodeGoroutine) → IsPrior prior (undone u g).status g.status
 

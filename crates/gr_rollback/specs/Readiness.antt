@@ -24,7 +24,7 @@ pub record IsAsIn (pool : pools.Goroutines) (s : Contents) (n : List ℕ) : Type
   pub has : IsReadyIn s n → is_among n pool.ready ≡ true
   pub only : is_among n pool.ready ≡ true → IsReadyIn s n
 
--- .. of each name
+-- the pool has each goroutine as ready where it is
 abbrev pub HasAllReady : pools.Goroutines → Contents → Type 0
 HasAllReady pool s = (n : List ℕ) → IsAsIn pool s n
 
@@ -32,7 +32,7 @@ HasAllReady pool s = (n : List ℕ) → IsAsIn pool s n
 abbrev pub KnowsThere : pools.Goroutines → Contents → Type 0
 KnowsThere pool s = (n : List ℕ) (g : CodeGoroutine) → s.goroutines n ≡ Some g → is_among n pool.known ≡ true
 
--- .. and has those as ready that are
+-- the pool knows the goroutines that are there, and has those as ready that are
 pub record HasReady (pool : pools.Goroutines) (s : Contents) : Type 0 where
   pub knows : KnowsThere pool s
   pub each : HasAllReady pool s

@@ -14,7 +14,7 @@ use Rattle.gr_rollback.specs.declared.asked.Asked.TheVariants as asked
 abbrev pub told_of : (p : Program) → Logged p → Stepped
 told_of p l = record { ordinal = l.note.kind.ordinal; kind = step_kind p l }
 
--- .. as its record tells them
+-- the ordinal and the kind of a step, as its record tells them
 abbrev pub told_by : Record → Stepped
 told_by r = record { ordinal = r.id.n; kind = r.change.kind }
 

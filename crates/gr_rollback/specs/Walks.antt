@@ -25,7 +25,7 @@ pub record HasRoomFor (marks : List Bool) (r : Rollback) : Type 0 where
   pub gone : vec_len r.gone + count_set marks ≤ vec_capacity r.gone
   pub ids : vec_len r.ids + count_set marks ≤ vec_capacity r.ids
 
--- .. and it has not begun
+-- the rollback has not begun, and there is room for all of it
 pub record IsNew (marks : List Bool) (r : Rollback) : Type 0 where
   pub stay : r.stay.items ≡ []
   pub gone : r.gone.items ≡ []
