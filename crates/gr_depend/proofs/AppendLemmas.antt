@@ -1,5 +1,5 @@
 -- The touches of a log to which steps are added that a goroutine took by itself.
-use Rattle.std.proofs.Common.{◌≡◌, ◌+◌, ℕ, suc, Bool, true, false, if◌then◌else◌, List, [], ◌∷◌, ◌++◌, length, All, refl, sym, ap, ◌∙◌, append_assoc, arith}
+use Rattle.std.proofs.Common.{◌≡◌, ◌+◌, ℕ, suc, Bool, true, false, if◌then◌else◌, List, [], ◌∷◌, ◌++◌, ◌≤◌, length, filter, vec_capacity, All, refl, sym, ap, subst, ◌∙◌, append_assoc, arith}
 use Rattle.std.specs.List.{list_all}
 use Rattle.std.proofs.lemmas.Bool.{and_parts, and_from}
 use Rattle.std.proofs.lemmas.List.Elements.{All-head, All-tail}
@@ -11,6 +11,9 @@ use Rattle.gr_record.specs.declared.record.Record.{Record}
 use Rattle.gr_record.specs.Conflicts.{touched_by}
 use Rattle.gr_touches.specs.declared.touch.Touch.{Touch}
 use Rattle.gr_depend.specs.Logs.{IsAlone}
+use Rattle.gr_touches.specs.declared.lanes.Lanes.{Lanes}
+use Rattle.gr_touches.specs.Lists.{list_of}
+use Rattle.gr_touches.specs.Room.{capacity_of, Fits}
 use Rattle.gr_touches.specs.Touches.{touch_at, touches_in, none_twice, stretch, own_touches}
 use Rattle.gr_touches.proofs.NoteLemmas.{one_for, read_alone, written_alone, kept_alone}
 use Rattle.gr_touches.proofs.TouchLemmas.{kept_is_touch}
@@ -77,6 +80,16 @@ module _ (go : List ℕ) (xs ys : List Record) (alone : All (IsAlone go) ys) whe
       ∙ ap (λ k. touches_in q 0 xs ++ k) (sym (own_in go q (length xs) ys alone))
       ∙ ap (λ n. touches_in q 0 xs ++ touches_in q n ys) (let e : length xs ≡ 0 + length xs = omega arith in e)
       ∙ sym (touches_then q 0 xs ys)
+
+  -- where there is room for all of them, there is for what is kept of the steps behind
+  pub own_fits : (l : Lanes) (place count : ℕ) → ((q : Object) → list_of l q ≡ touches_in q 0 xs) → place ≡ length xs → count ≡ length ys
+      → Fits l (λ q. touches_in q 0 (xs ++ ys)) → Fits l (λ q. list_of l q ++ own_touches go place count q)
+  own_fits l place count was at long fits = record {
+    each = λ q. subst {_, _} (λ (ts : List Touch). length ts ≤ capacity_of l q)
+        (sym (with_own q (list_of l q) (list_of l q ++ own_touches go place count q) place count (was q) at long refl)) (fits.each q);
+    stops = subst {_, _} (λ (ts : List Touch). length (filter (λ t. t.writes) ts) ≤ vec_capacity l.stops)
+        (sym (with_own Run (list_of l Run) (list_of l Run ++ own_touches go place count Run) place count (was Run) at long refl)) fits.stops;
+  }
 
 all_once : (go : List ℕ) (ys : List Record) → All (IsAlone go) ys → list_all (λ r. none_twice (touched_by r)) ys ≡ true
 all_once go [] alone = refl

@@ -105,17 +105,21 @@ impl Log {
         }
     }
 
-    /// Adds steps at the end that a goroutine took by itself and that reached no further. Refused, the log is as before; it has
-    /// no room where it would come to 2^32 steps.
+    /// Adds steps at the end that a goroutine took by itself and that reached no further. Refused, the log is as before. It is
+    /// not refused where there is room, which a log of 2^32 steps never has.
     pub fn append(&mut self, go: &GoName, steps: Vec<Record>) -> Result<(), NoMemory>
         requires { All (IsAlone go.now) steps.items }
         ensures ok { OnOk result (records_of self.new ≡ records_of self.old ++ steps.items) }
         ensures err { OnErr result (records_of self.new ≡ records_of self.old) }
+        ensures succeeds { CanTake self.old steps.items → IsOk result }
     {
         let count = steps.len();
+        if count == 0 {
+            return Ok(());
+        }
         let place = self.records.len();
         let left = MOST_STEPS - place;
-        if count >= left {
+        if count > left {
             return Err(NoMemory);
         }
         self.records.reserve(count)?;

@@ -72,11 +72,12 @@ impl Lane {
     }
 
     /// Adds the touches of `count` consecutive steps that wrote the object, the first of them at `place`. Refused, the
-    /// touches are as before.
+    /// touches are as before. It takes no memory where there is room.
     pub(crate) fn extend(&mut self, place: u32, count: usize) -> Result<(), NoMemory>
         requires { place + count ≤ 2 ^ 32 }
         ensures ok { OnOk result (self.new.0 ≡ self.old.0 ++ stretch true place count) }
         ensures err { OnErr result (self.new.0 ≡ self.old.0) }
+        ensures succeeds { count ≤ self.old.1 → IsOk result }
     {
         self.touches.reserve(count)?;
         extend(&mut self.touches, place, count, true);

@@ -1,6 +1,6 @@
 //! The touches of each object.
 
-ghost use Rattle.std.specs.Prelude.{◌≡◌, ◌≤◌, ◌+◌, ◌^◌, [], ◌∷◌, ◌++◌, if◌then◌else◌, OnOk, OnErr, IfSome, IfNone, IsTrue};
+ghost use Rattle.std.specs.Prelude.{◌≡◌, ◌≤◌, ◌+◌, ◌^◌, [], ◌∷◌, ◌++◌, if◌then◌else◌, OnOk, OnErr, IfSome, IfNone, IsOk, IsTrue};
 ghost use Rattle.std.specs.Prelude.{Some, None, true, false, Bool, ◌↔◌, cond, position, slice_get, length, filter, ◌<◌};
 ghost use Rattle.std.proofs.Props.{props};
 ghost use Rattle.gr_rules.specs.States.{same};
@@ -36,7 +36,7 @@ pub struct Lanes {
 
 impl Lanes {
     ghost use Rattle.gr_touches.specs.Lists.{list_of, list_numbered, IsNumbered, KeepsLists, TakesFor};
-    ghost use Rattle.gr_touches.specs.Room.{KeepsRoom, NotesFor};
+    ghost use Rattle.gr_touches.specs.Room.{capacity_of, Fits, KeepsRoom, NotesFor};
     ghost use Rattle.gr_base.specs.declared.objects.Object.{Object};
     ghost use Rattle.gr_touches.specs.declared.marks.Wanted.{Wanted as WantedSeen};
     ghost use Rattle.gr_base.specs.declared.objects.Object.TheVariants as objects;
@@ -229,11 +229,13 @@ impl Lanes {
     }
 
     /// Adds the touches of `count` consecutive steps of a goroutine that reached no further, the first of them at `place`.
-    /// Refused, all lists are as before.
+    /// Refused, all lists are as before. It takes no memory where there is room.
     pub fn note_own(&mut self, go: &GoName, place: u32, count: usize) -> Result<(), NoMemory>
-        requires { place + count ≤ 2 ^ 32 }
+        requires places { place + count ≤ 2 ^ 32 }
+        requires some { 0 < count }
         ensures ok { OnOk result ((q : Object) → list_of self.new q ≡ list_of self.old q ++ own_touches go.now place count q) }
         ensures err { OnErr result (KeepsLists self.old self.new) }
+        ensures succeeds { Fits self.old (λ q. list_of self.old q ++ own_touches go.now place count q) → IsOk result }
     {
         self.run.reserve(count)?;
         self.note_writes(go, place, count)?;
@@ -243,11 +245,14 @@ impl Lanes {
 
     /// Adds the touches of `count` consecutive steps to the list of their goroutine.
     fn note_writes(&mut self, go: &GoName, place: u32, count: usize) -> Result<(), NoMemory>
-        requires { place + count ≤ 2 ^ 32 }
+        requires places { place + count ≤ 2 ^ 32 }
+        requires some { 0 < count }
         ensures ok { OnOk result ((q : Object)
             → list_of self.new q ≡ (if same (objects.Go go.now) q then list_of self.old q
             ++ stretch true place count else list_of self.old q)) }
         ensures err { OnErr result (KeepsLists self.old self.new) }
+        ensures succeeds { length (list_of self.old (objects.Go go.now)) + count ≤ capacity_of self.old (objects.Go go.now)
+            → IsOk result }
         ensures run { self.new.run ≡ self.old.run }
     {
         match self.number(go) {

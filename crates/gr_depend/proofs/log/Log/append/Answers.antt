@@ -1,10 +1,10 @@
-use Rattle.std.proofs.Common.{◌≡◌, ◌≤◌, ◌^◌, ◌++◌, true, length, subst, sym, ap, ◌∙◌, length-append, arith}
+use Rattle.std.proofs.Common.{◌≡◌, ◌≤◌, ◌^◌, ◌++◌, true, false, length, subst, sym, ap, ◌∙◌, length-append, arith}
 use Rattle.std.specs.List.{list_all}
 use Rattle.std.specs.Prelude.{if◌then◌else◌}
 use Rattle.gr_record.specs.Conflicts.{touched_by}
 use Rattle.gr_touches.specs.Lists.{list_of}
 use Rattle.gr_touches.specs.Touches.{touches_in, none_twice}
-use Rattle.gr_depend.proofs.AppendLemmas.{with_own, all_once_then}
+use Rattle.gr_depend.proofs.AppendLemmas.{with_own, own_fits, all_once_then}
 use Rattle.gr_depend.proofs.log.Log.append.Goals as goal
 
 pub note_own-requires : goal.note_own-requires
@@ -40,3 +40,12 @@ invariant_of-self-2 c =
       once = subst (λ l. list_all (λ r. none_twice (touched_by r)) l ≡ true) (sym joined) (all_once_then c.args.go.now log.records.items steps.items log.once c.requires);
       few = let all = ap length joined in let both = length-append log.records.items steps.items in omega (arith, all, both, at, long, c.if-count-left.false);
     }
+
+pub returns-in_err-note_own-clause-succeeds : goal.returns-in_err-note_own-clause-succeeds
+returns-in_err-note_own-clause-succeeds c can =
+    let log = c.args.self.now in
+    let steps = c.args.steps in
+    let at : c.len-place.result ≡ length log.records.items = omega (arith, log.records.ok.0, c.len-place.ensures) in
+    let long : c.len-count.result ≡ length steps.items = omega (arith, steps.ok.0, c.len-count.ensures) in
+    absurd (let no : false ≡ true = c.in_err-note_own.ensures.succeeds (own_fits c.args.go.now log.records.items steps.items c.requires log.lanes c.len-place.result
+    c.len-count.result log.touches at long can.touches) in cc)
