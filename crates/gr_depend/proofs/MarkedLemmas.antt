@@ -1,5 +1,5 @@
 -- What marks choose, and how they are completed place by place.
-use Rattle.std.proofs.Common.{◌≡◌, ℕ, zero, suc, Bool, List, [], ◌∷◌, ◌++◌, drop, refl, sym, ap, ◌∙◌, append_assoc, append-nil, inl, inr}
+use Rattle.std.proofs.Common.{◌≡◌, ◌<◌, ℕ, zero, suc, Bool, true, List, [], ◌∷◌, ◌++◌, length, drop, slice_get, Some, refl, sym, ap, ◌∙◌, append_assoc, append-nil, inl, inr, arith}
 use Rattle.std.proofs.lemmas.Bool.{cases_Bool}
 use Rattle.gr_causal.specs.Dependence.{hits, collect, left_by, dependents, kept, causes}
 use Rattle.gr_record.specs.Back.{marked, unmarked}
@@ -25,6 +25,12 @@ module _ {A : Type 0} (clash : A → A → Bool) where
   dependents_marked [] (suc i) = refl
   dependents_marked (r ∷ rs) zero = sym (collect_marked (r ∷ []) rs)
   dependents_marked (r ∷ rs) (suc i) = dependents_marked rs i
+
+  -- the first of them is set
+  pub first_set : (rs : List A) (i : ℕ) → i < length rs → slice_get (dependent_marks clash rs i) 0 ≡ Some true
+  first_set [] i within = absurd (omega (arith, within))
+  first_set (r ∷ rs) zero within = refl
+  first_set (r ∷ rs) (suc i) within = first_set rs i (omega (arith, within))
 
   pub kept_unmarked : (rs : List A) (i : ℕ) → unmarked (dependent_marks clash rs i) (drop i rs) ≡ drop i (kept clash rs i)
   kept_unmarked [] zero = refl

@@ -1,6 +1,6 @@
 //! What depends on a step of the log, and what it depends on.
 
-ghost use Rattle.std.specs.Prelude.{◌≡◌, ◌<◌, ◌≤◌, ◌+◌, ◌-◌, length, drop, true, false, IfOk, replicate};
+ghost use Rattle.std.specs.Prelude.{◌≡◌, ◌<◌, ◌≤◌, ◌+◌, ◌-◌, length, drop, slice_get, Some, true, false, IfOk, replicate};
 ghost use Rattle.gr_causal.specs.Dependence.{dependents, kept, causes};
 ghost use Rattle.indexmap.specs.IndexMap.{keys};
 ghost use Rattle.gr_record.specs.Conflicts.{conflict_of};
@@ -29,6 +29,7 @@ impl Log {
     pub fn dependents(&self, alloc: Global, at: usize) -> Result<Vec<bool>, NoMemory>
         requires { at < length (records_of self.now) }
         ensures count { IfOk result (λ marks. length marks.items ≡ length (records_of self.now) - at) }
+        ensures first { IfOk result (λ marks. slice_get marks.items 0 ≡ Some true) }
         ensures members { IfOk result (λ marks. marked marks.items (drop at (records_of self.now))
             ≡ dependents conflict_of (records_of self.now) at) }
         ensures others { IfOk result (λ marks. unmarked marks.items (drop at (records_of self.now))

@@ -36,9 +36,12 @@ use Rattle.gr_rollback.specs.Machines.{steps_of, again_of, CanGo, Stands}
 use Rattle.gr_rollback.specs.Pasts.{Past, Timeline, id_of, ids_of, events_in}
 use Rattle.gr_rollback.specs.Readiness.{HasReady}
 use Rattle.gr_rollback.specs.Walks.{RollsBack, IsOnTheWay}
+use Rattle.gr_rollback.proofs.OrderByNamesLemmas.{names_alike}
 use Rattle.gr_rollback.proofs.CourseLemmas.{same_program, runs_at}
+use Rattle.gr_rollback.proofs.DependenceLemmas.{dependents_alike}
 use Rattle.gr_rollback.proofs.KeptLemmas.{begins_running, id_alike, ids_alike, events_alike, kept_length}
 use Rattle.gr_rollback.proofs.MarkLemmas.{In-unmarked, marked_parts, none_marked, all_unmarked, all_counted}
+use Rattle.gr_rollback.proofs.OrderLemmas.{IsOf, id_is, conflict_is, kept_both}
 use Rattle.gr_rollback.proofs.StepLemmas.{running_of}
 
 -- the record at a place, and the step
@@ -143,6 +146,21 @@ no_marks n at m a b = omega (arith, a, b)
 
 same_long : (n s g : ℕ) → n ≡ s + g → g ≡ 0 → n ≡ s
 same_long n s g a b = omega (arith, a, b)
+
+-- where the first of the marks is set, the first item is marked
+first_marked : {A : Type 0} (before after : List Bool) (xs : List A) → slice_get (before ++ after) 0 ≡ Some true → length before ≡ length xs → 0 < length xs
+    → 0 < length (marked before xs)
+first_marked before after [] first long some = absurd (omega (arith, some))
+first_marked [] after (x ∷ xs) first long some = absurd (let no : 0 ≡ suc (length xs) = long in cc)
+first_marked (true ∷ before) after (x ∷ xs) first long some = let e : 0 < suc (length (marked before xs)) = omega arith in e
+first_marked (false ∷ before) after (x ∷ xs) first long some = absurd (let no : false ≡ true = some_is false true first in cc)
+
+some_marks : (n at m k : ℕ) → n + at ≡ m → at < m → n ≡ k → 0 < k
+some_marks n at m k a b c = omega (arith, a, b, c)
+
+-- where some have not gone back, fewer have gone than there are
+some_stay : (all marks gone left later : ℕ) → all ≡ marks + gone → all ≡ left + later → gone ≡ later → 0 < marks → left ≡ 0 → ⊥
+some_stay all marks gone left later a b c d e = omega (arith, a, b, c, d, e)
 
 first_part : (a b limit : ℕ) → a + b ≤ limit → a ≤ limit
 first_part a b limit h = omega (arith, h)
@@ -297,9 +315,27 @@ module _ (p : Program) (w : Timeline p) (old : Machine) (s : Stands p w old) (at
             (stands_after (kept (clash p) log at) later stays goes);
       }
 
+  -- as many records as steps depend on it
+  same_many : length (dependents conflict_of (steps_of old) at) ≡ length (dependents (clash p) log at)
+  same_many =
+      let rs = dependents conflict_of (steps_of old) at in
+      let ls = dependents (clash p) log at in
+      let alike = dependents_alike (IsOf p) conflict_of (clash p) (λ a b k l. conflict_is p a b k l) (steps_of old) log at
+      (kept_both p begins (steps_of old) log before s.holds.kept) in
+      sym (as_many (λ (q : Record). q.id) rs) ∙ ap length (names_alike (IsOf p) (λ q. q.id) (id_of p) (λ q l is. sym (id_is p q l is)) rs ls alike)
+      ∙ as_many (id_of p) ls
+
+  -- the step itself has not gone back, where the log has not come down to the place
+  itself_stays : slice_get marks 0 ≡ Some true → at < length (records_of mid.log) → 0 < length (marked way.before (drop at (records_of mid.log)))
+  itself_stays begin more =
+      let long = drop_long at (records_of mid.log) (length way.before) way.place in
+      first_marked way.before way.after (drop at (records_of mid.log)) (ap (λ ms. slice_get ms 0) (sym way.marks_are) ∙ begin) long
+      (some_marks (length way.before) at (length (records_of mid.log)) (length (drop at (records_of mid.log))) way.place more long)
+
   -- where the log did not come down to the place, the last of the consequences are back
-  pub takes_some : (id : StepId) → IsNamed p log id at → (ids : List StepId) → ids ≡ reverse r.ids.items → TakesSomeBack p w id ids new
-  takes_some id named ids are =
+  pub takes_some : (id : StepId) → IsNamed p log id at → slice_get marks 0 ≡ Some true → at < length (records_of mid.log)
+      → (ids : List StepId) → ids ≡ reverse r.ids.items → TakesSomeBack p w id ids new
+  takes_some id named begin more ids are =
       let others = subst (λ rs. AreTheOthers (steps_of old) gone rs) stay_marked
       (subst (λ rs. AreTheOthers (steps_of old) rs (unmarked whole (steps_of old))) gone_are
       (others_of_marked p begins before (steps_of old) log whole running s.holds.kept)) in
@@ -309,7 +345,18 @@ module _ (p : Program) (w : Timeline p) (old : Machine) (s : Stands p w old) (at
         named = named;
         gone = there.0;
         world = record { past = past there.1 there.0 there.3 there.4; again = again_after (events_in p there.0) w.again };
-        loses = record { left = there.5.0; last = there.5.1; others = there.2; run = run_after there.1 there.0 there.3 there.4 };
+        loses = record {
+          left = there.5.0;
+          some_left = λ none.
+              some_stay (length (dependents conflict_of (steps_of old) at)) (length (marked way.before (drop at (records_of mid.log)))) (length gone)
+              (length there.5.0) (length there.0)
+              (ap length last ∙ length-append (marked way.before (drop at (records_of mid.log))) gone)
+              (same_many ∙ ap length there.5.1 ∙ length-append there.5.0 there.0)
+              (as_long there.1 there.0 there.3 there.4) (itself_stays begin more) (ap length none);
+          last = there.5.1;
+          others = there.2;
+          run = run_after there.1 there.0 there.3 there.4;
+        };
         again = refl;
         names = are ∙ names_are there.1 there.0 there.3 there.4;
         stands = stands_after there.1 there.0 there.3 there.4;
@@ -340,11 +387,15 @@ pub takes_none : (p : Program) (w : Timeline p) (m : Machine) → Stands p w m �
     → (ids : List StepId) → ids ≡ [] → TakesSomeBack p w id ids m
 takes_none p w m s id place named ids none = record {
   place = place;
-  named = named_here p w.past m.course s.holds id place named;
+  named = here;
   gone = [];
   world = w;
   loses = record {
     left = dependents (clash p) w.past.log place;
+    some_left = λ e.
+        let first = some_consequence (clash p) w.past.log place here.step here.there in
+        let no : first.0 ∷ first.1 ≡ [] = sym first.2 ∙ e in
+        cc;
     last = sym (append-nil (dependents (clash p) w.past.log place));
     others = record { others = λ r i. (i, λ j. j); each = λ r i. inr i; in_order = λ a b h. h };
     run = subst (IsRun p w.past.log) (sym s.holds.state)
@@ -354,6 +405,9 @@ takes_none p w m s id place named ids none = record {
   names = none;
   stands = s;
 }
+  where
+    here : IsNamed p w.past.log id place
+    here = named_here p w.past m.course s.holds id place named
 
 counted : (n at m : ℕ) → n ≡ m - at → at < m → n + at ≡ m
 counted n at m e h = omega (arith, e, h)

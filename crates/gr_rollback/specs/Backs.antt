@@ -37,6 +37,7 @@ pub record LosesAll (p : Program) (w : Past p) (place : ℕ) (u : Past p) : Type
 -- The last of its consequences are taken back, but not all: others have stayed.
 pub record LosesSome (p : Program) (w : Past p) (place : ℕ) (gone : List (Logged p)) (u : Past p) : Type 0 where
   pub left : List (Logged p)
+  pub some_left : ¬ (left ≡ [])
   pub last : dependents (clash p) w.log place ≡ left ++ gone
   pub others : AreTheOthers w.log gone u.log
   pub run : IsRun p u.log u.state

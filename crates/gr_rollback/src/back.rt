@@ -99,6 +99,7 @@ impl Course {
         requires rolls { IsRolling at marks.now self.old rollback.old }
         ensures way { GoesOn at marks.now self.old rollback.old self.new rollback.new }
         ensures fewer { OnOk result (length (records_of self.new.log) + 1 ≡ length (records_of self.old.log)) }
+        ensures err { OnErr result (records_of self.new.log ≡ records_of self.old.log) }
         ensures listing { SameListing self.old.store self.new.store }
         ensures taken { taken_at self.new.store ≡ taken_at self.old.store }
     {
@@ -122,6 +123,7 @@ impl Course {
         requires { IsRolling at marks.now self.old rollback.old }
         ensures way { GoesOn at marks.now self.old rollback.old self.new rollback.new }
         ensures whole { OnOk result (length (records_of self.new.log) ≡ at) }
+        ensures left { OnErr result (at < length (records_of self.new.log)) }
         ensures listing { SameListing self.old.store self.new.store }
         ensures taken { taken_at self.new.store ≡ taken_at self.old.store }
     {
@@ -176,7 +178,7 @@ impl Machine {
 
     /// Takes the step of a name back with all that depends on it, and nothing else, from the last to the first; nothing is
     /// replayed. It answers the names of the steps that were taken back, in the order of the log; they may be done again. Where
-    /// memory is wanting on the way, the last of these steps are back, which the refusal names, and all others are kept.
+    /// memory runs out on the way, the last of these steps are back, but not all, and the refusal names them.
     pub fn back(&mut self, alloc: Global, id: &StepId) -> Result<Vec<StepId>, BackRefused>
         requires { IsMachine self.old }
         ensures back { (p : Program) (w : Timeline p) → Stands p w self.old → TakenBack p w id.now result self.new }

@@ -1,4 +1,5 @@
-use Rattle.std.proofs.Common.{sym, subst, ◌∙◌}
+use Rattle.std.proofs.Common.{Bool, List, ap, sym, subst, ◌∙◌}
+use Rattle.std.specs.Prelude.{slice_get}
 use Rattle.gr_depend.specs.Logs.{records_of}
 use Rattle.gr_depend.specs.Room.{CanTake}
 use Rattle.gr_rollback.specs.Walks.{IsNew}
@@ -94,4 +95,5 @@ returns-clause-back c = λ p w s.
     takes_some p w c.args.self.now s at marks count members c.unwind-done.new.self c.unwind-done.new.rollback way c.unwind-done.ensures.listing c.finish-ids.new.self c.finish-ids.ensures.records
     c.finish-ids.ensures.store c.finish-ids.ensures.pool c.finish-ids.ensures.first c.finish-ids.ensures.again c.args.id.now
     (named_here p w.past c.args.self.now.course s.holds c.args.id.now c.in-Some.at c.in-Some.ensures.found)
+    (ap (λ (ms : List Bool). slice_get ms 0) c.deref-2.ensures.value ∙ c.in-Ok.ensures.first) c.in-Err.ensures.left
     c.finish-ids.result.items c.finish-ids.ensures.ids
