@@ -7,7 +7,7 @@ ghost use Rattle.gr_laws.specs.Dependence.{clash};
 ghost use Rattle.gr_step.specs.Conflicts.{conflict_of};
 ghost use Rattle.gr_step.specs.Back.{marked};
 ghost use Rattle.gr_depend.specs.Logs.{records_of};
-ghost use Rattle.gr_rollback.specs.Asking.{Tells};
+ghost use Rattle.gr_rollback.specs.Asking.{IsTold};
 
 use crate::machine::Machine;
 use gr_base::{NoMemory, StepId};
@@ -51,9 +51,10 @@ impl Machine {
     ghost use Rattle.gr_rollback.specs.Machines.{Stands};
 
     /// The names of the step of a name and of all that depend on it, in the order of the log; none where no such step is kept.
+    /// Out of memory only where it is kept.
     pub fn dependents(&self, alloc: Global, id: &StepId) -> Result<Option<Vec<StepId>>, NoMemory>
         ensures { (p : Program) (w : Timeline p) → Stands p w self.now
-            → IfOk result (Tells p w.past.log id.now (dependents (clash p) w.past.log)) }
+            → IsTold p w.past.log id.now (dependents (clash p) w.past.log) result }
     {
         let Some(at) = self.course.log.place_of(id) else {
             return Ok(None);
@@ -62,10 +63,11 @@ impl Machine {
         Ok(Some(ids))
     }
 
-    /// The names of the step of a name and of all that it depends on, in the order of the log; none where no such step is kept.
+    /// The names of the step of a name and of all that it depends on, in the order of the log; none where no such step is
+    /// kept. Out of memory only where it is kept.
     pub fn causes(&self, alloc: Global, id: &StepId) -> Result<Option<Vec<StepId>>, NoMemory>
         ensures { (p : Program) (w : Timeline p) → Stands p w self.now
-            → IfOk result (Tells p w.past.log id.now (causes (clash p) w.past.log)) }
+            → IsTold p w.past.log id.now (causes (clash p) w.past.log) result }
     {
         let Some(at) = self.course.log.place_of(id) else {
             return Ok(None);
