@@ -2,6 +2,7 @@
 use Rattle.std.proofs.Common.{◌≡◌, ℕ, Bool, true, false, if◌then◌else◌, List, [], ◌∷◌, ◌++◌, map, filter, Option, Some, None, refl, sym, ap, ◌∙◌}
 use Rattle.std.specs.Prelude.{get_or, is_none}
 use Rattle.std.specs.List.{range_with_len}
+use Rattle.std.specs.Option.{unwrap_or}
 use Rattle.gr_base.specs.declared.events.Choice.{Choice}
 use Rattle.gr_base.specs.declared.events.Choice.TheVariants.{Plain, Pick, Default, Park}
 use Rattle.gr_base.specs.declared.events.Event.{Event}
@@ -16,6 +17,7 @@ use Rattle.gr_rules.specs.States.{Run, live, ended, faulted, State}
 use Rattle.gr_rules.specs.Steps.{act_by, act_in, if_ready, if_known, if_live, refusal}
 use Rattle.gr_rules.specs.Tells.{may, how_many_clauses, usual_choice}
 use Rattle.gr_step.specs.Choices.{usual_event}
+use Rattle.gr_rollback.specs.Stepping.{event_meant}
 
 -- whether it is a choice
 abbrev is_choice : Choice → Bool
@@ -97,3 +99,9 @@ module _ (p : Program) (s : State) (n : List ℕ) where
 pub plain_is_usual : (p : Program) (s : State) (n : List ℕ) → refusal p s (record { go = n; choice = Plain }) ≡ None
     → record { go = n; choice = Plain } ≡ usual_event p s n
 plain_is_usual p s n allowed = ap (λ c. record { go = n; choice = c }) (sym (plain_allowed p s n allowed))
+
+-- a plain step that the rules allow is that of the choice that is asked for, or else of the usual one
+pub plain_is_meant : (p : Program) (s : State) (go : List ℕ) (choice : Option Choice) → refusal p s (record { go = go; choice = unwrap_or choice Plain }) ≡ None
+    → record { go = go; choice = unwrap_or choice Plain } ≡ event_meant p s go choice
+plain_is_meant p s go (Some choice) allowed = refl
+plain_is_meant p s go None allowed = plain_is_usual p s go allowed

@@ -1,6 +1,7 @@
 -- A step that reached no further than its goroutine, which is ready still, joins the log, or is taken back.
-use Rattle.std.proofs.Common.{◌≡◌, [], ◌∷◌, None, Result, Ok, Err, refl, sym, ap, subst, ◌∙◌}
+use Rattle.std.proofs.Common.{◌≡◌, ℕ, [], ◌∷◌, None, Result, Ok, Err, inr, refl, sym, ap, subst, ◌∙◌}
 use Rattle.std.specs.Option.{option_to_list}
+use Rattle.std.specs.Prelude.{IfErr}
 use Rattle.gr_base.specs.declared.events.Event.{Event}
 use Rattle.gr_pool.specs.Goroutines as pools
 use Rattle.gr_pool.specs.Goroutines.{is_among}
@@ -12,7 +13,7 @@ use Rattle.gr_step.specs.declared.refusal.StepRefused.{StepRefused}
 use Rattle.gr_step.specs.declared.store.Store.{Store}
 use Rattle.gr_step.specs.Records.{begun_by, event_of}
 use Rattle.gr_step.specs.Stores as stores
-use Rattle.gr_step.specs.Stores.{program_at, contents_at, SameListing}
+use Rattle.gr_step.specs.Stores.{program_at, contents_at, taken_at, SameListing}
 use Rattle.gr_step.specs.Taking.{IsRecord}
 use Rattle.gr_rollback.specs.declared.course.Course.{Course}
 use Rattle.gr_rollback.specs.declared.stepped.Stepped.{Stepped}
@@ -20,6 +21,7 @@ use Rattle.gr_rollback.specs.Courses.{Holds}
 use Rattle.gr_rollback.specs.Joined.{IsLast, IsTakenBack, Joined}
 use Rattle.gr_rollback.specs.Pasts.{Past}
 use Rattle.gr_rollback.specs.Readiness.{AllKnown, Follows, KeepsStatus, Settles, others_of}
+use Rattle.gr_rollback.specs.Stepping.{one_more, MayCount}
 use Rattle.gr_rollback.specs.Steps.{Keeps, Kept}
 use Rattle.gr_rollback.proofs.Basics.{true_not_false}
 use Rattle.gr_rollback.proofs.CourseLemmas.{follows, keeps, met_in_pool, own_in_pool, own_stays_ready, ready_still, stays}
@@ -91,6 +93,12 @@ module _ (p : Program) (w : Past p) (old : Course) (s : Holds p w old) (r : Reco
         subst (λ x. refusal p w.state x ≡ None) same (record_is_allowed p w old r (contents_at q) s taken.is),
         goes_back new joined.1,
       )
+
+-- a step that joined counts, and one that was taken back for memory does too
+pub may_count : (old : Course) (r : Record) (result : Result Stepped StepRefused) (new : Course) (n : ℕ) → Joined old r result new
+    → taken_at new.store ≡ one_more n → IfErr result (λ why. MayCount why n (taken_at new.store))
+may_count old r (Ok told) new n joined at = tt
+may_count old r (Err why) new n joined at = inr (joined.0, at)
 
 -- where the store has not changed, nothing has
 pub nothing_taken : (p : Program) (w : Past p) (old : Course) (q : Store) → Holds p w old → SameListing old.store q → contents_at q ≡ contents_at old.store

@@ -1,5 +1,5 @@
 -- Steps that are done again: they are the steps that their events give, and go on from there.
-use Rattle.std.proofs.Common.{◌≡◌, ℕ, suc, ◌+◌, ◌-◌, ◌≤◌, List, [], ◌∷◌, ◌++◌, length, reverse, Option, Some, None, refl, sym, ap, ap₂, subst, ◌∙◌, append_assoc, arith}
+use Rattle.std.proofs.Common.{◌≡◌, ℕ, suc, ◌+◌, ◌-◌, ◌≤◌, List, [], ◌∷◌, ◌++◌, length, reverse, Option, Some, None, inl, inr, refl, sym, ap, ap₂, subst, ◌∙◌, append_assoc, arith}
 use Rattle.std.specs.Prelude.{slice_get, option_copied}
 use Rattle.std.specs.Borrow.{Bor}
 use Rattle.std.specs.Option.{option_to_list}
@@ -34,6 +34,7 @@ use Rattle.gr_rollback.specs.Courses.{Holds}
 use Rattle.gr_rollback.specs.Machines.{steps_of, again_of, CanGo, Stands, IsMachine}
 use Rattle.gr_rollback.specs.Pasts.{Past, Timeline, id_of, ids_of, events_in}
 use Rattle.gr_rollback.specs.Redoing.{GoesOn}
+use Rattle.gr_rollback.specs.Stepping.{counted, one_more, MayCountOne}
 use Rattle.gr_rollback.specs.Steps.{with_step, IsNoStep, Keeps}
 use Rattle.gr_rollback.proofs.Basics.{ends_same, last_item}
 use Rattle.gr_rollback.proofs.CourseLemmas.{log_length}
@@ -267,3 +268,16 @@ something_again p w m s some none = some (none_reversed m.again.items (s.again �
 pub no_items : {A : Type 0} (xs : List A) → length xs ≡ 0 → xs ≡ []
 no_items [] e = refl
 no_items (x ∷ xs) e = absurd (let no : suc (length xs) ≡ 0 = e in cc)
+
+-- how many steps were taken, by the names of those that were taken again
+pub none_after : (m n : ℕ) → m ≡ 0 → n ≡ counted m n
+none_after m n none = ap (λ k. counted k n) (sym none)
+
+pub one_after : (old mid new m n : ℕ) → new ≡ one_more mid → mid ≡ counted m old → n ≡ m + 1 → new ≡ counted n old
+one_after old mid new m n more was longer =
+    let e : n ≡ suc m = omega (arith, longer) in
+    more ∙ ap one_more was ∙ ap (λ k. counted k old) (sym e)
+
+pub may_be_after : (old mid new m n : ℕ) → mid ≡ counted m old → n ≡ m → MayCountOne 0 mid new → MayCountOne n old new
+may_be_after old mid new m n was same (inl e) = inl (e ∙ was ∙ ap (λ k. counted k old) (sym same))
+may_be_after old mid new m n was same (inr e) = inr (e ∙ ap one_more (was ∙ ap (λ k. counted k old) (sym same)))

@@ -1,5 +1,6 @@
 -- Events that are no steps, and steps that the rules allow.
-use Rattle.std.proofs.Common.{◌≡◌, None, sym, ap, subst, ◌∙◌}
+use Rattle.std.proofs.Common.{◌≡◌, ℕ, List, Option, None, sym, ap, subst, ◌∙◌}
+use Rattle.gr_base.specs.declared.events.Choice.{Choice}
 use Rattle.gr_base.specs.declared.events.Event.{Event}
 use Rattle.gr_program.specs.Programs.{Program}
 use Rattle.gr_rules.specs.Steps.{refusal}
@@ -13,7 +14,6 @@ use Rattle.gr_step.specs.Records.{event_of}
 use Rattle.gr_step.specs.Stores.{program_at, contents_at, state_at}
 use Rattle.gr_step.specs.Taking.{IsRecord}
 use Rattle.gr_step.specs.Refusals.{SaysWhy}
-use Rattle.gr_rollback.specs.declared.asked.Asked.{Asked}
 use Rattle.gr_rollback.specs.declared.course.Course.{Course}
 use Rattle.gr_rollback.specs.Courses.{Holds}
 use Rattle.gr_rollback.specs.Pasts.{Past}
@@ -39,17 +39,17 @@ is_no_step : (p : Program) (w : Past p) (c : Course) (e : Event) (why : StepRefu
 is_no_step p w c e why s says = says_here p (contents_at c.store) w e why s.state (subst (λ q. SaysWhy q (contents_at c.store) e why) s.program says)
 
 -- the event that is meant, by the store and by the past
-pub meant_here : (p : Program) (w : Past p) (c : Course) (asked : Asked) → Holds p w c
-    → event_meant (program_at c.store) (state_at c.store) asked ≡ event_meant p w.state asked
-meant_here p w c asked s =
-    ap (λ q. event_meant q (state_in q (contents_at c.store)) asked) s.program ∙ ap (λ t. event_meant p t asked) (sym s.state)
+pub meant_here : (p : Program) (w : Past p) (c : Course) (go : List ℕ) (choice : Option Choice) → Holds p w c
+    → event_meant (program_at c.store) (state_at c.store) go choice ≡ event_meant p w.state go choice
+meant_here p w c go choice s =
+    ap (λ q. event_meant q (state_in q (contents_at c.store)) go choice) s.program ∙ ap (λ t. event_meant p t go choice) (sym s.state)
 
-pub asked_no_step : (p : Program) (w : Past p) (c : Course) (asked : Asked) (why : StepRefused) → Holds p w c
-    → SaysWhy (program_at c.store) (contents_at c.store) (event_meant (program_at c.store) (state_at c.store) asked) why
-    → IsNoStep p w (event_meant p w.state asked) why
-asked_no_step p w c asked why s says =
-    subst (λ e. IsNoStep p w e why) (meant_here p w c asked s)
-    (is_no_step p w c (event_meant (program_at c.store) (state_at c.store) asked) why s says)
+pub asked_no_step : (p : Program) (w : Past p) (c : Course) (go : List ℕ) (choice : Option Choice) (why : StepRefused) → Holds p w c
+    → SaysWhy (program_at c.store) (contents_at c.store) (event_meant (program_at c.store) (state_at c.store) go choice) why
+    → IsNoStep p w (event_meant p w.state go choice) why
+asked_no_step p w c go choice why s says =
+    subst (λ e. IsNoStep p w e why) (meant_here p w c go choice s)
+    (is_no_step p w c (event_meant (program_at c.store) (state_at c.store) go choice) why s says)
 
 -- the step of a record is one that the rules allow
 pub record_is_allowed : (p : Program) (w : Past p) (c : Course) (r : Record) (t : Contents) → Holds p w c → IsRecord (program_at c.store) (contents_at c.store) r t

@@ -1,6 +1,6 @@
 -- Steps taken back, done again, and put in another order: what is left, and what is answered.
 -- Lanese, Nishida, Palacios and Vidal, A theory of reversibility for Erlang (2018): an action is undone with its consequences.
-use Rattle.std.specs.Prelude.{◌≡◌, ℕ, List, [], ◌∷◌, ◌++◌, map, slice_get, Vec, Result, Ok, Err, Some}
+use Rattle.std.specs.Prelude.{◌≡◌, ℕ, List, [], ◌∷◌, ◌++◌, length, map, slice_get, Vec, Result, Ok, Err, Some}
 use Rattle.std.proofs.Common.{Global}
 use Rattle.gr_base.specs.declared.events.Event.{Event}
 use Rattle.gr_base.specs.declared.names.StepId.{StepId}
@@ -16,6 +16,7 @@ use Rattle.gr_rollback.specs.declared.refusal.BackRefused.{BackRefused}
 use Rattle.gr_rollback.specs.declared.refusal.BackRefused.TheVariants as refusals
 use Rattle.gr_rollback.specs.Pasts.{Past, Timeline, id_of, ids_of, events_in}
 use Rattle.gr_rollback.specs.Machines.{Stands}
+use Rattle.gr_rollback.specs.Stepping.{counted, MayCountOne}
 
 -- the step at this place of the log has the name
 pub record IsNamed (p : Program) (log : List (Logged p)) (id : StepId) (place : ℕ) : Type 0 where
@@ -85,6 +86,12 @@ TakenBack p w id (Ok ids) m = TakesBack p w id ids.items m
 TakenBack p w id (Err refusals.NotKept) m = ((place : ℕ) → ¬ IsNamed p w.past.log id place) × Stands p w m
 TakenBack p w id (Err (refusals.NoMemory ids)) m = TakesSomeBack p w id ids.items m
 TakenBack p w id (Err _) m = ⊥
+
+-- how many steps were taken before and after `redo`, which answers the names of those that are more
+abbrev pub CountsAgain : Result (Vec StepId Global) BackRefused → ℕ → ℕ → Type 0
+CountsAgain (Ok ids) old new = new ≡ counted (length ids.items) old
+CountsAgain (Err (refusals.NoMemory ids)) old new = MayCountOne (length ids.items) old new
+CountsAgain (Err _) old new = new ≡ old
 
 -- what `redo` answers and leaves: the steps are taken again, in their order; or the first of them, the others being still to come
 pub record Redoes (p : Program) (w : Timeline p) (ids : List StepId) (u : Timeline p) : Type 0 where

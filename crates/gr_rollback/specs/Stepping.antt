@@ -1,4 +1,6 @@
--- What is told of a step, and the step that is asked for.
+-- What is told of a step, the step that is asked for, and how the steps that were taken are counted.
+use Rattle.std.specs.Prelude.{◌≡◌, ◌+◌, ◌-◌, ◌^◌, ◌⊎◌, ℕ, zero, suc, List, Option, Some, None, min}
+use Rattle.gr_base.specs.declared.events.Choice.{Choice}
 use Rattle.gr_base.specs.declared.events.Event.{Event}
 use Rattle.gr_program.specs.Programs.{Program}
 use Rattle.gr_rules.specs.States.{State}
@@ -6,9 +8,9 @@ use Rattle.gr_laws.specs.Reached.{Logged}
 use Rattle.gr_step.specs.Record.{Record}
 use Rattle.gr_step.specs.Pairs.{step_kind}
 use Rattle.gr_step.specs.Choices.{usual_event}
+use Rattle.gr_step.specs.declared.refusal.StepRefused.{StepRefused}
+use Rattle.gr_step.specs.declared.refusal.StepRefused.TheVariants as refusals
 use Rattle.gr_rollback.specs.declared.stepped.Stepped.{Stepped}
-use Rattle.gr_rollback.specs.declared.asked.Asked.{Asked}
-use Rattle.gr_rollback.specs.declared.asked.Asked.TheVariants as asked
 
 -- the ordinal and the kind of a step
 abbrev pub told_of : (p : Program) → Logged p → Stepped
@@ -18,7 +20,24 @@ told_of p l = record { ordinal = l.note.kind.ordinal; kind = step_kind p l }
 abbrev pub told_by : Record → Stepped
 told_by r = record { ordinal = r.id.n; kind = r.change.kind }
 
--- the event of the step that is asked for
-abbrev pub event_meant : Program → State → Asked → Event
-event_meant p s (asked.Event e) = e
-event_meant p s (asked.Usual go) = usual_event p s go
+-- the event of a goroutine with this choice, or else with its usual one
+abbrev pub event_meant : Program → State → List ℕ → Option Choice → Event
+event_meant p s go (Some choice) = record { go = go; choice = choice }
+event_meant p s go None = usual_event p s go
+
+-- how many steps were taken, with one more; the number stays at the greatest one of 64 bits
+abbrev pub one_more : ℕ → ℕ
+one_more taken = min (taken + 1) (2 ^ 64 - 1)
+
+-- how many steps were taken, with so many more
+abbrev pub counted : ℕ → ℕ → ℕ
+counted zero taken = taken
+counted (suc more) taken = one_more (counted more taken)
+
+-- how many steps were taken before, and after so many more; one that was taken back for memory may count too
+abbrev pub MayCountOne : ℕ → ℕ → ℕ → Type 0
+MayCountOne more old new = (new ≡ counted more old) ⊎ (new ≡ one_more (counted more old))
+
+-- how many steps were taken before and after one that is refused: as many; but a step whose record found no room was taken
+abbrev pub MayCount : StepRefused → ℕ → ℕ → Type 0
+MayCount why old new = (new ≡ old) ⊎ ((why ≡ refusals.NoMemory) × (new ≡ one_more old))

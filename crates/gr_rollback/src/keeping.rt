@@ -6,14 +6,15 @@ ghost use Rattle.gr_causal.specs.Sequences.{Distinct};
 ghost use Rattle.gr_program.specs.Programs.{Program};
 ghost use Rattle.gr_step.specs.Conflicts.{touched_by};
 ghost use Rattle.gr_step.specs.Records.{begun_by, event_of, taken_back, CanGoBack};
-ghost use Rattle.gr_step.specs.Stores.{contents_at, taken_at, SameListing, HasRoomFor};
+ghost use Rattle.gr_step.specs.Stores.{program_at, contents_at, state_at, taken_at, IsRun, SameListing, HasRoomFor};
+ghost use Rattle.gr_step.specs.Taking.{IsRecord};
+ghost use Rattle.gr_step.specs.Premises.{CanCount};
+ghost use Rattle.gr_step.specs.Refusals.{SaysWhy};
 ghost use Rattle.gr_depend.specs.Logs.{records_of};
-ghost use Rattle.gr_step.specs.Choices.{usual_event};
 ghost use Rattle.gr_rollback.specs.Readiness.{HasReady, KnowsMore, AllKnown};
-ghost use Rattle.gr_rollback.specs.Stepping.{event_meant};
+ghost use Rattle.gr_rollback.specs.Stepping.{event_meant, one_more, MayCount};
 
 use crate::LOG_LIMIT;
-use crate::asked::{Asked, take_asked};
 use crate::bringing::bring_step_back;
 use crate::course::Course;
 use crate::readiness::{know_child, settle_again, settle_taken};
@@ -23,12 +24,35 @@ use gr_depend::Log;
 use gr_pool::Pool;
 use gr_step::{Record, StepRefused, Store};
 
+/// Takes the step of a goroutine with a choice, or where there is none with its usual one. Refused, nothing has changed.
+#[inline(always)]
+fn take_asked(store: &mut Store, go: GoName, choice: Option<Choice>) -> Result<Record, StepRefused>
+    requires run { IsRun store.old }
+    requires counted { CanCount (contents_at store.old) }
+    ensures step { IfOk result (λ r. IsRecord (program_at store.old) (contents_at store.old) r (contents_at store.new)) }
+    ensures event { IfOk result (λ r. event_of r ≡ event_meant (program_at store.old) (state_at store.old) go choice) }
+    ensures run { IsRun store.new }
+    ensures room { IfOk result (λ r. HasRoomFor r store.new) }
+    ensures why { IfErr result (SaysWhy (program_at store.old) (contents_at store.old)
+        (event_meant (program_at store.old) (state_at store.old) go choice)) }
+    ensures err { OnErr result (contents_at store.new ≡ contents_at store.old) }
+    ensures taken { OnOk result (taken_at store.new ≡ one_more (taken_at store.old)) }
+    ensures not_taken { OnErr result (taken_at store.new ≡ taken_at store.old) }
+    ensures listing { SameListing store.old store.new }
+{
+    match choice {
+        Some(choice) => store.step(Event { go, choice }),
+        None => store.step_usual(go),
+    }
+}
+
 /// Takes a step back directly after it, which takes no memory.
 #[inline(never)]
 fn withdraw(store: &mut Store, step: Record)
     requires fits { CanGoBack step.id.go step.change (contents_at store.old) }
     requires room { HasRoomFor step store.old }
     ensures back { contents_at store.new ≡ taken_back step.id.go step.change (contents_at store.old) }
+    ensures taken { taken_at store.new ≡ taken_at store.old }
     ensures listing { SameListing store.old store.new }
 {
     let _ = store.unstep(step);
@@ -88,36 +112,29 @@ impl Course {
     ghost use Rattle.gr_rollback.specs.Steps.{Kept};
     ghost use Rattle.gr_rollback.specs.Retracting.{LastGoesBack, Retracts, SameCourse, KeepsLogRoom};
 
-    /// Takes the step of an event, whose record joins the log. Refused, nothing has changed. A step over whole numbers alone, as
-    /// most are, is looked for first: its goroutine is ready after it, and it reached no other.
-    #[inline(always)]
-    pub(crate) fn keep(&mut self, event: Event) -> Result<Stepped, StepRefused>
-        requires { IsCourse self.old }
-        ensures kept { (p : Program) (w : Past p) → Holds p w self.old → Kept p w event result self.new }
-        ensures listing { SameListing self.old.store self.new.store }
-    {
-        match self.store.step_ints(event) {
-            Ok(step) => self.join(step),
-            Err(event) => self.keep_further(Asked::Event(event)),
-        }
-    }
-
-    /// Takes the step of a goroutine with its usual choice, whose record joins the log. Refused, nothing has changed. A step over
-    /// whole numbers leaves no choice, so the usual one is found only where the step is of another kind.
-    #[inline(always)]
-    pub(crate) fn keep_usual(&mut self, go: GoName) -> Result<Stepped, StepRefused>
+    /// Takes the step of a goroutine with a choice, or where there is none with its usual one, and its record joins the log.
+    /// Refused, nothing has changed. A step over whole numbers alone, as most are, is looked for first: it leaves no choice, its
+    /// goroutine is ready after it, and it reached no other. This is the one caller of each of the two ways, so that both are
+    /// compiled into it.
+    pub(crate) fn keep(
+        &mut self,
+        go: GoName,
+        choice: Option<Choice>,
+    ) -> Result<Stepped, StepRefused>
         requires { IsCourse self.old }
         ensures kept { (p : Program) (w : Past p) → Holds p w self.old
-            → Kept p w (usual_event p w.state go) result self.new }
+            → Kept p w (event_meant p w.state go choice) result self.new }
+        ensures taken { OnOk result (taken_at self.new.store ≡ one_more (taken_at self.old.store)) }
+        ensures not_taken { IfErr result (λ why. MayCount why (taken_at self.old.store) (taken_at self.new.store)) }
         ensures listing { SameListing self.old.store self.new.store }
     {
-        let plain = Event {
+        let event = Event {
             go,
-            choice: Choice::Plain,
+            choice: choice.unwrap_or(Choice::Plain),
         };
-        match self.store.step_ints(plain) {
+        match self.store.step_ints(event) {
             Ok(step) => self.join(step),
-            Err(event) => self.keep_further(Asked::Usual(event.go)),
+            Err(event) => self.keep_further(event.go, choice),
         }
     }
 
@@ -127,7 +144,8 @@ impl Course {
         requires fits { CanGoBack step.id.go step.change (contents_at self.old.store) }
         requires room { HasRoomFor step self.old.store }
         requires once { Distinct (touched_by step) }
-        ensures { Joined self.old step result self.new }
+        ensures joined { Joined self.old step result self.new }
+        ensures taken { taken_at self.new.store ≡ taken_at self.old.store }
     {
         if self.log.len() >= LOG_LIMIT {
             withdraw(&mut self.store, step);
@@ -144,14 +162,15 @@ impl Course {
     }
 
     /// Takes the step that is asked for, of whatever kind it is, whose record joins the log. Refused, nothing has changed.
-    #[inline(never)]
-    fn keep_further(&mut self, asked: Asked) -> Result<Stepped, StepRefused>
+    fn keep_further(&mut self, go: GoName, choice: Option<Choice>) -> Result<Stepped, StepRefused>
         requires { IsCourse self.old }
         ensures kept { (p : Program) (w : Past p) → Holds p w self.old
-            → Kept p w (event_meant p w.state asked) result self.new }
+            → Kept p w (event_meant p w.state go choice) result self.new }
+        ensures taken { OnOk result (taken_at self.new.store ≡ one_more (taken_at self.old.store)) }
+        ensures not_taken { IfErr result (λ why. MayCount why (taken_at self.old.store) (taken_at self.new.store)) }
         ensures listing { SameListing self.old.store self.new.store }
     {
-        let step = take_asked(&mut self.store, asked)?;
+        let step = take_asked(&mut self.store, go, choice)?;
         let told = Stepped::of(&step);
         let entered = enter(&mut self.log, &mut self.pool, step);
         if let Err(step) = entered {

@@ -1,7 +1,6 @@
 //! A program that runs, with its steps: taken, taken back with their consequences, done again, and put in another order.
 #![tactic(auto)]
 
-pub mod asked;
 mod asking;
 mod back;
 mod bringing;

@@ -1,6 +1,6 @@
 //! The machine of a program: its state, the log of its steps, and the steps that may be done again.
 
-ghost use Rattle.std.specs.Prelude.{◌≡◌, IfOk, OnOk, OnErr, option_copied};
+ghost use Rattle.std.specs.Prelude.{◌≡◌, IfOk, IfErr, OnOk, OnErr, option_copied};
 ghost use Rattle.gr_program.specs.Programs.{Program as ProgramSeen};
 ghost use Rattle.gr_program.specs.Views.{program_of};
 ghost use Rattle.gr_rules.specs.Turns.{IsTurn, last_owner};
@@ -30,6 +30,7 @@ impl Machine {
     ghost use Rattle.gr_rollback.specs.Pasts.{Timeline, first_timeline};
     ghost use Rattle.gr_rollback.specs.Machines.{store_of, log_of, Stands, IsMachine};
     ghost use Rattle.gr_rollback.specs.Retracting.{LastGoesBack, SameCourse, RetractsLast};
+    ghost use Rattle.gr_rollback.specs.Stepping.{one_more, MayCount};
     ghost use Rattle.gr_rollback.specs.Steps.{Taken};
     ghost use Rattle.gr_rollback.specs.Backs.{Undone};
 
@@ -77,9 +78,11 @@ impl Machine {
     pub fn step(&mut self, event: Event) -> Result<Stepped, StepRefused>
         requires { IsMachine self.old }
         ensures taken { (p : ProgramSeen) (w : Timeline p) → Stands p w self.old → Taken p w event result self.new }
+        ensures count { OnOk result (taken_at (store_of self.new) ≡ one_more (taken_at (store_of self.old))) }
+        ensures refused { IfErr result (λ why. MayCount why (taken_at (store_of self.old)) (taken_at (store_of self.new))) }
         ensures listing { SameListing (store_of self.old) (store_of self.new) }
     {
-        let told = self.course.keep(event)?;
+        let told = self.course.keep(event.go, Some(event.choice))?;
         self.again.clear();
         Ok(told)
     }
@@ -91,9 +94,11 @@ impl Machine {
         requires { IsMachine self.old }
         ensures taken { (p : ProgramSeen) (w : Timeline p) → Stands p w self.old
             → Taken p w (usual_event p w.past.state go) result self.new }
+        ensures count { OnOk result (taken_at (store_of self.new) ≡ one_more (taken_at (store_of self.old))) }
+        ensures refused { IfErr result (λ why. MayCount why (taken_at (store_of self.old)) (taken_at (store_of self.new))) }
         ensures listing { SameListing (store_of self.old) (store_of self.new) }
     {
-        let told = self.course.keep_usual(go)?;
+        let told = self.course.keep(go, None)?;
         self.again.clear();
         Ok(told)
     }

@@ -3,7 +3,7 @@
 ghost use Rattle.std.specs.Prelude.{◌≡◌, ◌+◌, ◌<◌, ◌≤◌, [], vec_len, vec_capacity, OnOk, OnErr};
 ghost use Rattle.gr_program.specs.Programs.{Program};
 ghost use Rattle.gr_step.specs.declared.refusal.StepRefused.TheVariants as refusals;
-ghost use Rattle.gr_step.specs.Stores.{SameListing};
+ghost use Rattle.gr_step.specs.Stores.{taken_at, SameListing};
 
 use crate::machine::Machine;
 use crate::refusal::BackRefused;
@@ -25,7 +25,8 @@ impl Machine {
     ghost use Rattle.gr_rollback.specs.Pasts.{Timeline};
     ghost use Rattle.gr_rollback.specs.Machines.{store_of, again_of, Stands, IsMachine};
     ghost use Rattle.gr_rollback.specs.Redoing.{GoesOn};
-    ghost use Rattle.gr_rollback.specs.Backs.{TakenAgain};
+    ghost use Rattle.gr_rollback.specs.Backs.{CountsAgain, TakenAgain};
+    ghost use Rattle.gr_rollback.specs.Stepping.{counted, one_more, MayCountOne};
 
     /// Takes the next of the steps again, whose name joins the others. Refused, nothing has changed.
     fn take_next(&mut self, alloc: Global, ids: &mut Vec<StepId>) -> Result<(), NoMemory>
@@ -33,14 +34,17 @@ impl Machine {
         requires some { 0 < vec_len self.old.again }
         requires room { vec_len ids.old < vec_capacity ids.old }
         ensures goes { (p : Program) (w : Timeline p) → Stands p w self.old → GoesOn p w ids.old.items ids.new.items self.new }
+        ensures taken { OnOk result (taken_at (store_of self.new) ≡ one_more (taken_at (store_of self.old))) }
+        ensures not_taken { OnErr result (MayCountOne 0 (taken_at (store_of self.old)) (taken_at (store_of self.new))) }
         ensures ok { OnOk result (vec_len self.new.again + 1 ≡ vec_len self.old.again) }
         ensures ok_ids { OnOk result (vec_len ids.new ≡ vec_len ids.old + 1) }
         ensures ok_room { OnOk result (vec_capacity ids.new ≡ vec_capacity ids.old) }
         ensures err { OnErr result (vec_len self.new.again ≡ vec_len self.old.again) }
+        ensures err_ids { OnErr result (vec_len ids.new ≡ vec_len ids.old) }
         ensures listing { SameListing (store_of self.old) (store_of self.new) }
     {
         let event = self.again.last().unwrap().copy(alloc)?;
-        match self.course.keep(event) {
+        match self.course.keep(event.go, Some(event.choice)) {
             Ok(told) => {
                 let Event { go, .. } = self.again.pop().unwrap();
                 ids.push_reserved(StepId {
@@ -53,11 +57,15 @@ impl Machine {
         }
     }
 
-    /// Takes the steps again, whose names join the others. Refused, it stands where it came to.
+    /// Takes the steps again, and puts down their names. Refused, it stands where it came to.
     fn take_all(&mut self, alloc: Global, ids: &mut Vec<StepId>) -> Result<(), NoMemory>
         requires machine { IsMachine self.old }
         requires room { vec_len ids.old + vec_len self.old.again ≤ vec_capacity ids.old }
+        requires none { vec_len ids.old ≡ 0 }
         ensures goes { (p : Program) (w : Timeline p) → Stands p w self.old → GoesOn p w ids.old.items ids.new.items self.new }
+        ensures taken { OnOk result (taken_at (store_of self.new) ≡ counted (vec_len ids.new) (taken_at (store_of self.old))) }
+        ensures not_taken { OnErr result
+            (MayCountOne (vec_len ids.new) (taken_at (store_of self.old)) (taken_at (store_of self.new))) }
         ensures all { OnOk result (vec_len self.new.again ≡ 0) }
         ensures left { OnErr result (0 < vec_len self.new.again) }
         ensures listing { SameListing (store_of self.old) (store_of self.new) }
@@ -69,11 +77,12 @@ impl Machine {
     }
 
     /// Takes the steps again that the last `undo` or `back` took back, in their old order and with their choices; none where
-    /// another step or order came since. It answers their names. Where memory is wanting on the way, the first of these steps are
+    /// another step or order came since. It answers their names. Where memory runs out on the way, the first of these steps are
     /// taken, which the refusal names, and the others may still be done.
     pub fn redo(&mut self, alloc: Global) -> Result<Vec<StepId>, BackRefused>
         requires { IsMachine self.old }
         ensures again { (p : Program) (w : Timeline p) → Stands p w self.old → TakenAgain p w result self.new }
+        ensures taken { CountsAgain result (taken_at (store_of self.old)) (taken_at (store_of self.new)) }
         ensures listing { SameListing (store_of self.old) (store_of self.new) }
     {
         if self.again.is_empty() {

@@ -1,9 +1,18 @@
-use Rattle.std.proofs.Common.{subst}
-use Rattle.gr_step.specs.Stores.{program_at, contents_at}
+use Rattle.std.proofs.Common.{◌≡◌, None, ap, subst, ◌∙◌}
+use Rattle.std.specs.Option.{unwrap_or}
+use Rattle.gr_base.specs.declared.events.Choice.{Choice}
+use Rattle.gr_base.specs.declared.events.Choice.TheVariants.{Plain}
+use Rattle.gr_base.specs.declared.events.Event.{Event}
+use Rattle.gr_rules.specs.Steps.{refusal}
+use Rattle.gr_step.specs.Records.{event_of}
+use Rattle.gr_step.specs.Stores.{program_at, contents_at, taken_at}
 use Rattle.gr_step.proofs.RecordLemmas.{no_object_twice}
+use Rattle.gr_rollback.specs.Stepping.{event_meant}
 use Rattle.gr_rollback.specs.Steps.{Kept}
-use Rattle.gr_rollback.proofs.JoinLemmas.{joined_or_not, nothing_taken}
+use Rattle.gr_rollback.proofs.JoinLemmas.{joined_or_not, may_count, nothing_taken}
 use Rattle.gr_rollback.proofs.CourseLemmas.{can_count, is_course, logged, tells}
+use Rattle.gr_rollback.proofs.ChoiceLemmas.{plain_is_meant}
+use Rattle.gr_rollback.proofs.StepLemmas.{record_is_allowed}
 use Rattle.gr_rollback.proofs.course.Course.keep.Goals as goal
 
 pub step_ints-requires-clause-counted : goal.step_ints-requires-clause-counted
@@ -20,9 +29,18 @@ join-requires-clause-once c =
 pub returns-in-Ok-clause-kept : goal.returns-in-Ok-clause-kept
 returns-in-Ok-clause-kept c = λ p w s.
     let step = c.in-Ok.ensures in
-    joined_or_not p w c.args.self.now s c.in-Ok.step c.step_ints.new.self
+    let plain : Event = record { go = c.args.go; choice = unwrap_or c.args.choice Plain } in
+    let event : event_of c.in-Ok.step ≡ plain = step.event ∙ ap (λ (ch : Choice). record { go = c.args.go; choice = ch }) c.unwrap_or.ensures in
+    let allowed = subst (λ e. refusal p w.state e ≡ None) event (record_is_allowed p w c.args.self.now c.in-Ok.step (contents_at c.step_ints.new.self) s step.step) in
+    subst (λ e. Kept p w e c.join.result c.join.new.self) (plain_is_meant p w.state c.args.go c.args.choice allowed)
+    (joined_or_not p w c.args.self.now s c.in-Ok.step c.step_ints.new.self
     (record { is = step.step; alone = step.alone; keeps = step.stays; run = step.run; listing = step.listing })
-    c.args.event c.join.result c.join.new.self step.event c.join.ensures
+    plain c.join.result c.join.new.self event c.join.ensures.joined)
+
+pub returns-in-Ok-clause-not_taken : goal.returns-in-Ok-clause-not_taken
+returns-in-Ok-clause-not_taken c =
+    may_count _ c.in-Ok.step c.join.result c.join.new.self (taken_at c.args.self.now.store) c.join.ensures.joined
+    (c.join.ensures.taken ∙ c.in-Ok.ensures.taken)
 
 pub keep_further-requires : goal.keep_further-requires
 keep_further-requires c =
@@ -31,5 +49,6 @@ keep_further-requires c =
 
 pub returns-in-Err-clause-kept : goal.returns-in-Err-clause-kept
 returns-in-Err-clause-kept c = λ p w s.
-    subst (λ e. Kept p w e c.keep_further.result c.keep_further.new.self) c.in-Err.ensures.returned
+    subst (λ g. Kept p w (event_meant p w.state g c.args.choice) c.keep_further.result c.keep_further.new.self)
+    (ap (λ (e : Event). e.go) c.in-Err.ensures.returned)
     (c.keep_further.ensures.kept p w (nothing_taken p w c.args.self.now c.step_ints.new.self s c.in-Err.ensures.listing c.in-Err.ensures.err))

@@ -1,4 +1,4 @@
-use Rattle.std.proofs.Common.{◌≡◌, true, ◌∷◌, None, refl, sym, ap, subst, ◌∙◌}
+use Rattle.std.proofs.Common.{◌≡◌, true, ◌∷◌, None, inl, inr, refl, sym, ap, subst, ◌∙◌}
 use Rattle.std.proofs.lemmas.Result.{err_from_is_err_and}
 use Rattle.gr_pool.specs.Goroutines.{is_among}
 use Rattle.gr_rules.specs.Steps.{refusal}
@@ -22,7 +22,7 @@ pub returns-in_err-step-clause-kept : goal.returns-in_err-step-clause-kept
 returns-in_err-step-clause-kept c = λ p w s.
     let told = err_from_is_err_and c.from_residual.result c.from_residual.ensures.1 in
     rw (told.1, told.2) (
-      asked_no_step p w c.args.self.now c.args.asked _ s c.in_err-step.ensures.why,
+      asked_no_step p w c.args.self.now c.args.go c.args.choice _ s c.in_err-step.ensures.why,
       stays p w c.args.self.now _ s (record {
         listing = c.in_err-step.ensures.listing;
         contents = c.in_err-step.ensures.err;
@@ -31,6 +31,11 @@ returns-in_err-step-clause-kept c = λ p w s.
         first = refl;
       }),
     )
+
+pub returns-in_err-step-clause-not_taken : goal.returns-in_err-step-clause-not_taken
+returns-in_err-step-clause-not_taken c =
+    let told = err_from_is_err_and c.from_residual.result c.from_residual.ensures.1 in
+    rw told.1 (inl c.in_err-step.ensures.not_taken)
 
 pub enter-entered-requires : goal.enter-entered-requires
 enter-entered-requires c =
@@ -43,7 +48,7 @@ enter-entered-requires c =
 pub returns-in-Err-clause-kept : goal.returns-in-Err-clause-kept
 returns-in-Err-clause-kept c = λ p w s.
     let is = c.in_ok-step.ensures.step in (
-      subst (λ e. refusal p w.state e ≡ None) (c.in_ok-step.ensures.event ∙ meant_here p w c.args.self.now c.args.asked s) (record_is_allowed p w c.args.self.now c.in_ok-step.step (contents_at c.take_asked.new.store) s is),
+      subst (λ e. refusal p w.state e ≡ None) (c.in_ok-step.ensures.event ∙ meant_here p w c.args.self.now c.args.go c.args.choice s) (record_is_allowed p w c.args.self.now c.in_ok-step.step (contents_at c.take_asked.new.store) s is),
       stays p w c.args.self.now _ s (record {
         listing = c.withdraw.ensures.listing ∙ c.in_ok-step.ensures.listing;
         contents = c.withdraw.ensures.back ∙ ap (λ (r : Record). taken_back r.id.go r.change (contents_at c.take_asked.new.store)) c.in-Err.ensures.handed_back ∙ is.takes.back;
@@ -54,6 +59,9 @@ returns-in-Err-clause-kept c = λ p w s.
         first = refl;
       }),
     )
+
+pub returns-in-Err-clause-not_taken : goal.returns-in-Err-clause-not_taken
+returns-in-Err-clause-not_taken c = inr (refl, c.withdraw.ensures.taken ∙ c.in_ok-step.ensures.taken)
 
 pub settle_taken-requires-clause-own : goal.settle_taken-requires-clause-own
 settle_taken-requires-clause-own c =
@@ -95,7 +103,7 @@ returns-in-Some-clause-kept c = λ p w s.
     let settles : Settles (r.id.go ∷ others_of r.change) (contents_at c.take_asked.new.store) c.enter-entered.new.pool c.settle_taken.new.pool =
     subst (λ (q : Record). Settles (q.id.go ∷ others_of q.change) (contents_at c.take_asked.new.store) c.enter-entered.new.pool c.settle_taken.new.pool) last c.settle_taken.ensures in
     let new : Course = record { store = c.take_asked.new.store; log = c.enter-entered.new.log; pool = c.settle_taken.new.pool; first = c.args.self.now.first } in
-    subst (λ e. Keeps p w e c.of-told.result new) (c.in_ok-step.ensures.event ∙ meant_here p w c.args.self.now c.args.asked s)
+    subst (λ e. Keeps p w e c.of-told.result new) (c.in_ok-step.ensures.event ∙ meant_here p w c.args.self.now c.args.go c.args.choice s)
     (keeps p w c.args.self.now new r c.of-told.result c.of-told.ensures s (record {
       is = is;
       run = c.in_ok-step.ensures.run;

@@ -1,4 +1,7 @@
-use Rattle.std.proofs.Common.{◌≡◌, ◌<◌, [], length, vec_len, ap, sym, ◌∙◌, arith, rules}
+use Rattle.std.proofs.Common.{◌≡◌, ◌<◌, [], length, vec_len, ap, sym, subst, ◌∙◌, arith, rules}
+use Rattle.gr_step.specs.Stores.{taken_at}
+use Rattle.gr_rollback.specs.Machines.{store_of}
+use Rattle.gr_rollback.specs.Stepping.{counted, MayCountOne}
 use Rattle.gr_rollback.proofs.RedoLemmas.{takes_again, takes_some_again, something_again, no_items}
 use Rattle.gr_rollback.proofs.machine.Machine.redo.Goals as goal
 
@@ -16,3 +19,12 @@ returns-in-Err-clause-again c = λ p w s.
     let left = c.in-Err.ensures.left in
     takes_some_again p w _ _ _ (something_again p w c.args.self.now s some) c.in-Ok.ensures.items (c.in-Err.ensures.goes p w s)
     (λ e. let n : vec_len c.take_all.new.self.again ≡ 0 = c.take_all.new.self.again.ok.0 ∙ ap length e in omega (arith, left))
+
+pub returns-in-Ok-take_all-clause-taken : goal.returns-in-Ok-take_all-clause-taken
+returns-in-Ok-take_all-clause-taken c =
+    c.in-Ok-take_all.ensures.taken ∙ ap (λ n. counted n (taken_at (store_of c.args.self.now))) c.take_all.new.ids.ok.0
+
+pub returns-in-Err-clause-taken : goal.returns-in-Err-clause-taken
+returns-in-Err-clause-taken c =
+    subst (λ n. MayCountOne n (taken_at (store_of c.args.self.now)) (taken_at (store_of c.take_all.new.self))) c.take_all.new.ids.ok.0
+    c.in-Err.ensures.not_taken

@@ -12,3 +12,8 @@ returns-in_err-told-clause-taken c = λ p w s.
 
 pub returns-clause-taken : goal.returns-clause-taken
 returns-clause-taken c = λ p w s. takes p w _ c.in_ok-told.told _ (c.in_ok-told.ensures.kept p w.past s.holds) (ap reverse c.clear.ensures.items)
+
+pub returns-in_err-told-clause-refused : goal.returns-in_err-told-clause-refused
+returns-in_err-told-clause-refused c =
+    let why = err_from_is_err_and c.from_residual.result c.from_residual.ensures.1 in
+    rw (why.1, why.2) c.in_err-told.ensures.not_taken

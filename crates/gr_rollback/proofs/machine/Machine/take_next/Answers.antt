@@ -1,4 +1,5 @@
-use Rattle.std.proofs.Common.{reverse, refl, sym, ap, subst, ◌∙◌}
+use Rattle.std.proofs.Common.{reverse, inl, inr, refl, sym, ap, subst, ◌∙◌}
+use Rattle.std.proofs.lemmas.Result.{err_from_is_err_and}
 use Rattle.gr_base.specs.declared.events.Event.{Event}
 use Rattle.gr_rollback.specs.Steps.{IsNoStep, Keeps}
 use Rattle.gr_rollback.proofs.RedoLemmas.{next_event, taken_off, only_memory as wants_memory, stands_still, goes_nowhere, goes_next, last_there, last_first}
@@ -33,3 +34,11 @@ returns-in-Ok-clause-goes c = λ p w s.
     subst (λ e. Keeps p w.past e c.in-Ok.told c.keep.new.self) c.in_ok-event.ensures (c.in-Ok.ensures.kept p w.past s.holds) in
     rw c.push_reserved.ensures.items
     (goes_next p w c.args.self.now _ event (reverse rest) s (sym s.again ∙ next) refl c.in-Ok.told keeps c.args.ids.now.items off.go (ap (λ (e : Event). e.go) same))
+
+pub returns-in-Err-clause-not_taken : goal.returns-in-Err-clause-not_taken
+returns-in-Err-clause-not_taken c = elim c.in-Err.ensures.not_taken [ inl same ↦ inl same | inr more ↦ inr more.1 ]
+
+pub returns-in_err-event-clause-not_taken : goal.returns-in_err-event-clause-not_taken
+returns-in_err-event-clause-not_taken c =
+    let why = err_from_is_err_and c.from_residual.result c.from_residual.ensures.1 in
+    rw why.1 (inl refl)
