@@ -7,7 +7,7 @@ use Rattle.gr_rules.specs.States.{State}
 use Rattle.gr_laws.specs.Reached.{Logged}
 use Rattle.gr_step.specs.Record.{Record}
 use Rattle.gr_step.specs.Pairs.{step_kind}
-use Rattle.gr_step.specs.Choices.{usual_event}
+pub use Rattle.gr_step.specs.Choices.{event_meant}
 use Rattle.gr_step.specs.declared.refusal.StepRefused.{StepRefused}
 use Rattle.gr_step.specs.declared.refusal.StepRefused.TheVariants as refusals
 use Rattle.gr_rollback.specs.declared.stepped.Stepped.{Stepped}
@@ -19,11 +19,6 @@ told_of p l = record { ordinal = l.note.kind.ordinal; kind = step_kind p l }
 -- the ordinal and the kind of a step, as its record tells them
 abbrev pub told_by : Record → Stepped
 told_by r = record { ordinal = r.id.n; kind = r.change.kind }
-
--- the event of a goroutine with this choice, or else with its usual one
-abbrev pub event_meant : Program → State → List ℕ → Option Choice → Event
-event_meant p s go (Some choice) = record { go = go; choice = choice }
-event_meant p s go None = usual_event p s go
 
 -- how many steps were taken, with one more; the number stays at the greatest one of 64 bits
 abbrev pub one_more : ℕ → ℕ

@@ -6,10 +6,7 @@ ghost use Rattle.gr_causal.specs.Sequences.{Distinct};
 ghost use Rattle.gr_program.specs.Programs.{Program};
 ghost use Rattle.gr_step.specs.Conflicts.{touched_by};
 ghost use Rattle.gr_step.specs.Records.{begun_by, event_of, taken_back, CanGoBack};
-ghost use Rattle.gr_step.specs.Stores.{program_at, contents_at, state_at, taken_at, IsRun, SameListing, HasRoomFor};
-ghost use Rattle.gr_step.specs.Taking.{IsRecord};
-ghost use Rattle.gr_step.specs.Premises.{CanCount};
-ghost use Rattle.gr_step.specs.Refusals.{SaysWhy};
+ghost use Rattle.gr_step.specs.Stores.{contents_at, taken_at, SameListing, HasRoomFor};
 ghost use Rattle.gr_depend.specs.Logs.{records_of};
 ghost use Rattle.gr_rollback.specs.Readiness.{HasReady, KnowsMore, AllKnown};
 ghost use Rattle.gr_rollback.specs.Stepping.{event_meant, one_more, MayCount};
@@ -23,28 +20,6 @@ use gr_base::{Choice, Event, GoName, NoMemory};
 use gr_depend::Log;
 use gr_pool::Pool;
 use gr_step::{Record, StepRefused, Store};
-
-/// Takes the step of a goroutine with a choice, or where there is none with its usual one. Refused, nothing has changed.
-#[inline(always)]
-fn take_asked(store: &mut Store, go: GoName, choice: Option<Choice>) -> Result<Record, StepRefused>
-    requires run { IsRun store.old }
-    requires counted { CanCount (contents_at store.old) }
-    ensures step { IfOk result (λ r. IsRecord (program_at store.old) (contents_at store.old) r (contents_at store.new)) }
-    ensures event { IfOk result (λ r. event_of r ≡ event_meant (program_at store.old) (state_at store.old) go choice) }
-    ensures run { IsRun store.new }
-    ensures room { IfOk result (λ r. HasRoomFor r store.new) }
-    ensures why { IfErr result (SaysWhy (program_at store.old) (contents_at store.old)
-        (event_meant (program_at store.old) (state_at store.old) go choice)) }
-    ensures err { OnErr result (contents_at store.new ≡ contents_at store.old) }
-    ensures taken { OnOk result (taken_at store.new ≡ one_more (taken_at store.old)) }
-    ensures not_taken { OnErr result (taken_at store.new ≡ taken_at store.old) }
-    ensures listing { SameListing store.old store.new }
-{
-    match choice {
-        Some(choice) => store.step(Event { go, choice }),
-        None => store.step_usual(go),
-    }
-}
 
 /// Takes a step back directly after it, which takes no memory.
 #[inline(never)]
@@ -170,7 +145,7 @@ impl Course {
         ensures not_taken { IfErr result (λ why. MayCount why (taken_at self.old.store) (taken_at self.new.store)) }
         ensures listing { SameListing self.old.store self.new.store }
     {
-        let step = take_asked(&mut self.store, go, choice)?;
+        let step = self.store.step_meant(go, choice)?;
         let told = Stepped::of(&step);
         let entered = enter(&mut self.log, &mut self.pool, step);
         if let Err(step) = entered {

@@ -2,16 +2,17 @@
 -- ready is a step.
 use Rattle.std.proofs.Common.{◌≡◌, ◌∙◌, ℕ, List, Option, Some, None, refl, sym, ap}
 use Rattle.std.specs.Prelude.{option_map}
+use Rattle.gr_base.specs.declared.events.Choice.{Choice}
 use Rattle.gr_program.specs.Programs.{Program}
 use Rattle.gr_rules.specs.Goroutines.{Status, ready, waiting, finished}
-use Rattle.gr_rules.specs.States.{Run, live, ended, faulted}
+use Rattle.gr_rules.specs.States.{Run, State, live, ended, faulted}
 use Rattle.gr_rules.specs.Steps.{refusal}
 use Rattle.gr_code.specs.Goroutines.{CodeGoroutine}
 use Rattle.gr_refine.specs.Contents.{Contents, goroutine_of}
 use Rattle.gr_record.specs.Listings.{frame_in, state_in}
 use Rattle.gr_record.specs.Running.{Running}
 use Rattle.type_safety.proofs.CheckedRuns.{checked_goes}
-use Rattle.gr_step.specs.Choices.{HasNoChoice, usual_event}
+use Rattle.gr_step.specs.Choices.{HasNoChoice, usual_event, event_meant}
 use Rattle.gr_step.specs.Guard.{HasReady, IsUp}
 use Rattle.gr_step.proofs.NoChoiceLemmas.{none_over, none_unknown, none_unready}
 
@@ -39,3 +40,9 @@ module _ (p : Program) (s : Contents) (n : List ℕ) where
 
     pub none_unless_up : HasNoChoice p s n
     none_unless_up = by_run s.run refl
+
+-- the event of a goroutine is its name with a choice
+pub meant_of : (p : Program) (s : State) (go : List ℕ) (choice : Option Choice)
+    → event_meant p s go choice ≡ record { go = go; choice = (event_meant p s go choice).choice }
+meant_of p s go (Some choice) = refl
+meant_of p s go None = refl

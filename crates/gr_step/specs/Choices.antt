@@ -59,6 +59,11 @@ HasNoChoice p s n = (choice : Choice) → is_plain choice ≡ false → may p (s
 abbrev pub usual_event : Program → State → List ℕ → Event
 usual_event p s go = record { go = go; choice = usual_choice p s go }
 
+-- the event of a goroutine that makes this choice, or where there is none its usual one
+abbrev pub event_meant : Program → State → List ℕ → Option Choice → Event
+event_meant p s go (Some choice) = record { go = go; choice = choice }
+event_meant p s go None = usual_event p s go
+
 -- the numbers of the clauses that can proceed, counted from i on
 abbrev pub ready_from : Contents → ℕ → List Communication → List ℕ
 ready_from s i [] = []

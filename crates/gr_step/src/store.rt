@@ -8,7 +8,7 @@ ghost use Rattle.gr_code.specs.Goroutines.{CodeGoroutine};
 ghost use Rattle.gr_goros.specs.Undoing.{undone};
 ghost use Rattle.gr_refine.specs.Contents.{Contents};
 ghost use Rattle.gr_rules.specs.Tells.{ready_clauses, usual_choice as usual_by_rules};
-ghost use Rattle.gr_step.specs.Choices.{HasManyClauses, usual_event};
+ghost use Rattle.gr_step.specs.Choices.{HasManyClauses, usual_event, event_meant};
 ghost use Rattle.gr_step.specs.Guard.{IsUp, Needs};
 ghost use Rattle.gr_record.specs.Running.{IsChecked};
 ghost use Rattle.gr_step.specs.Premises.{Acting, CanCount, OfGoroutine};
@@ -84,9 +84,7 @@ impl Store {
         ensures not_taken { OnErr result (taken_at self.new ≡ taken_at self.old) }
         ensures listing { SameListing self.old self.new }
     {
-        let ready = self.objects.ready_goroutine(&event.go)?;
-        let (number, ordinal) = (ready.number, ready.goroutine.steps() + 1);
-        self.take(event, number, ordinal)
+        self.step_meant(event.go, Some(event.choice))
     }
 
     /// Takes the step of a goroutine with its usual choice: at a select the lowest clause that can proceed, else the default
@@ -106,11 +104,30 @@ impl Store {
         ensures not_taken { OnErr result (taken_at self.new ≡ taken_at self.old) }
         ensures listing { SameListing self.old self.new }
     {
+        self.step_meant(go, None)
+    }
+
+    /// Takes the step of a goroutine with a choice, or where there is none with its usual one. The errors are those of `step` and of
+    /// `step_usual`. Refused, nothing has changed. It is the one caller of what takes a step, which is then compiled into it.
+    pub fn step_meant(&mut self, go: GoName, choice: Option<Choice>) -> Result<Record, StepRefused>
+        requires run { IsRun self.old }
+        requires counted { CanCount (contents_at self.old) }
+        ensures step { IfOk result (λ r. IsRecord (program_at self.old) (contents_at self.old) r (contents_at self.new)) }
+        ensures event { IfOk result (λ r. event_of r ≡ event_meant (program_at self.old) (state_at self.old) go choice) }
+        ensures run { IsRun self.new }
+        ensures room { IfOk result (λ r. HasRoomFor r self.new) }
+        ensures why { IfErr result (SaysWhy (program_at self.old) (contents_at self.old)
+            (event_meant (program_at self.old) (state_at self.old) go choice)) }
+        ensures err { OnErr result (contents_at self.new ≡ contents_at self.old) }
+        ensures taken { OnOk result (taken_at self.new ≡ min (taken_at self.old + 1) (2 ^ 64 - 1)) }
+        ensures not_taken { OnErr result (taken_at self.new ≡ taken_at self.old) }
+        ensures listing { SameListing self.old self.new }
+    {
         let ready = self.objects.ready_goroutine(&go)?;
         let (number, ordinal) = (ready.number, ready.goroutine.steps() + 1);
         let choice = self
             .objects
-            .usual_choice_at(&self.listing, ready.goroutine)?;
+            .choice_meant(&self.listing, ready.goroutine, choice)?;
         self.take(Event { go, choice }, number, ordinal)
     }
 

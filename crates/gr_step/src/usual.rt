@@ -1,11 +1,11 @@
 //! The choice that is taken where none is asked for, found without memory (Go: Select statements).
 
-ghost use Rattle.std.specs.Prelude.{◌≡◌, ◌≤◌, ◌^◌, ℕ, List, length, IfOk, OnErr};
+ghost use Rattle.std.specs.Prelude.{◌≡◌, ◌≤◌, ◌^◌, ℕ, List, length, None, IfOk, OnErr};
 ghost use Rattle.gr_code.specs.CodeViews.{arms_of};
 ghost use Rattle.gr_rules.specs.Tells.{usual_choice as usual_by_rules};
 ghost use Rattle.gr_record.specs.Listings.{program_in, state_in, IsCoded};
 ghost use Rattle.gr_step.specs.Objects.{contents_in};
-ghost use Rattle.gr_step.specs.Choices.{HasManyClauses};
+ghost use Rattle.gr_step.specs.Choices.{HasManyClauses, event_meant};
 ghost use Rattle.gr_step.specs.Guard.{HasReady, IsSomeReady};
 ghost use Rattle.gr_step.specs.Possible.{usual_of as usual_by_arms};
 ghost use Rattle.gr_record.specs.Running.{Running};
@@ -70,6 +70,28 @@ impl Objects {
             return Ok(Choice::Plain);
         }
         self.usual_of(cells, arms)
+    }
+
+    /// The choice of a goroutine that is ready: the one that is asked for, or where there is none its usual one. It takes no memory.
+    /// Out of memory stands for clauses whose number 32 bits do not hold.
+    pub(crate) fn choice_meant(
+        &self,
+        listing: &Listing,
+        goroutine: &Goroutine,
+        choice: Option<Choice>,
+    ) -> Result<Choice, NoMemory>
+        requires coded { IsCoded listing.now }
+        requires running { Running (program_in listing.now) (contents_in self.now) }
+        requires ready { IsSomeReady (contents_in self.now) goroutine.now.content }
+        ensures choice { IfOk result (λ meant. (n : List ℕ) → HasReady (contents_in self.now) n goroutine.now.content
+            → event_meant (program_in listing.now) (state_in (program_in listing.now) (contents_in self.now)) n choice
+            ≡ record { go = n; choice = meant }) }
+        ensures refused { OnErr result (choice ≡ None) }
+    {
+        match choice {
+            Some(choice) => Ok(choice),
+            None => self.usual_choice_at(listing, goroutine),
+        }
     }
 
     /// The choice of a goroutine where none is asked for: that which it has where it is ready, and else the plain one.
