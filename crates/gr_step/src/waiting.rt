@@ -55,15 +55,16 @@ use gr_record::record::{Beyond, Change, Contact, Form, Operation, Touched, Waiti
 use gr_tables::channels::Channels;
 use std::alloc::Global;
 
-/// The clauses of a select, each with its number, counted from 1, on a list with room for them. It takes no memory, and is refused
-/// only at 2^32 clauses or more.
+/// The clauses of a select, each with its number, counted from 1, on a list with room for them. It takes no memory, and is
+/// refused only at 2^32 clauses or more.
 fn numbered(
     mut pending: Vec<(Option<u32>, Clause)>,
     clauses: Vec<Clause>,
 ) -> Result<Vec<(Option<u32>, Clause)>, NoMemory>
     requires empty { pending.items ≡ [] }
     requires room { vec_len clauses ≤ vec_capacity pending }
-    ensures ok { IfOk result (λ pending. pending_of pending.items ≡ rules_of_selects.numbered 1 (communications_of clauses.items)) }
+    ensures ok { IfOk result (λ pending. pending_of pending.items
+        ≡ rules_of_selects.numbered 1 (communications_of clauses.items)) }
     ensures refused { OnErr result (2 ^ 32 ≤ length clauses.items) }
 {
     let mut number: u32 = 0;
