@@ -73,7 +73,8 @@ impl Machine {
     }
 
     /// Takes the step of an event, whose record is then the last of the log, and tells its ordinal and its kind; nothing may be
-    /// done again after it. Refused, nothing has changed. A full log and out of memory are one refusal.
+    /// done again after it. Refused, nothing has changed; but a step whose record found no room was taken, and is counted. A full
+    /// log and out of memory are one refusal.
     #[inline(always)]
     pub fn step(&mut self, event: Event) -> Result<Stepped, StepRefused>
         requires { IsMachine self.old }
