@@ -20,7 +20,7 @@ mod UnwindLemmas
 mod BackLemmas
 mod DependenceLemmas
 mod AskLemmas
-mod LeasingLemmas
+pub mod LeasingLemmas
 mod LendingLemmas
 mod JoinLemmas
 mod ChoiceLemmas

@@ -1,5 +1,5 @@
 -- Steps that a goroutine takes by itself on a copy, away from the store, and that join the log together.
-use Rattle.std.specs.Prelude.{◌≡◌, ◌+◌, ◌≤◌, ◌%◌, ℕ, true, List, [], ◌++◌, length, replicate, slice_get, Option, Result, Ok, Err}
+use Rattle.std.specs.Prelude.{◌≡◌, ◌+◌, ◌≤◌, ◌%◌, ℕ, true, List, [], ◌++◌, length, replicate, slice_get, Option, Some, Result, Ok, Err}
 use Rattle.gr_base.specs.declared.events.Choice.TheVariants.{Plain}
 use Rattle.gr_base.specs.declared.events.Event.{Event}
 use Rattle.gr_base.specs.declared.memory.NoMemory.{NoMemory}
@@ -10,10 +10,11 @@ use Rattle.gr_rules.specs.Limits.{most_steps}
 use Rattle.gr_rules.specs.States.{State}
 use Rattle.gr_rules.specs.Steps.{machine}
 use Rattle.gr_laws.specs.Reached.{Logged}
-use Rattle.gr_refine.specs.Contents.{Contents}
+use Rattle.gr_refine.specs.Contents.{Contents, with_goroutine}
 use Rattle.gr_step.specs.Record.{Record}
 use Rattle.gr_step.specs.Kept.{Kept}
-use Rattle.gr_step.specs.Leasing.{goes_alone}
+use Rattle.gr_step.specs.declared.leasing.LentCopy.{LentCopy}
+use Rattle.gr_step.specs.Leasing.{goes_alone, name_lent, goroutine_led_to}
 use Rattle.gr_step.specs.Listings.{state_in}
 use Rattle.gr_step.specs.Stores.{contents_at}
 use Rattle.gr_depend.specs.Logs.{records_of}
@@ -68,6 +69,10 @@ pub record TakesAll (p : Program) (w : Timeline p) (go : List ℕ) (count : ℕ)
 abbrev pub AllTaken : (p : Program) → Timeline p → List ℕ → ℕ → Result (Unit {0}) NoMemory → Machine → Type 0
 AllTaken p w go count (Ok done) m = TakesAll p w go count m
 AllTaken p w go count (Err e) m = Stands p w m
+
+-- what the store contains where the goroutine of a lease has the content after its steps
+abbrev pub led_on : LentCopy → Contents → Contents
+led_on l s = with_goroutine s (name_lent l) (Some (goroutine_led_to l))
 
 -- what the store may contain: some records of the steps that are kept lead to it from the start
 pub record Contains (p : Program) (w : Past p) (s : Contents) : Type 0 where

@@ -5,7 +5,7 @@ ghost use Rattle.std.specs.Prelude.{OnErr, option_copied, option_map};
 ghost use Rattle.gr_pool.specs.Goroutines.{IsInOrder};
 ghost use Rattle.gr_program.specs.Programs.{Program as ProgramSeen};
 ghost use Rattle.gr_step.specs.Leasing.{IsLease, IsAsLent, goes_alone, loan_of, program_lent};
-ghost use Rattle.gr_step.specs.Stores.{IsRun, SameListing, program_at, state_at, taken_at};
+ghost use Rattle.gr_step.specs.Stores.{IsRun, SameListing, contents_at, program_at, state_at, taken_at};
 ghost use Rattle.gr_depend.specs.Logs.{records_of};
 
 use crate::LOG_LIMIT;
@@ -66,7 +66,7 @@ fn nth_alone<'a>(store: &Store, pool: &'a Pool, number: usize) -> Option<&'a GoN
 impl Course {
     ghost use Rattle.gr_rollback.specs.Pasts.{Past};
     ghost use Rattle.gr_rollback.specs.Courses.{IsCourse, Holds};
-    ghost use Rattle.gr_rollback.specs.Leasing.{KeepsAll};
+    ghost use Rattle.gr_rollback.specs.Leasing.{KeepsAll, led_on};
 
     /// Lets the steps of a lease join the log, whose goroutine is as it was lent. Refused, none has.
     fn keep_all(&mut self, alloc: Global, lease: &mut LentCopy) -> Result<(), NoMemory>
@@ -77,6 +77,8 @@ impl Course {
         ensures kept { (p : ProgramSeen) (w : Past p) → Holds p w self.old
             → OnOk result (KeepsAll p w (loan_of lease.old).name (loan_of lease.old).steps self.new) }
         ensures err { (p : ProgramSeen) (w : Past p) → Holds p w self.old → OnErr result (Holds p w self.new) }
+        ensures contents { OnOk result (contents_at self.new.store ≡ led_on lease.old (contents_at self.old.store)) }
+        ensures store { OnErr result (self.new.store ≡ self.old.store) }
         ensures loan { loan_of lease.new ≡ loan_of lease.old }
         ensures listing { SameListing self.old.store self.new.store }
         ensures taken { taken_at self.new.store ≡ taken_at self.old.store }
@@ -91,7 +93,7 @@ impl Course {
 impl Machine {
     ghost use Rattle.gr_rollback.specs.Pasts.{Timeline};
     ghost use Rattle.gr_rollback.specs.Machines.{store_of, steps_of, Stands, IsMachine};
-    ghost use Rattle.gr_rollback.specs.Leasing.{AllTaken, IsLentAt, SomeGoesAlone};
+    ghost use Rattle.gr_rollback.specs.Leasing.{AllTaken, IsLentAt, SomeGoesAlone, led_on};
 
     /// Of the goroutines whose next step is local, in the order of names, the one at a place, modulo their number. It looks no
     /// further than at that place, unless there are no more of them.
@@ -164,6 +166,8 @@ impl Machine {
         requires room { length (steps_of self.old) + (loan_of lease.old).steps ≤ LOG_LIMIT }
         ensures kept { (p : ProgramSeen) (w : Timeline p) → Stands p w self.old
             → AllTaken p w (loan_of lease.old).name (loan_of lease.old).steps result self.new }
+        ensures contents { OnOk result (contents_at (store_of self.new) ≡ led_on lease.old (contents_at (store_of self.old))) }
+        ensures store { OnErr result (store_of self.new ≡ store_of self.old) }
         ensures loan { loan_of lease.new ≡ loan_of lease.old }
         ensures listing { SameListing (store_of self.old) (store_of self.new) }
         ensures taken { taken_at (store_of self.new) ≡ taken_at (store_of self.old) }

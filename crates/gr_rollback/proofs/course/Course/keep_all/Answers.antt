@@ -14,6 +14,15 @@ append-requires c =
     (subst {_, _} (λ (n : List ℕ). All (IsAlone n) (records_led lease)) (sym (c.go.ensures ∙ ap (λ (x : Loan). x.name) c.take_records-records.ensures.loan))
     (alone_of_walk (program_lent lease) (name_lent lease) (goroutine_lent lease) (records_led lease) (goroutine_led_to lease) c.requires.lease.walk))
 
+pub returns-clause-contents : goal.returns-clause-contents
+returns-clause-contents c =
+    let l = c.args.lease.now in
+    let old = c.args.self.now in
+    let lent = c.take_records-records in
+    c.take_over.ensures.after
+    ∙ ap (λ (x : Loan). with_goroutine (contents_at old.store) x.name (Some (goroutine_led_to lent.new.self))) lent.ensures.loan
+    ∙ ap (λ h. with_goroutine (contents_at old.store) (loan_of l).name (Some h)) lent.ensures.reached
+
 pub returns-clause-kept : goal.returns-clause-kept
 returns-clause-kept c = λ p w s.
     let l = c.args.lease.now in
@@ -21,9 +30,7 @@ returns-clause-kept c = λ p w s.
     let lent = c.take_records-records in
     joins_all p w old _ l s c.requires.lease c.requires.lent (record {
       log = c.in_ok-append.ensures.ok ∙ ap (λ rs. records_of old.log ++ rs) lent.ensures.records;
-      contents = c.take_over.ensures.after
-          ∙ ap (λ (x : Loan). with_goroutine (contents_at old.store) x.name (Some (goroutine_led_to lent.new.self))) lent.ensures.loan
-          ∙ ap (λ h. with_goroutine (contents_at old.store) (loan_of l).name (Some h)) lent.ensures.reached;
+      contents = returns-clause-contents c;
       listing = c.take_over.ensures.listing;
       pool = refl;
       first = refl;
