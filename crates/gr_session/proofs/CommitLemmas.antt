@@ -1,5 +1,6 @@
 -- What the steps of a batch come to.
-use Rattle.std.proofs.Common.{◌≡◌, ℕ, zero, suc, ◌+◌, ◌-◌, ◌<◌, ◌≤◌, Bool, true, false, List, [], ◌++◌, length, refl, sym, ap, subst, ◌∙◌, arith}
+use Rattle.std.proofs.Common.{◌≡◌, ℕ, zero, suc, ◌+◌, ◌-◌, ◌<◌, ◌≤◌, Bool, true, false, List, [], ◌++◌, length, refl, sym, ap, subst, ◌∙◌, inl, inr, arith}
+use Rattle.std.specs.Prelude.{◌↔◌, ◌⊎◌}
 use Rattle.std.proofs.lemmas.List.{append-nil}
 use Rattle.gr_base.specs.declared.events.Event.{Event}
 use Rattle.gr_program.specs.Programs.{Program}
@@ -27,6 +28,27 @@ use Rattle.gr_session.proofs.GrantLemmas.{contains_here, lent_here, not_lent_her
 pub means_batch : (p : Program) (w u : World p) (batch : LocalRun) (loan : Loan) (stood : Bool) (reply : Said) → loan_kept batch ≡ loan
     → Commits p w loan stood u reply → Means p w (asks.Batch batch stood) Enough u reply
 means_batch p w u batch loan stood reply is commits = by_batch (subst (λ l. Commits p w l stood u reply) (sym is) commits)
+
+-- whether a reply is that the batch is stale
+pub is_stale : {A : Type 0} → A → (Stale ≡ Stale) ↔ A
+is_stale a = (λ e. a, λ x. refl)
+
+pub full_not_stale : {A : Type 0} → (A → ⊥) → (No LogFull ≡ Stale) ↔ A
+full_not_stale none = (λ e. absurd (let same : No LogFull ≡ Stale = e in cc), λ a. absurd (none a))
+
+pub joined_not_stale : {A : Type 0} (steps : ℕ) → (A → ⊥) → (Committed steps ≡ Stale) ↔ A
+joined_not_stale steps none = (λ e. absurd (let same : Committed steps ≡ Stale = e in cc), λ a. absurd (none a))
+
+-- where the goroutine is as it was lent, only the grant decides
+pub stale_by_grant : {A G R : Type 0} → A → (R ↔ G) → R ↔ ((¬ A) ⊎ G)
+stale_by_grant lent is = (λ r. inr (is.0 r), λ x. elim x [ inl none ↦ absurd (none lent) | inr g ↦ is.1 g ])
+
+-- steps are too many, or few enough
+pub too_many : (grant steps wanted : ℕ) → steps ≡ wanted → grant < steps → grant < wanted
+too_many grant steps wanted same more = omega (arith, same, more)
+
+pub not_too_many : (grant steps wanted : ℕ) → steps ≡ wanted → steps ≤ grant → grant < wanted → ⊥
+not_too_many grant steps wanted same few more = omega (arith, same, few, more)
 
 -- after a step nothing may be taken again
 none_again : (taken : ℕ) (again : List Event) → 0 < taken → again_past taken again ≡ []

@@ -43,7 +43,7 @@ zero_is : (n m : ℕ) → n ≡ m → n ≡ 0 → 0 < m → ⊥
 zero_is n m same none some = omega (arith, same, none, some)
 
 -- what never is
-never : {A : Type 0} → (A → ⊥) → IsTrue false ↔ A
+pub never : {A : Type 0} → (A → ⊥) → IsTrue false ↔ A
 never none = (λ is. absurd (let e : true ≡ false = sym is in cc), λ a. absurd (none a))
 
 -- a name that is found among others is one of them, and where there is one, there is one at each place modulo their number

@@ -22,5 +22,6 @@ mod ReachedWorlds
 mod OneMeaningJournals
 mod GrantLemmas
 mod CommitLemmas
+mod Deciding
 mod CopyLemmas
 pub mod Crossing

@@ -10,9 +10,10 @@ use Rattle.gr_session.specs.Journal.{World, first_world}
 use Rattle.gr_session.specs.Entries.{Lead, IsAskedBy}
 use Rattle.gr_session.specs.Debuggees.{Stands, store_in}
 
--- what a session is to those who use it
+-- what a session is to those who use it: the program, the store in which it runs, the journal, and how many askers there are
 pub record Seen : Type 0 where
   pub program : Program
+  pub store : Store
   pub journal : List Entry
   pub askers : ℕ
 

@@ -5,9 +5,11 @@ pub mod Entries
 pub mod Debuggees
 pub mod Refusing
 pub mod Turning
+pub mod Wants
 pub mod Granting
 pub mod Copies
 pub mod Carried
 pub mod Keeps
+pub mod Committing
 pub mod Source
 pub mod Refused

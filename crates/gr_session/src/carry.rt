@@ -1,10 +1,12 @@
 //! Commands carried out on a program under the debugger.
 
+ghost use Rattle.std.specs.Prelude.{◌≡◌, OnOk, OnErr};
 ghost use Rattle.gr_program.specs.Programs.{Program};
 ghost use Rattle.gr_rollback.specs.Stores.{SameListing};
 ghost use Rattle.gr_session.specs.Journal.{World};
 ghost use Rattle.gr_session.specs.Debuggees.{Stands, IsDebuggee, store_in};
 ghost use Rattle.gr_session.specs.Carried.{Carries};
+ghost use Rattle.gr_session.specs.Wants.{LeavesStore};
 
 use crate::breakpoints;
 use crate::debuggee::Debuggee;
@@ -29,6 +31,8 @@ pub(crate) fn carry_out(
     requires { IsDebuggee debuggee.old }
     ensures leads { (p : Program) → (w : World p) → Stands p w debuggee.old → Carries p w command.now result debuggee.new }
     ensures listing { SameListing (store_in debuggee.old) (store_in debuggee.new) }
+    ensures still { OnOk result (LeavesStore command.now → store_in debuggee.new ≡ store_in debuggee.old) }
+    ensures err { OnErr result (store_in debuggee.new ≡ store_in debuggee.old) }
 {
     match command {
         Command::Step { go, case } => step(alloc, debuggee, go, *case),

@@ -1,12 +1,14 @@
 //! Batches that are committed: the steps of a goroutine on its copy become steps of the program.
 
-ghost use Rattle.std.specs.Prelude.{◌≡◌};
+ghost use Rattle.std.specs.Prelude.{◌≡◌, ◌<◌, ◌↔◌, IfOk, IsTrue, OnErr};
 ghost use Rattle.gr_program.specs.Programs.{Program};
-ghost use Rattle.gr_rollback.specs.Stores.{SameListing, program_at};
+ghost use Rattle.gr_command.specs.Replies.{said_of, Stale};
+ghost use Rattle.gr_rollback.specs.Stores.{SameListing, contents_at, program_at};
 ghost use Rattle.gr_rollback.specs.StepLeasing.{IsLease, IsAsLent, loan_of, program_lent};
 ghost use Rattle.gr_session.specs.Journal.{World};
 ghost use Rattle.gr_session.specs.Debuggees.{Stands, IsDebuggee, store_in};
 ghost use Rattle.gr_session.specs.Carried.{CommitsLent, CommitsBatch};
+ghost use Rattle.gr_session.specs.Committing.{MustBeStale, contents_after};
 
 use crate::debuggee::Debuggee;
 use crate::granting::room;
@@ -27,6 +29,10 @@ fn commit_lent(
     requires lent { IsAsLent lease.old (store_in debuggee.old) }
     ensures commits { (p : Program) → (w : World p) → Stands p w debuggee.old
         → CommitsLent p w (loan_of lease.old) result debuggee.new }
+    ensures stale { IfOk result (λ reply. (said_of reply ≡ Stale) ↔ (debuggee.old.grant < (loan_of lease.old).steps)) }
+    ensures contents { IfOk result (λ reply. contents_at (store_in debuggee.new)
+        ≡ contents_after (said_of reply) lease.old (contents_at (store_in debuggee.old))) }
+    ensures err { OnErr result (store_in debuggee.new ≡ store_in debuggee.old) }
     ensures loan { loan_of lease.new ≡ loan_of lease.old }
     ensures listing { SameListing (store_in debuggee.old) (store_in debuggee.new) }
 {
@@ -72,6 +78,13 @@ pub(crate) fn commit(
     requires own { (origin ≡ Origin.Own) → (program_lent lease ≡ program_at (store_in debuggee.old)) }
     ensures commits { (p : Program) → (w : World p) → Stands p w debuggee.old
         → CommitsBatch p w (loan_of lease) result debuggee.new }
+    ensures as_lent { IfOk result (λ r. IsTrue r.1 ↔ IsAsLent lease (store_in debuggee.old)) }
+    ensures stale { IfOk result (λ r. (said_of r.2 ≡ Stale)
+        ↔ MustBeStale (program_at (store_in debuggee.old)) (contents_at (store_in debuggee.old)) debuggee.old.grant
+        (loan_of lease)) }
+    ensures contents { IfOk result (λ r. contents_at (store_in debuggee.new)
+        ≡ contents_after (said_of r.2) lease (contents_at (store_in debuggee.old))) }
+    ensures err { OnErr result (store_in debuggee.new ≡ store_in debuggee.old) }
     ensures listing { SameListing (store_in debuggee.old) (store_in debuggee.new) }
 {
     if origin == Origin::Unknown && !debuggee.machine.has_program_of(&lease) {
@@ -91,6 +104,13 @@ fn commit_own(
     requires own { program_lent lease ≡ program_at (store_in debuggee.old) }
     ensures commits { (p : Program) → (w : World p) → Stands p w debuggee.old
         → CommitsBatch p w (loan_of lease) result debuggee.new }
+    ensures as_lent { IfOk result (λ r. IsTrue r.1 ↔ IsAsLent lease (store_in debuggee.old)) }
+    ensures stale { IfOk result (λ r. (said_of r.2 ≡ Stale)
+        ↔ MustBeStale (program_at (store_in debuggee.old)) (contents_at (store_in debuggee.old)) debuggee.old.grant
+        (loan_of lease)) }
+    ensures contents { IfOk result (λ r. contents_at (store_in debuggee.new)
+        ≡ contents_after (said_of r.2) lease (contents_at (store_in debuggee.old))) }
+    ensures err { OnErr result (store_in debuggee.new ≡ store_in debuggee.old) }
     ensures listing { SameListing (store_in debuggee.old) (store_in debuggee.new) }
 {
     let mut lease = lease;

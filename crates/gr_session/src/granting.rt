@@ -9,7 +9,7 @@ ghost use Rattle.gr_rollback.specs.Stores.{SameListing};
 ghost use Rattle.gr_session.specs.Journal.{World};
 ghost use Rattle.gr_session.specs.Debuggees.{Stands, IsDebuggee, store_in};
 ghost use Rattle.gr_session.specs.Carried.{LeadsTo};
-ghost use Rattle.gr_rollback.specs.StepLeasing.{IsLease};
+ghost use Rattle.gr_rollback.specs.StepLeasing.{IsLease, IsAsLent};
 ghost use Rattle.gr_session.specs.Granting.{MayStep, IsTurnDue, CanLend, IsLent};
 
 use crate::debuggee::Debuggee;
@@ -26,6 +26,7 @@ pub(crate) fn free(debuggee: &mut Debuggee, steps: u32) -> (Memory, Reply)
     ensures leads { (p : Program) → (w : World p) → Stands p w debuggee.old
         → LeadsTo p w (commands.Free steps) result.0 (said_of result.1) debuggee.new }
     ensures listing { SameListing (store_in debuggee.old) (store_in debuggee.new) }
+    ensures store { store_in debuggee.new ≡ store_in debuggee.old }
 {
     debuggee.grant = steps;
     (Memory::Enough, Reply::Granted(steps))
@@ -100,6 +101,7 @@ pub(crate) fn lend(
 ) -> Result<Option<LentCopy>, NoMemory>
     requires { IsDebuggee debuggee.now }
     ensures lease { IfOk result (λ o. IfSome o IsLease) }
+    ensures there { IfOk result (λ o. IfSome o (λ l. IsAsLent l (store_in debuggee.now))) }
     ensures lent { (p : Program) → (w : World p) → Stands p w debuggee.now → IfOk result (IsLent p w place) }
 {
     if !may_step(debuggee) {

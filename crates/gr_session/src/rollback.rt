@@ -1,6 +1,6 @@
 //! Steps that are taken back, done again, and put in another order.
 
-ghost use Rattle.std.specs.Prelude.{◌≡◌, [], Ok, Err};
+ghost use Rattle.std.specs.Prelude.{◌≡◌, [], Ok, Err, OnErr};
 ghost use Rattle.gr_program.specs.Programs.{Program};
 ghost use Rattle.gr_command.specs.Replies.{said_of};
 ghost use Rattle.gr_command.specs.Replies as said;
@@ -66,6 +66,7 @@ pub(crate) fn back(
     ensures leads { (p : Program) → (w : World p) → Stands p w debuggee.old
         → Carries p w (commands.Back target.now) result debuggee.new }
     ensures listing { SameListing (store_in debuggee.old) (store_in debuggee.new) }
+    ensures err { OnErr result (store_in debuggee.new ≡ store_in debuggee.old) }
 {
     let Some(id) = find(alloc, debuggee, target)? else {
         return Ok(refused(Refusal::NotKept));

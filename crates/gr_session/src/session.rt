@@ -4,10 +4,13 @@ ghost use Rattle.std.specs.Prelude.{◌≡◌, ◌↔◌, ◌+◌, ◌≤◌, []
 ghost use Rattle.gr_program.specs.Views.{program_of};
 ghost use Rattle.gr_rules.specs.Limits.{most_steps};
 ghost use Rattle.gr_command.specs.Replies.{said_of};
-ghost use Rattle.gr_rollback.specs.StepLeasing.{loan_of};
+ghost use Rattle.gr_rollback.specs.Running.{IsChecked};
+ghost use Rattle.gr_rollback.specs.StepLeasing.{IsAsLentIn, loan_of};
+ghost use Rattle.gr_rollback.specs.Stores.{contents_at};
 ghost use Rattle.gr_session.specs.Entries.{EntersCommand, EntersBatch, IsLegal, InItsWorld};
 ghost use Rattle.gr_session.specs.Granting.{IsTurnDue, CanLend, IsLoan};
-ghost use Rattle.gr_rollback.specs.Running.{IsChecked};
+ghost use Rattle.gr_session.specs.Committing.{Decides};
+ghost use Rattle.gr_session.specs.Wants.{LeavesStore};
 
 use crate::carry::carry_out;
 use crate::committing::{Origin, commit};
@@ -37,15 +40,21 @@ impl Model for Session {
     ghost use Rattle.gr_program.specs.contracts.program.Stmt as stmt;
     ghost use Rattle.gr_program.specs.contracts.types.Type as types;
     ghost use Rattle.gr_code.specs.contracts.code.Operand as operands;
+    ghost use Rattle.gr_rollback.specs.StoreContracts as store;
     ghost use Rattle.std.specs.Coded.{codes};
     ghost use Rattle.gr_session.specs.Debuggees.{store_in};
     ghost use Rattle.gr_session.specs.Keeps.{Seen, Keeps, program_held};
 
     ghost Value = { Seen };
 
-    ghost coded = { Prim.hlevel (codes, expr.the_row.coded, stmt.the_row.coded, types.the_row.coded, operands.the_row.coded) };
+    ghost coded = { Prim.hlevel (codes, store.the_row.coded, expr.the_row.coded, stmt.the_row.coded, types.the_row.coded, operands.the_row.coded) };
 
-    ghost view = { λ s. record { program = program_held (store_in s.debuggee); journal = s.journal.items; askers = s.askers } };
+    ghost view = { λ s. record {
+      program = program_held (store_in s.debuggee);
+      store = store_in s.debuggee;
+      journal = s.journal.items;
+      askers = s.askers;
+    } };
 
     ghost invariant = { λ s. Keeps s.debuggee s.journal.items s.askers };
 }
@@ -73,6 +82,7 @@ impl Session {
         // It takes no memory.
         ensures memory { IsErrOf result EnrolRefused.NoMemory → ⊥ }
         ensures others { (self.new.program ≡ self.old.program) × (self.new.journal ≡ self.old.journal) }
+        ensures store { self.new.store ≡ self.old.store }
         ensures err { OnErr result (self.new ≡ self.old) }
     {
         if self.askers >= ASKER_LIMIT {
@@ -102,6 +112,7 @@ impl Session {
         ensures entry { IfOk result (λ receipt. EntersCommand (program_of self.old.program) desk.number command
             self.old.journal self.new.journal receipt.number (said_of receipt.reply)) }
         ensures full { IsErrOf result AskRefused.JournalFull ↔ (length self.old.journal ≡ JOURNAL_LIMIT) }
+        ensures still { OnOk result (LeavesStore command → self.new.store ≡ self.old.store) }
         ensures err { OnErr result (self.new ≡ self.old) }
         ensures others { (self.new.program ≡ self.old.program) × (self.new.askers ≡ self.old.askers) }
     {
@@ -127,6 +138,8 @@ impl Session {
         ensures place { IfOk result (λ o. IfSome o (λ l. l.place ≡ place)) }
         ensures lent { IfOk result (λ o. IfSome o (λ l. InItsWorld (program_of self.now.program) self.now.journal
             (λ w. IsLoan (program_of self.now.program) w place l.copy))) }
+        ensures there { IfOk result (λ o. IfSome o (λ l. IsAsLentIn (loan_of l.copy) (program_of self.now.program)
+            (contents_at self.now.store))) }
         ensures none { IfOk result (λ o. IfNone o (InItsWorld (program_of self.now.program) self.now.journal
             (λ w. ¬ CanLend (program_of self.now.program) w))) }
     {
@@ -148,6 +161,7 @@ impl Session {
         requires { (1 ≤ desk.number) × (desk.number ≤ self.old.askers) }
         ensures entry { IfOk result (λ receipt. EntersBatch (program_of self.old.program) desk.number (loan_of batch)
             self.old.journal self.new.journal receipt.number (said_of receipt.reply)) }
+        ensures decided { IfOk result (λ receipt. Decides self.old batch (said_of receipt.reply) self.new) }
         ensures full { IsErrOf result AskRefused.JournalFull ↔ (length self.old.journal ≡ JOURNAL_LIMIT) }
         ensures err { OnErr result (self.new ≡ self.old) }
         ensures others { (self.new.program ≡ self.old.program) × (self.new.askers ≡ self.old.askers) }
@@ -166,6 +180,7 @@ impl Session {
         requires own { (loan_of batch).program ≡ program_of self.old.program }
         ensures entry { IfOk result (λ receipt. EntersBatch (program_of self.old.program) desk.number (loan_of batch)
             self.old.journal self.new.journal receipt.number (said_of receipt.reply)) }
+        ensures decided { IfOk result (λ receipt. Decides self.old batch (said_of receipt.reply) self.new) }
         ensures full { IsErrOf result AskRefused.JournalFull ↔ (length self.old.journal ≡ JOURNAL_LIMIT) }
         ensures err { OnErr result (self.new ≡ self.old) }
         ensures others { (self.new.program ≡ self.old.program) × (self.new.askers ≡ self.old.askers) }
@@ -185,6 +200,7 @@ impl Session {
         requires own { (origin ≡ Origin.Own) → ((loan_of batch).program ≡ program_of self.old.program) }
         ensures entry { IfOk result (λ receipt. EntersBatch (program_of self.old.program) desk.number (loan_of batch)
             self.old.journal self.new.journal receipt.number (said_of receipt.reply)) }
+        ensures decided { IfOk result (λ receipt. Decides self.old batch (said_of receipt.reply) self.new) }
         ensures full { IsErrOf result AskRefused.JournalFull ↔ (length self.old.journal ≡ JOURNAL_LIMIT) }
         ensures err { OnErr result (self.new ≡ self.old) }
         ensures others { (self.new.program ≡ self.old.program) × (self.new.askers ≡ self.old.askers) }

@@ -1,5 +1,6 @@
 //! Steps of a goroutine that is named.
 
+ghost use Rattle.std.specs.Prelude.{◌≡◌, OnErr};
 ghost use Rattle.gr_program.specs.Programs.{Program};
 ghost use Rattle.gr_command.specs.declared.command.Command.TheVariants as commands;
 ghost use Rattle.gr_rollback.specs.Stores.{SameListing};
@@ -48,6 +49,7 @@ pub(crate) fn step(
     ensures leads { (p : Program) → (w : World p) → Stands p w debuggee.old
         → Carries p w (commands.Step go.now case) result debuggee.new }
     ensures listing { SameListing (store_in debuggee.old) (store_in debuggee.new) }
+    ensures err { OnErr result (store_in debuggee.new ≡ store_in debuggee.old) }
 {
     let named = go.copy(alloc)?;
     let asked = go.copy(alloc)?;

@@ -33,6 +33,7 @@ impl<B: Room> Model for Locked<B> {
     ghost use Rattle.gr_program.specs.contracts.program.Stmt as stmt;
     ghost use Rattle.gr_program.specs.contracts.types.Type as types;
     ghost use Rattle.gr_code.specs.contracts.code.Operand as operands;
+    ghost use Rattle.gr_session.specs.contracts.session.Session as sessions;
     ghost use Rattle.std.specs.Coded.{codes};
     ghost use Rattle.gr_program.specs.Views.{program_of};
     ghost use Rattle.gr_share.specs.Seats.{Held};
@@ -40,7 +41,7 @@ impl<B: Room> Model for Locked<B> {
 
     ghost Value = { Held };
 
-    ghost coded = { Prim.hlevel (codes, expr.the_row.coded, stmt.the_row.coded, types.the_row.coded, operands.the_row.coded) };
+    ghost coded = { Prim.hlevel (codes, sessions.the_row.coded, expr.the_row.coded, stmt.the_row.coded, types.the_row.coded, operands.the_row.coded) };
 
     ghost view = { λ s. record { session = s.session; workers = s.workers; closed = s.closed } };
 

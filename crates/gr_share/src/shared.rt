@@ -31,13 +31,14 @@ impl Model for Opened {
     ghost use Rattle.gr_program.specs.contracts.program.Stmt as stmt;
     ghost use Rattle.gr_program.specs.contracts.types.Type as types;
     ghost use Rattle.gr_code.specs.contracts.code.Operand as operands;
+    ghost use Rattle.gr_session.specs.contracts.session.Session as sessions;
     ghost use Rattle.std.specs.Coded.{codes};
     ghost use Rattle.gr_share.specs.Seats.{Named};
     ghost use Rattle.gr_share.specs.Ties.{keeping, older_lines};
 
     ghost Value = { Named };
 
-    ghost coded = { Prim.hlevel (codes, expr.the_row.coded, stmt.the_row.coded, types.the_row.coded, operands.the_row.coded) };
+    ghost coded = { Prim.hlevel (codes, sessions.the_row.coded, expr.the_row.coded, stmt.the_row.coded, types.the_row.coded, operands.the_row.coded) };
 
     ghost view = { λ o. record { table = o.tie.table.shared.table_id; session = o.session } };
 

@@ -1,11 +1,13 @@
-use Rattle.std.proofs.Common.{length, refl, arith}
+use Rattle.std.proofs.Common.{length, refl, sym, ◌∙◌, arith}
 use Rattle.gr_rollback.specs.Logs.{records_of}
 use Rattle.gr_rollback.specs.declared.TheConstants.{LOG_LIMIT}
 use Rattle.gr_rules.specs.Limits.{most_steps}
 use Rattle.gr_rollback.specs.StepLeasing.{loan_of}
-use Rattle.gr_session.specs.Debuggees.{log_in}
+use Rattle.gr_rollback.specs.Stores.{contents_at}
+use Rattle.gr_rollback.proofs.LeasingLemmas.{led_nowhere}
+use Rattle.gr_session.specs.Debuggees.{log_in, store_in}
 use Rattle.gr_session.specs.Journal.{course_of}
-use Rattle.gr_session.proofs.CommitLemmas.{stale_past_grant, full_for_all, some_join, none_joins, fits_all, kept_short}
+use Rattle.gr_session.proofs.CommitLemmas.{stale_past_grant, full_for_all, some_join, none_joins, fits_all, kept_short, is_stale, full_not_stale, joined_not_stale, too_many, not_too_many}
 use Rattle.gr_session.proofs.DebuggeeLemmas.{log_length}
 use Rattle.gr_session.proofs.committing.commit_lent.Goals as goal
 
@@ -37,3 +39,19 @@ returns-in-Ok-clause-commits c = λ p w s.
 
 pub returns-in-Err-clause-commits : goal.returns-in-Err-clause-commits
 returns-in-Err-clause-commits c = λ p w s. record { machine = c.in-Err.ensures.kept p (course_of p w) s.machine; lines = s.lines; grant = s.grant }
+
+pub returns-then-steps-debuggee-clause-stale : goal.returns-then-steps-debuggee-clause-stale
+returns-then-steps-debuggee-clause-stale c = is_stale (too_many _ _ _ c.len-steps.ensures (omega arith))
+
+pub returns-then-steps-room-clause-stale : goal.returns-then-steps-room-clause-stale
+returns-then-steps-room-clause-stale c = full_not_stale (not_too_many _ _ _ c.len-steps.ensures (omega arith))
+
+pub returns-then-steps-eq0-clause-stale : goal.returns-then-steps-eq0-clause-stale
+returns-then-steps-eq0-clause-stale c = joined_not_stale 0 (not_too_many _ _ _ c.len-steps.ensures (omega arith))
+
+pub returns-in-Ok-clause-stale : goal.returns-in-Ok-clause-stale
+returns-in-Ok-clause-stale c = joined_not_stale _ (not_too_many _ _ _ c.len-steps.ensures (omega arith))
+
+pub returns-then-steps-eq0-clause-contents : goal.returns-then-steps-eq0-clause-contents
+returns-then-steps-eq0-clause-contents c =
+    sym (led_nowhere c.args.lease.now (contents_at (store_in c.args.debuggee.now)) c.requires.lease (sym c.len-steps.ensures ∙ c.if-steps-eq0.true) c.requires.lent.there)

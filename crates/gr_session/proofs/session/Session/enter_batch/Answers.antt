@@ -3,6 +3,7 @@ use Rattle.gr_rollback.specs.StepLeasing.{loan_of}
 use Rattle.gr_session.specs.declared.TheConstants.{JOURNAL_LIMIT}
 use Rattle.gr_session.specs.declared.journal.Memory.TheVariants.{Enough}
 use Rattle.gr_session.proofs.CommitLemmas.{means_batch}
+use Rattle.gr_session.proofs.Deciding.{decides}
 use Rattle.gr_session.proofs.JournalLemmas.{keeps_entry, keeps_still}
 use Rattle.gr_session.proofs.session.Session.enter_batch.Goals as goal
 
@@ -38,3 +39,9 @@ returns-in-Ok-clause-entry c =
         meant = means_batch _ c.self.invariant.world answer.1.world c.in-Ok.batch _ c.in-Ok.stood _ answer.0 answer.1.commits;
       };
     })
+
+pub returns-in-Ok-clause-decided : goal.returns-in-Ok-clause-decided
+returns-in-Ok-clause-decided c =
+    rw (← c.self.view_is, ← c.batch.view_is, c.keep.ensures.reply, c.keep.ensures.entry, c.make_room.ensures.items)
+    (decides c.self.inside.debuggee c.self.inside.journal.items c.self.inside.askers c.self.invariant c.batch.inside.copy _ _ c.in-Ok.stood
+    c.commit.new.debuggee _ refl c.in-Ok.ensures.as_lent c.in-Ok.ensures.stale c.in-Ok.ensures.contents)

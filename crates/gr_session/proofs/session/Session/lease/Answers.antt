@@ -15,3 +15,6 @@ pub returns-in-None-clause-none : goal.returns-in-None-clause-none
 returns-in-None-clause-none c =
     let none = rw c.in-None.is at (c.in_ok-copy.ensures.lent _ c.self.invariant.world c.self.invariant.stands) in
     rw (← c.self.view_is) (record { world = c.self.invariant.world; means = c.self.invariant.means; holds = none })
+
+pub returns-in-Some-clause-there : goal.returns-in-Some-clause-there
+returns-in-Some-clause-there c = rw (← c.self.view_is) (rw c.in-Some.is at c.in_ok-copy.ensures.there)

@@ -1,0 +1,35 @@
+-- What a session makes of a batch, by what its store contains.
+use Rattle.std.specs.Prelude.{◌≡◌, ℕ, ◌<◌, ◌↔◌, ◌⊎◌, ◌∷◌, [], ◌++◌, Bool, false, IsTrue}
+use Rattle.gr_program.specs.Programs.{Program}
+use Rattle.gr_program.specs.Views.{program_of}
+use Rattle.gr_command.specs.Replies.{Said, Committed, Stale}
+use Rattle.gr_rollback.specs.Contents.{Contents}
+use Rattle.gr_rollback.specs.LentCopy.{LentCopy}
+use Rattle.gr_rollback.specs.Leasing.{led_on}
+use Rattle.gr_rollback.specs.StepLeasing.{Loan, IsAsLentIn, loan_of}
+use Rattle.gr_rollback.specs.Stores.{contents_at}
+use Rattle.gr_session.specs.declared.journal.Asked.TheVariants as asks
+use Rattle.gr_session.specs.declared.journal.Entry.{Entry}
+use Rattle.gr_session.specs.Entries.{InItsWorld}
+use Rattle.gr_session.specs.Keeps.{Seen}
+
+-- whether the entry notes of a batch that its goroutine was as it was lent
+abbrev pub notes_as_lent : Entry → Bool
+notes_as_lent e = elim e.asked [ asks.Command c ↦ false | asks.Batch batch as_lent ↦ as_lent ]
+
+-- the goroutine of a loan is not as it was lent, or its steps are more than the workers may take
+abbrev pub MustBeStale : Program → Contents → ℕ → Loan → Type 0
+MustBeStale p s grant b = (¬ IsAsLentIn b p s) ⊎ (grant < b.steps)
+
+-- what the store contains after this reply to a batch: its goroutine has gone on where the batch was committed
+abbrev pub contents_after : Said → LentCopy → Contents → Contents
+contents_after (Committed steps) l s = led_on l s
+contents_after reply l s = s
+
+-- a session replies to a batch, and it is stale just where it must be
+pub record Decides (old : Seen) (l : LentCopy) (reply : Said) (new : Seen) : Type 0 where
+  pub stale : InItsWorld (program_of old.program) old.journal
+      (λ w. (reply ≡ Stale) ↔ MustBeStale (program_of old.program) (contents_at old.store) w.grant (loan_of l))
+  pub noted : (e : Entry) → new.journal ≡ old.journal ++ e ∷ []
+      → IsTrue (notes_as_lent e) ↔ IsAsLentIn (loan_of l) (program_of old.program) (contents_at old.store)
+  pub contents : contents_at new.store ≡ contents_after reply l (contents_at old.store)
