@@ -19,6 +19,7 @@ mod stepping;
 mod targets;
 
 pub use gr_command::{Command, Refusal, Reply};
+pub use gr_rollback::Machine;
 pub use gr_scan::position::Position;
 pub use journal::{AskRefused, Asked, DeskId, EnrolRefused, Entry, Memory, Receipt};
 pub use leasing::{Batch, Gate, Lease, Open, run_batch};

@@ -4,9 +4,12 @@ ghost use Rattle.std.specs.Prelude.{◌≡◌, ◌↔◌, ◌+◌, ◌≤◌, []
 ghost use Rattle.gr_program.specs.Views.{program_of};
 ghost use Rattle.gr_rules.specs.Limits.{most_steps};
 ghost use Rattle.gr_command.specs.Replies.{said_of};
+ghost use Rattle.gr_rollback.specs.Machines as rollback;
+ghost use Rattle.gr_rollback.specs.Machines.{store_of};
 ghost use Rattle.gr_rollback.specs.Running.{IsChecked};
 ghost use Rattle.gr_rollback.specs.StepLeasing.{IsAsLentIn, loan_of};
 ghost use Rattle.gr_rollback.specs.Stores.{contents_at};
+ghost use Rattle.gr_session.specs.Journal.{course_of};
 ghost use Rattle.gr_session.specs.Entries.{EntersCommand, EntersBatch, IsLegal, InItsWorld};
 ghost use Rattle.gr_session.specs.Granting.{IsTurnDue, CanLend, IsLoan};
 ghost use Rattle.gr_session.specs.Committing.{Decides};
@@ -24,6 +27,7 @@ use crate::{ASKER_LIMIT, JOURNAL_LIMIT};
 use gr_base::NoMemory;
 use gr_command::Command;
 use gr_program::program::Program;
+use gr_rollback::Machine;
 use std::alloc::Global;
 use std::marker::Model;
 
@@ -216,6 +220,15 @@ impl Session {
                 Ok(keep(&mut self.journal, desk, asked, Memory::Enough, reply))
             }
         }
+    }
+
+    /// The machine of the program: it stands where the journal means.
+    pub fn machine(&self) -> &Machine
+        ensures stands { InItsWorld (program_of self.now.program) self.now.journal
+            (λ w. rollback.Stands (program_of self.now.program) (course_of (program_of self.now.program) w) result.now) }
+        ensures store { store_of result.now ≡ self.now.store }
+    {
+        &self.debuggee.machine
     }
 
     /// The entries so far, the oldest first.
