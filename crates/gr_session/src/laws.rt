@@ -1,14 +1,19 @@
-//! What holds of journals: a law, on a function that does nothing.
+//! What holds of journals and of batches: laws, on functions that do nothing.
 
-ghost use Rattle.std.specs.Prelude.{◌≡◌, ℕ, List};
+ghost use Rattle.std.specs.Prelude.{◌≡◌, ◌<◌, ℕ, List};
 ghost use Rattle.gr_program.specs.Programs.{Program};
 ghost use Rattle.gr_command.specs.Replies.{Said};
 ghost use Rattle.gr_laws.specs.Reached.{IsRun};
+ghost use Rattle.gr_rollback.specs.Contents.{Contents};
+ghost use Rattle.gr_rollback.specs.LentCopy.{LentCopy};
+ghost use Rattle.gr_rollback.specs.StepLeasing.{IsAsLentIn, loan_of};
 ghost use Rattle.gr_session.specs.declared.journal.Asked.{Asked};
 ghost use Rattle.gr_session.specs.declared.journal.Memory.{Memory};
 ghost use Rattle.gr_session.specs.declared.journal.Entry.{Entry};
 ghost use Rattle.gr_session.specs.Journal.{World, first_world};
 ghost use Rattle.gr_session.specs.Entries.{Means, Lead, Enters};
+ghost use Rattle.gr_session.specs.Copies.{IsBatch};
+ghost use Rattle.gr_session.specs.Committing.{MustBeStale};
 
 /// A legal journal has one meaning: in a world of a run each entry, by what it keeps of what the rules leave open, leads to one
 /// next world, with one reply; and that is again one of a run: its steps lead from the start of the program to its state. So the
@@ -30,4 +35,12 @@ pub fn law_of_journals()
     ensures reached { (p : Program) (journal : List Entry) (u : World p)
         → Lead p (first_world p) journal u
         → IsRun p u.log u.state }
+{}
+
+/// A batch need not be stale where its goroutine is as it was lent, and its limit was what the workers may take. So one that is
+/// committed with nothing between lease and commit is not.
+pub fn law_of_batches()
+    ensures { (p : Program) (s : Contents) (lent led : LentCopy) (grant : ℕ)
+        → IsAsLentIn (loan_of lent) p s → 0 < grant → IsBatch grant lent led
+        → ¬ MustBeStale p s grant (loan_of led) }
 {}
