@@ -22,6 +22,7 @@ use Rattle.gr_session.specs.Entries.{Means, by_batch}
 use Rattle.gr_session.specs.Batches.{Commits, with_steps, all_join, has_no_room_for_all, has_changed, passes_grant}
 use Rattle.gr_session.specs.Debuggees.{HasLines, store_in, Stands}
 use Rattle.gr_session.specs.Carried.{CommitsTo}
+use Rattle.gr_session.specs.Committing.{MayJoin}
 use Rattle.gr_session.proofs.GrantLemmas.{contains_here, lent_here, not_lent_here}
 
 -- what comes of a loan comes of the batch that is kept of it
@@ -100,6 +101,15 @@ module _ (p : Program) (w : World p) (d : Debuggee) (s : Stands p w d) (b : Loan
       commits = has_no_room_for_all (contents_at (store_in d)) (contains_here p w d s) (lent_here p w d s b lent) few_granted
           (passes most_steps rest (length w.log) steps b.steps all less same);
       stands = s;
+    }
+
+    -- it has, and so only memory may be wanted
+    pub may_join : (rest : ℕ) → rest + length w.log ≡ most_steps → steps ≤ rest → (steps ≡ 0 → ⊥) → MayJoin p w (contents_at (store_in d)) b
+    may_join rest all fits some = record {
+      as_lent = lent_here p w d s b lent;
+      some = above same some;
+      granted = few_granted;
+      room = fits_all most_steps rest (length w.log) (length w.log) steps b.steps all refl fits same;
     }
 
     -- they join it

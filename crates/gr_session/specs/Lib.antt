@@ -6,6 +6,7 @@ pub mod Debuggees
 pub mod Refusing
 pub mod Turning
 pub mod Wants
+pub mod Growing
 pub mod Granting
 pub mod Copies
 pub mod Carried

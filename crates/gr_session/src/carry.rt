@@ -6,7 +6,7 @@ ghost use Rattle.gr_rollback.specs.Stores.{SameListing};
 ghost use Rattle.gr_session.specs.Journal.{World};
 ghost use Rattle.gr_session.specs.Debuggees.{Stands, IsDebuggee, store_in};
 ghost use Rattle.gr_session.specs.Carried.{Carries};
-ghost use Rattle.gr_session.specs.Wants.{LeavesStore};
+ghost use Rattle.gr_session.specs.Wants.{LeavesStore, MayWantMemory};
 
 use crate::breakpoints;
 use crate::debuggee::Debuggee;
@@ -33,6 +33,7 @@ pub(crate) fn carry_out(
     ensures listing { SameListing (store_in debuggee.old) (store_in debuggee.new) }
     ensures still { OnOk result (LeavesStore command.now → store_in debuggee.new ≡ store_in debuggee.old) }
     ensures err { OnErr result (store_in debuggee.new ≡ store_in debuggee.old) }
+    ensures wants { OnErr result (MayWantMemory command.now) }
 {
     match command {
         Command::Step { go, case } => step(alloc, debuggee, go, *case),

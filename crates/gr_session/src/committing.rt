@@ -8,7 +8,7 @@ ghost use Rattle.gr_rollback.specs.StepLeasing.{IsLease, IsAsLent, loan_of, prog
 ghost use Rattle.gr_session.specs.Journal.{World};
 ghost use Rattle.gr_session.specs.Debuggees.{Stands, IsDebuggee, store_in};
 ghost use Rattle.gr_session.specs.Carried.{CommitsLent, CommitsBatch};
-ghost use Rattle.gr_session.specs.Committing.{MustBeStale, contents_after};
+ghost use Rattle.gr_session.specs.Committing.{MayJoin, MustBeStale, contents_after};
 
 use crate::debuggee::Debuggee;
 use crate::granting::room;
@@ -33,6 +33,8 @@ fn commit_lent(
     ensures contents { IfOk result (λ reply. contents_at (store_in debuggee.new)
         ≡ contents_after (said_of reply) lease.old (contents_at (store_in debuggee.old))) }
     ensures err { OnErr result (store_in debuggee.new ≡ store_in debuggee.old) }
+    ensures wants { (p : Program) → (w : World p) → Stands p w debuggee.old
+        → OnErr result (MayJoin p w (contents_at (store_in debuggee.old)) (loan_of lease.old)) }
     ensures loan { loan_of lease.new ≡ loan_of lease.old }
     ensures listing { SameListing (store_in debuggee.old) (store_in debuggee.new) }
 {
@@ -85,6 +87,8 @@ pub(crate) fn commit(
     ensures contents { IfOk result (λ r. contents_at (store_in debuggee.new)
         ≡ contents_after (said_of r.2) lease (contents_at (store_in debuggee.old))) }
     ensures err { OnErr result (store_in debuggee.new ≡ store_in debuggee.old) }
+    ensures wants { (p : Program) → (w : World p) → Stands p w debuggee.old
+        → OnErr result (MayJoin p w (contents_at (store_in debuggee.old)) (loan_of lease)) }
     ensures listing { SameListing (store_in debuggee.old) (store_in debuggee.new) }
 {
     if origin == Origin::Unknown && !debuggee.machine.has_program_of(&lease) {
@@ -111,6 +115,8 @@ fn commit_own(
     ensures contents { IfOk result (λ r. contents_at (store_in debuggee.new)
         ≡ contents_after (said_of r.2) lease (contents_at (store_in debuggee.old))) }
     ensures err { OnErr result (store_in debuggee.new ≡ store_in debuggee.old) }
+    ensures wants { (p : Program) → (w : World p) → Stands p w debuggee.old
+        → OnErr result (MayJoin p w (contents_at (store_in debuggee.old)) (loan_of lease)) }
     ensures listing { SameListing (store_in debuggee.old) (store_in debuggee.new) }
 {
     let mut lease = lease;

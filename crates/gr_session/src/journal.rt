@@ -1,8 +1,9 @@
 //! What a session keeps of the commands and batches that were asked, and who asks.
 
-ghost use Rattle.std.specs.Prelude.{◌≡◌, ◌↔◌, ◌++◌, ◌∷◌, [], ◌<◌, ◌≤◌, length, vec_len, vec_capacity, OnOk, IsErrOf};
+ghost use Rattle.std.specs.Prelude.{◌≡◌, ◌↔◌, ◌+◌, ◌++◌, ◌∷◌, [], ◌<◌, ◌≤◌, length, vec_len, vec_capacity, OnOk, IsErrOf};
+ghost use Rattle.gr_session.specs.Growing.{Grows, HasRoom};
 
-use crate::JOURNAL_LIMIT;
+use crate::{JOURNAL_GROWTH, JOURNAL_LIMIT};
 use gr_command::{Command, Reply};
 use gr_rollback::LocalRun;
 
@@ -66,18 +67,26 @@ pub enum EnrolRefused {
     NoMemory,
 }
 
-/// Makes room for an entry in a journal, which stays as it is.
+/// Makes room for an entry in a journal, which stays as it is. It takes memory only where the journal grows.
 pub(crate) fn make_room(journal: &mut Vec<Entry>) -> Result<(), AskRefused>
-    requires { length journal.old.items ≤ JOURNAL_LIMIT }
+    requires short { length journal.old.items ≤ JOURNAL_LIMIT }
+    requires room { HasRoom (vec_len journal.old) (vec_capacity journal.old) }
     ensures full { IsErrOf result AskRefused.JournalFull ↔ (length journal.old.items ≡ JOURNAL_LIMIT) }
+    ensures memory { IsErrOf result AskRefused.NoMemory → Grows (length journal.old.items) }
     ensures less { OnOk result (length journal.old.items < JOURNAL_LIMIT) }
-    ensures room { OnOk result (vec_len journal.new < vec_capacity journal.new) }
+    ensures free { OnOk result (vec_len journal.new < vec_capacity journal.new) }
+    ensures room { HasRoom (vec_len journal.new) (vec_capacity journal.new) }
+    ensures more { OnOk result (HasRoom (vec_len journal.new + 1) (vec_capacity journal.new)) }
     ensures items { journal.new.items ≡ journal.old.items }
 {
-    if journal.len() >= JOURNAL_LIMIT {
+    let len = journal.len();
+    if len >= JOURNAL_LIMIT {
         return Err(AskRefused::JournalFull);
     }
-    if journal.reserve(1).is_err() {
+    if len % JOURNAL_GROWTH != 0 {
+        return Ok(());
+    }
+    if journal.reserve(JOURNAL_GROWTH).is_err() {
         return Err(AskRefused::NoMemory);
     }
     Ok(())
@@ -91,7 +100,9 @@ pub(crate) fn keep(
     memory: Memory,
     reply: Reply,
 ) -> Receipt
-    requires { vec_len journal.old < vec_capacity journal.old }
+    requires free { vec_len journal.old < vec_capacity journal.old }
+    requires room { HasRoom (vec_len journal.old + 1) (vec_capacity journal.old) }
+    ensures room { HasRoom (vec_len journal.new) (vec_capacity journal.new) }
     ensures entry { journal.new.items ≡ journal.old.items ++ record { asker = desk.number; asked = asked; memory = memory } ∷ [] }
     ensures number { result.number ≡ length journal.new.items }
     ensures reply { result.reply ≡ reply }

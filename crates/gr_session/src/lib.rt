@@ -29,6 +29,9 @@ pub use session::Session;
 /// The most entries that a journal keeps.
 pub const JOURNAL_LIMIT: usize = 2_000_000;
 
+/// For how many entries a journal makes room at once.
+pub const JOURNAL_GROWTH: usize = 64;
+
 /// The most steps of a batch.
 pub const BATCH_LIMIT: usize = 256;
 

@@ -1,6 +1,8 @@
 //! Sessions: a program under the debugger, asked of under one journal.
 
-ghost use Rattle.std.specs.Prelude.{◌≡◌, ◌↔◌, ◌+◌, ◌≤◌, [], length, IfOk, IfSome, IfNone, OnOk, OnErr, IsErrOf, IsTrue};
+ghost use Rattle.std.specs.Prelude.{◌≡◌, ◌↔◌, ◌⊎◌, ◌+◌, ◌≤◌, [], length, vec_len, vec_capacity};
+ghost use Rattle.std.specs.Prelude.{IfOk, IfSome, IfNone, OnOk, OnErr, IsErrOf, IsTrue};
+ghost use Rattle.std.proofs.Props.{props};
 ghost use Rattle.gr_program.specs.Views.{program_of};
 ghost use Rattle.gr_rules.specs.Limits.{most_steps};
 ghost use Rattle.gr_command.specs.Replies.{said_of};
@@ -12,8 +14,9 @@ ghost use Rattle.gr_rollback.specs.Stores.{contents_at};
 ghost use Rattle.gr_session.specs.Journal.{course_of};
 ghost use Rattle.gr_session.specs.Entries.{EntersCommand, EntersBatch, IsLegal, InItsWorld};
 ghost use Rattle.gr_session.specs.Granting.{IsTurnDue, CanLend, IsLoan};
-ghost use Rattle.gr_session.specs.Committing.{Decides};
-ghost use Rattle.gr_session.specs.Wants.{LeavesStore};
+ghost use Rattle.gr_session.specs.Committing.{Decides, MayJoin};
+ghost use Rattle.gr_session.specs.Growing.{Grows, HasRoom};
+ghost use Rattle.gr_session.specs.Wants.{LeavesStore, MayWantMemory};
 
 use crate::carry::carry_out;
 use crate::committing::{Origin, commit};
@@ -37,6 +40,7 @@ pub struct Session {
     debuggee: Debuggee,
     journal: Vec<Entry>,
     askers: u32,
+    ghost room: { HasRoom (vec_len journal) (vec_capacity journal) } by { Prim.hlevel props },
 }
 
 impl Model for Session {
@@ -116,6 +120,7 @@ impl Session {
         ensures entry { IfOk result (λ receipt. EntersCommand (program_of self.old.program) desk.number command
             self.old.journal self.new.journal receipt.number (said_of receipt.reply)) }
         ensures full { IsErrOf result AskRefused.JournalFull ↔ (length self.old.journal ≡ JOURNAL_LIMIT) }
+        ensures memory { IsErrOf result AskRefused.NoMemory → Grows (length self.old.journal) ⊎ MayWantMemory command }
         ensures still { OnOk result (LeavesStore command → self.new.store ≡ self.old.store) }
         ensures err { OnErr result (self.new ≡ self.old) }
         ensures others { (self.new.program ≡ self.old.program) × (self.new.askers ≡ self.old.askers) }
@@ -167,6 +172,9 @@ impl Session {
             self.old.journal self.new.journal receipt.number (said_of receipt.reply)) }
         ensures decided { IfOk result (λ receipt. Decides self.old batch (said_of receipt.reply) self.new) }
         ensures full { IsErrOf result AskRefused.JournalFull ↔ (length self.old.journal ≡ JOURNAL_LIMIT) }
+        ensures memory { IsErrOf result AskRefused.NoMemory → Grows (length self.old.journal)
+            ⊎ InItsWorld (program_of self.old.program) self.old.journal
+            (λ w. MayJoin (program_of self.old.program) w (contents_at self.old.store) (loan_of batch)) }
         ensures err { OnErr result (self.new ≡ self.old) }
         ensures others { (self.new.program ≡ self.old.program) × (self.new.askers ≡ self.old.askers) }
     {
@@ -186,6 +194,9 @@ impl Session {
             self.old.journal self.new.journal receipt.number (said_of receipt.reply)) }
         ensures decided { IfOk result (λ receipt. Decides self.old batch (said_of receipt.reply) self.new) }
         ensures full { IsErrOf result AskRefused.JournalFull ↔ (length self.old.journal ≡ JOURNAL_LIMIT) }
+        ensures memory { IsErrOf result AskRefused.NoMemory → Grows (length self.old.journal)
+            ⊎ InItsWorld (program_of self.old.program) self.old.journal
+            (λ w. MayJoin (program_of self.old.program) w (contents_at self.old.store) (loan_of batch)) }
         ensures err { OnErr result (self.new ≡ self.old) }
         ensures others { (self.new.program ≡ self.old.program) × (self.new.askers ≡ self.old.askers) }
     {
@@ -206,6 +217,9 @@ impl Session {
             self.old.journal self.new.journal receipt.number (said_of receipt.reply)) }
         ensures decided { IfOk result (λ receipt. Decides self.old batch (said_of receipt.reply) self.new) }
         ensures full { IsErrOf result AskRefused.JournalFull ↔ (length self.old.journal ≡ JOURNAL_LIMIT) }
+        ensures memory { IsErrOf result AskRefused.NoMemory → Grows (length self.old.journal)
+            ⊎ InItsWorld (program_of self.old.program) self.old.journal
+            (λ w. MayJoin (program_of self.old.program) w (contents_at self.old.store) (loan_of batch)) }
         ensures err { OnErr result (self.new ≡ self.old) }
         ensures others { (self.new.program ≡ self.old.program) × (self.new.askers ≡ self.old.askers) }
     {

@@ -7,7 +7,7 @@ use Rattle.gr_rollback.specs.Stores.{contents_at}
 use Rattle.gr_rollback.proofs.LeasingLemmas.{led_nowhere}
 use Rattle.gr_session.specs.Debuggees.{log_in, store_in}
 use Rattle.gr_session.specs.Journal.{course_of}
-use Rattle.gr_session.proofs.CommitLemmas.{stale_past_grant, full_for_all, some_join, none_joins, fits_all, kept_short, is_stale, full_not_stale, joined_not_stale, too_many, not_too_many}
+use Rattle.gr_session.proofs.CommitLemmas.{stale_past_grant, full_for_all, some_join, none_joins, fits_all, kept_short, is_stale, full_not_stale, joined_not_stale, may_join, too_many, not_too_many}
 use Rattle.gr_session.proofs.DebuggeeLemmas.{log_length}
 use Rattle.gr_session.proofs.committing.commit_lent.Goals as goal
 
@@ -55,3 +55,8 @@ returns-in-Ok-clause-stale c = joined_not_stale _ (not_too_many _ _ _ c.len-step
 pub returns-then-steps-eq0-clause-contents : goal.returns-then-steps-eq0-clause-contents
 returns-then-steps-eq0-clause-contents c =
     sym (led_nowhere c.args.lease.now (contents_at (store_in c.args.debuggee.now)) c.requires.lease (sym c.len-steps.ensures ∙ c.if-steps-eq0.true) c.requires.lent.there)
+
+pub returns-in-Err-clause-wants : goal.returns-in-Err-clause-wants
+returns-in-Err-clause-wants c = λ p w s.
+    may_join p w c.args.debuggee.now s (loan_of c.args.lease.now) c.requires.lent c.len-steps.result c.len-steps.ensures (omega arith)
+    c.room.result (c.room.ensures p w s) (omega arith) c.if-steps-eq0.false

@@ -1,4 +1,4 @@
-use Rattle.std.proofs.Common.{◌<◌, ◌≤◌, length, refl, ap, ◌∙◌, rules}
+use Rattle.std.proofs.Common.{◌<◌, ◌≤◌, length, refl, ap, ◌∙◌, inr, rules}
 use Rattle.gr_rollback.specs.StepLeasing.{loan_of}
 use Rattle.gr_session.specs.declared.TheConstants.{JOURNAL_LIMIT}
 use Rattle.gr_session.specs.declared.journal.Memory.TheVariants.{Enough}
@@ -45,3 +45,12 @@ returns-in-Ok-clause-decided c =
     rw (← c.self.view_is, ← c.batch.view_is, c.keep.ensures.reply, c.keep.ensures.entry, c.make_room.ensures.items)
     (decides c.self.inside.debuggee c.self.inside.journal.items c.self.inside.askers c.self.invariant c.batch.inside.copy _ _ c.in-Ok.stood
     c.commit.new.debuggee _ refl c.in-Ok.ensures.as_lent c.in-Ok.ensures.stale c.in-Ok.ensures.contents)
+
+pub returns-in-Err-commit-clause-memory : goal.returns-in-Err-commit-clause-memory
+returns-in-Err-commit-clause-memory c =
+    rw (← c.self.view_is, ← c.batch.view_is)
+    (λ none. inr (record {
+      world = c.self.invariant.world;
+      means = c.self.invariant.means;
+      holds = c.in-Err-commit.ensures.wants _ c.self.invariant.world c.self.invariant.stands;
+    }))
