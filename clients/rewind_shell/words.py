@@ -74,7 +74,7 @@ SHELL = [
 CORE = [
     Word("run", "r", "run N", "take up to N steps, of the goroutines by turns"),
     Word("undo", "", "undo", "take the last step back"),
-    Word("redo", "", "redo", "take the steps again that went back last"),
+    Word("redo", "", "redo", "redo the steps that were taken back last"),
     Word("order", "", "order ID ..", "put the kept steps into another order"),
     Word("deps", "", "deps ID", "the steps that depend on a step"),
     Word("causes", "", "causes ID", "the steps that a step depends on"),
@@ -103,7 +103,7 @@ HINTS = {
     "step": "step wants a goroutine, and may have the number of a clause: step g0, step g0 2; or a number of steps: step 5",
     "run": "run wants a number from 1 to 1000000: run 1000; 'continue' goes on to a breakpoint or the end",
     "undo": "undo stands alone and takes the last step back; 'back g0.1#3' takes another one with all that depends on it",
-    "redo": "redo stands alone and takes the steps again that went back last",
+    "redo": "redo stands alone, and redoes the steps that were taken back last",
     "back": "back wants a step, a line or a variable: back g0.1#3, back 12, back var x; or back go g0.1, back send g0/c1 2",
     "order": "order wants the names of all kept steps in their new order: order g0#1 g0.1#1 g0#2",
     "deps": "deps wants a step: deps g0.1#3",

@@ -3,8 +3,8 @@
 pub(crate) const VERSION: &str = "1.0.0";
 
 pub(crate) const ABOUT: &str = "\
-Debugs a Go program with goroutines and channels, one small step at a time,
-forward and back: a step goes back with all that depends on it, and with
+Debugs a program in a small Go with goroutines and channels, one step at a
+time, forward and back. A step goes back with all that depends on it, and with
 nothing else.";
 
 pub(crate) const USAGE: &str = "\
@@ -16,13 +16,13 @@ pub(crate) const HELP: &str = "\
 Commands, one a line on standard input:
   step G                        take one step of a goroutine
   step G CASE                   .. of the clause CASE of a select
-  run N                         take up to N steps, of the goroutines by turns
+  run N                         take up to N steps, round-robin
   undo                          take the last step back
   back G#N                      take a step back with all that depends on it
   back go G                     .. the step that started a goroutine
   back send C K, back recv C K  .. the K-th send to a channel, or receive
   back var G X                  .. the step that gave a variable its value
-  redo                          take the steps again that went back last
+  redo                          redo the steps that were taken back last
   order ID ..                   put the kept steps into another order
   deps ID, causes ID            show what depends on a step, or what it
                                 depends on
@@ -44,9 +44,9 @@ Exit status:
   0  'quit', or the end of the commands; a source that '--check' accepts;
      '--explain', '--help', '--version'
   1  FILE cannot be read, or is refused
-  2  the command line is refused: not just one of FILE, '--check' and
-     '--explain', workers that are not 0 to 64 or without FILE, a CODE that is
-     none, an unknown option, an argument that is not UTF-8
+  2  the command line is refused. It has none or several of FILE, '--check'
+     and '--explain'. Its workers are not 0 to 64, or stand without FILE. Its
+     CODE is none, an option is unknown, or an argument is not UTF-8
   3  reading, writing or starting threads failed, or there is no memory
      (before the end of the check that is S8, P4 or C11, with status 1)
 
@@ -78,7 +78,7 @@ pub(crate) const CHECK_HELP: &str = "\
 Only tells whether the source is accepted: nothing where it is, else the line of its refusal";
 
 pub(crate) const EXPLAIN_HELP: &str = "\
-Tells of a code, a fault, a kind of step or an end of a run what it means and what to do";
+Says what a code, a fault, a kind of step or an end of a run means, and what to do";
 
 pub(crate) const PROMPT: &str = "(rewind) ";
 
@@ -87,7 +87,7 @@ this line is no command (rewind --help lists the commands)
 ";
 
 pub(crate) const BANNER: &str = "\
-Rewind 1.0.0: a command a line, as 'run 100', 'show g0', 'undo'; 'quit' ends the session, 'rewind --help' lists them all.
+Rewind 1.0.0: a command a line, such as 'run 100', 'show g0', 'undo'; 'quit' ends the session, 'rewind --help' lists them all.
 (rewind) ";
 
 /// What is said of arguments that are not UTF-8.
@@ -129,7 +129,7 @@ there is no such file
 
 /// What is said of a file that is a folder.
 pub const FOLDER: &str = "\
-it is a folder; FILE is the source of a program, as 'main.go'
+it is a folder; FILE is the source of a program, such as 'main.go'
 ";
 
 /// What is said of a file that the user may not read.
@@ -149,5 +149,5 @@ the file is empty; a program begins with 'package main'
 
 /// What is said of a file that is not UTF-8.
 pub const NOT_UTF_8: &str = "\
-the file is not UTF-8 text; look whether it is a Go source
+the file is not UTF-8 text; check that it is a Go source
 ";

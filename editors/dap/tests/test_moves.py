@@ -125,7 +125,7 @@ class Moves(unittest.TestCase):
         self.assertEqual(self.move("continue")["reason"], "breakpoint")
         reply = self.client.body("evaluate", {"expression": "show g0", "context": "repl"})["result"]
         self.assertEqual(reply.split("\n")[0], "| g0 ready 30000 line 9")
-        self.assertEqual(self.client.ask("rewind/redo")["message"], "nothing was taken back that could be done again (no B5)")
+        self.assertEqual(self.client.ask("rewind/redo")["message"], "there is nothing to redo (no B5)")
         self.assertEqual(self.move("continue")["reason"], "ended")
         self.assertEqual(self.move("reverseContinue")["reason"], "breakpoint")
         self.assertEqual(self.frames(), [("main", 9)])

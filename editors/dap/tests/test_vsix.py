@@ -98,7 +98,7 @@ class Commands(unittest.TestCase):
         told = self.run_commands("rewind.causes=g0.2#1", "rewind.dependents=g0#12", "rewind.redo")
         self.assertTrue(re.match(r"The causes of g0\.2#1: g0#1 .* g0\.2#1$", told[0]["said"][0]))
         self.assertEqual(told[1]["said"], ["What depends on g0#12: g0#12"])
-        self.assertEqual(told[2]["said"], ["Rewind: nothing was taken back that could be done again (no B5)"])
+        self.assertEqual(told[2]["said"], ["Rewind: there is nothing to redo (no B5)"])
 
     def test_each_command_that_is_offered_is_there(self) -> None:
         with open(os.path.join(EXTENSION, "package.json"), encoding="utf-8") as file:

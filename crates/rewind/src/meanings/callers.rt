@@ -9,17 +9,17 @@ const PAGES: [(&[u8], &str); 2] = [
     (
         b"E1",
         "\
-E1: the session has 1,000 askers
+E1: the session has 1,000 clients
 
 Example: the 1,001st call of 'enrol'.
 
-What to do: Share one asker among callers.
+What to do: Share one client among callers.
 ",
     ),
     (
         b"E2",
         "\
-E2: there is no memory for one more asker
+E2: there is no memory for one more client
 
 Example: 'enrol' where a growth is refused.
 

@@ -20,7 +20,7 @@ back.
     (
         b"count",
         "\
-count: so many steps were taken as were asked for
+count: as many steps were taken as were asked for
 
 Example: 'run 3' gives 'ok 3 count'.
 

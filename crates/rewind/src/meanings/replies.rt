@@ -115,18 +115,18 @@ What to do: Put X before Y. 'causes Y' shows on which steps Y depends.
     (
         b"B5",
         "\
-B5: nothing was taken back that could be done again
+B5: there is nothing to redo
 
 Example: 'redo' after a 'step'.
 
-What to do: Only what the last 'undo' or 'back' took back can be done again,
-and only until a step is taken or another order is made.
+What to do: Only what the last 'undo' or 'back' took back can be redone, and
+only until a step is taken or another order is made.
 ",
     ),
     (
         b"B6",
         "\
-B6: memory ran out after these steps; they are taken back, or done again, and no others
+B6: memory ran out after these steps: they are taken back, or redone, and no others
 
 Example: 'no B6 0' of 'undo'.
 

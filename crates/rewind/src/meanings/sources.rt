@@ -97,10 +97,10 @@ What to do: Free memory, or allow the program more, and start again.
     (
         b"P1",
         "\
-P1: no file has these tokens
+P1: a syntax error: the program cannot go on with this token
 
-Example: 'println(1 2)' is refused at 3:12, the first token up to which no
-file can begin (on line 3 of a file, in the body of 'main', after a tab).
+Example: 'println(1 2)' is refused at 3:12, the first token that does not fit
+(on line 3 of a file, in the body of 'main', after a tab).
 
 What to do: Look at the token there and the one before it: often an operator,
 a comma, a bracket or the end of a line is missing.
@@ -109,7 +109,7 @@ a comma, a bracket or the end of a line is missing.
     (
         b"P2",
         "\
-P2: no file has these tokens, and the one there begins something of Go that is left out: 'const defer fallthrough func goto import interface map switch type var', or one of '* & [ . ...'
+P2: something of Go that is left out begins at this token: 'const defer fallthrough func goto import interface map switch type var', or one of '* & [ . ...'
 
 Example: 'defer println(1)' is refused at 3:2 (on line 3 of a file, in the
 body of 'main', after a tab).
@@ -178,7 +178,7 @@ What to do: Look at the types on both sides. There are no conversions, and
     (
         b"C4",
         "\
-C4: not as many values, arguments or results as are wanted
+C4: the wrong number of values, arguments or results
 
 Example: 'a, b := 1' is refused at 3:2 (on line 3 of a file, in the body of
 'main', after a tab).
@@ -202,7 +202,7 @@ receives, 'chan<- T' only sends and closes.
     (
         b"C6",
         "\
-C6: a function with a result whose end may be reached
+C6: a function with a result that can reach its end without a 'return'
 
 Example: line 2 'func f() int { println(1) }' is refused at 2:27, the closing
 brace.
