@@ -1,6 +1,6 @@
 """The direct causes of a step: the steps of other goroutines on which it depends without a third one between them.
 
-All causes of a step are many, since each rests on those before it. A direct one started the goroutine, closed the channel, gave
+All causes of a step are many, since each depends on those before it. A direct one started the goroutine, closed the channel, gave
 or took the value, or was first in a queue.
 """
 from __future__ import annotations

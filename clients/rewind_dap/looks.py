@@ -101,7 +101,7 @@ class Looks:
         return {"exceptionId": name, "description": stop.text, "breakMode": "always", "details": details}
 
     def related(self, word: str, arguments: Arguments) -> Body:
-        """The steps that a step rests on, or that rest on it."""
+        """The steps that a step depends on, or that depend on it."""
         debuggee = self.adapter.stopped_debuggee()
         core = debuggee.session.core
         ask = core.causes if word == "causes" else core.dependents

@@ -78,7 +78,7 @@ class Reducer:
     # What is to be kept.
 
     def targets(self, outcome: Outcome, kind: Kind, entries: Sequence[Entry]) -> Iterator[List[str]]:
-        """The steps that what was found rests on; more of them where the first ones are not enough.
+        """The steps that what was found depends on; more of them where the first ones are not enough.
 
         A fault and an exit stop the program, so that all steps come before them. What they need of these is the step before of their
         own goroutine, and for a fault of a closed channel the close.

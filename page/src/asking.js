@@ -44,7 +44,7 @@ async function findStep(page, what) {
     const id = await stepBehind(session, what);
     if (session !== page.session) return;
     if (!id) return page.say("No kept step gave this: it is a parameter, or its step is not found yet.", "bad");
-    page.say(`${id} is the step behind it: see what rests on it, or take it back.`);
+    page.say(`${id} is the step behind it: see what depends on it, or take it back.`);
     await page.pointing.show(id);
     if (what.variable) await showCourse(page, session, what.variable);
   } catch (fault) {

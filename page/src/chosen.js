@@ -44,7 +44,7 @@ export function showChosen(page) {
     return;
   }
   const step = session.log.step(session.log.row(about.id));
-  const said = `${describeStep(step, page.note(about.id), session.log.length)}. It rests on `;
+  const said = `${describeStep(step, page.note(about.id), session.log.length)}. It depends on `;
   const causes = make("span", { class: "cause-word" }, `${inSteps(about.causes)} ↑`);
   const consequences = make("span", { class: "consequence-word" }, `${inSteps(about.consequences)} ↓`);
   const on = about.consequences === 1 ? "; on it rests " : "; on it rest ";

@@ -78,7 +78,7 @@ export class DirectEdges {
     else this.known.set(id, causes);
   }
 
-  // The last step of each other goroutine that this step rests on, and the one before it in its own goroutine does not.
+  // The last step of each other goroutine that this step depends on, and the one before it in its own goroutine does not.
   /** @param {Step} step */
   newSources({ id, goroutine }) {
     const own = this.log.before(id);

@@ -11,11 +11,11 @@ export const isWait = (kind) => WAITS.has(word(kind));
 /** @param {string} kind */
 export const mayWake = (kind) => WAKES.has(word(kind));
 
-// The end of the program rests on every step before it. It gets no edges for that alone.
+// The end of the program depends on every step before it. It gets no edges for that alone.
 /** @param {string} kind */
 export const endsAll = (kind) => ["exit", "fault"].includes(word(kind));
 
-// A step that touches its own goroutine alone rests on others only where the goroutine was started, or woken, just before.
+// A step that touches its own goroutine alone depends on others only where the goroutine was started, or woken, just before.
 /**
  * @param {string} kind
  * @param {string} kindBefore

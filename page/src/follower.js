@@ -1,5 +1,5 @@
 // A third session that goes along the log: it finds what the log does not tell of a step (its statement, what it printed, which steps
-// of others it rests on directly), and shows any past state. The user's session is left alone.
+// of others it depends on directly), and shows any past state. The user's session is left alone.
 
 import { SessionGone } from "./remote.js";
 import { isWait, mayWake } from "./edges.js";

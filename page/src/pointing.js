@@ -116,7 +116,7 @@ export class Pointing {
     page.views.chosen.show(page);
   }
 
-  // The steps that a step rests on directly: the one before it in its goroutine, and those at the tails of its edges.
+  // The steps that a step depends on directly: the one before it in its goroutine, and those at the tails of its edges.
   /** @param {string} id */
   directCauses(id) {
     /** @type {Map<string, number[]>} */

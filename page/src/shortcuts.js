@@ -29,7 +29,7 @@ export function listenToKeys(page) {
     { keys: ["["], says: "choose the goroutine before", act: () => page.nextGoroutine(-1) },
     { keys: ["x"], says: "stop a long run", act: () => page.stop() },
     { keys: ["u"], says: "undo the last step", act: does("undo") },
-    { keys: ["b"], says: "take the chosen step back, with all that rests on it", act: () => void page.pointing.takeBack() },
+    { keys: ["b"], says: "take the chosen step back, with all that depends on it", act: () => void page.pointing.takeBack() },
     { keys: ["y"], says: "take again what was taken back", act: does("redo") },
     { keys: ["n"], says: "the next command of the story", act: does("next") },
     { keys: [",", "."], shown: ", and .", says: "look at the state one step before, or after", act: (/** @type {string} */ key) => look(page, key === "," ? -1 : 1) },

@@ -67,11 +67,11 @@ export class Words {
   reply(line, reply) {
     const [word] = wordsOf(line);
     const count = listedSteps(reply).length;
-    if (reply.words[1] === "B4") return `Not possible: ${reply.words[3]} rests on ${reply.words[2]}, so it cannot come before it.`;
+    if (reply.words[1] === "B4") return `Not possible: ${reply.words[3]} depends on ${reply.words[2]}, so it cannot come before it.`;
     if (!reply.isOk) return this.meaning(reply.words[1]) || "This line is no command.";
     if (word === "step") return `${reply.words[1]}: ${this.kind(reply.words.slice(2).join(" "))}`;
     if (word === "undo") return `${reply.words[1]} is taken back.`;
-    if (word === "back") return `${inSteps(count)} taken back: ${reply.words[2]}${count === 1 ? "" : " and what rested on it"}.`;
+    if (word === "back") return `${inSteps(count)} taken back: ${reply.words[2]}${count === 1 ? "" : " and what depended on it"}.`;
     if (word === "redo") return `${inSteps(count)} taken again.`;
     if (word === "order") return "The steps stand in the new order. The state is the same.";
     if (word === "run") return endOfRun(Number(reply.words[1]), reply.words.slice(2).join(" "));
@@ -109,7 +109,7 @@ export class Words {
    */
   faultText({ id, kind }, note) {
     const at = note?.line ? ` at line ${note.line}` : "";
-    const cause = note?.edges?.length ? ` It rests on ${note.edges[0].from}.` : "";
+    const cause = note?.edges?.length ? ` It depends on ${note.edges[0].from}.` : "";
     return `Fault in ${id}${at}: ${this.fault(kind.slice("fault ".length))}.${cause}`;
   }
 }

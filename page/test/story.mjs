@@ -73,7 +73,7 @@ async function exchangeNeighbours(hands) {
   equal("and keys put them back", await hands.ids(), before);
   await hands.browser.run("rewind.page.views.picture.reveal('g0.2#1')");
   await hands.drag("g0.3#1", "g0.2#1");
-  equal("the refusal names the pair", await hands.text("#status"), "Not possible: g0.3#1 rests on g0.2#1, so it cannot come before it.");
+  equal("the refusal names the pair", await hands.text("#status"), "Not possible: g0.3#1 depends on g0.2#1, so it cannot come before it.");
   equal("and the picture rings it", await hands.drawn(".forbids[data-step]"), ["g0.2#1", "g0.3#1"]);
   await hands.type("run 100");
   equal("a typed command", await hands.lastReply(), ["> run 100", "ok 20 ended"]);

@@ -13,7 +13,7 @@ async function states(hands) {
   equal("which is drawn", await hands.browser.run("[...document.querySelectorAll('#picture .cycle-word')].map((it) => it.textContent)"), ["g0.1 waits for g0.2", "g0.2 waits for g0.1"]);
   await hands.story("send_on_closed");
   await hands.key("r");
-  holds("a fault is told with its step, line, meaning and cause", /^Fault in g0\.1#6 at line 5: a send on a closed channel.* It rests on g0#6\.$/.test(await hands.text("#state")));
+  holds("a fault is told with its step, line, meaning and cause", /^Fault in g0\.1#6 at line 5: a send on a closed channel.* It depends on g0#6\.$/.test(await hands.text("#state")));
   equal("nobody is called ready after a fault", await hands.browser.run("/\\bready\\b/.test(document.getElementById('goroutines').innerText)"), false);
   await hands.story("leaked_goroutine");
   await hands.key("r");
