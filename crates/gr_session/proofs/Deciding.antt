@@ -2,7 +2,6 @@
 use Rattle.std.proofs.Common.{◌≡◌, ℕ, List, [], ◌∷◌, ◌++◌, Bool, refl, sym, ap, subst, ◌∙◌}
 use Rattle.std.specs.Prelude.{◌↔◌, IsTrue}
 use Rattle.gr_causal.proofs.ListLemmas.{cons_is}
-use Rattle.gr_program.specs.Views.{program_of}
 use Rattle.gr_command.specs.Replies.{Said, Stale}
 use Rattle.gr_rollback.specs.LentCopy.{LentCopy}
 use Rattle.gr_rollback.specs.StepLeasing.{IsAsLent, loan_of}
