@@ -6,7 +6,6 @@ use mathlib.Core.Option.{none}
 use denote.RattleType.{RattleType}
 use Rattle.gr_program.specs.Programs.{Program}
 use Rattle.gr_program.specs.Views.{program_of}
-use Rattle.gr_command.specs.declared.command.Command.TheVariants.{Turn}
 use Rattle.gr_command.specs.Replies.{Said, said_of}
 use Rattle.gr_session.specs.declared.journal.AskRefused.{AskRefused}
 use Rattle.gr_session.specs.declared.journal.Entry.{Entry}
@@ -17,8 +16,6 @@ use Rattle.gr_session.specs.Copies.{Loan, loan_of}
 use Rattle.gr_share.specs.declared.desk.Asked.{Asked as Wanted}
 use Rattle.gr_share.specs.declared.desk.Asked.TheVariants.{Command, Batch}
 use Rattle.gr_share.specs.declared.desk.Call.{Call}
-use Rattle.gr_share.specs.declared.desk.Work.{Work}
-use Rattle.gr_share.specs.declared.desk.Work.TheVariants as found
 
 -- a desk: its number among the askers, and its calls, the oldest first
 pub record Asker : Type 0 where
@@ -79,24 +76,3 @@ Asked old wanted result new = IfOk result (λ r. GainsBy old wanted r.now new) �
 -- when the borrow ends, P holds of what was lent
 abbrev pub EndsAs : (R : RattleType) → MutBor R.Denot → (R.Denot → Type 0) → Fml
 EndsAs R s P = follows_so R R s.ghost_name none (λ _ _. ⊤) P
-
--- a worker took a turn, or has nothing new
-abbrev pub Looks : Asker → Work → Asker → Type 0
-Looks old found.Turned new = Gains old (Command Turn) new
-Looks old (found.Lends lease limit) new = new ≡ old
-Looks old found.Nothing new = new ≡ old
-
--- what is lent is of this program
-abbrev pub LendsOf : Program → Work → Type 0
-LendsOf p (found.Lends lease limit) = (loan_of lease.copy).program ≡ p
-LendsOf p found.Turned = Unit {0}
-LendsOf p found.Nothing = Unit {0}
-
--- what workers ask: turns, and that batches are committed
-abbrev pub IsWork : Wanted → Type 0
-IsWork (Command command) = command ≡ Turn
-IsWork (Batch go steps) = Unit {0}
-
--- the asker has further calls, all of them of workers
-abbrev pub HasWorked : Asker → Asker → Type 0
-HasWorked old new = (more : List Call) × (new ≡ record old { calls = old.calls ++ more }) × All (λ c. IsWork c.asked) more

@@ -1,6 +1,8 @@
 pub mod Calls
 pub mod Lines
 pub mod Ties
+pub mod Works
+pub mod Finding
 pub mod Seats
 pub use Rattle.gr_session.specs.declared.journal.AskRefused
 pub use Rattle.gr_session.specs.declared.journal.Asked

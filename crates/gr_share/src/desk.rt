@@ -1,6 +1,7 @@
 //! Desks and workers: askers of a shared session, with what they asked.
 ghost use Rattle.std.specs.Prelude.{◌≡◌, ◌++◌, ◌∷◌, [], IfOk, OnErr};
 
+use crate::locked::Found;
 use crate::shared::Shared;
 use crate::views::{Pass, Room};
 use gr_base::GoName;
@@ -62,7 +63,8 @@ impl<B: Room> Desk<B> {
     ghost use Rattle.std.specs.Borrow.{sem};
     ghost use Rattle.gr_session.specs.Copies.{loan_of};
     ghost use Rattle.gr_share.specs.contracts.desk.Desk.{the_row};
-    ghost use Rattle.gr_share.specs.Calls.{EndsAs, Asked as AskedBy, Gains, Looks, LendsOf};
+    ghost use Rattle.gr_share.specs.Calls.{EndsAs, Asked as AskedBy, Gains};
+    ghost use Rattle.gr_share.specs.Finding.{Looks, LendsOf};
 
     // Asks a command, whose receipt is then the last one that is kept.
     pub(crate) fn enter<R: Wait>(
@@ -146,7 +148,7 @@ impl<B: Room> Desk<B> {
         place: u32,
     ) -> Work
         ensures looks { Looks self.old result self.new }
-        ensures own { LendsOf B.program result }
+        ensures own { LendsOf B.program place result }
     {
         if self.calls.reserve(1).is_err() {
             return Work::Nothing;
@@ -154,30 +156,14 @@ impl<B: Room> Desk<B> {
         let mut locked = shared
             .changed
             .wait_while(rt, shared.hold(rt), |locked| locked.is_idle());
-        if locked.closed {
-            return Work::Nothing;
-        }
-        match locked.lease(alloc, place) {
-            Ok(Some((lease, limit))) => return Work::Lends(lease, limit),
-            Ok(None) => {}
-            Err(_) => return Work::Nothing,
-        }
-        let asked = locked.ask(
-            rt,
-            alloc,
-            &shared.tie,
-            &mut self.seat,
-            self.number,
-            Command::Turn,
-            Command::Turn,
-        );
-        match asked {
-            Ok(turn) => {
+        match locked.find(rt, alloc, &shared.tie, &mut self.seat, self.number, place) {
+            Found::Turned(turn) => {
                 self.calls.push_reserved(turn);
                 shared.changed.notify_all();
                 Work::Turned
             }
-            Err(_) => Work::Nothing,
+            Found::Lends(lease, limit) => Work::Lends(lease, limit),
+            Found::Nothing => Work::Nothing,
         }
     }
 

@@ -1,19 +1,37 @@
 //! What lies under the lock.
-ghost use Rattle.std.specs.Prelude.{◌≡◌, ◌+◌, ◌<◌, ◌≤◌, ◌++◌, ◌∷◌, [], length, IfOk, IfSome, OnErr, IsTrue};
+ghost use Rattle.std.specs.Prelude.{◌≡◌, ◌↔◌, ◌+◌, ◌-◌, ◌^◌, ◌<◌, ◌≤◌, ◌++◌, ◌∷◌, [], true, false, min, length};
+ghost use Rattle.std.specs.Prelude.{IfOk, IfSome, OnErr, IsTrue};
+ghost use mathlib.Core.List.{IsPrefix};
 ghost use Rattle.gr_program.specs.Views.{program_of};
 ghost use Rattle.gr_command.specs.Replies.{said_of};
 ghost use Rattle.gr_session.specs.Copies.{loan_of};
+ghost use Rattle.gr_session.specs.Entries.{InItsWorld};
+ghost use Rattle.gr_session.specs.Granting.{CanLend, IsTurnDue};
 ghost use Rattle.gr_share.specs.Calls.{EntersCall, IsTied};
 ghost use Rattle.gr_share.specs.Ties.{asking, told, numbers_of, AllBelow};
+ghost use Rattle.gr_share.specs.Works.{Lends};
+ghost use Rattle.gr_share.specs.Finding.{Finds, IsNothing};
 
 use crate::desk::{Asked, Call, Desk};
 use crate::tie::Tie;
 use crate::views::{Pass, Room};
 use gr_base::{GoName, NoMemory};
+use gr_session::laws::law_of_journals;
 use gr_session::{AskRefused, Batch, Command, DeskId, EnrolRefused, Lease, Session};
 use std::alloc::Global;
 use std::marker::{Model, PhantomData};
 use std::sync::Wait;
+
+// What was found for a worker.
+#[derive(Drop)]
+pub(crate) enum Found {
+    // It took a turn.
+    Turned(Call),
+    // It is lent a goroutine, to take so many steps at most.
+    Lends(Lease, usize),
+    // The workers are to end, or it was refused.
+    Nothing,
+}
 
 // The session, and its seat, which knows the lines of the journal and the number of askers.
 #[derive(Drop)]
@@ -76,7 +94,8 @@ impl<B: Room> Locked<B> {
         requires { tie.now.table.shared.table_id ≡ B.table }
         ensures desk { IfOk result (λ d. (1 ≤ d.0.number) × (d.1.table_id ≡ B.table) × (d.1.me.0 ≡ asking d.0.number [])) }
         ensures after { IfOk result (λ d. B.first < d.0.number) }
-        ensures place { IfOk result (λ d. 1 ≤ d.2) }
+        ensures place { IfOk result (λ d. (d.2 ≡ min (self.old.workers + 1) (2 ^ 32 - 1)) × (self.new.workers ≡ d.2)) }
+        ensures first { IfOk result (λ d. 1 ≤ d.2) }
         ensures others { (self.new.session.journal ≡ self.old.session.journal)
             × (self.new.session.program ≡ self.old.session.program) }
         ensures err { OnErr result (self.new ≡ self.old) }
@@ -166,19 +185,47 @@ impl<B: Room> Locked<B> {
 
     // Lends the goroutine at the place among those that can be lent, to take at most as many steps as the grant and the log have
     // room for.
-    pub(crate) fn lease(
-        &self,
-        alloc: Global,
-        place: u32,
-    ) -> Result<Option<(Lease, usize)>, NoMemory>
+    fn lease(&self, alloc: Global, place: u32) -> Result<Option<(Lease, usize)>, NoMemory>
         ensures own { IfOk result (λ o. IfSome o (λ l. (loan_of l.0.copy).program ≡ B.program)) }
+        ensures limit { IfOk result (λ o. IfSome o (λ l. Lends B.program self.now.session.journal place l.0 l.1)) }
     {
+        law_of_journals();
         match self.session.lease(alloc, place)? {
             Some(lease) => {
                 let limit = self.session.room().min(self.session.grant() as usize);
                 Ok(Some((lease, limit)))
             }
             None => Ok(None),
+        }
+    }
+
+    // What there is to do for a worker, whose seat takes the call of a turn. There is nothing once the workers are to end.
+    pub(crate) fn find<R: Wait>(
+        &mut self,
+        rt: &R,
+        alloc: Global,
+        tie: &Tie,
+        seat: &mut Pass,
+        number: u32,
+        place: u32,
+    ) -> Found
+        requires tie { tie.now.table.shared.table_id ≡ B.table }
+        requires seat { (seat.old.table_id ≡ B.table) × (1 ≤ number) × (seat.old.me.0 ≡ asking number seat.old.me.0.calls) }
+        ensures table { seat.new.table_id ≡ B.table }
+        ensures finds { Finds B.program self.old.session.journal place number seat.old.me.0 result seat.new.me.0 }
+        ensures closed { self.old.closed ≡ true → IsNothing result }
+    {
+        if self.closed {
+            return Found::Nothing;
+        }
+        match self.lease(alloc, place) {
+            Ok(Some((lease, limit))) => return Found::Lends(lease, limit),
+            Ok(None) => {}
+            Err(_) => return Found::Nothing,
+        }
+        match self.ask(rt, alloc, tie, seat, number, Command::Turn, Command::Turn) {
+            Ok(call) => Found::Turned(call),
+            Err(_) => Found::Nothing,
         }
     }
 
@@ -215,7 +262,15 @@ impl<B: Room> Locked<B> {
     }
 
     // Whether a worker has to wait: the workers are not to end, no goroutine can be lent, and no turn is due.
-    pub(crate) fn is_idle(&self) -> bool {
-        !self.closed && !self.session.can_lend() && !self.session.turn_due()
+    pub(crate) fn is_idle(&self) -> bool
+        ensures { IsTrue result ↔ ((self.now.closed ≡ false)
+            × InItsWorld (program_of self.now.session.program) self.now.session.journal
+            (λ w. ¬ CanLend (program_of self.now.session.program) w × ¬ IsTurnDue (program_of self.now.session.program) w)) }
+    {
+        law_of_journals();
+        if self.closed || self.session.can_lend() {
+            return false;
+        }
+        !self.session.turn_due()
     }
 }

@@ -1,6 +1,6 @@
 //! Workers.
-ghost use Rattle.std.specs.Prelude.{◌≡◌};
-ghost use Rattle.gr_share.specs.Calls.{HasWorked};
+ghost use Rattle.std.specs.Prelude.{◌≡◌, ◌+◌, ◌≤◌, length};
+ghost use Rattle.gr_share.specs.Works.{HasWorked};
 
 use crate::desk::{Work, Worker};
 use crate::shared::Shared;
@@ -10,9 +10,11 @@ use std::alloc::Global;
 use std::sync::Wait;
 
 impl<B: Room> Worker<B> {
-    ghost use Rattle.std.specs.Prelude.{◌≡◌};
+    ghost use Rattle.std.specs.Prelude.{◌≡◌, List};
     ghost use Rattle.gr_session.specs.Copies.{loan_of};
-    ghost use Rattle.gr_share.specs.Calls.{HasWorked};
+    ghost use Rattle.gr_session.specs.declared.journal.Entry.{Entry};
+    ghost use Rattle.gr_share.specs.Works.{Lends};
+    ghost use Rattle.gr_share.specs.Finding.{WorksOnce};
 
     // Takes steps on the copy, without the lock, and commits them. It tells whether it may go on.
     fn take_steps<R: Wait, G: Gate>(
@@ -25,7 +27,8 @@ impl<B: Room> Worker<B> {
         limit: usize,
     ) -> bool
         requires own { (loan_of lease.copy).program ≡ B.program }
-        ensures works { HasWorked self.old.seat self.new.seat }
+        requires lent { (journal : List Entry) × Lends B.program journal self.old.place lease limit }
+        ensures works { WorksOnce B.program self.old.place self.old.seat self.new.seat }
         ensures place { self.new.place ≡ self.old.place }
     {
         let Ok(batch) = run_batch(alloc, lease, limit, gate) else {
@@ -43,7 +46,7 @@ impl<B: Room> Worker<B> {
 
     // Looks for something to do, and does it. It tells whether it may go on.
     fn act<R: Wait, G: Gate>(&mut self, rt: &R, alloc: Global, shared: &Shared<B>, gate: &G) -> bool
-        ensures works { HasWorked self.old.seat self.new.seat }
+        ensures works { WorksOnce B.program self.old.place self.old.seat self.new.seat }
         ensures place { self.new.place ≡ self.old.place }
     {
         match self.seat.look(rt, alloc, shared, self.place) {
@@ -54,10 +57,11 @@ impl<B: Room> Worker<B> {
     }
 }
 
-/// Works as often as the budget allows: it takes steps of a goroutine that is lent, without the lock, and commits them, or it
-/// takes a turn where none can be lent. It waits while there is nothing to do, and ends after `close`, where it is refused, as in
-/// a full journal, or for want of memory. The worker's calls grow by those batches and turns. All calls of the gate are made
-/// without the lock.
+/// Works as often as the budget allows. It takes steps of a goroutine that is lent at the worker's place, without the lock, and
+/// commits them: at most 256, and at most as many as the grant and the log had room for. It takes a turn where none can be lent.
+///
+/// It waits while there is nothing to do. It ends after `close`, and where it is refused, as in a full journal or when out of
+/// memory. The worker's calls grow by those batches and turns. All calls of the gate are made without the lock.
 pub fn worker<B: Room, R: Wait, G: Gate>(
     rt: &R,
     alloc: Global,
@@ -66,7 +70,8 @@ pub fn worker<B: Room, R: Wait, G: Gate>(
     gate: &G,
     budget: u64,
 )
-    ensures works { HasWorked me.old.seat me.new.seat }
+    ensures works { HasWorked B.program me.old.place me.old.seat me.new.seat }
+    ensures budget { length me.new.seat.calls ≤ length me.old.seat.calls + budget }
     ensures place { me.new.place ≡ me.old.place }
 {
     for _ in 0..budget {

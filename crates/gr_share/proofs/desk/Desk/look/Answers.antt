@@ -8,13 +8,14 @@ use Rattle.gr_share.proofs.Telling.{before_calls}
 use Rattle.gr_share.proofs.Calling.{gains}
 use Rattle.gr_share.proofs.desk.Desk.look.Goals as goal
 
-pub returns-in-Ok-clause-looks : goal.returns-in-Ok-clause-looks
-returns-in-Ok-clause-looks g c =
+pub returns-in-Turned-clause-looks : goal.returns-in-Turned-clause-looks
+returns-in-Turned-clause-looks g c =
     let calls = c.self.inside.calls.items in
-    let call = c.in-Ok.turn in
+    let call = c.in-Turned.turn in
     let r = call.receipt in
+    let found = c.in-Turned.ensures.finds in
     let before : AllBelow r.number (numbers_of (calls_of c.self.inside.number calls)) =
-    subst (λ (v : View). AllBelow r.number (numbers_of v.calls)) c.self.invariant.2 c.in-Ok.ensures.rises in
+    subst (λ (v : View). AllBelow r.number (numbers_of v.calls)) c.self.invariant.2 found.2 in
     gains c.args.self.now c.self.inside.number calls c.push_reserved.new.self.items (Command Turn) call.asked r c.self.view_is
     (c.push_reserved.ensures.items ∙ ap (λ (l : List Call). l ++ call ∷ []) c.reserve.ensures.items)
-    c.in-Ok.ensures.call.0 (before_calls c.self.inside.number r.number calls before)
+    found.0 (before_calls c.self.inside.number r.number calls before)
