@@ -1,16 +1,49 @@
 -- What stands under the lock after an entry more.
-use Rattle.std.proofs.Common.{◌≡◌, ℕ, ◌+◌, List, [], ◌∷◌, ◌++◌, ap, sym, subst, arith}
+use Rattle.std.proofs.Common.{◌≡◌, ℕ, ◌+◌, List, [], ◌∷◌, ◌++◌, length, refl, ap, sym, subst, arith}
+use Rattle.std.specs.Prelude.{IsErrOf, Err}
 use mathlib.Core.List.{IsPrefix}
 use Rattle.gr_program.specs.Programs.{Program}
 use Rattle.gr_program.specs.Views.{program_of}
 use Rattle.gr_command.specs.Replies.{said_of}
+use Rattle.gr_session.specs.declared.journal.AskRefused.{AskRefused}
 use Rattle.gr_session.specs.declared.journal.Entry.{Entry}
+use Rattle.gr_session.specs.declared.TheConstants.{JOURNAL_LIMIT}
+use Rattle.gr_session.specs.Entries.{IsLegal}
 use Rattle.gr_session.specs.Keeps.{Seen}
 use Rattle.gr_share.specs.Lines.{Line}
 use Rattle.gr_share.specs.Calls.{EntersCall}
 use Rattle.gr_share.specs.declared.desk.Call.{Call}
-use Rattle.gr_share.specs.Ties.{asked, told, Tells, AllBelow, numbers_of}
-use Rattle.gr_share.proofs.Telling.{tells_push, more_by, before_next}
+use Rattle.gr_share.specs.declared.views.View.{View}
+use Rattle.gr_share.specs.Ties.{asked, told, Tells, AllBelow, numbers_of, AllTold, FullFor}
+use Rattle.gr_share.proofs.Lines.{prefix_trans}
+use Rattle.gr_share.proofs.Telling.{tells_push, more_by, before_next, told_front, told_asked}
+
+-- a journal with an entry more begins as it did before
+pub begins_on : (before : List Entry) (s : Seen) (a : ℕ) (call : Call) (journal : List Entry) → IsPrefix before s.journal
+    → EntersCall (program_of s.program) a call.asked s.journal journal call.receipt.number (said_of call.receipt.reply)
+    → IsPrefix before journal
+begins_on before s a call journal begins entered =
+    let m = more_by (program_of s.program) a call.asked s.journal journal call.receipt.number (said_of call.receipt.reply) entered in
+    prefix_trans before s.journal journal begins (m.entry ∷ [], sym m.grows)
+
+-- a full journal, with which a seat's calls begin
+pub full_on : (s : Seen) (a : ℕ) (log : List Line) (v : View) → Tells (program_of s.program) s.journal log
+    → IsLegal (program_of s.program) s.askers s.journal → length s.journal ≡ JOURNAL_LIMIT → IsPrefix v.calls (asked a log)
+    → FullFor (program_of s.program) v
+full_on s a log v tells legal full begins = let p = program_of s.program in record {
+  askers = s.askers;
+  journal = s.journal;
+  legal = legal;
+  full = full;
+  told = told_front p s.journal v.calls begins.0 (subst (AllTold p s.journal) (sym begins.1) (told_asked p s.journal a log tells.entries));
+}
+
+-- a refusal that is handed on is the same refusal
+pub handed_on : {A B : Type 0} (why other : AskRefused) → IsErrOf {T = A} (Err why) other → IsErrOf {T = B} (Err why) other
+handed_on {B = B} why other e = subst (λ (w : AskRefused). IsErrOf {T = B} (Err why) w) (why_is e) refl
+  where
+    why_is : {A : Type 0} {why other : AskRefused} → IsErrOf {T = A} (Err why) other → why ≡ other
+    why_is e = cc
 
 module _ (s : Seen) (a : ℕ) (call : Call) (log : List Line) (tells : Tells (program_of s.program) s.journal log) where
   -- the lines tell of the journal with the call

@@ -1,5 +1,6 @@
 //! The end of a shared session.
 ghost use Rattle.std.specs.Prelude.{◌≡◌, ℕ, ◌<◌, ◌≤◌, ◌⊎◌, All, IfOk, IfErr, IsTrue, length};
+ghost use mathlib.Core.List.{IsPrefix};
 ghost use Rattle.gr_program.specs.Views.{program_of};
 ghost use Rattle.gr_share.specs.Calls.{IsTied};
 ghost use Rattle.gr_share.specs.Seats.{IsDesk, IsWorker, AreAll};
@@ -122,8 +123,8 @@ fn settle<B: Room>(
     settle_workers(locked, tie, workers)
 }
 
-/// Ends the sharing. Where no seat is missing, each asker's entries in the journal are its calls, and the session is one of the
-/// program that was shared.
+/// Ends the sharing. Where no seat is missing, each asker's entries in the journal are its calls. The session is one of the
+/// program that was shared, and its journal begins with the entries that it had then.
 pub fn finish<B: Room>(
     shared: Shared<B>,
     mut desks: Vec<Desk<B>>,
@@ -133,6 +134,7 @@ pub fn finish<B: Room>(
     ensures workers { IfOk result (λ f. (f.workers.items ≡ workers.items) × All (λ w. IsTied f.session w.seat) f.workers.items) }
     ensures all { IfOk result (λ f. AreAll shared.first f.session.askers desks.items workers.items) }
     ensures program { IfOk result (λ f. program_of f.session.program ≡ B.program) }
+    ensures before { IfOk result (λ f. IsPrefix B.before f.session.journal) }
     ensures back { IfErr result (λ u. (u.desks.items ≡ desks.items) × (u.workers.items ≡ workers.items)
         × (u.shared.first ≡ shared.first)) }
 {

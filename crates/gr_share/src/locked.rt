@@ -47,6 +47,7 @@ pub(crate) struct Locked<B: Room> {
 
 impl<B: Room> Model for Locked<B> {
     ghost use Rattle.std.specs.Prelude.{◌≡◌, ◌≤◌};
+    ghost use mathlib.Core.List.{IsPrefix};
     ghost use Rattle.gr_program.specs.contracts.program.Expr as expr;
     ghost use Rattle.gr_program.specs.contracts.program.Stmt as stmt;
     ghost use Rattle.gr_program.specs.contracts.types.Type as types;
@@ -65,7 +66,8 @@ impl<B: Room> Model for Locked<B> {
 
     ghost invariant = { λ s. (s.keeper.table_id ≡ B.table) × (s.keeper.me.0 ≡ keeping s.keeper.me.0.log s.session.askers)
         × Tells (program_of s.session.program) s.session.journal s.keeper.me.0.log
-        × (program_of s.session.program ≡ B.program) × (B.first ≤ s.session.askers) };
+        × (program_of s.session.program ≡ B.program) × (B.first ≤ s.session.askers)
+        × IsPrefix B.before s.session.journal };
 }
 
 impl<B: Room> Locked<B> {
@@ -250,6 +252,7 @@ impl<B: Room> Locked<B> {
     pub(crate) fn into_session(self) -> Session
         ensures session { result ≡ self.session }
         ensures program { program_of result.program ≡ B.program }
+        ensures before { IsPrefix B.before result.journal }
     {
         let Locked {
             session,

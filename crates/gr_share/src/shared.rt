@@ -85,6 +85,7 @@ impl<B: Room> Shared<B> {
     pub fn new(opened: Opened) -> Shared<B>
         requires table { opened.table ≡ B.table }
         requires session { (program_of opened.session.program ≡ B.program) × (opened.session.askers ≡ B.first) }
+        requires before { opened.session.journal ≡ B.before }
         ensures { result.first ≡ opened.session.askers }
     {
         let Opened {

@@ -35,20 +35,24 @@ pub struct View {
     pub seen: LinkedList<Line>,
 }
 
-/// Names what a `Shared` was made of: its one table, and its session's program and number of askers.
+/// Names what a `Shared` was made of: its one table, and its session's program, number of askers and journal.
 pub trait Room {
-    ghost use Rattle.std.specs.Prelude.{ℕ};
+    ghost use Rattle.std.specs.Prelude.{ℕ, List};
     ghost use Rattle.atomic_table.specs.Seated.{TableId};
     ghost use Rattle.gr_program.specs.Programs.{Program};
+    ghost use Rattle.gr_session.specs.declared.journal.Entry.{Entry};
 
     ghost table: { TableId };
 
     ghost program: { Program };
 
     ghost first: { ℕ };
+
+    ghost before: { List Entry };
 }
 
 impl Room for Brand {
+    ghost use Rattle.std.specs.Prelude.{[]};
     ghost use Rattle.gr_share.specs.Ties.{no_table, no_program};
 
     ghost table = { no_table };
@@ -56,6 +60,8 @@ impl Room for Brand {
     ghost program = { no_program };
 
     ghost first = { 0 };
+
+    ghost before = { [] };
 }
 
 // The word names the asker whose last entry is not yet among its calls, or is 0.

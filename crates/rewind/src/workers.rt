@@ -270,6 +270,7 @@ fn serve_beside<B: Room + Send + Sync, T: Threads + Wait + Sync, R: Read, W: Wri
 ) -> Result<(), DebugFault>
     requires table { opened.table ≡ B.table }
     requires session { (program_of opened.session.program ≡ B.program) × (opened.session.askers ≡ B.first) }
+    requires before { opened.session.journal ≡ B.before }
     ensures { BesideEnds B.program result
         (change R.remaining reader.old reader.new) (change W.contents writer.old writer.new) }
 {

@@ -180,6 +180,7 @@ pub fn race_all<B: Room + Send + Sync, T: Threads + Wait + Sync>(
 ) -> Option<Raced>
     requires table { opened.table ≡ B.table }
     requires session { (program_of opened.session.program ≡ B.program) × (opened.session.askers ≡ B.first) }
+    requires before { opened.session.journal ≡ B.before }
 {
     let shared = Shared::<B>::new(opened);
     let done = AtomicU64::new(0);

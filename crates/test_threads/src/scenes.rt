@@ -165,6 +165,7 @@ fn play_in<B: Room + Send + Sync, T: Threads + Wait + Clock + Sync>(
 ) -> Option<Outcome>
     requires table { opened.table ≡ B.table }
     requires session { (program_of opened.session.program ≡ B.program) × (opened.session.askers ≡ B.first) }
+    requires before { opened.session.journal ≡ B.before }
 {
     let shared = Shared::<B>::new(opened);
     let mut opener = shared.desk(rt, alloc).ok()?;

@@ -223,6 +223,7 @@ fn scenes_come_to_what_they_should(rt: HostRuntime) -> Result<(), Fail> {
 fn seats_given<B: Room, T: Wait>(rt: &T, alloc: Global, opened: Opened) -> Option<bool>
     requires table { opened.table ≡ B.table }
     requires session { (program_of opened.session.program ≡ B.program) × (opened.session.askers ≡ B.first) }
+    requires before { opened.session.journal ≡ B.before }
 {
     let shared = Shared::<B>::new(opened);
     for _ in 0..500u64 {

@@ -3,4 +3,9 @@ use Rattle.test_races.proofs.course_of.Given as goal
 
 -- the session that was just opened
 abbrev pub ghosts-race_all : goal.ghosts-race_all
-ghosts-race_all g a = record { table = a.opened.table; program = program_of a.opened.session.program; first = a.opened.session.askers }
+ghosts-race_all g a = record {
+  table = a.opened.table;
+  program = program_of a.opened.session.program;
+  first = a.opened.session.askers;
+  before = a.opened.session.journal;
+}

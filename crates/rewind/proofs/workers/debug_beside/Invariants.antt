@@ -3,4 +3,9 @@ use Rattle.rewind.proofs.workers.debug_beside.Given as goal
 
 -- the session that was just opened
 abbrev pub ghosts-serve_beside : goal.ghosts-serve_beside
-ghosts-serve_beside g a = record { table = a.opened.table; program = program_of a.opened.session.program; first = a.opened.session.askers }
+ghosts-serve_beside g a = record {
+  table = a.opened.table;
+  program = program_of a.opened.session.program;
+  first = a.opened.session.askers;
+  before = a.opened.session.journal;
+}

@@ -3,4 +3,9 @@ use Rattle.test_threads.proofs.scenes.play.Given as goal
 
 -- the session that was just opened
 abbrev pub ghosts-play_in : goal.ghosts-play_in
-ghosts-play_in g a = record { table = a.opened.table; program = program_of a.opened.session.program; first = a.opened.session.askers }
+ghosts-play_in g a = record {
+  table = a.opened.table;
+  program = program_of a.opened.session.program;
+  first = a.opened.session.askers;
+  before = a.opened.session.journal;
+}

@@ -3,4 +3,9 @@ use Rattle.test_threads.proofs.sharing.there_are_a_thousand_askers.Given as goal
 
 -- the session that was just opened
 abbrev pub ghosts-seats_given : goal.ghosts-seats_given
-ghosts-seats_given g a = record { table = a.opened.table; program = program_of a.opened.session.program; first = a.opened.session.askers }
+ghosts-seats_given g a = record {
+  table = a.opened.table;
+  program = program_of a.opened.session.program;
+  first = a.opened.session.askers;
+  before = a.opened.session.journal;
+}

@@ -35,6 +35,7 @@ invariant_of-self-in-Ok g c =
       tells_on s c.args.number call log i.2 t c.give.new.keeper.me.0.log c.in-Ok.ensures.others.0 lines entered,
       ap (λ (p : Program). program_of p) c.in-Ok.ensures.others.0 ∙ i.3,
       omega (arith, i.4, c.in-Ok.ensures.others.1),
+      begins_on g.B.Room.before s c.args.number call t.journal i.5 entered,
     )
 
 pub returns-in-Ok-clause-rises : goal.returns-in-Ok-clause-rises

@@ -10,7 +10,7 @@ use Rattle.gr_share.specs.declared.desk.Asked.TheVariants.{Batch}
 use Rattle.gr_share.specs.declared.desk.Call.{Call}
 use Rattle.gr_share.specs.declared.views.View.{View}
 use Rattle.gr_share.specs.Ties.{asked, keeping, told}
-use Rattle.gr_share.proofs.Answering.{tells_on, rises_on}
+use Rattle.gr_share.proofs.Answering.{begins_on, tells_on, rises_on}
 use Rattle.gr_share.proofs.locked.Locked.commit.Goals as goal
 
 pub invariant_of-self-in-Ok : goal.invariant_of-self-in-Ok
@@ -34,6 +34,7 @@ invariant_of-self-in-Ok g c =
       tells_on s c.args.number call log i.2 t c.give.new.keeper.me.0.log c.in-Ok.ensures.others.0 lines entered,
       ap (λ (p : Program). program_of p) c.in-Ok.ensures.others.0 ∙ i.3,
       omega (arith, i.4, c.in-Ok.ensures.others.1),
+      begins_on g.B.Room.before s c.args.number call t.journal i.5 entered,
     )
 
 pub returns-in-Ok-clause-rises : goal.returns-in-Ok-clause-rises

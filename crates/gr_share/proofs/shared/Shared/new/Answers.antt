@@ -1,8 +1,10 @@
 use Rattle.std.proofs.Common.{◌≡◌, List, ap, sym, ◌∙◌, subst, arith}
+use mathlib.Core.List.{IsPrefix}
 use Rattle.gr_program.specs.Views.{program_of}
 use Rattle.gr_share.specs.declared.views.View.{View}
 use Rattle.gr_share.specs.Lines.{Line}
 use Rattle.gr_share.specs.Ties.{keeping, older_lines, Tells}
+use Rattle.gr_share.proofs.Lines.{prefix_self}
 use Rattle.gr_share.proofs.Telling.{tells_older}
 use Rattle.gr_share.proofs.shared.Shared.new.Goals as goal
 
@@ -16,4 +18,5 @@ invariant_of-new g c =
       subst (λ (l : List Line). Tells (program_of s.program) s.journal l) (sym lines) (tells_older (program_of s.program) s.journal),
       ap (λ n. program_of n.session.program) c.opened.view_is ∙ c.requires.session.0,
       omega (arith, ap (λ n. n.session.askers) c.opened.view_is, c.requires.session.1),
+      subst (λ before. IsPrefix before s.journal) (ap (λ n. n.session.journal) c.opened.view_is ∙ c.requires.before) (prefix_self s.journal),
     )
