@@ -1,5 +1,5 @@
 -- The command line of the program, as `clap` reads command lines.
-use Rattle.std.specs.Prelude.{ℕ, List, Option, None, Some, true, false, codes, option_map, if◌then◌else◌}
+use Rattle.std.specs.Prelude.{ℕ, ◌≤◌, List, Option, None, Some, true, false, codes, option_map, if◌then◌else◌}
 use Rattle.std.specs.Str.Parse.{digits_value, without_leading_plus}
 use Rattle.clap.specs.ValueTests.{accepts}
 use Rattle.clap.specs.Words.{App, Row, Rule, Text, first_of, matches_of, new_app, new_rule, with_rule}
@@ -46,6 +46,12 @@ abbrev pub asked_of : Settings → Asked
 asked_of (settings.Debug file workers) = Debugs file.now workers
 asked_of (settings.Check file) = Checks file.now
 asked_of (settings.Explain code) = Explains code.now
+
+-- a session has at most 64 workers
+abbrev pub HasFewWorkers : Settings → Type 0
+HasFewWorkers (settings.Debug file workers) = workers ≤ WORKER_LIMIT
+HasFewWorkers (settings.Check file) = Unit {0}
+HasFewWorkers (settings.Explain code) = Unit {0}
 
 -- the number of workers that a text gives
 abbrev pub count_in : Text → Option ℕ

@@ -1,9 +1,10 @@
 //! The command line of the program.
-ghost use Rattle.std.specs.Prelude.{◌≡◌, [], IfOk, IfErr, OnOk, Some, true, false, is_some, option_map, map, codes};
+ghost use Rattle.std.specs.Prelude.{◌≡◌, ◌≤◌, [], IfOk, IfErr, IfSome, OnOk, Some, true, false, is_some, option_map, map, codes};
 ghost use Rattle.clap.specs.Words.{app_of, fault_of, found_of, first_value, kind_of, rows_of, rule_of, takes, matches_of};
 ghost use Rattle.clap.specs.Words.{with_rule};
 ghost use Rattle.rewind.specs.CommandLine.{bare_line, rewind_line, file_rule, option_rule, workers_rule, count_in};
 ghost use Rattle.rewind.specs.CommandLine.{debugs as session_over, alone as without_workers, the_one, asked_of, asked_in};
+ghost use Rattle.rewind.specs.CommandLine.{HasFewWorkers};
 
 use crate::settings::{Settings, WORKER_LIMIT};
 use crate::words::{
@@ -87,7 +88,8 @@ fn rewind_command<'a>(alloc: Global) -> Result<Command<'a>, AllocError>
 
 // The number of workers that a text gives.
 fn count(text: &str) -> Option<u32>
-    ensures { result ≡ count_in text.now }
+    ensures count { result ≡ count_in text.now }
+    ensures few { IfSome result (λ n. n ≤ WORKER_LIMIT) }
 {
     let Ok(count) = text.parse::<u32>() else {
         return None;
@@ -101,7 +103,8 @@ fn count(text: &str) -> Option<u32>
 
 // A session over a file, without workers or with as many as a text gives.
 fn debugs<'a>(file: &'a str, workers: Option<&str>) -> Option<Settings<'a>>
-    ensures { option_map asked_of result ≡ session_over file.entry.now (option_map (λ text. text.now) workers.entry) }
+    ensures asked { option_map asked_of result ≡ session_over file.entry.now (option_map (λ text. text.now) workers.entry) }
+    ensures few { IfSome result HasFewWorkers }
 {
     let workers = match workers {
         None => 0,
@@ -112,8 +115,10 @@ fn debugs<'a>(file: &'a str, workers: Option<&str>) -> Option<Settings<'a>>
 
 // What has no use for workers.
 fn alone<'a>(settings: Settings<'a>, workers: Option<&str>) -> Option<Settings<'a>>
-    ensures { option_map asked_of result
+    requires { HasFewWorkers settings }
+    ensures asked { option_map asked_of result
         ≡ without_workers (asked_of settings.entry) (option_map (λ text. text.now) workers.entry) }
+    ensures few { IfSome result HasFewWorkers }
 {
     match workers {
         None => Some(settings),
@@ -123,9 +128,10 @@ fn alone<'a>(settings: Settings<'a>, workers: Option<&str>) -> Option<Settings<'
 
 // What was found on a command line, if that is just one thing.
 fn asked<'a>(matches: &ArgMatches<'a>) -> Option<Settings<'a>>
-    ensures { option_map asked_of result ≡ the_one (first_value (found_of matches.now) (codes "FILE"))
+    ensures asked { option_map asked_of result ≡ the_one (first_value (found_of matches.now) (codes "FILE"))
         (first_value (found_of matches.now) (codes "check")) (first_value (found_of matches.now) (codes "explain"))
         (first_value (found_of matches.now) (codes "workers")) }
+    ensures few { IfSome result HasFewWorkers }
 {
     let file = matches.get_str("FILE");
     let check = matches.get_str("check");
@@ -176,6 +182,7 @@ fn told(alloc: Global, kind: ErrorKind, message: &str) -> Result<Error, AllocErr
 pub fn settings<'a>(alloc: Global, words: &'a [&'a str]) -> Result<Settings<'a>, Error>
     ensures asked { IfOk result (λ settings.
         asked_in (map (λ word. word.now) words.entry.now) ≡ Some (asked_of settings)) }
+    ensures few { IfOk result HasFewWorkers }
     ensures taken { OnOk result (fault_of rewind_line (map (λ word. word.now) words.entry.now) ≡ []) }
     ensures err { IfErr result (λ error.
         takes rewind_line (map (λ word. word.now) words.entry.now) ≡ true →

@@ -7,11 +7,11 @@ use Rattle.rewind.proofs.command_line.settings.Goals as goal
 
 pub returns-in-Some-clause-asked : goal.returns-in-Some-clause-asked
 returns-in-Some-clause-asked c =
-    sym (found_asks (found_of c.in_ok-found.found) _ c.in_ok-found.ensures.ok) ∙ (sym c.asked.ensures ∙ ap (λ o. option_map asked_of o) c.in-Some.is)
+    sym (found_asks (found_of c.in_ok-found.found) _ c.in_ok-found.ensures.ok) ∙ (sym c.asked.ensures.asked ∙ ap (λ o. option_map asked_of o) c.in-Some.is)
 
 pub returns-clause-err : goal.returns-clause-err
 returns-clause-err c = λ taken asks.
-    absurd (nothing_asked _ (sym (ap (λ o. option_map asked_of o) c.in-None.is) ∙ (c.asked.ensures ∙ found_asks (found_of c.in_ok-found.found) _ c.in_ok-found.ensures.ok)) asks)
+    absurd (nothing_asked _ (sym (ap (λ o. option_map asked_of o) c.in-None.is) ∙ (c.asked.ensures.asked ∙ found_asks (found_of c.in_ok-found.found) _ c.in_ok-found.ensures.ok)) asks)
 
 pub returns-in_err-found-clause-err : goal.returns-in_err-found-clause-err
 returns-in_err-found-clause-err c =
