@@ -82,15 +82,19 @@ told_push : (p : Program) (journal : List Entry) (log : List Line) (x : Line) �
 told_push p journal [] x h one = (one, tt)
 told_push p journal (y ∷ ys) x h one = (h.0, told_push p journal ys x h.1 one)
 
+pub told_front : (p : Program) (journal : List Entry) (xs ys : List Line) → AllTold p journal (xs ++ ys) → AllTold p journal xs
+told_front p journal [] ys h = tt
+told_front p journal (x ∷ xs) ys h = (h.0, told_front p journal xs ys h.1)
+
 told_step : (b : Bool) (p : Program) (journal : List Entry) (x : Line) (xs : List Line) → IsTold p journal x → AllTold p journal xs → AllTold p journal (if b then x ∷ xs else xs)
 told_step true p journal x xs one h = (one, h)
 told_step false p journal x xs one h = h
 
-told_asked : (p : Program) (journal : List Entry) (a : ℕ) (log : List Line) → AllTold p journal log → AllTold p journal (asked a log)
+pub told_asked : (p : Program) (journal : List Entry) (a : ℕ) (log : List Line) → AllTold p journal log → AllTold p journal (asked a log)
 told_asked p journal a [] h = tt
 told_asked p journal a (x ∷ xs) h = told_step (x.asker == a) p journal x (asked a xs) h.0 (told_asked p journal a xs h.1)
 
-told_calls : (p : Program) (journal : List Entry) (a : ℕ) (calls : List Call) → AllTold p journal (calls_of a calls) → All (IsEntry p journal a) calls
+pub told_calls : (p : Program) (journal : List Entry) (a : ℕ) (calls : List Call) → AllTold p journal (calls_of a calls) → All (IsEntry p journal a) calls
 told_calls p journal a [] h k d lt = absurd (omega arith)
 told_calls p journal a (c ∷ cs) h zero d lt = h.0 c refl
 told_calls p journal a (c ∷ cs) h (suc k) d lt = told_calls p journal a cs h.1 k d (omega arith)

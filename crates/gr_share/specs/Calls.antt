@@ -1,5 +1,5 @@
 -- What desks and workers have asked, and what that is to the journal.
-use Rattle.std.specs.Prelude.{◌≡◌, ℕ, suc, ◌<◌, ◌==◌, if◌then◌else◌, List, [], ◌∷◌, ◌++◌, map, ⊤, All, Result, IfOk, OnErr}
+use Rattle.std.specs.Prelude.{◌≡◌, ℕ, suc, ◌<◌, ◌==◌, if◌then◌else◌, List, [], ◌∷◌, ◌++◌, map, length, ⊤, All, Result, IfOk, OnErr, IsErrOf}
 use Rattle.std.specs.Borrow.{MutBor, Bor, Fml, follows_so}
 use mathlib.Core.List.{IsPrefix}
 use mathlib.Core.Option.{none}
@@ -7,10 +7,12 @@ use denote.RattleType.{RattleType}
 use Rattle.gr_program.specs.Programs.{Program}
 use Rattle.gr_program.specs.Views.{program_of}
 use Rattle.gr_command.specs.Replies.{Said, said_of}
+use Rattle.gr_session.specs.declared.TheConstants.{JOURNAL_LIMIT}
 use Rattle.gr_session.specs.declared.journal.AskRefused.{AskRefused}
+use Rattle.gr_session.specs.declared.journal.AskRefused.TheVariants.{JournalFull}
 use Rattle.gr_session.specs.declared.journal.Entry.{Entry}
 use Rattle.gr_session.specs.declared.journal.Receipt.{Receipt}
-use Rattle.gr_session.specs.Entries.{EntersCommand, EntersBatch}
+use Rattle.gr_session.specs.Entries.{EntersCommand, EntersBatch, IsLegal}
 use Rattle.gr_session.specs.Keeps.{Seen}
 use Rattle.gr_session.specs.Copies.{Loan, loan_of}
 use Rattle.gr_share.specs.declared.desk.Asked.{Asked as Wanted}
@@ -69,9 +71,19 @@ GainsBy old wanted r new = (new ≡ with_call old wanted r) × All (λ c. c.rece
 abbrev pub Gains : Asker → Wanted → Asker → Type 0
 Gains old wanted new = (r : Receipt) × GainsBy old wanted r new
 
--- the asker has one call more, whose receipt is shown, or it was refused, and nothing changed
-abbrev pub Asked : Asker → Wanted → Result (Bor Receipt) AskRefused → Asker → Type 0
-Asked old wanted result new = IfOk result (λ r. GainsBy old wanted r.now new) × OnErr result (new ≡ old)
+-- the journal of a session of the program was full, in which the asker's calls are entries
+pub record WasFull (p : Program) (asker : Asker) : Type 0 where
+  pub askers : ℕ
+  pub journal : List Entry
+  pub legal : IsLegal p askers journal
+  pub full : length journal ≡ JOURNAL_LIMIT
+  pub calls : All (IsEntry p journal asker.number) asker.calls
+
+-- the asker has one call more, whose receipt is shown, or it was refused, and nothing changed; a journal that is told to be full
+-- was full
+abbrev pub Asked : Program → Asker → Wanted → Result (Bor Receipt) AskRefused → Asker → Type 0
+Asked p old wanted result new =
+    IfOk result (λ r. GainsBy old wanted r.now new) × OnErr result (new ≡ old) × (IsErrOf result JournalFull → WasFull p old)
 
 -- when the borrow ends, P holds of what was lent
 abbrev pub EndsAs : (R : RattleType) → MutBor R.Denot → (R.Denot → Type 0) → Fml

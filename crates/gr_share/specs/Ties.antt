@@ -6,7 +6,9 @@ use lib.ListN.{get_elem?}
 use Rattle.atomic_table.specs.Seated.{TableId}
 use Rattle.atomic_table.specs.Table.{State}
 use Rattle.gr_program.specs.Programs.{Program, ProgramIs}
+use Rattle.gr_session.specs.declared.TheConstants.{JOURNAL_LIMIT}
 use Rattle.gr_session.specs.declared.journal.Entry.{Entry}
+use Rattle.gr_session.specs.Entries.{IsLegal}
 use Rattle.gr_share.specs.declared.views.View.{View}
 use Rattle.gr_share.specs.declared.desk.Call.{Call}
 use Rattle.gr_share.specs.Calls.{IsEntry, places}
@@ -141,6 +143,14 @@ IsTold p journal x = (c : Call) → x.call ≡ Some c → IsEntry p journal x.as
 abbrev pub AllTold : Program → List Entry → List Line → Type 0
 AllTold p journal [] = Unit {0}
 AllTold p journal (x ∷ xs) = IsTold p journal x × AllTold p journal xs
+
+-- the journal of a session of the program was full, of which a seat's calls are entries
+pub record FullFor (p : Program) (v : View) : Type 0 where
+  pub askers : ℕ
+  pub journal : List Entry
+  pub legal : IsLegal p askers journal
+  pub full : length journal ≡ JOURNAL_LIMIT
+  pub told : AllTold p journal v.calls
 
 -- the lines are those of the journal
 pub record Tells (p : Program) (journal : List Entry) (log : List Line) : Type 0 where

@@ -59,11 +59,11 @@ impl<B: Room> Model for Desk<B> {
 }
 
 impl<B: Room> Desk<B> {
-    ghost use Rattle.std.specs.Prelude.{◌≡◌, ◌++◌, ◌∷◌, [], ◌<◌, length, All, IfOk, OnOk, OnErr};
+    ghost use Rattle.std.specs.Prelude.{◌≡◌, ◌++◌, ◌∷◌, [], ◌<◌, length, All, IfOk, OnOk, OnErr, IsErrOf};
     ghost use Rattle.std.specs.Borrow.{sem};
     ghost use Rattle.gr_session.specs.Copies.{loan_of};
     ghost use Rattle.gr_share.specs.contracts.desk.Desk.{the_row};
-    ghost use Rattle.gr_share.specs.Calls.{EndsAs, Asked as AskedBy, Gains};
+    ghost use Rattle.gr_share.specs.Calls.{EndsAs, Asked as AskedBy, Gains, WasFull};
     ghost use Rattle.gr_share.specs.Finding.{Looks, LendsOf};
 
     // Asks a command, whose receipt is then the last one that is kept.
@@ -75,6 +75,7 @@ impl<B: Room> Desk<B> {
         command: Command,
     ) -> Result<(), AskRefused>
         ensures call { OnOk result (Gains self.old (Asked.Command command) self.new) }
+        ensures full { IsErrOf result AskRefused.JournalFull → WasFull B.program self.old }
         ensures err { OnErr result (self.new ≡ self.old) }
     {
         if self.calls.reserve(1).is_err() {
@@ -187,7 +188,7 @@ impl<B: Room> Desk<B> {
         command: Command,
     ) -> Result<&Receipt, AskRefused>
         ensures* writes_back { sem 𝓛 (EndsAs (the_row B.row B.Room) self.entry
-            (λ d. AskedBy self.entry.now (Asked.Command command) result d)) }
+            (λ d. AskedBy B.program self.entry.now (Asked.Command command) result d)) }
     {
         self.enter(rt, alloc, shared, command)?;
         Ok(self.last())

@@ -1,6 +1,6 @@
 //! What lies under the lock.
 ghost use Rattle.std.specs.Prelude.{◌≡◌, ◌↔◌, ◌+◌, ◌-◌, ◌^◌, ◌<◌, ◌≤◌, ◌++◌, ◌∷◌, [], true, false, min, length};
-ghost use Rattle.std.specs.Prelude.{IfOk, IfSome, OnErr, IsTrue};
+ghost use Rattle.std.specs.Prelude.{IfOk, IfSome, OnErr, IsErrOf, IsTrue};
 ghost use mathlib.Core.List.{IsPrefix};
 ghost use Rattle.gr_program.specs.Views.{program_of};
 ghost use Rattle.gr_command.specs.Replies.{said_of};
@@ -8,7 +8,7 @@ ghost use Rattle.gr_session.specs.Copies.{loan_of};
 ghost use Rattle.gr_session.specs.Entries.{InItsWorld};
 ghost use Rattle.gr_session.specs.Granting.{CanLend, IsTurnDue};
 ghost use Rattle.gr_share.specs.Calls.{EntersCall, IsTied};
-ghost use Rattle.gr_share.specs.Ties.{asking, told, numbers_of, AllBelow};
+ghost use Rattle.gr_share.specs.Ties.{asking, told, numbers_of, AllBelow, FullFor};
 ghost use Rattle.gr_share.specs.Works.{Lends};
 ghost use Rattle.gr_share.specs.Finding.{Finds, IsNothing};
 
@@ -131,9 +131,11 @@ impl<B: Room> Locked<B> {
         ensures rises { IfOk result (λ c. AllBelow c.receipt.number (numbers_of seat.old.me.0.calls)) }
         ensures entry { IfOk result (λ c. EntersCall (program_of self.old.session.program) number (Asked.Command command)
             self.old.session.journal self.new.session.journal c.receipt.number (said_of c.receipt.reply)) }
+        ensures full { IsErrOf result AskRefused.JournalFull → FullFor B.program seat.old.me.0 }
         ensures err { OnErr result ((seat.new.me.0 ≡ seat.old.me.0) × (self.new ≡ self.old)) }
     {
         tie.compare(&mut self.keeper, seat);
+        let _ = self.session.journal();
         match self.session.ask(alloc, DeskId { number }, command) {
             Err(why) => Err(why),
             Ok(receipt) => {

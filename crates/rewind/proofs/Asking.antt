@@ -21,8 +21,8 @@ refused program asker command old new JournalFull when same = (when.0 refl, ap (
 refused program asker command old new NoMemory when same = (λ full. let bad : IsErrOf {T = Receipt} (Err NoMemory) JournalFull = when.1 full in cc, ap (λ s. s.journal) same)
 
 -- a desk that asked a command
-pub asked : (old new : Asker) (command : Command) (result : Result (Bor Receipt) AskRefused) → Asked old (asks.Command command) result new
-    → of_desk old command (answer_of result) new
-asked old new command (Ok receipt) h = (receipt.now, h.0, refl)
-asked old new command (Err JournalFull) h = h.1
-asked old new command (Err NoMemory) h = h.1
+pub asked : (program : Program) (old new : Asker) (command : Command) (result : Result (Bor Receipt) AskRefused)
+    → Asked program old (asks.Command command) result new → of_desk program old command (answer_of result) new
+asked program old new command (Ok receipt) h = (receipt.now, h.0, refl)
+asked program old new command (Err JournalFull) h = (h.2 refl, h.1)
+asked program old new command (Err NoMemory) h = h.1

@@ -11,39 +11,39 @@ use Rattle.rewind.specs.declared.debug.DebugFault.{DebugFault}
 use Rattle.rewind.specs.declared.debug.DebugFault.TheVariants.{Source, Open, Serve, Threads}
 use Rattle.rewind.specs.Devices.{Device, Change, NeverFails}
 use Rattle.rewind.specs.Debug.{Opened, SourceLeft, BlamesDevice}
-use Rattle.rewind.specs.Beside.{LeftBeside, Settled, StreamLeft, BlamesStream, Streamed, EndedWith, BesideEnds, DebuggedBeside, BesideLeft, IsStill}
+use Rattle.rewind.specs.Beside.{LeftBeside, Settled, StreamLeft, BlamesStream, Streamed, EndedWith, BesideEnds, DebuggedBeside, LeftWith, BesideLeft, IsStill}
 use Rattle.rewind.proofs.Known.{Keeps-refl}
 
 abbrev still : Device → Change
 still device = record { old = device; new = device }
 
--- where memory or threads were wanted before the stream, nothing was done
-pub no_memory : (reader writer : Device) → StreamLeft (Serve Memory) (still reader) (still writer) × BlamesStream (Serve Memory) (still reader) (still writer)
-no_memory reader writer = (inl (Keeps-refl reader.bytes, Keeps-refl writer.bytes), (refl, refl))
+-- out of memory, or without the threads, before the stream: nothing was done
+pub no_memory : (program : Program) (reader writer : Device) → StreamLeft program (Serve Memory) (still reader) (still writer) × BlamesStream (Serve Memory) (still reader) (still writer)
+no_memory program reader writer = (inl (Keeps-refl reader.bytes, Keeps-refl writer.bytes), (refl, refl))
 
 still_keeps : (device : Change) → IsStill device → Keeps device.old.bytes device.new.bytes
 still_keeps device e = subst (λ d. Keeps device.old.bytes d.bytes) (sym e) (Keeps-refl device.old.bytes)
 
-pub no_threads : (reader writer : Change) → IsStill reader → IsStill writer → StreamLeft Threads reader writer × BlamesStream Threads reader writer
-no_threads reader writer r w = (inl (still_keeps reader r, still_keeps writer w), (ap (λ (d : Device). d.failures) r, ap (λ (d : Device). d.failures) w))
+pub no_threads : (program : Program) (reader writer : Change) → IsStill reader → IsStill writer → StreamLeft program Threads reader writer × BlamesStream Threads reader writer
+no_threads program reader writer r w = (inl (still_keeps reader r, still_keeps writer w), (ap (λ (d : Device). d.failures) r, ap (λ (d : Device). d.failures) w))
 
 -- the stream's fault is the session's
-left_beside : (fault : ServeFault) (reader writer : Change) → LeftBeside fault reader writer → StreamLeft (Serve fault) reader writer
-left_beside Read reader writer h = h
-left_beside Write reader writer h = h
-left_beside Memory reader writer h = inr h
+left_beside : (program : Program) (fault : ServeFault) (reader writer : Change) → LeftBeside program fault reader writer → StreamLeft program (Serve fault) reader writer
+left_beside program Read reader writer h = h
+left_beside program Write reader writer h = h
+left_beside program Memory reader writer h = inr h
 
 pub ends : {A E : Type 0} (program : Program) (served : Result E ServeFault) (result : Result A DebugFault) (old desk : Asker) (reader writer : Change)
-    → old.calls ≡ [] → Streamed old desk served reader writer → EndedWith served (Settled program (desk ∷ [])) result → BesideEnds program result reader writer
+    → old.calls ≡ [] → Streamed program old desk served reader writer → EndedWith served (Settled program (desk ∷ [])) result → BesideEnds program result reader writer
 ends program (Ok v) (Ok u) old desk reader writer fresh stream told =
     (record { stream = record { old = old; fresh = fresh; desk = desk; served = stream.0 }; settled = told.0 }, stream.1)
 ends program (Ok v) (Err fault) old desk reader writer fresh stream told =
-    subst (λ f. StreamLeft f reader writer × BlamesStream f reader writer) (sym told.1)
+    subst (λ f. StreamLeft program f reader writer × BlamesStream f reader writer) (sym told.1)
     (inr (record { old = old; fresh = fresh; desk = desk; served = stream.0 }), stream.1)
 ends program (Err why) (Ok u) old desk reader writer fresh stream told = absurd told.1
 ends program (Err why) (Err fault) old desk reader writer fresh stream told =
-    subst (λ f. StreamLeft f reader writer × BlamesStream f reader writer) (sym told.0)
-    (left_beside why reader writer (record { old = old; fresh = fresh; desk = desk; left = stream.0 }), stream.1)
+    subst (λ f. StreamLeft program f reader writer × BlamesStream f reader writer) (sym told.0)
+    (left_beside program why reader writer (record { old = old; fresh = fresh; desk = desk; left = stream.0 }), stream.1)
 
 -- and so is that of the source
 pub served : {A : Type 0} (program : Program) (result : Result A DebugFault) (source reader writer : Change)
@@ -51,11 +51,14 @@ pub served : {A : Type 0} (program : Program) (result : Result A DebugFault) (so
 served program (Ok v) source reader writer opened h = record { program = program; opened = opened; settled = h.0 }
 served program (Err fault) source reader writer opened h = tt
 
-stream_left : (fault : DebugFault) (source reader writer : Change) → StreamLeft fault reader writer → BesideLeft fault source reader writer
-stream_left Source source reader writer h = absurd h
-stream_left (Open error) source reader writer h = absurd h
-stream_left (Serve fault) source reader writer h = h
-stream_left Threads source reader writer h = h
+stream_left : (program : Program) (fault : DebugFault) (source reader writer : Change) → Opened source.old.bytes source.new.bytes program
+    → StreamLeft program fault reader writer → BesideLeft fault source reader writer
+stream_left program Source source reader writer o h = absurd h
+stream_left program (Open error) source reader writer o h = absurd h
+stream_left program (Serve Read) source reader writer o h = record { program = program; opened = o; left = h }
+stream_left program (Serve Write) source reader writer o h = record { program = program; opened = o; left = h }
+stream_left program (Serve Memory) source reader writer o h = inr (record { program = program; opened = o; left = h })
+stream_left program Threads source reader writer o h = record { program = program; opened = o; left = h }
 
 stream_blamed : (fault : DebugFault) (source reader writer : Change) → NeverFails source → BlamesStream fault reader writer → BlamesDevice fault source reader writer
 stream_blamed Source source reader writer n b = absurd b
@@ -64,9 +67,10 @@ stream_blamed (Serve fault) source reader writer n b = (n, b)
 stream_blamed Threads source reader writer n b = (n, b)
 
 pub left : {A : Type 0} (program : Program) (result : Result A DebugFault) (source reader writer : Change)
-    → BesideEnds program result reader writer → IfErr result (λ fault. BesideLeft fault source reader writer)
-left program (Ok v) source reader writer h = tt
-left program (Err fault) source reader writer h = stream_left fault source reader writer h.0
+    → Opened source.old.bytes source.new.bytes program → BesideEnds program result reader writer
+    → IfErr result (λ fault. BesideLeft fault source reader writer)
+left program (Ok v) source reader writer opened h = tt
+left program (Err fault) source reader writer opened h = stream_left program fault source reader writer opened h.0
 
 pub blamed : {A : Type 0} (program : Program) (result : Result A DebugFault) (source reader writer : Change)
     → NeverFails source → BesideEnds program result reader writer → IfErr result (λ fault. BlamesDevice fault source reader writer)

@@ -1,5 +1,5 @@
 -- A session beside workers, from its source to its last reply.
-use Rattle.std.specs.Prelude.{◌≡◌, List, [], ◌∷◌, ◌⊎◌, All, Option, Some, None, Result, Ok, Err, OnOk, IfErr}
+use Rattle.std.specs.Prelude.{◌≡◌, Bool, true, false, List, [], ◌∷◌, ◌⊎◌, All, Option, Some, None, Result, Ok, Err, OnOk, IfErr}
 use Rattle.gr_program.specs.Programs.{Program}
 use Rattle.gr_program.specs.Views.{program_of}
 use Rattle.gr_share.specs.Entries.{IsLegal}
@@ -16,19 +16,19 @@ use Rattle.rewind.specs.Stream.{of_desk}
 use Rattle.rewind.specs.Clients.{StreamEnds}
 use Rattle.rewind.specs.DeskStreams.{Serves, Leaves}
 
--- the lines were served by a desk without calls before
-pub record ServedBeside (reader writer : Change) : Type 0 where
+-- the lines were served by a desk without calls before, of a session of this program
+pub record ServedBeside (program : Program) (reader writer : Change) : Type 0 where
   pub old : Asker
   pub fresh : old.calls ≡ []
   pub desk : Asker
-  pub served : Serves old desk reader writer
+  pub served : Serves program old desk reader writer
 
 -- such a stream was left
-pub record LeftBeside (fault : ServeFault) (reader writer : Change) : Type 0 where
+pub record LeftBeside (program : Program) (fault : ServeFault) (reader writer : Change) : Type 0 where
   pub old : Asker
   pub fresh : old.calls ≡ []
   pub desk : Asker
-  pub left : Leaves fault old desk reader writer
+  pub left : Leaves program fault old desk reader writer
 
 -- each desk's calls are its entries in the legal journal of a session of this program
 pub record Settled (program : Program) (desks : List Asker) : Type 0 where
@@ -39,17 +39,17 @@ pub record Settled (program : Program) (desks : List Asker) : Type 0 where
 
 -- the lines were served by a desk, whose calls are its entries in such a journal
 pub record SettledBeside (program : Program) (reader writer : Change) : Type 0 where
-  pub stream : ServedBeside reader writer
+  pub stream : ServedBeside program reader writer
   pub settled : Settled program (stream.desk ∷ [])
 
 -- what a fault leaves of such a stream, where there is a session
-abbrev pub StreamLeft : DebugFault → (reader writer : Change) → Type 0
-StreamLeft Source reader writer = ⊥
-StreamLeft (Open error) reader writer = ⊥
-StreamLeft (Serve Read) reader writer = LeftBeside Read reader writer
-StreamLeft (Serve Write) reader writer = LeftBeside Write reader writer
-StreamLeft (Serve Memory) reader writer = NothingDone reader writer ⊎ LeftBeside Memory reader writer
-StreamLeft Threads reader writer = NothingDone reader writer ⊎ ServedBeside reader writer
+abbrev pub StreamLeft : Program → DebugFault → (reader writer : Change) → Type 0
+StreamLeft program Source reader writer = ⊥
+StreamLeft program (Open error) reader writer = ⊥
+StreamLeft program (Serve Read) reader writer = LeftBeside program Read reader writer
+StreamLeft program (Serve Write) reader writer = LeftBeside program Write reader writer
+StreamLeft program (Serve Memory) reader writer = NothingDone reader writer ⊎ LeftBeside program Memory reader writer
+StreamLeft program Threads reader writer = NothingDone reader writer ⊎ ServedBeside program reader writer
 
 -- its fault names the device that failed, if one did
 abbrev pub BlamesStream : DebugFault → (reader writer : Change) → Type 0
@@ -59,17 +59,18 @@ BlamesStream (Serve fault) reader writer = Blames fault reader writer
 BlamesStream Threads reader writer = NeverFails reader × NeverFails writer
 
 -- how a stream of a desk ended
-abbrev pub Streamed : {A : Type 0} → (old new : Asker) → Result A ServeFault → (reader writer : Change) → Type 0
-Streamed old new result reader writer = StreamEnds of_desk old new result reader writer
+abbrev pub Streamed : {A : Type 0} → Program → (old new : Asker) → Result A ServeFault → (reader writer : Change) → Type 0
+Streamed program old new result reader writer = StreamEnds (of_desk program) old new result reader writer
 
 -- the device is as it was
 abbrev pub IsStill : Change → Type 0
 IsStill device = device.new ≡ device.old
 
--- how a stream ended, if it was begun
-abbrev pub StreamedIf : {A : Type 0} → (old new : Asker) → Option (Result A ServeFault) → (reader writer : Change) → Type 0
-StreamedIf old new (Some served) reader writer = Streamed old new served reader writer
-StreamedIf old new None reader writer = IsStill reader × IsStill writer
+-- how a stream ended, which is begun where all workers have started, and only there
+abbrev pub StreamedIf : {A : Type 0} → Program → (started : Bool) → (old new : Asker) → Option (Result A ServeFault)
+    → (reader writer : Change) → Type 0
+StreamedIf program started old new (Some served) reader writer = (started ≡ true) × Streamed program old new served reader writer
+StreamedIf program started old new None reader writer = (started ≡ false) × (IsStill reader × IsStill writer)
 
 -- what is told of a stream and of the end of the sharing
 abbrev pub EndedWith : {A E : Type 0} → Result E ServeFault → (settled : Type 0) → Result A DebugFault → Type 0
@@ -79,7 +80,7 @@ EndedWith (Ok v) settled result = OnOk result settled × IfErr result (λ told. 
 -- how a session beside workers ended
 abbrev pub BesideEnds : {A : Type 0} → Program → Result A DebugFault → (reader writer : Change) → Type 0
 BesideEnds program (Ok v) reader writer = SettledBeside program reader writer × (NeverFails reader × NeverFails writer)
-BesideEnds program (Err fault) reader writer = StreamLeft fault reader writer × BlamesStream fault reader writer
+BesideEnds program (Err fault) reader writer = StreamLeft program fault reader writer × BlamesStream fault reader writer
 
 -- the lines were served beside workers, by a session of the source's program
 pub record DebuggedBeside (source reader writer : Change) : Type 0 where
@@ -87,9 +88,17 @@ pub record DebuggedBeside (source reader writer : Change) : Type 0 where
   pub opened : Opened source.old.bytes source.new.bytes program
   pub settled : SettledBeside program reader writer
 
+-- what a fault leaves, where there is a session of the source's program
+pub record LeftWith (fault : DebugFault) (source reader writer : Change) : Type 0 where
+  pub program : Program
+  pub opened : Opened source.old.bytes source.new.bytes program
+  pub left : StreamLeft program fault reader writer
+
 -- what a fault leaves: where there is no session, nothing was done
 abbrev pub BesideLeft : DebugFault → (source reader writer : Change) → Type 0
 BesideLeft Source source reader writer = NothingDone reader writer
 BesideLeft (Open error) source reader writer = Unopened error source.old.bytes source.new.bytes × NothingDone reader writer
-BesideLeft (Serve fault) source reader writer = StreamLeft (Serve fault) reader writer
-BesideLeft Threads source reader writer = StreamLeft Threads reader writer
+BesideLeft (Serve Read) source reader writer = LeftWith (Serve Read) source reader writer
+BesideLeft (Serve Write) source reader writer = LeftWith (Serve Write) source reader writer
+BesideLeft (Serve Memory) source reader writer = NothingDone reader writer ⊎ LeftWith (Serve Memory) source reader writer
+BesideLeft Threads source reader writer = LeftWith Threads source reader writer

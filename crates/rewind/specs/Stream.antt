@@ -10,7 +10,7 @@ use Rattle.gr_command.specs.declared.command.Line.{Line}
 use Rattle.gr_command.specs.declared.command.Line.TheVariants as says
 use Rattle.gr_command.specs.Commands.{meaning}
 use Rattle.gr_command.specs.Replies.{said_of}
-use Rattle.gr_share.specs.Calls.{Asker, GainsBy}
+use Rattle.gr_share.specs.Calls.{Asker, GainsBy, WasFull}
 use Rattle.gr_share.specs.declared.desk.Asked.TheVariants as asks
 use Rattle.rewind.specs.Lines.{is_quit}
 use Rattle.rewind.specs.Replies.{Answer, Replied, JournalFull, NoMemory, answer_text}
@@ -50,11 +50,12 @@ of_session program asker old c (Replied said) new = EntersCommand program asker 
 of_session program asker old c JournalFull new = (length old ≡ JOURNAL_LIMIT) × (new ≡ old)
 of_session program asker old c NoMemory new = (length old ≢ JOURNAL_LIMIT) × (new ≡ old)
 
--- of a desk of a shared session: it has a call more, with this reply on its receipt, or is as before
-abbrev pub of_desk : Asker → Command → Answer → Asker → Type 0
-of_desk old c (Replied said) new = (r : Receipt) × GainsBy old (asks.Command c) r new × (said ≡ said_of r.reply)
-of_desk old c JournalFull new = new ≡ old
-of_desk old c NoMemory new = new ≡ old
+-- of a desk of a shared session of a program: it has a call more, with this reply on its receipt, or is as before; the journal is
+-- told to be full only if it was
+abbrev pub of_desk : Program → Asker → Command → Answer → Asker → Type 0
+of_desk program old c (Replied said) new = (r : Receipt) × GainsBy old (asks.Command c) r new × (said ≡ said_of r.reply)
+of_desk program old c JournalFull new = WasFull program old × (new ≡ old)
+of_desk program old c NoMemory new = new ≡ old
 
 -- from the state old, commands may get these answers in their order, and the state is then new
 abbrev pub Answered : {S : Type 0} → Gets S → S → List Command → List Answer → S → Type 0

@@ -11,6 +11,7 @@ mod meanings;
 mod pages;
 pub mod report;
 pub mod settings;
+mod started;
 pub mod stream;
 pub mod terminal;
 pub mod words;

@@ -183,7 +183,7 @@ pub fn exit_status(fault: &DebugFault) -> u8
 
 /// Appends the line that tells a fault to the user, with its newline, and answers the exit status. The line is
 /// `rewind: CODE at LINE:COL` for a source that is refused (without a place for S7, S8, P4 and C11), `rewind:
-/// cannot read FILE`, `rewind: memory`, `rewind: read`, `rewind: write` or `rewind: threads`. Want of memory leaves the
+/// cannot read FILE`, `rewind: memory`, `rewind: read`, `rewind: write` or `rewind: threads`. Out of memory, it leaves the
 /// text as it was; `exit_status` takes none.
 #[tactic(auto, using(crate::proofs::Growing::cut_back))]
 pub fn report(fault: &DebugFault, file: &str, text: &mut Vec<u8>) -> Result<u8, NoMemory>

@@ -1,6 +1,6 @@
 //! A session beside workers, from its source to its last reply.
-ghost use Rattle.std.specs.Prelude.{◌≡◌, ◌<◌, ◌≤◌, [], ◌∷◌, ◌++◌, OnOk, IfOk, IfErr, IfSome, IfNone, IsTrue, vec_len};
-ghost use Rattle.std.specs.Prelude.{vec_capacity};
+ghost use Rattle.std.specs.Prelude.{◌≡◌, ◌==◌, ◌<◌, ◌≤◌, [], ◌∷◌, ◌++◌, length, vec_len, vec_capacity, Bool};
+ghost use Rattle.std.specs.Prelude.{OnOk, IfOk, IfErr, IfSome, IfNone, IsTrue};
 ghost use Rattle.gr_program.specs.Views.{program_of};
 ghost use Rattle.rewind.specs.Devices.{change};
 ghost use Rattle.rewind.specs.Debug.{BlamesDevice};
@@ -9,6 +9,7 @@ ghost use Rattle.rewind.specs.Beside.{Settled, Streamed, EndedWith, BesideEnds, 
 use crate::counted::Counted;
 use crate::debug::{DebugFault, open_source};
 use crate::desk::serve_desk;
+use crate::started::Started;
 use crate::stream::ServeFault;
 use gr_base::NoMemory;
 use gr_share::{Desk, Open, Opened, Room, Shared, Worker, finish, worker};
@@ -26,10 +27,11 @@ const MEMORY: DebugFault = DebugFault::Serve(ServeFault::Memory);
 trait Task {
     type Output;
 
-    ghost gives: { Self → Self.Output → Type 0 };
+    // What comes of it, where all workers have started, and where not.
+    ghost gives: { Self → Bool → Self.Output → Type 0 };
 
     fn run(self, started: bool) -> Self::Output
-        ensures { gives self result };
+        ensures { gives self started result };
 }
 
 // A desk, with the devices of its stream.
@@ -55,8 +57,9 @@ impl<'a, 'r, 'w, B: Room, T: Wait, R: Read, W: Write> Task for Stream<'a, 'r, 'w
         Option<Result<(), ServeFault>>,
     );
 
-    ghost gives = { λ s r. (r.1.ghost_name ≡ s.reader.ghost_name) × (r.2.ghost_name ≡ s.writer.ghost_name)
-        × StreamedIf s.desk r.0 r.3 (change R.remaining s.reader.now r.1.now) (change W.contents s.writer.now r.2.now) };
+    ghost gives = { λ s started r. (r.1.ghost_name ≡ s.reader.ghost_name) × (r.2.ghost_name ≡ s.writer.ghost_name)
+        × StreamedIf B.program started s.desk r.0 r.3
+        (change R.remaining s.reader.now r.1.now) (change W.contents s.writer.now r.2.now) };
 
     fn run(
         self,
@@ -90,7 +93,7 @@ fn serve_if<B: Room, T: Wait, R: Read, W: Write>(
     reader: &mut Counted<R>,
     writer: &mut Counted<W>,
 ) -> Option<Result<(), ServeFault>>
-    ensures { StreamedIf desk.old desk.new result
+    ensures { StreamedIf B.program started desk.old desk.new result
         (change R.remaining reader.old reader.new) (change W.contents writer.old writer.new) }
 {
     if started {
@@ -109,7 +112,7 @@ fn serve<B: Room, T: Wait, R: Read, W: Write>(
     reader: &mut Counted<R>,
     writer: &mut Counted<W>,
 ) -> Result<(), ServeFault>
-    ensures { Streamed desk.old desk.new result
+    ensures { Streamed B.program desk.old desk.new result
         (change R.remaining reader.old reader.new) (change W.contents writer.old writer.new) }
 {
     match serve_desk(rt, alloc, shared, desk, reader, writer) {
@@ -129,7 +132,9 @@ fn seats<B: Room, T: Wait>(
     alloc: Global,
     shared: &Shared<B>,
     count: u32,
-) -> Result<Vec<Worker<B>>, NoMemory> {
+) -> Result<Vec<Worker<B>>, NoMemory>
+    ensures { IfOk result (λ workers. length workers.items ≡ count) }
+{
     let mut workers = Vec::new(alloc);
     for _ in 0..count {
         let Ok(seat) = shared.worker_seat(rt, alloc) else {
@@ -141,7 +146,7 @@ fn seats<B: Room, T: Wait>(
 }
 
 // Does the task while the workers work, each on a thread of its own, then tells them to end and waits for them. The task is told
-// whether all of them could be started.
+// whether all of them could be started. How many could is answered beside what came of it.
 #[tactic(auto, using(crate::proofs::Lent::session_send))]
 fn beside<B: Room + Send + Sync, T: Threads + Wait + Sync, J: Task + Drop>(
     rt: &T,
@@ -149,27 +154,32 @@ fn beside<B: Room + Send + Sync, T: Threads + Wait + Sync, J: Task + Drop>(
     shared: &Shared<B>,
     workers: &mut [Worker<B>],
     task: J,
-) -> J::Output
-    ensures { J.gives task result }
+) -> (J::Output, Started)
+    ensures { J.gives task (result.1 == length workers.old) result.0 }
 {
+    let wanted = workers.len();
     thread::scope(
         thread::scope_env(),
         rt,
-        move |scope| -> J::Output
-            ensures { J.gives task result }
+        move |scope| -> (J::Output, Started)
+            ensures { J.gives task (result.1 == wanted) result.0 }
         {
-            let mut started = true;
+            let mut started = Started::none();
             for me in workers.iter_mut() {
-                if scope
-                    .spawn(move || worker(rt, alloc, shared, me, &Open, u64::MAX))
-                    .is_err()
-                {
-                    started = false;
+                if let Ok(thread) = scope.spawn(move || worker(
+                    rt,
+                    alloc,
+                    shared,
+                    me,
+                    &Open,
+                    u64::MAX,
+                )) {
+                    started.add(thread);
                 }
             }
-            let done = task.run(started);
+            let done = task.run(started.count() == wanted);
             shared.close(rt);
-            done
+            (done, started)
         },
     )
 }
@@ -184,7 +194,7 @@ fn serve_among<B: Room + Send + Sync, T: Threads + Wait + Sync, R: Read, W: Writ
     reader: &mut Counted<R>,
     writer: &mut Counted<W>,
 ) -> Option<(Desk<B>, Result<(), ServeFault>)>
-    ensures served { IfSome result (λ r. Streamed desk r.0 r.1
+    ensures served { IfSome result (λ r. Streamed B.program desk r.0 r.1
         (change R.remaining reader.old reader.new) (change W.contents writer.old writer.new)) }
     ensures none { IfNone result (IsStill (change R.remaining reader.old reader.new)
         × IsStill (change W.contents writer.old writer.new)) }
@@ -197,7 +207,8 @@ fn serve_among<B: Room + Send + Sync, T: Threads + Wait + Sync, R: Read, W: Writ
         reader,
         writer,
     };
-    let (desk, reader, writer, served) = beside(rt, alloc, shared, workers, stream);
+    let (streamed, _) = beside(rt, alloc, shared, workers, stream);
+    let (desk, reader, writer, served) = streamed;
     reclaim(reader);
     reclaim(writer);
     match served {

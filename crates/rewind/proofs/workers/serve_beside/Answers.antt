@@ -6,14 +6,14 @@ use Rattle.rewind.proofs.workers.serve_beside.Goals as goal
 
 pub returns-in-None : goal.returns-in-None
 returns-in-None g c =
-    no_threads (change g.R.Read.remaining c.args.reader.now c.serve_among.new.reader) (change g.W.Write.contents c.args.writer.now c.serve_among.new.writer)
+    no_threads g.B.Room.program (change g.R.Read.remaining c.args.reader.now c.serve_among.new.reader) (change g.W.Write.contents c.args.writer.now c.serve_among.new.writer)
     c.in-None.ensures.none.0 c.in-None.ensures.none.1
 
 pub returns-in-Some : goal.returns-in-Some
 returns-in-Some g c =
     let reader = change g.R.Read.remaining c.args.reader.now c.serve_among.new.reader in
     let writer = change g.W.Write.contents c.args.writer.now c.serve_among.new.writer in
-    let streamed : Streamed c.in-Ok.desk c.in-Some.desk c.in-Some.served reader writer = rw (c.in-Some.desk-is, c.in-Some.served-is) c.in-Some.ensures.served in
+    let streamed : Streamed g.B.Room.program c.in-Ok.desk c.in-Some.desk c.in-Some.served reader writer = rw (c.in-Some.desk-is, c.in-Some.served-is) c.in-Some.ensures.served in
     let one : c.push_reserved.new.self.items ≡ c.in-Some.desk ∷ [] = c.push_reserved.ensures.items ∙ ap (λ ds. ds ++ c.in-Some.desk ∷ []) c.in-Ok-room_for_desk.ensures.empty.0 in
     ends g.B.Room.program c.in-Some.served c.ended.result c.in-Ok.desk c.in-Some.desk reader writer c.in-Ok.ensures.0 streamed
     (subst (λ ds. EndedWith c.in-Some.served (Settled g.B.Room.program ds) c.ended.result) one c.ended.ensures)

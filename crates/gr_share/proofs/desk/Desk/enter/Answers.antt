@@ -1,9 +1,12 @@
 use Rattle.std.proofs.Common.{ap, ◌∙◌, List, ◌++◌, ◌∷◌, [], subst}
+use Rattle.gr_session.specs.declared.journal.AskRefused.TheVariants.{JournalFull}
 use Rattle.gr_share.specs.declared.desk.Asked.TheVariants.{Command}
 use Rattle.gr_share.specs.declared.desk.Call.{Call}
 use Rattle.gr_share.specs.declared.views.View.{View}
-use Rattle.gr_share.specs.Ties.{calls_of, numbers_of, AllBelow}
-use Rattle.gr_share.proofs.Telling.{before_calls}
+use Rattle.gr_share.specs.Calls.{WasFull}
+use Rattle.gr_share.specs.Ties.{calls_of, numbers_of, AllBelow, AllTold}
+use Rattle.gr_share.proofs.Telling.{before_calls, told_calls}
+use Rattle.gr_share.proofs.Answering.{handed_on}
 use Rattle.gr_share.proofs.Calling.{gains}
 use Rattle.gr_share.proofs.desk.Desk.enter.Goals as goal
 
@@ -17,3 +20,12 @@ returns-in-Ok-asked-clause-call g c =
     gains c.args.self.now c.self.inside.number calls c.push_reserved.new.self.items (Command c.args.command) call.asked r c.self.view_is
     (c.push_reserved.ensures.items ∙ ap (λ (l : List Call). l ++ call ∷ []) c.reserve.ensures.items)
     c.in-Ok-asked.ensures.call.0 (before_calls c.self.inside.number r.number calls before)
+
+pub returns-in-Err-clause-full : goal.returns-in-Err-clause-full
+returns-in-Err-clause-full g c = λ e.
+    let a = c.self.inside in
+    let p = g.B.Room.program in
+    let f = c.in-Err.ensures.full (handed_on c.in-Err.why JournalFull e) in
+    let told : AllTold p f.journal (calls_of a.number a.calls.items) = subst (λ (v : View). AllTold p f.journal v.calls) c.self.invariant.2 f.told in
+    subst (WasFull p) c.self.view_is
+    (record { askers = f.askers; journal = f.journal; legal = f.legal; full = f.full; calls = told_calls p f.journal a.number a.calls.items told })
