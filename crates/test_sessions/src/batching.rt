@@ -18,6 +18,10 @@ const STARTED: [&[u8]; 4] = [b"step g0", b"step g0", b"step g0", b"free 1000"];
 const ENDING: &[u8] =
     b"package main\nfunc spin(n int) { for i := 0; i < n; i++ { } }\nfunc main() {\n\tgo spin(9)\n}\n";
 
+// A goroutine that takes 402 steps by itself, which are two batches.
+const COUNTING: &[u8] =
+    b"package main\nfunc spin(n int) { for i := 0; i < n; i++ { } }\nfunc main() {\n\tgo spin(200)\n\tselect {}\n}\n";
+
 // What is done, and what is to come of it.
 #[derive(Clone, Copy)]
 enum Act<'a> {
@@ -127,7 +131,7 @@ struct Story {
     acts: &'static [Act<'static>],
 }
 
-const STORIES: [Story; 5] = [
+const STORIES: [Story; 6] = [
     Story {
         name: "a batch joins the log",
         source: SPINNING,
@@ -176,6 +180,20 @@ const STORIES: [Story; 5] = [
             Act::Commit(None),
             Act::Run(0, 1),
             Act::Commit(Some(1)),
+        ],
+    },
+    Story {
+        name: "the longest batch joins the log",
+        source: COUNTING,
+        lines: &[b"step g0", b"step g0", b"free 1000"],
+        acts: &[
+            Act::Run(1000, 256),
+            Act::Commit(Some(256)),
+            Act::Grant(744),
+            Act::Room(999_742),
+            Act::Run(256, 146),
+            Act::Commit(Some(146)),
+            Act::Grant(598),
         ],
     },
     Story {

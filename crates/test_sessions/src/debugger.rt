@@ -244,6 +244,33 @@ fn serves_a_session(rt: HostRuntime) -> Result<(), Fail> {
     Ok(())
 }
 
+// A program that waits in a select of so many clauses.
+fn with_clauses(alloc: Global, count: u64) -> Option<Vec<u8>> {
+    let mut text = Vec::new(alloc);
+    let begins = b"package main\nfunc main() {\n\tc := make(chan int)\n\tselect {\n";
+    text.extend_from_slice(begins).ok()?;
+    for _ in 0..count {
+        text.extend_from_slice(b"\tcase <-c:\n").ok()?;
+    }
+    text.extend_from_slice(b"\t}\n}\n").ok()?;
+    Some(text)
+}
+
+#[test]
+fn waits_in_a_long_select(rt: HostRuntime) -> Result<(), Fail> {
+    let text = with_clauses(rt.alloc(), 300).ok_or("no memory")?;
+    let mut source = Counted::new(text.as_slice());
+    let mut reader = Counted::new(b"step g0\nstep g0\nstep g0\nundo\nstep g0\n".as_slice());
+    let mut writer = Counted::new(Vec::new(rt.alloc()));
+    let served = debug(rt.alloc(), &mut source, &mut reader, &mut writer);
+    assert!(rt; served.is_ok());
+    assert_eq!(rt;
+        writer.into_inner().as_slice(),
+        b"ok g0#1 make\nok g0#2 pure\nok g0#3 select-wait\nok g0#3\nok g0#3 select-wait\n".as_slice()
+    );
+    Ok(())
+}
+
 #[test]
 fn reads_no_command_without_a_program(rt: HostRuntime) -> Result<(), Fail> {
     let mut source = Counted::new(Lines {

@@ -191,6 +191,9 @@ const ACTS: [Act; 9] = [
         },
         wanted: Wanted {
             entries: Some(3),
+            grant: Some(0),
+            room: Some(999_993),
+            stale: Some(0),
             ..ANYTHING
         },
     },
