@@ -54,7 +54,7 @@ module _ (s : Seen) (a : ℕ) (call : Call) (log : List Line) (tells : Tells (pr
       subst (λ (z : Program × List Line). Tells z.0 t.journal z.1) (λ k. (ap program_of (sym program) k, sym lines k))
       (tells_push (program_of s.program) s.journal t.journal log a call tells entered)
 
-  -- .. and the call's number is larger than those before
+  -- the call's number is larger than those before
   pub rises_on : (journal : List Entry) (calls : List Line) → IsPrefix calls (asked a log)
       → EntersCall (program_of s.program) a call.asked s.journal journal call.receipt.number (said_of call.receipt.reply)
       → AllBelow call.receipt.number (numbers_of calls)

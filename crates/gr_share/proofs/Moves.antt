@@ -26,7 +26,7 @@ on_set P views by w others mine j u e =
     (λ (x : (j ≢ by) × (get_elem? views j ≡ some u)). others j u x.0 x.1)
     (at_set views by j w u e)
 
--- the same where one is added
+-- what holds of the views holds after one is added, if it holds of that one
 on_snoc : (P : ℕ → View → Type 0) (views : List View) (w : View) → ((j : ℕ) (u : View) → get_elem? views j ≡ some u → P j u) → P (length views) w
     → (j : ℕ) (u : View) → get_elem? (views ++ w ∷ []) j ≡ some u → P j u
 on_snoc P views w others mine j u e =

@@ -41,7 +41,7 @@ pub record EntersSteps (p : Program) (asker : ℕ) (go : List ℕ) (steps : ℕ)
   pub count : loan.steps ≡ steps
   pub enters : EntersBatch p asker loan old new number reply
 
--- .. or a command
+-- the journal got a command or so many steps of a goroutine as one entry, whose number and reply these are
 abbrev pub EntersCall : Program → ℕ → Wanted → List Entry → List Entry → ℕ → Said → Type 0
 EntersCall p asker (Command command) old new number reply = EntersCommand p asker command old new number reply
 EntersCall p asker (Batch go steps) old new number reply = EntersSteps p asker go steps old new number reply

@@ -179,7 +179,7 @@ impl<B: Room> Desk<B> {
     /// Asks a command, and shows the receipt, which is kept. A receipt's number is larger than those before, so its reply
     /// has all that this desk has seen.
     ///
-    /// It is refused where the session refuses it, and for want of memory for the call: then nothing has changed.
+    /// It is refused where the session refuses it, or where there is no memory for the call: then nothing has changed.
     pub fn ask<R: Wait>(
         &mut self,
         rt: &R,

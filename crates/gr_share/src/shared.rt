@@ -47,7 +47,7 @@ impl Model for Opened {
 }
 
 impl Opened {
-    /// Makes the table. The one error is want of memory.
+    /// Makes the table. The one error is that it is out of memory.
     pub fn new(alloc: Global, session: Session) -> Result<Opened, NoMemory>
         ensures { IfOk result (λ o. o.session ≡ session) }
     {

@@ -73,7 +73,7 @@ BlamesDevice (Open error) source reader writer = NeverFails source × (NeverFail
 BlamesDevice (Serve fault) source reader writer = NeverFails source × Blames fault reader writer
 BlamesDevice Threads source reader writer = NeverFails source × (NeverFails reader × NeverFails writer)
 
--- why there is no session: the source failed, it was not opened, or memory was wanted
+-- why there is no session: the source failed, it was not opened, or the program is out of memory
 abbrev pub SourceLeft : DebugFault → Change → Type 0
 SourceLeft Source source = Unit {0}
 SourceLeft (Open error) source = Unopened error source.old.bytes source.new.bytes

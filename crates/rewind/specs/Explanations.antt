@@ -7,7 +7,7 @@ use Rattle.rewind.specs.Codes.{sources, replies, callers, kinds, ends, faults, f
 abbrev pub IsOn : (code page : List ℕ) → Type 0
 IsOn code page = (rest : List ℕ) × (page ≡ code ++ (codes ":" ++ rest))
 
--- the same as a test
+-- whether a page tells of the code
 abbrev pub begins : (code page : List ℕ) → Bool
 begins code [] = false
 begins [] (b ∷ page) = nat_eq b 58

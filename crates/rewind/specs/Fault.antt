@@ -13,7 +13,7 @@ BlamesWriter Read writer = ⊥
 BlamesWriter Write writer = Fails writer
 BlamesWriter Memory writer = NeverFails writer
 
--- the fault of a stream names the device that failed; want of memory is told where none did
+-- the fault of a stream names the device that failed; out of memory is told where none did
 abbrev pub Blames : ServeFault → (reader writer : Change) → Type 0
 Blames Read reader writer = Fails reader × NeverFails writer
 Blames Write reader writer = NeverFails reader × Fails writer
@@ -23,15 +23,16 @@ Blames Memory reader writer = NeverFails reader × NeverFails writer
 abbrev pub Untouched : {S : Type 0} → S → S → Option (List ℕ) → Option (List ℕ) → Type 0
 Untouched old new held holds = (new ≡ old) × Keeps held holds
 
--- what a fault leaves of one line: the writer failed in its answer, or memory was wanted before it was asked or in its answer
+-- what a fault leaves of one line: the writer failed in its answer, or it was out of memory before the line was asked or in its
+-- answer
 abbrev pub LineLeft : {S : Type 0} → ServeFault → Gets S → List ℕ → (old new : S) → (held holds : Option (List ℕ)) → (writer_failed : Type 0) → Type 0
 LineLeft Read gets line old new held holds writer_failed = ⊥
 LineLeft Write gets line old new held holds writer_failed = Begun gets line old new held holds × writer_failed
 LineLeft Memory gets line old new held holds writer_failed =
     Untouched old new held holds ⊎ Begun gets line old new held holds
 
--- what a fault leaves of a stream: the reader failed between two lines or within one; the writer failed in an answer; or
--- memory was wanted while a line was read, while it was made into its command, or for its answer
+-- what a fault leaves of a stream: the reader failed between two lines or within one; the writer failed in an answer; or it was
+-- out of memory while a line was read, while it was made into its command, or for its answer
 abbrev pub Left : {S : Type 0} → ServeFault → Gets S → (had has : Option (List ℕ)) → (old new : S) → (held holds : Option (List ℕ))
     → (reader_failed writer_failed : Type 0) → Type 0
 Left Read gets had has old new held holds reader_failed writer_failed = ServedWhole gets had has old new held holds × reader_failed

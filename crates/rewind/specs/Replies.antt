@@ -7,7 +7,7 @@ use Rattle.gr_share.specs.Receipt.{Receipt}
 use Rattle.gr_share.specs.AskRefused.{AskRefused}
 use Rattle.gr_share.specs.AskRefused.TheVariants as refused
 
--- what came of a command: a reply, or no entry in a full journal or for want of memory
+-- what came of a command: a reply, or no entry, in a full journal or out of memory
 pub data Answer : Type 0 where
   Replied : (said : Said) → Answer
   JournalFull : Answer

@@ -2,7 +2,7 @@
 //! only tells whether it is accepted, and `rewind --explain CODE` tells what a code means.
 //!
 //! Exit status: 0 at `quit` or at the end of the commands; 1 where FILE cannot be read or is no program, with one line on
-//! standard error; 2 where the command line is refused; 3 where reading, writing or threads failed, or memory was wanted.
+//! standard error; 2 where the command line is refused; 3 where reading, writing or threads failed, or it is out of memory.
 #![tactic(auto)]
 
 mod files;
@@ -150,7 +150,7 @@ fn run<T: Threads + Wait + Sync>(rt: &HostRuntime, threads: &T) -> io::Result<Ex
 fn main(rt: HostRuntime) -> ExitCode {
     match run(&rt, &rt) {
         Ok(code) => code,
-        // No call of `run` passes on another error than want of memory.
+        // No call of `run` passes on another error than that it is out of memory.
         Err(_) => fail(&rt, &MEMORY, ""),
     }
 }
