@@ -16,10 +16,10 @@ use std::hash::{Hash, Hasher};
 use std::marker::Model;
 use std::sync::ArcSlice;
 
-/// A goroutine, named by the counts of children that lead to it from the goroutine of `main`, whose own name has none:
-/// the third child of the first child of `main`'s goroutine has the counts 1 and 3. Each count is from 1 to
-/// 4,294,967,295, and there may be any number of them. A name comes before the names of its descendants. The counts are
-/// shared by all copies of a name.
+/// A goroutine, named by the counts of children that lead to it from the goroutine of `main`, whose own name has none. The
+/// third child of the first child of `main`'s goroutine has the counts 1 and 3. Each count is from 1 to 4,294,967,295, and
+/// there may be any number of them. A name comes before the names of its descendants. The counts are shared by all copies of
+/// a name.
 #[derive(Debug, Drop)]
 pub struct GoName {
     counts: ArcSlice<u32>,

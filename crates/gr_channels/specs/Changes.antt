@@ -79,8 +79,8 @@ pub record Undoes (u : ChanUndo) (old new : Seen) : Type 0 where
   pub room : Within (need u) new.room
   pub gains : Within (plus old.room (need u)) (plus new.room (entered u))
 
--- what sending does (Go specification, "Send statements"): on a closed channel nothing; else the first waiting receiver
--- gets the value; else it enters the buffer where there is room; else nothing
+-- What sending does (Go specification, "Send statements"). On a closed channel it does nothing. Else the first waiting
+-- receiver gets the value. Else it enters the buffer where there is room. Else nothing happens.
 abbrev pub OfferRule : Content → Value → Offered → Content → Type 0
 OfferRule old v (offered.Closed w) new = (old.closed ≡ true) × (w ≡ v) × (new ≡ old)
 OfferRule old v (offered.Handed w u) new =
@@ -104,8 +104,9 @@ pub record OfferNeedsMemory (old : Seen) : Type 0 where
   pub short : length old.content.items < old.content.capacity
   pub no_room : old.room.items ≡ 0
 
--- what receiving does (Go specification, "Receive operator"): the front item is taken, and the first waiting sender's
--- value moves up; else the first waiting sender's value; else nothing, and it is told whether the channel is closed
+-- What receiving does (Go specification, "Receive operator"). The front item is taken, and the first waiting sender's value
+-- moves up. Else the first waiting sender's value is taken. Else nothing is, and the answer tells whether the channel is
+-- closed.
 abbrev pub TakeRule : Content → Taken → Content → Type 0
 TakeRule old (taken.Item v u) new =
     (u ≡ Took v) × (old.items ≡ v ∷ new.items) × (old.senders ≡ []) × (new ≡ record old { head = old.head + 1; items = new.items })
@@ -172,9 +173,9 @@ pub record TookBack (u : ChanUndo) (old new : Seen) : Type 0 where
   pub content : new.content ≡ undone u old.content
   pub spends : Within (plus old.room (entered u)) (plus new.room (need u))
 
--- a change from a to b is taken back from any c with the content of b and no less room: it fits, and needs no memory; and
--- what that gives has the content of a and no less room. So changes made one after the other are taken back in the
--- reverse order, the last one first
+-- A change from a to b is taken back from any c with the content of b and no less room: it fits, and needs no memory. The
+-- result has the content of a and no less room. So changes made one after the other are taken back in the reverse order, the
+-- last one first.
 pub record GoesBack (u : ChanUndo) (a c : Seen) : Type 0 where
   pub fits : Fits u c.content
   pub room : Within (need u) c.room

@@ -3,8 +3,9 @@ use Rattle.std.specs.Prelude.{ℕ, ◌+◌, ◌<◌, ◌≤◌, ◌^◌, Bool, L
 use Rattle.gr_base.specs.declared.values.Value.{Value}
 use Rattle.gr_channels.specs.declared.waiter.Waiter.{Waiter}
 
--- a channel's content (Go specification, "Channel types"): its capacity, whether it is closed, who waits to send and to
--- receive, in the order of arrival, how many values have left the buffer, and the items in it, the front one first
+-- A channel's content (Go specification, "Channel types"): its capacity, whether it is closed, and who waits to send and to
+-- receive, in the order of arrival. Beside these, how many values have left the buffer, and the items in it, the front one
+-- first.
 pub record Content : Type 0 where
   pub capacity : ℕ
   pub closed : Bool

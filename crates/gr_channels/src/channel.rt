@@ -297,7 +297,7 @@ impl Channel {
         self.make_room(count, count, count)
     }
 
-    /// Makes room for so many more items, waiting senders and waiting receivers. No content changes.
+    /// Makes room for this many more items, waiting senders and waiting receivers. No content changes.
     pub fn make_room(
         &mut self,
         items: usize,

@@ -26,13 +26,13 @@ pub fn law_of_changes()
     ensures changed { WrittenChanges }
 {}
 
-/// A change can be taken back wherever what it wrote stands, whatever became of the rest, and then what it wrote is as
-/// before it and the rest stays.
+/// A change can be taken back wherever what it wrote stands, whatever became of the rest. Then what it wrote is as before it,
+/// and the rest stays.
 pub fn law_of_undoing()
     ensures { TakenBackAnywhere }
 {}
 
-/// Changes made one after the other are taken back in the reverse order, with no memory: so a goroutine that is withdrawn
+/// Changes made one after the other are taken back in the reverse order, with no memory. So a goroutine that is withdrawn
 /// after one of its waiters was met comes back first, and then the waiter.
 pub fn law_of_order()
     ensures { TakenBackInOrder }

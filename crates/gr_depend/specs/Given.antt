@@ -40,8 +40,8 @@ given_at p function (Part (Calls callee arguments) slot on) = parameters_named p
 given_at p function (Perform action operands) = assigned_by p function action
 given_at p function i = []
 
--- That is what the rules say of the frame that a frame of code means, at the instruction at which it stands, unless the step is
--- a fault; a call is one where there are too many frames.
+-- That is what the rules say of the frame that a frame of code means, at the instruction at which it stands, unless the step
+-- is a fault. A call is a fault where there are too many frames.
 abbrev pub GivenByInstruction : Type 0
 GivenByInstruction = (means : ℕ → Meanings) (p : Program) (code : ProgramCode) (f : CodeFrame) (i : Instruction) (fs : List Frame) (d : Deed)
     → ProgramFits means p code → Stands means code f → instruction_at code f ≡ Some i → is_deepest fs ≡ false

@@ -26,8 +26,8 @@ start_of g rs = option_map (λ r. r.id) (find (starts g) rs)
 abbrev pub is_fault : Kind → Bool
 is_fault kind = elim kind [ Fault e ↦ true | _ ↦ false ]
 
--- whether the step sent on the channel or came to wait for that, and whether it received from it or came to wait for that: it
--- did so as a statement or as a clause that was picked, and a fault did not (Go: Send statements, Receive operator)
+-- Whether the step sent on the channel or came to wait for that, and whether it received from it or came to wait for that. It
+-- did so as a statement, or as a clause that was picked. A fault did not (Go: Send statements, Receive operator).
 abbrev pub sends_to : ChName → Record → Bool
 sends_to c r = elim (operation_in r.change) [ Some (sends_on d) ↦ same_channel c d && not (is_fault r.change.kind) | _ ↦ false ]
 

@@ -28,8 +28,8 @@ abbrev pub TouchesTurnedFrom : ℕ → List ℕ → List Touch → Type 0
 TouchesTurnedFrom first to ts = (t u : Touch) → Before ts t u → (t.writes || u.writes) ≡ true
     → place_at to u.place < place_at to t.place → first ≤ place_at to u.place
 
--- these steps are turned round: of those that are, no later one comes to an earlier place, and no earlier one that is turned with
--- the same one stands before it in the log
+-- These steps are turned round. Of all that are, no later one comes to an earlier place. Of the earlier ones that are turned
+-- with the same later one, none stands before it in the log.
 pub record AreFirstTurned (rs : List Record) (to : List ℕ) (earlier later : ℕ) : Type 0 where
   pub are : AreTurned rs to earlier later
   pub first_in_order : TurnedFrom (place_at to later) rs to

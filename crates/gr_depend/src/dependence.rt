@@ -42,8 +42,8 @@ impl Log {
         Ok(marks)
     }
 
-    /// Marks for the steps up to a place, that place included: set for the step there and for all that it depends on, and for
-    /// no others.
+    /// Marks for the steps up to a place, that place included. They are set for the step there and for all that it depends
+    /// on, and for no others.
     pub fn causes(&self, alloc: Global, at: usize) -> Result<Vec<bool>, NoMemory>
         requires { at < length (records_of self.now) }
         ensures count { IfOk result (λ marks. length marks.items ≡ at + 1) }

@@ -21,8 +21,9 @@ use std::alloc::Global;
 pub enum OrderRefused {
     /// The names are not those of the steps, each once: one is missing, strange or repeated.
     NotTheSteps,
-    /// The steps at these two places of the log, counted from 0, conflict and would change places. The second is the first step
-    /// of the order that some conflicting earlier step of the log follows, the first is the first such step of the log.
+    /// The steps at these two places of the log, counted from 0, conflict and would change places. The second is the first
+    /// step of the order that comes before a conflicting step which is earlier in the log. The first is the earliest such
+    /// step of the log.
     Breaks { earlier: usize, later: usize },
     /// A growth was refused.
     NoMemory,
@@ -164,8 +165,8 @@ impl Log {
         None
     }
 
-    /// The first place of the order to which a step comes that is turned round with an earlier one of the log, or the bound where
-    /// that is less. The time is that of the touches.
+    /// The first place of the order whose step changes places with an earlier one of the log, or the bound where that is
+    /// less. The time is that of the touches.
     fn first_turned(&self, to: &[usize], bound: usize) -> usize
         ensures within { result ≤ bound }
         ensures turned { TurnedFrom result (records_of self.now) to.now }

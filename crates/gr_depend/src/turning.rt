@@ -61,8 +61,8 @@ fn if_before(first: usize, place: usize, after: usize) -> usize
     }
 }
 
-/// The first place of the order at which a step comes before one that it conflicts with by these touches of an object, and that
-/// stands before it in the log; or the bound where none comes before that.
+/// The first place of the order whose step comes too early, by these touches of an object: it comes before a step that it
+/// conflicts with, and that stands before it in the log. It is the bound where there is none before that.
 pub(crate) fn first_turned(touches: &[Touch], to: &[usize], bound: usize) -> usize
     ensures within { result ≤ bound }
     ensures turned { TouchesTurnedFrom result to.now touches.now }

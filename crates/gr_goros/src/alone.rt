@@ -1,4 +1,4 @@
-//! Whether the next step of a goroutine reaches no further than itself and is no fault, without taking it.
+//! Whether the next step of a goroutine is local and no fault, without taking it.
 
 ghost use Rattle.std.specs.Prelude.{◌≡◌, ◌-◌, not, nat_eq, nat_le, slice_get};
 ghost use Rattle.gr_rules.specs.Outcomes.{wrong};
@@ -126,7 +126,7 @@ impl Frame {
 }
 
 impl Goroutine {
-    /// Whether its next step reaches no further than itself, and is no fault. It takes no memory.
+    /// Whether its next step is local, and is no fault. It takes no memory.
     pub fn goes_alone(&self, code: &Code) -> bool
         requires { ¬ (task_of (program_code_of code.now) self.now.content ≡ wrong) }
         ensures { result ≡ stays_alone (program_code_of code.now) self.now.content }

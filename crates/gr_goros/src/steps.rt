@@ -1,4 +1,4 @@
-//! Steps of a goroutine that reach no further than itself.
+//! Local steps of a goroutine.
 
 ghost use Rattle.std.specs.Prelude.{◌≡◌, ◌+◌, ◌<◌, ◌≤◌, ◌^◌, true, drop, IfOk, OnErr};
 ghost use Rattle.gr_base.specs.declared.kinds.Kind.TheVariants as kinds;
@@ -21,8 +21,8 @@ use std::alloc::Global;
 use std::mem;
 
 impl Goroutine {
-    /// Whether the next instruction asks for nothing beyond the goroutine: its step is local, unless it is a call that is too
-    /// deep or has a fault, which is local too.
+    /// Whether the next instruction asks for nothing beyond the goroutine. Its step is then local. A call that is too deep,
+    /// and a fault, are local too.
     #[inline]
     pub fn is_local(&self, code: &Code) -> bool
         requires { ¬ (task_of (program_code_of code.now) self.now.content ≡ wrong) }

@@ -25,7 +25,7 @@ pub enum Former {
     /// A channel, by its number, the number of the cell, and the goroutine that made it. The first number stands before the rest,
     /// where it takes no room.
     Channel(u32, usize, GoName),
-    /// Two cells, of which the first held a number and the second a truth value, as an earlier receive leaves them: the truth
+    /// Two cells, the first of which held a number and the second a truth value, as an earlier receive leaves them. The truth
     /// value and the number of the first cell stand before the rest, where they take no room.
     IntAndBool(bool, u32, i64, usize),
     /// Each cell that was written to, in the order of the writes, with what was in it before.

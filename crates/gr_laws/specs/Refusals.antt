@@ -43,16 +43,17 @@ abbrev pub at_gate : Option GateContent → (GateContent → Bool) → Bool
 at_gate None test = false
 at_gate (Some gate) test = test gate
 
--- Whether a communication can proceed: a send where the channel is closed, which is a fault, where a receiver waits or where
--- there is room; a receive where the channel is closed, where a sender waits or where there is an item; none on nil (Go: Send
--- statements, Receive operator).
+-- Whether a communication can proceed (Go: Send statements, Receive operator). A send can where the channel is closed, which
+-- is a fault, where a receiver waits, or where there is room. A receive can where the channel is closed, where a sender
+-- waits, or where there is an item. On nil none can.
 abbrev pub can_proceed : State → Communication → Bool
 can_proceed s (Sending (Some c) v) = at_gate (s.gates c) (λ gate. gate.closed || has_any gate.receivers || has_room s c gate)
 can_proceed s (Receiving (Some c) zero) = at_gate (s.gates c) (λ gate. gate.closed || has_any gate.senders || has_item s c gate)
 can_proceed s _ = false
 
--- A select has not the choice: to pick a clause that is not there or cannot proceed; the default clause, where there is none or
--- a clause can proceed; to wait, where there is a default clause or a clause can proceed (Go: Select statements).
+-- A choice that a select does not have (Go: Select statements). It picks a clause that is not there or cannot proceed. Or it
+-- takes the default clause, where there is none or a clause can proceed. Or it waits, where there is a default clause or a
+-- clause can proceed.
 abbrev pub CannotPick : State → Option Communication → Type 0
 CannotPick s None = Unit {0}
 CannotPick s (Some c) = can_proceed s c ≡ false

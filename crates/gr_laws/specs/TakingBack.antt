@@ -8,8 +8,8 @@ use Rattle.gr_rules.specs.States.{State, look, put}
 use Rattle.gr_rules.specs.Steps.{machine}
 use Rattle.gr_laws.specs.Reached.{Logged, Reached}
 
--- A record of a step, from the state before it to the state after it, may be taken back where what the step wrote stands as
--- the step left it, and where the state that putting back leaves is one that the program reaches.
+-- A record of a step, from the state before it to the state after it, may be taken back on two conditions. What the step
+-- wrote stands as the step left it. The state that putting back leaves is one that the program reaches.
 pub record MayGoBack (p : Program) (s : State) (r : Logged p) : Type 0 where
   pub before : State
   pub after : State

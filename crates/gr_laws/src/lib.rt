@@ -42,11 +42,10 @@ ghost use Rattle.gr_laws.specs.OneBuffer.{IsReceive, IsSend, FaultsAtSend, Share
 ghost use Rattle.gr_laws.specs.Refusals.{HasStatus, StandsReady, is_select, HasNoSuch};
 ghost use Rattle.gr_laws.specs.Touched.{AreTouched, TellTouches, read_only};
 
-/// The steps of a program are those of a machine that meets the laws: only what is written changes, and a step goes
-/// alike, with the same note, in every state that agrees on what it touches. Each step raises its goroutine's count of
-/// steps by one, notes the new count and lowers no other, so that steps have names. A step writes just what the table of
-/// touches says, and touches no other objects than the table's, and all of these. An event is refused exactly where it is
-/// no step.
+/// The steps of a program are those of a machine that meets the laws. Only what is written changes, and a step goes alike,
+/// with the same note, in every state that agrees on what it touches. Each step raises its goroutine's count of steps by one,
+/// notes the new count and lowers no other, so that steps have names. A step writes exactly what the table of touches says,
+/// and touches exactly the table's objects. An event is refused exactly where it is no step.
 pub fn law_of_the_machine()
     ensures laws { (p : Program) → Laws (machine p) }
     ensures counts { (p : Program) → CountsSteps (machine p) owner ordinal count }
@@ -57,8 +56,9 @@ pub fn law_of_the_machine()
 {}
 
 /// Why an event is refused, in the order of the reasons: the program does not run; there is no such goroutine; it is done; it
-/// waits; or it is ready and has not that choice: a statement that is no select has the plain choice alone, and a select has
-/// those of `HasNoSuch` not. `unsound` aside, which no checked program meets, each reason holds exactly where it is given.
+/// waits; or it is ready and does not have that choice. A statement that is no select has the plain choice alone, and a
+/// select does not have those of `HasNoSuch`. Except for `unsound`, which no checked program meets, each reason holds exactly
+/// where it is given.
 pub fn law_of_refusals()
     ensures over { (p : Program) (s : State) (e : Event)
         → (refusal p s e ≡ Some program_is_over) ↔ (¬ (s.run ≡ live)) }
@@ -147,12 +147,12 @@ pub fn law_of_runs()
 {}
 
 /// Rollback of every run of every program, whole. Undoing the last step restores the state before it, from which the step
-/// goes again. `dependents` are the step with all that depends on it, and nothing else; `causes` are the step with all that
-/// it depends on, and nothing else; `kept` are the steps that are no dependents, in the order of the log. Rolling a step
-/// back removes its dependents and no other steps, and leaves the run of the kept steps; on the way each dependent is taken
-/// back in a state in which it ended. Where it stops part-way, what is left is the run of all steps that are still there.
-/// A step on which no later step depends goes back from the middle, and what it touched stands as it left it. Doing the
-/// dependents again, in their old order, gives back the state and the log's steps.
+/// goes again. `dependents` are the step with all that depends on it, and nothing else. `causes` are the step with all that
+/// it depends on, and nothing else. `kept` are the steps that are no dependents, in the order of the log. Rolling a step back
+/// removes its dependents and no other steps, and leaves the run of the kept steps. On the way each dependent is taken back
+/// in a state in which it ended. Where it stops part-way, what is left is the run of all steps that are still there. A step
+/// on which no later step depends goes back from the middle, and what it touched stands as it left it. Taking the dependents
+/// again, in their old order, gives back the state and the log's steps.
 pub fn law_of_rollback()
     ensures last { (p : Program) (s t : State) (log : List (Logged p)) (r : Logged p)
         → IsRun p log s
@@ -196,8 +196,8 @@ pub fn law_of_rollback()
 
 /// An order of a run that is given by the names of its steps. It is accepted exactly where it respects dependence, and then
 /// it is a run with the same end. It is refused for its names exactly where they are not those of the steps, each once.
-/// Else it is refused with two steps that conflict and would change places: the second is the first step of the given order
-/// that some conflicting earlier step of the log follows, the first is the first such step of the log.
+/// Otherwise it is refused with two steps. The second is the first step of the given order that comes before a conflicting
+/// step which is earlier in the log. The first is the earliest such step of the log.
 pub fn law_of_orders()
     ensures accepted { (p : Program) (t : State) (log new : List (Logged p)) (names : List StepName)
         → IsRun p log t
@@ -215,7 +215,7 @@ pub fn law_of_orders()
         × Rearranges log new × FirstToChange (clash p) log new x y) }
 {}
 
-/// The record of the last step of a run may be taken back, and so may that of each earlier step with which no later step
+/// The record of the last step of a run may be taken back. So may that of each earlier step with which no later step
 /// conflicts.
 pub fn law_of_taking_back()
     ensures { (p : Program) (t : State) (front back : List (Logged p)) (r : Logged p)
@@ -223,9 +223,9 @@ pub fn law_of_taking_back()
         → MayGoBack p t r }
 {}
 
-/// Of every run: what a goroutine printed are the printed lines of its own steps, in the order of the log. Its count of
-/// steps is the number of its steps in the log, and these have the names from 1 up to it: so there is no step of a name
-/// exactly where its ordinal is 0 or greater than the count.
+/// In every run, what a goroutine printed are the printed lines of its own steps, in the order of the log. Its count of steps
+/// is the number of its steps in the log, and these have the names from 1 up to it. So there is no step of a name exactly
+/// where its ordinal is 0 or greater than the count.
 pub fn law_of_consoles()
     ensures texts { (p : Program) (t : State) (log : List (Logged p)) (g : List ℕ)
         → IsRun p log t
@@ -252,10 +252,11 @@ pub fn law_of_counts()
         → t.heads c ≤ length log }
 {}
 
-/// Of every state that a run reaches: the buffer of each channel holds just the values that entered and have not left, each
-/// in the slot of its number; who waits to send finds it full, who waits to receive finds it empty, and nobody waits on a
-/// closed channel; a channel that was not made is empty. A goroutine stands in the queues of what it waits for, and in no
-/// others, and in none of them twice for one clause. A step from there writes just the objects whose content it changes.
+/// In every state that a run reaches, the buffer of each channel holds exactly the values that entered and have not left,
+/// each in the slot of its number. Who waits to send finds it full, who waits to receive finds it empty, and no goroutine
+/// waits on a closed channel. A channel that was not made is empty. A goroutine stands in the queues of what it waits for,
+/// and in no others, and in none of them twice for one clause. A step from there writes exactly the objects whose content it
+/// changes.
 pub fn law_of_reached_states()
     ensures channels { (p : Program) (t : State)
         → Reached p t
@@ -272,8 +273,8 @@ pub fn law_of_reached_states()
         → (o : Object) → In o n.writes ↔ ¬ (look u o ≡ look t o) }
 {}
 
-/// Folding a constant expression is evaluating it: where the exact operator has a value, the operator on a running program's
-/// values gives that value, wrapped to 64 bits, and what fits an `int` is left as it is.
+/// Folding a constant expression is evaluating it. Where the exact operator has a value, the operator on a running program's
+/// values gives that value, wrapped to 64 bits. What fits an `int` is left as it is.
 pub fn law_of_folding()
     ensures binary { (op : BinaryOp) (x y z : Constant)
         → binary op x y ≡ Some z

@@ -16,7 +16,7 @@ use Rattle.gr_record.specs.Listings.{frame_in, state_in}
 use Rattle.gr_record.specs.Records.{event_of, operation_in, is_printed, writes_of, reads_of, taken_back, CanGoBack}
 use Rattle.gr_record.specs.Within.{ChangesWithin}
 
--- The attempt of an event is the step from the first contents to the second, and the change tells what the report does, has
+-- The attempt of an event is the step from the first contents to the second. The change tells what the report does, has
 -- touched what the table says, and goes back.
 pub record Takes (p : Program) (e : Event) (attempt : Attempt) (s : Contents) (c : Effect) (t : Contents) : Type 0 where
   pub report : Report

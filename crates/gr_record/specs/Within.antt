@@ -32,9 +32,9 @@ PartsAreAmong us f os = (c : ChName) (b : Content) (q : Part) → f c ≡ Some b
 abbrev pub IsUnused : Option Content → Type 0
 IsUnused o = (x : Content) × (o ≡ Some x) × (x.head ≡ 0) × (x.items ≡ [])
 
--- A step of this goroutine, which led to these contents, wrote the goroutines that it changed and started, the gate of the
--- channel that it made, and of each channel that it changed the parts that the changes wrote; of such a channel it touched
--- the gate. The channels keep within their bounds.
+-- What a step of this goroutine wrote, which led to these contents: the goroutines that it changed and started, the gate of
+-- the channel that it made, and of each channel that it changed the parts that the changes wrote. Of such a channel it
+-- touched the gate. The channels keep within their bounds.
 pub record ChangesWithin (n : List ℕ) (c : Effect) (t : Contents) : Type 0 where
   pub goroutines : EachIsAmong Go (goroutines_changed n c) (writes_of n c)
   pub begun : (q : List ℕ) → begun_by c ≡ Some q → IsAmong (Go q) (writes_of n c)

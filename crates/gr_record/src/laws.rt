@@ -1,5 +1,5 @@
-//! Records that are kept are a log of the rules, and what holds of that log holds of them: laws, each on a function that does
-//! nothing.
+//! Records that are kept are a log of the rules, and what holds of that log holds of them: laws, each the contract of a
+//! function that does nothing.
 
 ghost use Rattle.std.specs.Prelude.{◌≡◌, ℕ, Bool, true, false, List, [], ◌∷◌, ◌++◌, map, length};
 ghost use Rattle.gr_causal.specs.Dependence.{dependents, kept, causes, Depends, IsClosedPart, AreTheOthers};
@@ -95,8 +95,8 @@ pub fn law_of_the_log()
         → Running p t }
 {}
 
-/// Records that are kept stand beside their steps in a list of pairs. Which of them follow from a step, which do not, and which
-/// caused it, is the same by the records, by the steps and by the pairs.
+/// Records that are kept stand beside their steps in a list of pairs. Which of them follow from a step, which do not, and
+/// which caused it, is the same for the records, the steps and the pairs.
 pub fn law_of_consequences()
     ensures pairs { (p : Program) (s t : Contents) (records : List Record) (log : List (Logged p))
         → Kept p s records log t
@@ -142,8 +142,8 @@ pub fn law_of_back()
         Kept p s (records_in p stay) (steps_in p stay) u × Kept p u (records_in p gone) (steps_in p gone) t }
 {}
 
-/// Marked steps go back on a walk from the end, and the others of that part stay: no later one that stays may conflict with one
-/// that goes. So it is where the last of the consequences of a step are marked.
+/// Marked steps go back on a walk from the end, and the others of that part stay. No later step that stays may conflict with
+/// one that goes. This holds where the last of the consequences of a step are marked.
 pub fn law_of_marks()
     ensures free { (p : Program) (s t : Contents) (front tail left : List Record) (log : List (Logged p)) (marks : List Bool)
         (i : ℕ)

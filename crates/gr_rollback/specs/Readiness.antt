@@ -70,8 +70,8 @@ met_by c = names_met (beyond [] (λ b. members b.met) c)
 abbrev pub others_of : Effect → List (List ℕ)
 others_of c = met_by c ++ option_to_list (begun_by c)
 
--- the pool after a step, or after it is taken back: the goroutines that it met and the one that it started are known, and they
--- and its own are ready where they are
+-- The pool after a step, or after it is taken back. The goroutines that it met and the one that it started are known. They
+-- and its own are ready where they are.
 pub record Follows (r : Record) (s : Contents) (old new : pools.Goroutines) : Type 0 where
   pub before : pools.Goroutines
   pub knows : AllKnown (others_of r.change) before

@@ -154,8 +154,8 @@ impl Machine {
     ghost use Rattle.gr_rollback.specs.Machines.{store_of, steps_of, again_of, Stands, IsMachine};
     ghost use Rattle.gr_rollback.specs.Backs.{again_after, TakenBack};
 
-    /// Puts the records in again that stay, and answers the names of the steps that are taken back, in the order of the log;
-    /// these may be done again.
+    /// Puts in again the records that stay. Answers the names of the steps that are taken back, in the order of the log;
+    /// these can be taken again.
     fn finish(&mut self, rollback: Rollback) -> Vec<StepId>
         requires room { CanTake self.old.course.log (reverse rollback.stay.items) }
         requires once { (r : RecordSeen) → In r (reverse rollback.stay.items) → Distinct (touched_by r) }

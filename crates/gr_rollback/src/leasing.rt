@@ -115,8 +115,8 @@ impl Machine {
         )
     }
 
-    /// A copy of a goroutine whose next step is local, to take steps of its own: of those, in the order of names, the one at the
-    /// place, modulo their number; `None` where there is none.
+    /// A copy of a goroutine whose next step is local, to take steps of its own. Of those goroutines, in the order of names,
+    /// it is the one at the place, modulo their number. `None` where there is none.
     pub fn lend_at(&self, alloc: Global, place: u32) -> Result<Option<LentCopy>, NoMemory>
         requires { IsMachine self.now }
         ensures lease { IfOk result (λ o. IfSome o (λ l. IsLease l × IsAsLent l (store_of self.now))) }
@@ -156,8 +156,8 @@ impl Machine {
         self.course.store.has_as_lent(lease)
     }
 
-    /// Lets the steps of a lease join the log, whose goroutine is as it was lent, and which took some; nothing may be done again
-    /// after them. Refused, nothing has changed, but that the lease has its steps no more.
+    /// Lets the steps of a lease whose goroutine is as it was lent, and which took some, join the log. Nothing can be taken
+    /// again after them. Refused, nothing has changed, except that the lease has lost its steps.
     pub fn keep_all(&mut self, alloc: Global, lease: &mut LentCopy) -> Result<(), NoMemory>
         requires machine { IsMachine self.old }
         requires lease { IsLease lease.old }

@@ -17,8 +17,8 @@ use gr_program::program::Program;
 use gr_step::{StepRefused, Store};
 use std::alloc::Global;
 
-/// The machine of a program: its state, the log of the steps that led to it, and the steps that were taken back last, which may
-/// be done again.
+/// The machine of a program: its state, the log of the steps that led to it, and the steps that were taken back last, which
+/// can be taken again.
 #[derive(Drop)]
 pub struct Machine {
     pub(crate) course: Course,

@@ -78,7 +78,7 @@ joined_leads p w d go clause told j =
       stands = j.stands;
     }
 
--- why the machine refuses a step, but for want of memory
+-- why the machine refuses a step, except out of memory
 pub machine_refuses : (p : Program) (w : World p) (e : Event) (why : Refusal) (reason : attempts.Refusal)
     → refusal p w.state e ≡ Some reason → refusal_told reason ≡ Some why → IsNoStep p w e why
 machine_refuses p w e why reason refused told = by_rules reason refused told

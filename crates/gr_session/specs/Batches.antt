@@ -23,7 +23,7 @@ pub data Commits (p : Program) (w : World p) (b : Loan) : Bool → World p → S
   all_join : {t : State} (s : Contents) (steps : List (Logged p))
       → Contains p (past_of p w) s → IsAsLentIn b p s → b.steps ≤ w.grant → JoinAll p (past_of p w) b.name b.steps steps t
       → Commits p w b true (with_steps p w b steps t) (Committed b.steps)
-  -- .. unless the log has no room for all of them
+  -- the log has no room for all steps of the batch
   has_no_room_for_all : (s : Contents)
       → Contains p (past_of p w) s → IsAsLentIn b p s → b.steps ≤ w.grant → most_steps < length w.log + b.steps
       → Commits p w b true w (No LogFull)

@@ -46,12 +46,13 @@ pub record CommitsTo (p : Program) (w : World p) (loan : Loan) (stood : Bool) (r
   pub commits : Commits p w loan stood world reply
   pub stands : Stands p world d
 
--- .. where its goroutine is as it was lent, or nothing has changed
+-- the steps of a loan whose goroutine is as it was lent come to a world in which the program then stands, or nothing has
+-- changed
 abbrev pub CommitsLent : (p : Program) → World p → Loan → Result Reply NoMemory → Debuggee → Type 0
 CommitsLent p w loan (Ok reply) d = CommitsTo p w loan true (said_of reply) d
 CommitsLent p w loan (Err error) d = Stands p w d
 
--- .. as the answer tells, with what is kept of it, or nothing has changed
+-- a batch comes to what the answer tells, with what is kept of it, or nothing has changed
 abbrev pub CommitsBatch : (p : Program) → World p → Loan → Result (LocalRun × Bool × Reply) NoMemory → Debuggee → Type 0
 CommitsBatch p w loan (Ok answer) d = (loan_kept answer.0 ≡ loan) × CommitsTo p w loan answer.1 (said_of answer.2) d
 CommitsBatch p w loan (Err error) d = Stands p w d

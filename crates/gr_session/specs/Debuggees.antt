@@ -27,7 +27,7 @@ pub record Stands (p : Program) (w : World p) (d : Debuggee) : Type 0 where
   pub lines : HasLines w.lines d.lines
   pub grant : d.grant ≡ w.grant
 
--- .. as in some world
+-- the program stands as in some world
 pub record IsDebuggee (d : Debuggee) : Type 0 where
   pub world : World (program_at (store_in d))
   pub stands : Stands (program_at (store_in d)) world d

@@ -53,11 +53,11 @@ pub record Enters (p : Program) (asker : ℕ) (asked : Asked) (old new : List En
   pub after : World p
   pub meant : Means p before asked memory after reply
 
--- .. which was a command
+-- the journal got a command of this asker as one entry
 abbrev pub EntersCommand : Program → ℕ → Command → List Entry → List Entry → ℕ → Said → Type 0
 EntersCommand p asker command old new number reply = Enters p asker (asks.Command command) old new number reply
 
--- .. or the steps of a loan
+-- the journal got the steps of a loan as one entry
 pub record EntersBatch (p : Program) (asker : ℕ) (loan : Loan) (old new : List Entry) (number : ℕ) (reply : Said) : Type 0 where
   pub batch : LocalRun
   pub is_loan : loan_kept batch ≡ loan

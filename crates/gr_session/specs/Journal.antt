@@ -36,8 +36,8 @@ use Rattle.gr_session.specs.declared.journal.Memory.{Memory}
 use Rattle.gr_session.specs.declared.journal.Memory.TheVariants.{Enough, EnoughFor}
 use Rattle.gr_session.specs.Targets.{step_asked}
 
--- a world: the steps that are kept, the oldest first, and the state to which they lead; the events that `redo` takes, the first
--- of them first; the lines with a breakpoint; and the grant: how many steps workers may still take by turns
+-- A world: the steps that are kept, the oldest first, and the state to which they lead. Beside these, the events that `redo`
+-- takes, the first of them first, the lines with a breakpoint, and the grant: how many steps workers may still take by turns.
 pub record World (p : Program) : Type 0 where
   pub log : List (Logged p)
   pub state : State
@@ -86,7 +86,7 @@ pub data ByTurns (p : Program) (w : World p) (wanted : ℕ) : Memory → Past p 
   until_end : {taken : ℕ} {after : Past p} {why : RunEnd} (reason : turns.RunEnd)
       → Runs p w.lines wanted 0 w.state w.log after.state after.log taken reason → end_in why ≡ Some reason
       → ByTurns p w wanted Enough after taken why
-  -- .. or a growth for the next one was refused
+  -- a growth for the next step was refused
   until_want : {taken : ℕ} {after : Past p} (g : List ℕ)
       → Runs p w.lines taken 0 w.state w.log after.state after.log taken turns.all_taken
       → IsTurn after.state (last_owner p after.log) (Some g)
@@ -107,11 +107,11 @@ pub data Leads (p : Program) (w : World p) : Command → Memory → World p → 
   is_no_step : {go : List ℕ} {clause : Option ℕ} {why : Refusal} (reason : attempts.Refusal)
       → refusal p w.state (event_asked p w.state go clause) ≡ Some reason → refusal_told reason ≡ Some why
       → Leads p w (commands.Step go clause) Enough w (replies.No why)
-  -- .. as is one for which the log has no room
+  -- a step for which the log has no room is refused
   has_no_room : {go : List ℕ} {clause : Option ℕ}
       → refusal p w.state (event_asked p w.state go clause) ≡ None → most_steps ≤ length w.log
       → Leads p w (commands.Step go clause) Enough w (replies.No refusals.LogFull)
-  -- .. and one for which a growth was refused
+  -- a step for which a growth was refused is refused
   has_no_memory : {go : List ℕ} {clause : Option ℕ}
       → refusal p w.state (event_asked p w.state go clause) ≡ None → length w.log < most_steps
       → Leads p w (commands.Step go clause) (EnoughFor 0) w (replies.No refusals.NoMemory)
@@ -134,7 +134,7 @@ pub data Leads (p : Program) (w : World p) : Command → Memory → World p → 
   takes_back : {target : Target} {u : Past p} (place : ℕ) → IsAsked p w.log target place → LosesAll p (past_of p w) place u
       → Leads p w (commands.Back target) Enough (moved p w u (events_in p (dependents (clash p) w.log place)))
       (replies.Steps (ids_of p (dependents (clash p) w.log place)))
-  -- .. or only the last of these are, until a growth was refused
+  -- only the last of the consequences are taken back, until a growth was refused
   takes_some_back : {target : Target} {u : Past p} {taken : ℕ} (place : ℕ) (gone : List (Logged p)) → IsAsked p w.log target place
       → LosesSome p (past_of p w) place gone u → length gone ≡ taken
       → Leads p w (commands.Back target) (EnoughFor taken) (moved p w u (again_after (events_in p gone) w.again))
@@ -145,7 +145,7 @@ pub data Leads (p : Program) (w : World p) : Command → Memory → World p → 
   takes_again : {ids : List StepId} {u : Past p} → ¬ (w.again ≡ [])
       → Redoes p (course_of p w) ids (record { past = u; again = [] })
       → Leads p w commands.Redo Enough (moved p w u []) (replies.Steps ids)
-  -- .. or only the first of them are, until a growth was refused
+  -- only the first of the steps are taken again, until a growth was refused
   takes_some_again : {ids : List StepId} {u : rollback.Timeline p} {taken : ℕ} → ¬ (u.again ≡ [])
       → Redoes p (course_of p w) ids u → length ids ≡ taken
       → Leads p w commands.Redo (EnoughFor taken) (moved p w u.past u.again) (replies.PartlyDone ids)

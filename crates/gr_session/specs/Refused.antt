@@ -76,8 +76,8 @@ pub record HasProgram (text : List ℕ) : Type 0 where
   pub program : Program
   pub is_program : IsProgramOf text program
 
--- what each error says: want of memory for tokens, for a tree or for a program says nothing and has no position; only where
--- there is a program is memory wanted for a session of it
+-- What each error says. Out of memory for tokens, for a tree or for a program says nothing, and has no position. Only where
+-- there is a program can memory for a session of it run out.
 abbrev pub SaysWhy : OpenError → List ℕ → Type 0
 SaysWhy (Scan scanning.Memory at) text = at ≡ None
 SaysWhy (Scan error at) text = HasNoWords error at text

@@ -32,11 +32,11 @@ pub data IsNoStep (p : Program) (w : World p) (e : Event) : Refusal → Type 0 w
   by_limit : refusal p w.state e ≡ None → most_steps ≤ length w.log → IsNoStep p w e refusals.LogFull
   by_memory : refusal p w.state e ≡ None → length w.log < most_steps → IsNoStep p w e refusals.NoMemory
 
--- .. where that is asked of a program under the debugger
+-- why the step of an event that is asked of a program under the debugger is not kept
 abbrev pub SaysNoStep : Debuggee → Refusal → Type 0
 SaysNoStep d why = (p : Program) (w : World p) (e : Event) → Stands p w d → refusal p w.state e ≡ None → IsNoStep p w e why
 
--- .. and where its machine refuses it for a reason
+-- why it is not kept, where its machine refuses it for a reason
 abbrev pub Refuses : Debuggee → StepRefused → Refusal → Type 0
 Refuses d reason why = (p : Program) (w : World p) (e : Event) → Stands p w d → rollback.IsNoStep p (past_of p w) e reason → IsNoStep p w e why
 

@@ -13,7 +13,7 @@ pub record IsFileOf (text : List ℕ) (tree : FileTree) : Type 0 where
   pub scanned : IsScan text tokens
   pub parsed : IsTreeOf tree tokens
 
--- .. and the tree this program
+-- the text has the tokens of this program, and the tokens its tree
 pub record IsProgramOf (text : List ℕ) (p : Program) : Type 0 where
   pub tokens : List Tok
   pub scanned : IsScan text tokens

@@ -27,7 +27,7 @@ pub record HasTurn (p : Program) (w : World p) (wanted taken : ℕ) (g : List �
   pub turn : IsTurn w.state (last_owner p w.log) (Some g)
   pub goes : why_end w.state w.lines wanted taken (length w.log) (Some g) ≡ None
 
--- .. and its step joins those that are kept
+-- it is the turn of this goroutine, with no reason to end, and its step joins those that are kept
 pub record TakesTurn (p : Program) (w : World p) (wanted taken : ℕ) (d : Debuggee) : Type 0 where
   pub owner : List ℕ
   pub has_turn : HasTurn p w wanted taken owner
@@ -42,7 +42,7 @@ pub record EndsBy (p : Program) (w : World p) (wanted taken : ℕ) (reason : tur
   pub turn : IsTurn w.state (last_owner p w.log) owner
   pub why : why_end w.state w.lines wanted taken (length w.log) owner ≡ Some reason
 
--- .. as a reply tells it: memory was wanting, or a reason of the rules
+-- why no more steps are taken, as a reply tells it: memory ran out, or a reason of the rules
 abbrev pub Ends : (p : Program) → World p → ℕ → ℕ → RunEnd → Type 0
 Ends p w wanted taken ends.Memory = (g : List ℕ) × HasTurn p w wanted taken g
 Ends p w wanted taken why = (reason : turns.RunEnd) × EndsBy p w wanted taken reason × (end_in why ≡ Some reason)

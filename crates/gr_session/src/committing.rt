@@ -17,8 +17,8 @@ use gr_command::{Refusal, Reply};
 use gr_rollback::{LentCopy, LocalRun};
 use std::alloc::Global;
 
-/// What the steps of a lease come to, whose goroutine is as it was lent: they join the log if the grant and the log have room for
-/// them. An error means that a growth was refused; nothing has changed then.
+/// The reply to committing a lease whose goroutine is as it was lent: its steps join the log if the grant and the log have
+/// room for them. An error means that a growth was refused. Nothing has changed then.
 fn commit_lent(
     alloc: Global,
     debuggee: &mut Debuggee,
@@ -66,9 +66,9 @@ pub(crate) enum Origin {
     Own,
 }
 
-/// Lets the steps of a batch of the same program join the log, if its goroutine is as it was lent, in a run that goes on, and if
-/// the grant and the log have room for them. The program of a batch of unknown origin is compared with the one that runs. It
-/// tells whether program and goroutine were so. An error means that a growth was refused; nothing has changed then.
+/// Lets the steps of a batch of the same program join the log. Its goroutine has to be as it was lent, in a run that goes on,
+/// and the grant and the log need room for them. The program of a batch of unknown origin is compared with the one that runs.
+/// It tells whether program and goroutine were so. An error means that a growth was refused. Nothing has changed then.
 pub(crate) fn commit(
     alloc: Global,
     debuggee: &mut Debuggee,

@@ -20,7 +20,7 @@ use gr_command::Reply;
 use gr_rollback::{LOG_LIMIT, LentCopy, Run};
 use std::alloc::Global;
 
-/// Grants the workers so many steps, in place of what is left of the last grant.
+/// Grants the workers this many steps, in place of what is left of the last grant.
 pub(crate) fn free(debuggee: &mut Debuggee, steps: u32) -> (Memory, Reply)
     requires { IsDebuggee debuggee.old }
     ensures leads { (p : Program) → (w : World p) → Stands p w debuggee.old

@@ -20,8 +20,8 @@ pub enum Memory {
 #[derive(Drop)]
 pub enum Asked {
     Command(Command),
-    /// That the steps of a batch join the log; and whether its goroutine stood as it was lent, in a run of the same program that
-    /// went on.
+    /// That the steps of a batch join the log, and whether its goroutine stood as it was lent, in a run of the same program
+    /// that went on.
     Batch(LocalRun, bool),
 }
 

@@ -15,9 +15,9 @@ ghost use Rattle.gr_session.specs.Entries.{Means, Lead, Enters};
 ghost use Rattle.gr_session.specs.Copies.{IsBatch};
 ghost use Rattle.gr_session.specs.Committing.{MustBeStale};
 
-/// A legal journal has one meaning: in a world of a run each entry, by what it keeps of what the rules leave open, leads to one
-/// next world, with one reply; and that is again one of a run: its steps lead from the start of the program to its state. So the
-/// journal fixes its world, and the journal before an entry and after it fix the entry's number and its reply.
+/// A legal journal has one meaning. In a world of a run, each entry leads to one next world, with one reply, by what it keeps
+/// of what the rules leave open. That world is again one of a run: its steps lead from the start of the program to its state.
+/// So the journal fixes its world. The journal before an entry and after it fix the entry's number and its reply.
 pub fn law_of_journals()
     ensures next { (p : Program) (w u v : World p) (asked : Asked) (memory : Memory) (a b : Said)
         → IsRun p w.log w.state

@@ -122,9 +122,9 @@ impl Batch {
     }
 }
 
-/// Takes steps of the goroutine on its copy, none of which reaches further than the goroutine or is a fault: up to the limit, of
-/// which 0 counts as 1 and more than 256 as 256, or until no such step is next. It has no session. The gate is called after each
-/// step. Refused, the lease is gone.
+/// Takes steps of the goroutine on its copy, each local and no fault, up to the limit or until no such step is next. A limit
+/// of 0 counts as 1, and one of more than 256 as 256. It has no session. The gate is called after each step. Refused, the
+/// lease is gone.
 pub fn run_batch<G: Gate>(
     alloc: Global,
     lease: Lease,

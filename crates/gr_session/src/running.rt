@@ -50,7 +50,7 @@ fn next_turn(debuggee: &Debuggee, wanted: u64, taken: u64) -> Result<&GoName, Ru
     }
 }
 
-// Takes the next step by turns, where so many are wanted and so many were taken. Refused, nothing has changed.
+// Takes the next step by turns, where this many are wanted and this many were taken. Refused, nothing has changed.
 #[inline(always)]
 fn take_turn(alloc: Global, debuggee: &mut Debuggee, wanted: u64, taken: u64) -> Result<(), RunEnd>
     requires { IsDebuggee debuggee.old }
@@ -68,7 +68,7 @@ fn take_turn(alloc: Global, debuggee: &mut Debuggee, wanted: u64, taken: u64) ->
     }
 }
 
-/// That so many steps were taken, and why no more.
+/// That this many steps were taken, and why no more.
 pub(crate) fn ran(steps: u64, end: RunEnd) -> (Memory, Reply)
     ensures { result ≡ (memory_at steps end, Reply.Ran steps end) }
 {
@@ -79,7 +79,7 @@ pub(crate) fn ran(steps: u64, end: RunEnd) -> (Memory, Reply)
     (memory, Reply::Ran { steps, end })
 }
 
-/// Takes up to so many steps by turns, and tells how many and why no more.
+/// Takes up to this many steps by turns, and tells how many and why no more.
 pub(crate) fn take_turns(alloc: Global, debuggee: &mut Debuggee, count: u32) -> (u64, RunEnd)
     requires { IsDebuggee debuggee.old }
     ensures few { result.0 ≤ count }
@@ -97,7 +97,7 @@ pub(crate) fn take_turns(alloc: Global, debuggee: &mut Debuggee, count: u32) -> 
     }
 }
 
-/// Takes up to so many steps by turns.
+/// Takes up to this many steps by turns.
 pub(crate) fn run(alloc: Global, debuggee: &mut Debuggee, count: u32) -> (Memory, Reply)
     requires { IsDebuggee debuggee.old }
     ensures leads { (p : Program) → (w : World p) → Stands p w debuggee.old

@@ -14,7 +14,7 @@ use std::sync::Wait;
 #[derive(Debug, Drop)]
 pub enum Asked {
     Command(Command),
-    /// That so many steps of a goroutine, which a worker took on a copy, join the log.
+    /// That this many steps of a goroutine, which a worker took on a copy, join the log.
     Batch(GoName, usize),
 }
 
@@ -30,7 +30,7 @@ pub struct Call {
 pub enum Work {
     // It took a turn.
     Turned,
-    // It was lent a goroutine, to take so many steps at most.
+    // It was lent a goroutine, to take at most this many steps.
     Lends(Lease, usize),
     // The workers are to end, or it was refused.
     Nothing,

@@ -39,8 +39,8 @@ pub record IsReached (operation : Operation) (reads writes : List Object) (b : B
 abbrev pub WaitsFor : List Wait → CodeGoroutine → Type 0
 WaitsFor ws g = g.status ≡ waiting ws
 
--- the channels that a goroutine with these waits is still to leave, where it left a queue of this one: none where it waits for one thing
--- alone, and else each on which it waits
+-- The channels that a goroutine with these waits still has to leave, after it left a queue of this one. There is none where
+-- it waits for one thing alone. Else they are all on which it waits.
 pub record AreToLeave (names : List ChName) (c : ChName) (ws : List Wait) : Type 0 where
   pub alone : length ws ≡ 1 → names ≡ []
   pub otherwise : ¬ (length ws ≡ 1) → NamesChannels names c ws

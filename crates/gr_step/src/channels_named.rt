@@ -113,8 +113,8 @@ pub(crate) fn others_awaited(
     }
 }
 
-/// The channels that a goroutine with these waits is still to leave, where it left a queue of this one: none where it waits for
-/// one thing alone, and else this one and the others.
+/// The channels that a goroutine with these waits still has to leave, after it left a queue of this one. There is none where
+/// it waits for one thing alone. Else they are this one and the others.
 fn channels_to_leave(
     alloc: Global,
     channel: &ChName,

@@ -34,8 +34,8 @@ use gr_record::Listing;
 use gr_record::record::{Change, Operation};
 
 impl Objects {
-    /// Sends a value, as a statement or as the clause of a select with this number, if that can proceed; on a closed channel it
-    /// is a fault. Refused, nothing has changed.
+    /// Sends a value, as a statement or as the clause of a select with this number, if that can proceed. On a closed channel
+    /// it is a fault. Refused, nothing has changed.
     pub(crate) fn send(
         &mut self,
         meeting: &Meeting<'_>,

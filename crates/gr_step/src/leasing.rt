@@ -25,8 +25,8 @@ use gr_record::record::{Change, Form, Record};
 use std::alloc::Global;
 use std::mem;
 
-/// What is kept of the steps that a goroutine took on a copy of it: the program, its name, the goroutine as it was lent, and how
-/// many they were.
+/// What is kept of the steps that a goroutine took on its copy: the program, its name, the goroutine as it was lent, and how
+/// many steps they were.
 #[derive(Drop)]
 pub struct LocalRun {
     pub(crate) listing: Listing,
@@ -92,8 +92,8 @@ impl LentCopy {
         mem::replace(&mut self.records, Vec::new(alloc))
     }
 
-    /// Takes the next step of the goroutine, if it has one that reaches no further than itself and is no fault, and tells whether
-    /// it has. Refused, or where it has none, nothing has changed.
+    /// Takes the next step of the goroutine, if it has one that is local and no fault, and tells whether it has. Refused, or
+    /// where it has none, nothing has changed.
     pub fn step(&mut self, alloc: Global) -> Result<bool, NoMemory>
         requires { IsLease self.old }
         ensures lease { IsLease self.new }
@@ -225,8 +225,8 @@ impl Store {
     }
 }
 
-/// The steps of a lease, taken where its goroutine is as it was lent, are those of the store, with their records, one after the
-/// other; they leave the goroutine as the lease has it, and ready.
+/// The steps of a lease, taken where its goroutine is as it was lent, are those of the store, one after the other, with their
+/// records. They leave the goroutine as the lease has it, and ready.
 pub fn law_of_leases()
     ensures { (p : Program) (s : Contents) (n : List ℕ) (from to : CodeGoroutine) (records : List RecordSeen)
         → Running p s → AreChannels s → s.run ≡ live → s.goroutines n ≡ Some from → from.status ≡ ready

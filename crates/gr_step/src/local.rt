@@ -1,4 +1,4 @@
-//! Steps of a goroutine that reach no further than itself, and faults.
+//! Local steps of a goroutine, and faults.
 
 ghost use Rattle.std.specs.Prelude.{◌≡◌, true, false, None, IfOk, OnErr};
 ghost use Rattle.gr_base.specs.declared.events.Choice.TheVariants as choices;

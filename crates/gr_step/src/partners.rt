@@ -107,8 +107,8 @@ pub(crate) struct Prepared {
     pub(crate) beyond: Box<Beyond>,
 }
 
-/// How two goroutines go past their communication: the kind of the step, and what arrives at the one that takes it and at the one
-/// that it meets.
+/// How two goroutines go past their communication: the kind of the step, what arrives at the one that takes it, and what
+/// arrives at the one that it meets.
 #[derive(Drop)]
 pub(crate) struct Crossing {
     pub(crate) kind: Kind,

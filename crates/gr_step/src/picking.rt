@@ -83,7 +83,7 @@ fn picked_of(
 }
 
 impl Objects {
-    /// The clause that an event picks, which is possible, if it receives and no clause of the select sends, so that no value can
+    /// The clause that an event picks, which is possible, if it receives and no clause of the select sends. No value can then
     /// be at fault.
     #[inline(always)]
     pub(crate) fn picked(&self, turn: &Turn<'_>) -> Result<Option<Picked>, NoMemory>

@@ -53,8 +53,8 @@ fn reading(alloc: Global, reads: Vec<Object>) -> Result<Box<Beyond>, NoMemory>
 }
 
 impl Objects {
-    /// Takes the choice of the event, if it is possible here: a clause that can proceed, the default clause, or to wait where
-    /// none can proceed and there is no default clause. Refused, nothing has changed.
+    /// Takes the choice of the event, if it is possible here. It is a clause that can proceed, or the default clause, or a
+    /// wait where none can proceed and there is no default clause. Refused, nothing has changed.
     pub(crate) fn select(
         &mut self,
         turn: &Turn<'_>,
@@ -151,8 +151,8 @@ impl Objects {
         }
     }
 
-    /// Takes the default clause, if there is one and no clause can proceed; a value to send that is at fault is a fault of the
-    /// step. Refused, nothing has changed.
+    /// Takes the default clause, if there is one and no clause can proceed. A value to send that is at fault is a fault of
+    /// the step. Refused, nothing has changed.
     fn take_default(
         &mut self,
         turn: &Turn<'_>,
@@ -183,8 +183,8 @@ impl Objects {
         Ok(Some(change))
     }
 
-    /// Waits for any clause, if none can proceed and there is no default clause; a value to send that is at fault is a fault of
-    /// the step. Refused, nothing has changed.
+    /// Waits for any clause, if none can proceed and there is no default clause. A value to send that is at fault is a fault
+    /// of the step. Refused, nothing has changed.
     fn wait_for_any(
         &mut self,
         turn: &Turn<'_>,

@@ -115,8 +115,8 @@ fn touched_to_receive(channels: &Channels, channel: &ChName) -> Touched
 }
 
 impl Objects {
-    /// Begins to wait for these, each with the number of its clause where it is one of a select, which reaches what is given but
-    /// for its changes of channels. Refused, nothing has changed.
+    /// Begins to wait for these, each with the number of its clause where it is one of a select. What the step reaches is
+    /// given, except its changes of channels. Refused, nothing has changed.
     fn begin_to_wait(
         &mut self,
         turn: &Turn<'_>,

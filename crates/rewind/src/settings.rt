@@ -6,7 +6,7 @@ pub const WORKER_LIMIT: u32 = 64;
 /// What a command line asks of the program.
 #[derive(Clone, Copy)]
 pub enum Settings<'a> {
-    /// A session over the program in this file, beside so many workers.
+    /// A session over the program in this file, beside this many workers.
     Debug { file: &'a str, workers: u32 },
     /// Whether the program in this file is accepted, and no more.
     Check { file: &'a str },

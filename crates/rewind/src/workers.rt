@@ -22,8 +22,8 @@ use std::{mem, thread};
 
 const MEMORY: DebugFault = DebugFault::Serve(ServeFault::Memory);
 
-// What is done beside the workers, where they have started. Of a reference that a closure holds nothing is known once it was
-// called, so the closure holds a task, and gives back what came of it.
+// What is done beside the workers, where they have started. A contract says nothing of references that a closure captured. So
+// the closure holds a task, and returns it.
 trait Task {
     type Output;
 
@@ -126,7 +126,7 @@ fn reclaim<T>(lent: &mut T)
     ensures { lent.new ≡ lent.old }
 {}
 
-// Seats for so many workers.
+// Seats for this many workers.
 fn seats<B: Room, T: Wait>(
     rt: &T,
     alloc: Global,
@@ -269,8 +269,8 @@ fn ended<B: Room>(
     }
 }
 
-// Serves one desk of the session, beside so many workers. In the end the workers are told to end and waited for, and the session
-// is shared no more.
+// Serves one desk of the session, beside this many workers. In the end the workers are told to end and waited for, and the
+// session is shared no more.
 fn serve_beside<B: Room + Send + Sync, T: Threads + Wait + Sync, R: Read, W: Write>(
     rt: &T,
     alloc: Global,

@@ -60,7 +60,7 @@ fn refuse_with(rt: &HostRuntime, words: &str) -> ExitCode {
     ExitCode::from(2)
 }
 
-// Serves a session over a source, beside so many workers.
+// Serves a session over a source, beside this many workers.
 fn debug_with<T: Threads + Wait + Sync, S: Read, R: Read, W: Write>(
     rt: &HostRuntime,
     threads: &T,

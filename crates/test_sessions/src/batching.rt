@@ -1,5 +1,5 @@
-//! Batches in one thread: that goroutines are lent, batches run and committed with ample memory, and that a batch is refused
-//! whose goroutine changed or for which the grant has no room.
+//! Batches in one thread. Goroutines are lent, and batches run and committed with ample memory. A batch is refused if its
+//! goroutine changed, or if the grant has no room for it.
 ghost use Rattle.std.specs.Prelude.{◌≤◌};
 
 use gr_command::{Line, Reply, read_command, write_reply};
@@ -7,39 +7,39 @@ use rewind::{Batch, DeskId, Open, Session, run_batch};
 use std::alloc::Global;
 use std::test::Fail;
 
-// Two goroutines that take 21 steps each, 20 of them by themselves.
+/// Two goroutines that take 21 steps each, 20 of them by themselves.
 const SPINNING: &[u8] =
     b"package main\nfunc spin(n int) { for i := 0; i < n; i++ { } }\nfunc main() {\n\tgo spin(9)\n\tgo spin(9)\n\tselect {}\n}\n";
 
-// Starts both, and lets the workers take steps.
+/// Starts both, and lets the workers take steps.
 const STARTED: [&[u8]; 4] = [b"step g0", b"step g0", b"step g0", b"free 1000"];
 
-// A program that ends beside a goroutine which takes steps by itself.
+/// A program that ends beside a goroutine which takes steps by itself.
 const ENDING: &[u8] =
     b"package main\nfunc spin(n int) { for i := 0; i < n; i++ { } }\nfunc main() {\n\tgo spin(9)\n}\n";
 
-// A goroutine that takes 402 steps by itself, which are two batches.
+/// A goroutine that takes 402 steps by itself, which are two batches.
 const COUNTING: &[u8] =
     b"package main\nfunc spin(n int) { for i := 0; i < n; i++ { } }\nfunc main() {\n\tgo spin(200)\n\tselect {}\n}\n";
 
-// What is done, and what is to come of it.
+/// What is done, and what is to come of it.
 #[derive(Clone, Copy)]
 enum Act<'a> {
     // A line is asked, which gets this reply.
     Ask(&'a [u8], &'a [u8]),
-    // The first goroutine that may be lent takes a batch of at most so many steps, which has so many.
+    // The first goroutine that may be lent takes a batch of at most this many steps, which has this many.
     Run(usize, usize),
-    // The last batch that was run is committed: so many steps joined the log, or it is stale.
+    // The last batch that was run is committed: this many steps joined the log, or it is stale.
     Commit(Option<u32>),
     // So much is left of the grant.
     Grant(u32),
-    // The log takes so many steps more.
+    // The log takes this many steps more.
     Room(usize),
     // No goroutine may be lent, and no turn is due.
     Idle,
 }
 
-// A session, with one who asks it and the batches that were run.
+/// A session, with one who asks it and the batches that were run.
 #[derive(Drop)]
 struct Asking {
     session: Session,
@@ -52,7 +52,7 @@ fn only_if(holds: bool) -> Option<()> {
     if holds { Some(()) } else { None }
 }
 
-// Whether it says that so many steps were committed, or that the batch was stale.
+/// Whether it says that this many steps were committed, or that the batch was stale.
 fn says(reply: &Reply, joined: Option<u32>) -> bool {
     match reply {
         Reply::Committed(steps) => joined == Some(*steps),
@@ -122,7 +122,7 @@ impl Asking {
     }
 }
 
-// A program, what is asked before, and what is done with its batches.
+/// A program, what is asked before, and what is done with its batches.
 #[derive(Clone, Copy)]
 struct Story {
     name: &'static str,
@@ -204,7 +204,7 @@ const STORIES: [Story; 6] = [
     },
 ];
 
-// Whether all acts of a story, one after the other, come out as they say.
+/// Whether all acts of a story, one after the other, come out as they say.
 fn is_played(alloc: Global, story: &Story) -> Option<()> {
     let mut asking = Asking::new(alloc, story.source)?;
     for line in story.lines {
