@@ -9,6 +9,7 @@ pub use Rattle.gr_session.specs.declared.journal.Asked
 pub use Rattle.gr_session.specs.declared.journal.DeskId
 pub use Rattle.gr_session.specs.Entries
 pub use Rattle.gr_session.specs.declared.journal.Entry
+pub use Rattle.gr_session.specs.Growing
 pub use Rattle.gr_session.specs.Journal
 pub use Rattle.gr_session.specs.Keeps
 pub use Rattle.gr_session.specs.declared.open.OpenError
@@ -16,3 +17,4 @@ pub use Rattle.gr_session.specs.declared.journal.Receipt
 pub use Rattle.gr_session.specs.Refused
 pub use Rattle.gr_session.specs.declared.TheConstants as SessionConstants
 pub use Rattle.gr_session.specs.Source
+pub use Rattle.gr_session.specs.Wants

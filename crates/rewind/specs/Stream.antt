@@ -1,11 +1,13 @@
 -- The output for lines, and the answers that a session gives.
-use Rattle.std.specs.Prelude.{◌≡◌, ℕ, ◌≢◌, false, List, [], ◌∷◌, ◌++◌, length, codes}
+use Rattle.std.specs.Prelude.{◌≡◌, ℕ, ◌≢◌, ◌⊎◌, false, List, [], ◌∷◌, ◌++◌, length, codes}
 use Rattle.gr_program.specs.Programs.{Program}
 use Rattle.gr_command.specs.declared.command.Command.{Command}
 use Rattle.gr_share.specs.Entry.{Entry}
 use Rattle.gr_share.specs.Receipt.{Receipt}
 use Rattle.gr_share.specs.SessionConstants.{JOURNAL_LIMIT}
 use Rattle.gr_share.specs.Entries.{EntersCommand}
+use Rattle.gr_share.specs.Growing.{Grows}
+use Rattle.gr_share.specs.Wants.{MayWantMemory}
 use Rattle.gr_command.specs.declared.command.Line.{Line}
 use Rattle.gr_command.specs.declared.command.Line.TheVariants as says
 use Rattle.gr_command.specs.Commands.{meaning}
@@ -44,11 +46,13 @@ commands (l ∷ ls) = commands_at (meaning l) (commands ls)
 abbrev pub Gets : Type 0 → Type 1
 Gets S = S → Command → Answer → S → Type 0
 
--- of a session that is asked for one of its askers, by its journal: it has an entry more, with this reply, or is as before
+-- of a session that is asked for one of its askers, by its journal: it has an entry more, with this reply, or is as before; it is out
+-- of memory only where the journal makes room, or the command may want memory itself
 abbrev pub of_session : Program → ℕ → List Entry → Command → Answer → List Entry → Type 0
 of_session program asker old c (Replied said) new = EntersCommand program asker c old new (length new) said
 of_session program asker old c JournalFull new = (length old ≡ JOURNAL_LIMIT) × (new ≡ old)
-of_session program asker old c NoMemory new = (length old ≢ JOURNAL_LIMIT) × (new ≡ old)
+of_session program asker old c NoMemory new =
+    (length old ≢ JOURNAL_LIMIT) × (new ≡ old) × (Grows (length old) ⊎ MayWantMemory c)
 
 -- of a desk of a shared session of a program: it has a call more, with this reply on its receipt, or is as before; the journal is
 -- told to be full only if it was

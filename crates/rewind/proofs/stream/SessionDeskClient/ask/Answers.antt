@@ -10,4 +10,4 @@ returns-in-Ok-clause-answered c = told _ _ _ _ c.text_of.result (Replied (said_o
 
 pub returns-in-Err-clause-answered : goal.returns-in-Err-clause-answered
 returns-in-Err-clause-answered c =
-    told _ _ _ _ c.text_of-in-Err.result (answer_of (Err c.in-Err.why)) (refused _ _ _ _ _ _ c.in-Err.ensures.full c.in-Err.ensures.err) c.text_of-in-Err.ensures
+    told _ _ _ _ c.text_of-in-Err.result (answer_of (Err c.in-Err.why)) (refused _ _ _ _ _ _ c.in-Err.ensures.full c.in-Err.ensures.memory c.in-Err.ensures.err) c.text_of-in-Err.ensures
