@@ -34,25 +34,25 @@ struct SessionDesk<'a> {
 }
 
 impl<'a> Client for SessionDesk<'a> {
-    ghost use Rattle.std.specs.Prelude.{ℕ, List, [], ◌≤◌};
+    ghost use Rattle.std.specs.Prelude.{ℕ, List, ◌≤◌};
+    ghost use Rattle.gr_program.specs.declared.program.Program.{Program};
     ghost use Rattle.gr_program.specs.Views.{program_of};
     ghost use Rattle.gr_share.specs.DeskId.{DeskId};
     ghost use Rattle.gr_share.specs.Entry.{Entry};
-    ghost use Rattle.gr_share.specs.Keeps.{Seen};
     ghost use Rattle.rewind.specs.Stream.{of_session};
 
     ghost State = { List Entry };
 
     ghost state = { λ c. c.session.now.journal };
 
-    // The reference to the session, the desk that asks, and the session but for its journal.
-    ghost Fixed = { ℕ × DeskId × Seen };
+    // The reference to the session, the desk that asks, and the program and the number of askers of the session.
+    ghost Fixed = { ℕ × DeskId × Program × ℕ };
 
-    ghost fixed = { λ c. (c.session.ghost_name, c.desk, record c.session.now { journal = [] }) };
+    ghost fixed = { λ c. (c.session.ghost_name, c.desk, c.session.now.program, c.session.now.askers) };
 
-    ghost may_ask = { λ f. (1 ≤ f.1.number) × (f.1.number ≤ f.2.askers) };
+    ghost may_ask = { λ f. (1 ≤ f.1.number) × (f.1.number ≤ f.3) };
 
-    ghost gets = { λ f. of_session (program_of f.2.program) f.1.number };
+    ghost gets = { λ f. of_session (program_of f.2) f.1.number };
 
     fn ask(&mut self, alloc: Global, command: Command) -> Result<Vec<u8>, NoMemory> {
         match self.session.ask(alloc, self.desk, command) {
