@@ -18,7 +18,7 @@ export function paired(one, other) {
     const found = rows.get(row.id);
     if (found === undefined) return "only here";
     if (others[found].kind !== row.kind) return `otherwise: ${others[found].kind}`;
-    return found === at ? "" : `row ${found + 1} there`;
+    return found === at ? "" : `place ${found + 1} there`;
   };
   const rows = Array.from({ length: Math.max(one.length, other.length) }, (_, at) => ({
     left: one[at] && { ...one[at], note: note(one[at], here, other, at) },

@@ -55,7 +55,7 @@ function comparisons() {
   const row = (id, kind = "pure") => ({ id, kind });
   const { same, rows } = paired([row("g0#1"), row("g0#2"), row("g0.1#1")], [row("g0#1"), row("g0.1#1"), row("g0#2"), row("g0#3")]);
   equal("where two logs part", same, 1);
-  equal("and how", rows.map(({ left, right }) => [left?.note, right?.note]), [["", ""], ["row 3 there", "row 3 there"], ["row 2 there", "row 2 there"], [undefined, "only here"]]);
+  equal("and how", rows.map(({ left, right }) => [left?.note, right?.note]), [["", ""], ["place 3 there", "place 3 there"], ["place 2 there", "place 2 there"], [undefined, "only here"]]);
   const scene = (x, lines) => ({ goroutines: [one("g0", "ready", 3, { x })], channels: [], console: { isOk: true, count: lines.length, lines }, hidden: 0, clauses: new Map() });
   const found = differences(scene("2", ["a", "b", "a"]), scene("1", ["a"]));
   equal("what goes with a step", [found.lines, found.variables], [["b", "a"], [{ name: "g0 f x", was: "2", becomes: "1" }]]);
