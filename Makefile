@@ -80,7 +80,7 @@ vsix: $(if $(wildcard bin/rewind),,bin/rewind-quick) ## the extension for VS Cod
 dist: page ## the release: the page, and an archive for Linux, which need no toolchain (a minute after make page)
 	tools/dist.py page/out/rewind.bc bin/rewind.html dist
 
-dist-check: ## makes the release in two fresh clones: the files are equal byte by byte (minutes after make; else hours)
+dist-check: ## makes the release in two fresh clones, and compares the files byte by byte (minutes after make; else hours)
 	$(NEEDS_RT)
 	tools/dist_check.sh
 
