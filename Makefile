@@ -100,7 +100,7 @@ gate: ## the gate: each proof from nothing, edits that must be refused, all test
 
 edits: ## the edits that must be refused and that the gate leaves out (hours; CRATE=NAME for one crate)
 	$(NEEDS_RT)
-	tools/edits.sh $(CRATE)
+	RT_JOBS=$(RT_JOBS) tools/edits.sh $(CRATE)
 
 command-line-test: $(REWIND) ## what the program writes by its command line, with pipes and at a terminal (1 minute)
 	words/make.py --check
