@@ -3,10 +3,14 @@
 
     tests/edits.py [PROGRAM]      (PROGRAM is not used)
 
-An edit is a file with a line `file: PATH` and pairs of lines `old: TEXT` and `new: TEXT`. Checked is that each edit in
-crates/NAME/must-fail and crates/NAME/edits applies to its files, that each of must-fail changes code and not only what
-is said of it, that there are at most 48 of these, and that docs/EDITS.md has one row for each of them and names
-functions and clauses that are there.
+An edit is a file with a line `file: PATH` and pairs of lines `old: TEXT` and `new: TEXT`. Checked is of the edits in
+crates/NAME/must-fail and crates/NAME/edits:
+
+- each applies to its files, no two of a crate have one name or make one change;
+- each changes code and not only what is said of it, but for those of definitions in crates/NAME/edits of a crate whose
+  functions do nothing;
+- must-fail has at most 48, docs/EDITS.md has one row for each of these, and its functions and clauses are there;
+- the numbers of the others in docs/EDITS.md are right.
 """
 import glob
 import os
@@ -18,6 +22,9 @@ TOP = os.path.dirname(os.path.dirname(os.path.abspath(__file__)))
 TABLE = "docs/EDITS.md"
 MOST = 48
 GATE, OTHERS = "must-fail", "edits"
+# The crates whose functions do nothing: their contracts are examples and laws.
+WITHOUT_CODE = {"gr_code", "gr_laws", "gr_rules", "litmus"}
+NUMBERS = re.compile(r"`crates/NAME/edits` has (\d+) edits.*?(\d+) change code.*?(\d+) change a definition", re.S)
 ROW = re.compile(r"\| (.+) \| `([\w:]+)`(?:, `(\w+)`)? \| `(\w+)` \| `([\w.-]+\.edit)` \|")
 
 
@@ -92,21 +99,37 @@ def code_of(text):
     return "".join(code + [text[place:]]).split()
 
 
+def changes_code(files):
+    sources = [texts for name, texts in files.items() if name.startswith("src/")]
+    return any(code_of(before) != code_of(after) for before, after in sources)
+
+
 def check_edit(path):
     files = edited(path)
-    if path.split("/")[2] != GATE:
-        return
-    sources = [texts for name, texts in files.items() if name.startswith("src/")]
-    if not any(code_of(before) != code_of(after) for before, after in sources):
+    _, crate, folder, _ = path.split("/")
+    may_define = folder == OTHERS and crate in WITHOUT_CODE and all(name.startswith("specs/") for name in files)
+    if not may_define and not changes_code(files):
         raise Wrong("it changes no code: only a definition, a proof, or what is said of the code")
 
 
-def check_names(paths):
-    """That no name stands twice in one crate."""
-    counts = Counter((path.split("/")[1], os.path.basename(path)) for path in paths)
-    for (crate, name), count in counts.items():
-        if count > 1:
-            raise Wrong(f"{crate} has {count} edits of the name {name}")
+def check_apart(paths):
+    """That no two edits of a crate have one name or make one change."""
+    seen = {}
+    for path in paths:
+        crate, name = path.split("/")[1], os.path.basename(path)
+        for key in ((crate, name), (crate, tuple(pairs(read(path))))):
+            if key in seen:
+                raise Wrong(f"{path} has the name of {seen[key]}, or makes its change")
+            seen[key] = path
+
+
+def check_numbers(others):
+    """That the document tells how many edits stand outside the gate, and of what kind."""
+    found = NUMBERS.search(read(TABLE))
+    of_code = [changes_code(edited(path)) for path in others].count(True)
+    counts = [len(others), of_code, len(others) - of_code]
+    if not found or [int(number) for number in found.groups()] != counts:
+        raise Wrong("its numbers of other edits are not {}, {} of code and {} of definitions".format(*counts))
 
 
 def headers(crate, function):
@@ -160,7 +183,8 @@ def main():
     gate = sorted(os.path.relpath(path, TOP) for path in glob.glob(f"{TOP}/crates/*/{GATE}/*"))
     others = sorted(os.path.relpath(path, TOP) for path in glob.glob(f"{TOP}/crates/*/{OTHERS}/*"))
     passed = [holds(path, check_edit, path) for path in gate + others]
-    passed.append(holds("names", check_names, gate + others))
+    passed.append(holds("names", check_apart, gate + others))
+    passed.append(holds(TABLE, check_numbers, others))
     try:
         rows = list(rows_of_table())
     except (Wrong, OSError) as wrong:
