@@ -100,9 +100,15 @@ done
 mkdir -p "$top/bin"
 : >"$log"
 echo "$(compgen -G "crates/*/must-fail/*.edit" | wc -l) edits of ${#names[@]} crates"
+unchecked=()
+for name in "${names[@]}"; do
+  [ -d "$top/crates/$name/out/incremental" ] || unchecked+=("$name")
+done
+[ ${#unchecked[@]} -eq 0 ] || echo "note: no check here kept proofs of ${unchecked[*]}, so these may take hours more"
 
 all=()
 for ((at = 0; at < ${#names[@]}; at += 2)); do
+  [ ! -t 2 ] || echo "trying ${names[*]:at:2} .." >&2
   rt must-fail "${names[@]:at:2}" >"$said" 2>&1 || true
   cat "$said" >>"$log"
   grep -q '^rt: must-fail ' "$said" || tail -5 "$said"
