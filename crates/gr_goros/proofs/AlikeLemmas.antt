@@ -46,7 +46,7 @@ pub all_places_alike : {A : Type 0} → (xs ys : List A) (i : ℕ) → length xs
 all_places_alike xs ys i lengths all same =
     sym (take-length xs) ∙ ap (λ n. take n xs) (sym all) ∙ same ∙ ap (λ n. take n ys) (all ∙ lengths) ∙ take-length ys
 
--- the same of lines
+-- one line more is the same, and with that the lines so far
 pub one_more_line_alike : {A : Type 0} → (xs ys : List (Vec ℕ A)) (i : ℕ) (x y : Vec ℕ A) → length xs ≡ length ys → i < length xs
     → x ≡ get_or xs i x → y ≡ get_or ys i y → x.items ≡ y.items → lines_of (take i xs) ≡ lines_of (take i ys)
     → lines_of (take (i + 1) xs) ≡ lines_of (take (i + 1) ys)

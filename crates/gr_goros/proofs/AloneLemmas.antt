@@ -255,7 +255,7 @@ module _ (f : CodeFrame) (x : ℕ) (op : BinaryOp) (on : ℕ) (e : Operand) wher
       (λ w. right (update_is ∙ w))
       ∙ ap (stays caller deepest) (sym update_is)
 
--- .. wants one operand
+-- an assignment with an operator wants one operand
 module _ (f : CodeFrame) (x : ℕ) (op : BinaryOp) (on : ℕ) (caller deepest : Bool) where
   pub update_none : false ≡ stays caller deepest (updated f x op on nothing)
   update_none = refl

@@ -100,7 +100,7 @@ module _ (own : Variables) (os : List code.Operand) (ts : List (Option ℕ)) (wh
       let now : assigned (drop i ts) [] cells ≡ whole = sym (ap (λ os. passed own (operands_of os) (drop i ts) cells) (drop_all i os h)) ∙ s.is in
       sym now ∙ none_left (drop i ts) cells (λ w. s.right (sym now ∙ w))
 
--- .. of the same operands, to the same parameters
+-- the same operands are passed to the same parameters alike
 pub passed_alike : (own held : Variables) (es : Operands) (ts us : List (Option ℕ)) (cells blank : Variables) → held ≡ own → us ≡ ts → blank ≡ cells
     → passed held es us blank ≡ passed own es ts cells
 passed_alike own held es ts us cells blank h u b =

@@ -21,7 +21,7 @@ set_back [] k v w r e h = refl
 set_back (x ∷ cells) zero v w r e h = ap (λ l. l ∷ cells) (e ∙ h)
 set_back (x ∷ cells) (suc k) v w r e h = ap (λ l. x ∷ l) (set_back cells k v w r e h)
 
--- .. that held a number
+-- a cell that held a number is put back
 pub number_back : (cells : Variables) (k : ℕ) (v : Option Value) (n : ℤ) → held (slice_get cells k) ≡ gives (values.Int n)
     → slice_set (slice_set cells k v) k (Some (values.Int n)) ≡ cells
 number_back [] k v n h = refl
@@ -29,7 +29,7 @@ number_back (Some x ∷ cells) zero v n h = cc
 number_back (None ∷ cells) zero v n h = cc
 number_back (x ∷ cells) (suc k) v n h = ap (λ l. x ∷ l) (number_back cells k v n h)
 
--- .. that held a truth value
+-- a cell that held a truth value is put back
 truth_back : (cells : Variables) (k : ℕ) (v : Option Value) (b : Bool) → held (slice_get cells k) ≡ gives (values.Bool b)
     → slice_set (slice_set cells k v) k (Some (values.Bool b)) ≡ cells
 truth_back [] k v b h = refl

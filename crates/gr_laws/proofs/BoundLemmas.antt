@@ -41,6 +41,6 @@ module _ (p : Program) (c : ChName) where
 pub entered_within : (p : Program) (t : State) (log : List (Logged p)) (c : ChName) → IsRun p log t → t.tails c ≤ length log
 entered_within p t log c l = let ends = ends_of_run p c t log l in omega arith
 
--- .. and how many left it
+-- how many values left the buffer of a channel
 pub left_within : (p : Program) (t : State) (log : List (Logged p)) (c : ChName) → IsRun p log t → t.heads c ≤ length log
 left_within p t log c l = let ends = ends_of_run p c t log l in omega arith

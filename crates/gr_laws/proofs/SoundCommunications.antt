@@ -116,7 +116,7 @@ module _ (s : State) (sound : Sound s) (a : Actor) (here : s.goroutines a.name �
       → ((f : Frame) → Sound (fold put (mine s a (onward a f)) cells)) → G (proceeds a clause operation kind got cells)
   proceeds_keeps clause operation kind got cells h = given_keeps s sound a here (past a.frame clause got) (λ f. record { keeps = h f })
 
-  -- .. and it leaves all buffers as they were
+  -- a communication that proceeds, and leaves all buffers as they were
   passes_keeps : (clause : Option ℕ) (operation : Operation) (kind : Kind) (got : Option (Value × Bool)) (cells : List Cell)
       → Fine s (Any s sound a here) cells → G (proceeds a clause operation kind got cells)
   passes_keeps clause operation kind got cells o = given_keeps s sound a here (past a.frame clause got) (λ f. does_keeps s sound a here (omega arith) o)

@@ -57,7 +57,7 @@ module _ {s : State} {a : Actor} (acts : Acts s a) where
       → ((n : List ℕ) (w : Wait) → In n names → In w (waits_at (s.goroutines n)) → In (Gate (channel_of w)) (map object_of cells)) → K s (proceeds a clause operation kind got cells)
   proceeds_keeps clause operation kind got cells names o gos gates = given_keeps acts (past a.frame clause got) (λ f e. frees acts names (stays acts f) refl o gos gates)
 
-  -- .. and nobody was met
+  -- a communication that proceeds, and met nobody
   passes_keeps : (clause : Option ℕ) (operation : Operation) (kind : Kind) (got : Option (Value × Bool)) (cells : List Cell)
       → AllByRecursion (Fit s []) cells → K s (proceeds a clause operation kind got cells)
   passes_keeps clause operation kind got cells o = proceeds_keeps clause operation kind got cells [] o (λ n i. absurd i) (λ n w i. absurd i)

@@ -114,7 +114,7 @@ module _ (us vs : List ChanUndo) (z : Content) (valid : IsChannel z) (fits : All
   stands_second : (q : Part) → any_written vs z q ≡ true → SameAt q w z
   stands_second q e = first_back.kept q (not_by_first q e)
 
-  -- .. and then the others
+  -- the others are taken back after the first
   pub second_back : AllTakenBack vs z w
   second_back = changes_go_back_anywhere vs z w valid fits first_back.valid (same_capacity us z) stands_second
 

@@ -146,7 +146,7 @@ rearranged_by_records p s t old new log running kept order =
     let done = records_swap p old new swaps s t log running.stand (chain_of p s old log t kept) in
     (done.steps, swaps_order (clash p) log done.steps done.swaps (steps_once p s t old log running kept), kept_of p s t new done.steps done.chain)
 
--- .. and of records with their steps
+-- swaps of records that stand beside their steps keep the chain
 swaps_keep : (p : Program) (old new : List (Record × Logged p)) → Swaps (clash_in p) old new → (s t : Contents) → ContentsStand (meaning p) (lowered p) s
     → Chain p s (records_in p old) (steps_in p old) t → Chain p s (records_in p new) (steps_in p new) t
 swaps_keep p old new none s t stand chain = chain

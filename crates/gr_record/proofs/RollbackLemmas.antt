@@ -29,7 +29,7 @@ led_from p m t (r ∷ gone) (l ∷ later) chain = ap (taken_back r.id.go r.chang
 led_from p m t [] (l ∷ later) chain = absurd chain
 led_from p m t (r ∷ gone) [] chain = absurd chain
 
--- .. and each of it can go back when those behind it are back
+-- each step of a chain can go back when those behind it are back
 next_goes : (p : Program) (m t : Contents) (left gone : List Record) (r : Record) (log : List (Logged p)) → Chain p m (left ++ r ∷ gone) log t
     → CanGoBack r.id.go r.change (all_back gone t)
 next_goes p m t [] gone r (l ∷ log) chain =

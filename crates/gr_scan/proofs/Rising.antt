@@ -18,7 +18,7 @@ pub rise_earlier : (m n : ℕ) → m ≤ n → (ts : List Tok) → RiseFrom n ts
 rise_earlier m n le [] r = tt
 rise_earlier m n le (At p w ∷ ts) r = let at : n ≤ p.start = r.0 in (omega arith, r.1)
 
--- the same of items
+-- where an item starts, and items that rise
 abbrev starts : Item → ℕ
 starts (LineEnd at line) = at
 starts (It (At p w)) = p.start

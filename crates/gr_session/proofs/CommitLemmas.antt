@@ -82,7 +82,7 @@ module _ (p : Program) (w : World p) (d : Debuggee) (s : Stands p w d) (b : Loan
     stands = s;
   }
 
-  -- .. or the steps are too many
+  -- a batch with more steps than are granted is stale
   pub stale_past_grant : (steps : ℕ) → steps ≡ b.steps → d.grant < steps → CommitsTo p w b true Stale d
   stale_past_grant steps same more = record {
     world = w;
@@ -130,7 +130,7 @@ module _ (p : Program) (w : World p) (d : Debuggee) (s : Stands p w d) (b : Loan
           (subst (λ again. rollback.Stands p (record { past = record { log = w.log ++ takes.steps; state = takes.state }; again = again }) new.machine)
           (sym (none_again b.steps w.again (above same some))) takes.stands))
 
-      -- .. also where there is none
+      -- a batch without a step joins the log
       pub none_joins : steps ≡ 0 → length w.log ≤ most_steps → rollback.Stands p (course_of p w) new.machine → CommitsTo p w b true (Committed 0) new
       none_joins none short machine =
           let zero_steps : b.steps ≡ 0 = sym same ∙ none in

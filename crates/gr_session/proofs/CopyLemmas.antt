@@ -45,7 +45,7 @@ ends_full limit lent led way counted same full = record {
   ends = λ less. absurd (full (let few = way.few in omega (arith, same, less)));
 }
 
--- .. or no further one is the goroutine's own
+-- no further step is the goroutine's own
 pub ends_alone : (limit : ℕ) (lent old new : LentCopy) → OnTheWay (most_at limit) lent old → IsLease new → SameLoan old new → Stays old new
     → (CanCountOn (goroutine_led_to old) → ¬ HasOwnStep (lowered (program_lent old)) (goroutine_led_to old)) → IsBatch limit lent new
 ends_alone limit lent old new way lease loan stays none = record {

@@ -75,11 +75,11 @@ module _ (p : Program) (w : World p) (d : Debuggee) (s : Stands p w d) where
   pub without_grant : d.grant ≡ 0 → IsTrue false ↔ MayStep p w
   without_grant none = never (λ may. zero_is d.grant w.grant s.grant none may.granted)
 
-  -- .. or the log has no room
+  -- workers may take no step where the log has no room
   pub without_room : (rest : ℕ) → rest + length w.log ≡ most_steps → rest ≡ 0 → IsTrue false ↔ MayStep p w
   without_room rest all none = never (λ may. none_left most_steps rest (length w.log) all none may.room)
 
-  -- .. else workers may take a step
+  -- workers may take a step where one is granted and the log has room
   pub with_both : (rest : ℕ) → (d.grant ≡ 0 → ⊥) → rest + length w.log ≡ most_steps → (rest ≡ 0 → ⊥) → MayStep p w
   with_both rest granted all some =
       record { granted = not_zero d.grant w.grant s.grant granted; room = some_left most_steps rest (length w.log) all some }
@@ -106,11 +106,11 @@ module _ (p : Program) (w : World p) (d : Debuggee) (s : Stands p w d) where
   pub when_faulted : (fault : Fault) → faulted fault ≡ (contents_at (store_in d)).run → IsTrue false ↔ IsTurnDue p w
   when_faulted fault is = never (λ due. let e : faulted fault ≡ live = is ∙ sym runs_as ∙ due.runs in cc)
 
-  -- .. or where none is ready
+  -- a turn is not due where no goroutine is ready
   pub when_stuck : IsTurn w.state (last_owner p w.log) None → IsTrue false ↔ IsTurnDue p w
   when_stuck turn = never (λ due. turn due.owner due.ready)
 
-  -- .. else it depends on whether some goroutine goes alone
+  -- where one is ready, a turn is due exactly where no goroutine goes alone
   by_turn : (may alone : Bool) (g : List ℕ) → (IsTrue may ↔ MayStep p w) → may ≡ true → live ≡ (contents_at (store_in d)).run
       → IsTurn w.state (last_owner p w.log) (Some g) → (IsTrue alone ↔ SomeGoesAlone w.state) → IsTrue (not alone) ↔ IsTurnDue p w
   by_turn may true g steps is lives turn goes = never (λ due. due.none_alone (goes.0 refl))
@@ -149,7 +149,7 @@ module _ (p : Program) (w : World p) (d : Debuggee) (s : Stands p w d) where
   pub lent_none : (place : ℕ) (may : Bool) → (IsTrue may ↔ MayStep p w) → may ≡ false → IsLent p w place None
   lent_none place may steps is can = let yes : may ≡ true = steps.1 can.may_step in true≢false (sym yes ∙ is)
 
-  -- .. else what the machine lends
+  -- where workers may take a step, the machine's answer is what is lent
   pub lent_where : (place : ℕ) (may : Bool) (o : Option LentCopy) → (IsTrue may ↔ MayStep p w) → may ≡ true
       → IfSome o (λ l. IsLease l × IsAsLent l (store_in d)) → IfSome o (λ l. (loan_of l).steps ≡ 0)
       → IsLentAt w.state place (option_map (λ l. (loan_of l).name) o) → IsLent p w place o

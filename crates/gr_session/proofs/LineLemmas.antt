@@ -68,7 +68,7 @@ module _ {S : Type 0} (lines : List ℕ) (old new : IndexMap ℕ ℕ S) (has : H
         rw (f, here) (has n)
   ]
 
-  -- .. and one that loses it
+  -- a line that loses its breakpoint
   pub lines_cleared : ((n : ℕ) → get nat_eq new n ≡ cond (nat_eq line n) None (get nat_eq old n)) → HasLines (without_line line lines) new
   lines_cleared now n = now n ∙ elim (cases_Bool (nat_eq line n)) [
     | inl t ↦ rw (among_without line n lines, t) refl

@@ -23,7 +23,7 @@ module _ (p : Program) (log : List (Logged p)) (t : State) (run : IsRun p log t)
       one_place (step_name p) log (distinct_steps p log t run) i j first.step second.step first.there second.there
       (ap (λ (id : StepId). (id.go, id.n)) (first.named ∙ same ∙ sym second.named))
 
-  -- .. and so does what is asked for
+  -- what is asked for stands at one place of a run
   pub one_asked : (target : Target) (i j : ℕ) → IsAsked p log target i → IsAsked p log target j → i ≡ j
   one_asked target i j first second =
       one_named first.id second.id i j (some_is first.id second.id (sym first.asked ∙ second.asked)) first.named second.named
@@ -38,7 +38,7 @@ module _ (p : Program) (w u v : Past p) (i j : ℕ) (same : i ≡ j) where
   one_gone gone other count first second =
       same_ends first.left second.left gone other count (sym first.last ∙ ap (dependents (clash p) w.log) same ∙ second.last)
 
-  -- .. and what is left without them is one
+  -- what is left without them is one
   pub one_left_of_some : (gone other : List (Logged p)) → IsRun p w.log w.state → gone ≡ other → LosesSome p w i gone u → LosesSome p w j other v → u ≡ v
   one_left_of_some gone other run alike first second =
       one_past p u v first.run second.run

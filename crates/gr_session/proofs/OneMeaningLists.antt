@@ -16,7 +16,7 @@ module _ {A : Type 0} where
       let rest = same_parts xs us ys vs (omega arith) first.1 in
       (ap₂ (λ a b. a ∷ b) first.0 rest.0, rest.1)
 
-  -- .. and so are parts at the end
+  -- parts at the end that are as long as each other are one
   pub same_ends : (xs us ys vs : List A) → length ys ≡ length vs → xs ++ ys ≡ us ++ vs → ys ≡ vs
   same_ends xs us ys vs n e =
       let whole : length xs + length ys ≡ length us + length vs = sym (length-append xs ys) ∙ ap length e ∙ length-append us vs in

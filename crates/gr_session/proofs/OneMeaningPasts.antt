@@ -12,6 +12,6 @@ module _ (p : Program) (u v : Past p) where
   pub same_past : u.log ≡ v.log → u.state ≡ v.state → u ≡ v
   same_past a b = λ i. record { log = a i; state = b i }
 
-  -- .. as are those of runs with one log
+  -- the pasts of two runs with one log are one
   pub one_past : IsRun p u.log u.state → IsRun p v.log v.state → u.log ≡ v.log → u ≡ v
   one_past a b same = same_past same (one_end (machine p) (start p) u.state v.state v.log (subst (λ l. IsRun p l u.state) same a) b)

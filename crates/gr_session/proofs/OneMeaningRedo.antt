@@ -52,7 +52,7 @@ module _ (p : Program) (w u v : Timeline p) (ids others : List StepId) (first : 
       ends : (steps : List (Logged p)) (rest : List Event) → rest ≡ [] → events_in p steps ≡ events_in p steps ++ rest
       ends steps rest none = sym (append-nil (events_in p steps)) ∙ ap (λ xs. events_in p steps ++ xs) (sym none)
 
-  -- .. or so many
+  -- as many as were asked for
   pub one_redo_of_some : length ids ≡ length others → SameRedo p u v ids others
   one_redo_of_some count =
       of_events (same_parts (events_in p first.steps) (events_in p second.steps) u.again v.again

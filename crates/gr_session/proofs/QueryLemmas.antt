@@ -75,7 +75,7 @@ module _ (p : Program) (w : World p) (d : Debuggee) (s : Stands p w d) where
   pub no_causes_lead : (id : StepId) → ((place : ℕ) → ¬ IsNamed p w.log id place) → LeadsTo p w (Causes id) Enough (No NotKept) d
   no_causes_lead id none = record { world = w; leads = has_no_causes none; stands = s }
 
-  -- .. where a store and records are told of that are those of the program
+  -- what is told of a channel, where the store is that of the debuggee
   pub chan_told : (store : Store) (k : ChName) (reply : Said) → store ≡ store_in d → reply ≡ channel_said (state_at store) k ((state_at store).gates k)
       → LeadsTo p w (Chan k) Enough reply d
   chan_told store k reply is e = chan_leads k reply (subst (λ q. reply ≡ channel_said (state_at q) k ((state_at q).gates k)) is e)

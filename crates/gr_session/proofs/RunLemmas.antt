@@ -80,7 +80,7 @@ module _ (p : Program) (w : World p) (d : Debuggee) (s : Stands p w d) (owner : 
     pub goes_first : taken ≡ 0 → HasTurn p w wanted taken g
     goes_first e = goes_by (by_break None (rw (same_is taken 0 e) refl))
 
-    -- .. and after it the line has none, or has one
+    -- after the first step, the line has no breakpoint or has one
     pub goes_now : (taken ≡ 0 → ⊥) → break_at w.lines (line_of (w.state.goroutines g)) ≡ None → HasTurn p w wanted taken g
     goes_now e none = goes_by (by_break None (rw (other_is taken 0 e) none))
 
@@ -105,7 +105,7 @@ goes_however p w wanted other taken g less few none = by_state w.state.run none
     by_state (faulted fault) e = e
     by_state live e = rw (fewer other few) (rw (fewer wanted less) at e)
 
--- .. and where just so many were wanted, that was all
+-- a run that went on would have ended here, had just the steps taken so far been wanted
 all_however : (p : Program) (w : World p) (wanted taken : ℕ) (g : List ℕ) → why_end w.state w.lines wanted taken (length w.log) (Some g) ≡ None
     → why_end w.state w.lines taken taken (length w.log) (Some g) ≡ Some turns.all_taken
 all_however p w wanted taken g none = by_state w.state.run none

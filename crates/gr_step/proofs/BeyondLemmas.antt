@@ -50,7 +50,7 @@ same_changes : (c : ChName) (undo : Option ChanUndo) → listed c undo ≡ membe
 same_changes c None = refl
 same_changes c (Some u) = refl
 
--- .. of a step that met nobody
+-- the contents when a step that met nobody is taken back
 pub passage_taken : (n : List ℕ) (kind : Kind) (own : GoUndo) (p : Passage) (old : Objects) (mid : Channels) (new : Objects)
     → GoBack ((n, own) ∷ []) old.goroutines new.goroutines
     → contents_of mid ≡ contents_of old.channels → TookBack (listed (channel_in p.contact.operation) p.undo) mid new.channels

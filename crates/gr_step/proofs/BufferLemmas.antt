@@ -73,7 +73,7 @@ module _ (p : Program) (e : Event) (number : ℕ) (old : Objects) (acting : Acti
   pub can_buffer : CanPass code e number (Passes clause None) done (record old { channels = mid })
   can_buffer = can_pass_by p e number old acting clause has None goes_past code coded mid done all_goes
 
-  -- .. and then it has
+  -- once the value is in the buffer, the step was taken
   module _ (change : Effect) (new : Objects)
       (x : IsPass code e.go (Passes clause None) (option_map_or Pick clause Buffer) (sends_on c) (objects.Gate c ∷ [])
       (objects.Tail c ∷ slot_numbered c found.content.capacity (tail_of found.content)) done change (record old { channels = mid }) new) where

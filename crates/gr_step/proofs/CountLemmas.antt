@@ -153,7 +153,7 @@ module _ (p : Program) (e : Event) (number : ℕ) (o : Objects) (acting : Acting
   goes_on : (n : ℕ) → ¬ (arrived (lowered p) (Value (Int (pos n))) g ≡ wrong) → CanGoOn n
   goes_on n right = can_arrive p e number o acting (Value (Int (pos n))) right (acting.counted.steps e.go g acting.there)
 
-  -- .. of a channel, which is there
+  -- the count of a channel, which is there, can arrive
   pub len_there : (name : ChName) → task_of (lowered p) g ≡ gives (Wants (TakesLen (Some name)))
       → (x : Content) × (s.channels name ≡ Some x) × CanGoOn (length x.items)
   len_there name task =
@@ -168,7 +168,7 @@ module _ (p : Program) (e : Event) (number : ℕ) (o : Objects) (acting : Acting
       let can = cap_can_arrive (meaning p) p (lowered p) s e g here.f here.below name here.acts task plain (never_unsound p s acting.running e) in
       (can.0, can.1, goes_on can.0.capacity can.2)
 
-  -- .. and of nil
+  -- the count of a nil channel can arrive
   abbrev nil_counted : Actor → Outcome Frame → rules.Attempt
   nil_counted a r = given a r (λ f. does a None None kinds.Length (onward a f) [])
 

@@ -12,7 +12,7 @@ use Rattle.gr_goros.specs.Views.{communication_of, communications_of}
 use Rattle.gr_goros.specs.declared.needs.Clause.{Clause}
 use Rattle.gr_step.proofs.QueueLemmas.{first_left}
 
--- two lists have the same of these objects
+-- two lists have the same ones of these objects
 abbrev pub AlikeFor : (Object → Bool) → List Object → List Object → Type 0
 AlikeFor among a b = (o : Object) → among o ≡ true → list_any (same o) a ≡ list_any (same o) b
 

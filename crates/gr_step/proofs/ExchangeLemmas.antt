@@ -137,7 +137,7 @@ module _ (p : Program) (e : Event) (number : ℕ) (old : Objects) (acting : Acti
   abbrev pub written : List Object
   written = touched ++ objects.Go n ∷ map objects.Gate (channels_but (c ∷ []) meet.m.waits)
 
-  -- .. and was done
+  -- the exchange was done
   pub exchanged : (kind : Kind) (change : Effect) (new : Objects)
       → IsExchange code e.go r.go (Passes clause gets) (IsMet case got) r.names.items kind operation reads written ((r.channel, u) ∷ []) change
       (record old { channels = mid }) new

@@ -89,7 +89,7 @@ module _ (p : Program) (s : Contents) (run : Running p s) (valid : AreChannels s
     taken_alone = subst {_, _} (λ (c : Effect). Takes p (chosen_by n Plain) (attempt p (chosen_by n Plain)) s c (with_goroutine s n (Some h)))
         (λ i. record { kind = c.kind; own = c.own; beyond = sym goes.beyond i }) alone_by_rules
 
-  -- .. and its record is one of the store
+  -- the record of a step of one's own is a record of the store
   pub own_record : (r : Record) (h : CodeGoroutine) → IsOwnRecord (lowered p) n g r h → IsRecord p s r (with_goroutine s n (Some h))
   own_record r h is =
       let event : chosen_by n Plain ≡ record { go = r.id.go; choice = r.choice } =

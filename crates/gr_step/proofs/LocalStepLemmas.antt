@@ -40,7 +40,7 @@ pub record LocallyIs (g : CodeGoroutine) (o : Outcome Task) (kind : Kind) (after
   pub no_choice : chooses o ≡ false
   pub status : after.status ≡ g.status
 
--- .. where there is such a step
+-- what is so of a local step, where there is one
 abbrev IfLocal : CodeGoroutine → Outcome Task → Outcome (Kind × CodeGoroutine) → Type 0
 IfLocal g o r = elim r [ gives k ↦ LocallyIs g o k.0 k.1 | _ ↦ Unit {0} ]
 

@@ -55,7 +55,7 @@ module _ (c : ChName) (old new : Channels) (x : Content) (made : contents_of old
       let after : at.after ≡ record x { receivers = rest } = at.rule.5 ∙ (λ i. record (was i) { receivers = left i }) in
       (at.rule.3, at.becomes.is ∙ ap (λ y. updated same_channel (contents_of old) c (Some y)) after)
 
-  -- .. and one that enters the buffer stands last
+  -- a value that enters the buffer stands last
   pub after_buffered : (v : Value) (u : ChanUndo) → OfferAt c v (offered.Buffered u) old new
       → contents_of new ≡ updated same_channel (contents_of old) c (Some (record x { items = x.items ++ v ∷ [] }))
   after_buffered v u at =
@@ -75,7 +75,7 @@ module _ (c : ChName) (old new : Channels) (x : Content) (made : contents_of old
             (at.rule.3 ∙ (λ i. record (was i) { head = (was i).head + 1; items = left i })),
       )
 
-  -- .. and the value of the first sender moves up
+  -- the front item is taken, and the value of the first sender moves up
   pub after_moved : (z : Value) (u : ChanUndo) → TakeAt c (taken.Moved z u) old new → (v : Value) (rest : List Value) → x.items ≡ v ∷ rest
       → (first : Waiter Value) (others : List (Waiter Value)) → x.senders ≡ first ∷ others
       → (z ≡ v) × (contents_of new ≡ updated same_channel (contents_of old) c

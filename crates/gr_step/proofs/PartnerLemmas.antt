@@ -58,7 +58,7 @@ module _ (p : Program) (s : Contents) (run : Running p s) where
         let on = change_keeps_standing (meaning p) (lowered p) s e.go k.after run.stand (stands_on e.go (Passes clause got) own s.goroutines h k k.was) in
         same_goroutines_stand (meaning p) (lowered p) (with_goroutine s e.go (Some k.after)) t (λ q. ap (λ (j : List ℕ → Option CodeGoroutine). j q) (is ∙ k.is)) on
 
-  -- .. and its partner
+  -- the goroutine that acts goes on together with its partner
   module _ (n m : List ℕ) (apart : same_go m n ≡ false) (passes : Arrival) (own : GoUndo) (between : List ℕ → Option CodeGoroutine)
       (k : ArrivesAt (lowered p) n passes own s.goroutines between)
       (c : ChName) (clause : Option ℕ) (got : Option (Value × Bool)) (meets : Meets (frame_in p) s c m clause got) (met : GoUndo)

@@ -57,7 +57,7 @@ module _ (number : ℕ) (n : List ℕ) (old new : Goroutines) (named : name_at o
     room = subst {_, _} (λ r. need u ≤ r) (sym (room_is a b c)) undoes.room;
   }
 
-  -- .. by what it comes to
+  -- a goroutine that was changed stands in its place, told by what the change comes to
   pub placed : (f : CodeGoroutine → CodeGoroutine) (u : GoUndo) → ChangesBy number (ComesTo f u) old new → Placed n g (f g) u old new
   placed f u c = placed_at c.0 c.1 (f g) u c.2 (c.3.0 ∙ ap f (was_content c.0 c.1 c.2)) c.3.1
 
@@ -71,7 +71,7 @@ module _ (number : ℕ) (n : List ℕ) (old new : Goroutines) (named : name_at o
   pub named_after : (a b : Seen) → Changes number a b old new → name_at new number ≡ Some n
   named_after a b c = ap (λ l. slice_get l number) c.sets.names ∙ named
 
-  -- .. so it can be taken back there
+  -- the change can be taken back at the number
   pub can_undo : (a b : Seen) (u : GoUndo) → Changes number a b old new → Undoes u a b → At (λ x. Fits u x.content) (seen_at new number)
   can_undo a b u c undoes = subst {_, _} (At (λ (x : Seen). Fits u x.content)) (sym (seen_after a b c)) undoes.fits
 
@@ -87,7 +87,7 @@ same_again f n g after there = λ j q. by q (same_go q n) refl j
     by q true e = sym there ∙ sym (ap f (same_text q n (sym e)))
     by q false e = refl
 
--- .. after its change was taken back
+-- a goroutine is as it was once its change is taken back
 pub placed_back : (number : ℕ) (n : List ℕ) (g after : CodeGoroutine) (u : GoUndo) (old mid new : Goroutines) → name_at mid number ≡ Some n
     → goroutines_of old n ≡ Some g → Placed n g after u old mid → ChangesBy number (TakenBack u) mid new → goroutines_of new ≡ goroutines_of old
 placed_back number n g after u old mid new named there own c =

@@ -81,7 +81,7 @@ all_given cells (a ∷ arms) =
     ap (λ b. arm_given cells a && b) (all_given cells arms) ∙ sym (both_given (clause_by cells a) (clauses_of cells arms))
     ∙ sym (ap is_given (clauses_step cells a arms))
 
--- .. and then they are these
+-- an outcome that is given has a value
 given_by : {A : Type 0} (o : Outcome A) → is_given o ≡ true → (x : A) × (o ≡ gives x)
 given_by (gives x) h = (x, refl)
 given_by (faults e) h = let no : false ≡ true = h in cc

@@ -49,7 +49,7 @@ module _ (did : Option Operation) (read written : List Object) (stopped : Bool) 
 pub alone : (n : List ℕ) (k : Kind) (u : GoUndo) → IsOwn n (record { kind = k; own = u; beyond = None })
 alone n k u = record { goroutines = refl; channels = refl; begins = refl; makes = refl; frames = tt }
 
--- .. of a change whose reach is known
+-- a change whose reach is known
 abbrev ReachesIn : Option Operation → List Object → List Object → Bool → Option Beyond → Type 0
 ReachesIn did read written stopped o = elim o [ Some b ↦ Reaches did read written stopped b | None ↦ ⊥ ]
 
@@ -57,7 +57,7 @@ pub reaches_some : (did : Option Operation) (read written : List Object) (stoppe
     → Reaches did read written stopped b → ReachesBeyond did read written stopped c
 reaches_some did read written stopped c b is h = subst {_, _} (ReachesIn did read written stopped) (sym is) h
 
--- .. and of one that reaches no further than its goroutine
+-- what is told of a change that reaches no further than its goroutine
 pub told_none : (n : List ℕ) (c : Effect) → c.beyond ≡ None → Told None [] [] false n c
 told_none n c is =
     subst {_, _} (λ (o : Option Beyond). Told None [] [] false n (record { kind = c.kind; own = c.own; beyond = o })) (sym is)

@@ -7,7 +7,7 @@ pub if_ok : {A E : Type 0} {P Q : A → Type 0} (r : Result A E) → IfOk r P �
 if_ok (Ok x) h k = k x h
 if_ok (Err e) h k = tt
 
--- .. and from what holds of an error
+-- what follows from what holds of an error
 pub if_err : {A E P Q R : Type 0} (r : Result A E) → OnErr r P → OnErr r Q → (P → Q → R) → OnErr r R
 if_err (Ok x) h k l = tt
 if_err (Err e) h k l = l h k

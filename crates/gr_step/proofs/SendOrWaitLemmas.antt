@@ -55,7 +55,7 @@ pub task_at : (p : Program) (e : Event) (s : Contents) (make : Option ChName →
 task_at p e s make channel known is task =
     subst (λ o. OfGoroutine e s (λ g. task_of (lowered p) g ≡ gives (Wants (Communicates (make o))))) is task
 
--- .. and what was tried, by the value and by how it ended
+-- what was tried, by the value and by how it ended
 pub tried_as : (p : Program) (e : Event) (s : Contents) (trial : Value → Trial) (copy v : Value) → copy ≡ v → (o known : Option Effect) → o ≡ known
     → (t : Contents) → Tried p e (trial copy) s o t → Tried p e (trial v) s known t
 tried_as p e s trial copy v same o known is t tried =

@@ -122,7 +122,7 @@ module _ (own : List ℕ → List ChName) (d : ChName) where
       still true = refl
       still false = refl
 
-  -- .. where it is one of their channels
+  -- the channel is among those of each goroutine that waits on it
   Elsewhere : Content → List (List ℕ) → Type 0
   Elsewhere x [] = Unit {0}
   Elsewhere x (n ∷ ns) = (list_any (same_channel d) (own n) ≡ false → Nobody n x) × Elsewhere x ns
@@ -142,7 +142,7 @@ module _ (own : List ℕ → List ChName) (d : ChName) where
       ] in
       ap (λ o. fold one o ns) here ∙ all_thinned (thinned n x) ns (elsewhere_later n x ns h.1)
 
-  -- .. and where it is none of them
+  -- the channel is among those of none of the goroutines
   Out : List (List ℕ) → Type 0
   Out [] = Unit {0}
   Out (n ∷ ns) = (list_any (same_channel d) (own n) ≡ false) × Out ns

@@ -72,7 +72,7 @@ module _ (n : List ℕ) (c : ChName) where
   pub read_of_hand : (m : List ℕ) (cs : List ChName) → Run ∷ [] ≡ each_once (Go n ∷ Gate c ∷ Go m ∷ map Gate cs) (Run ∷ [])
   read_of_hand m cs = rw (no_run_gates cs) refl
 
-  -- .. where one enters or leaves a buffer
+  -- what is read and not written where a value enters a buffer, and where one leaves it
   pub read_of_buffer : (capacity number : ℕ) → Run ∷ Gate c ∷ [] ≡ each_once (Go n ∷ Tail c ∷ slot_numbered c capacity number) (Run ∷ Gate c ∷ [])
   read_of_buffer zero number = refl
   read_of_buffer (suc k) number = refl
@@ -81,20 +81,20 @@ module _ (n : List ℕ) (c : ChName) where
   read_of_take zero number = refl
   read_of_take (suc k) number = refl
 
-  -- .. where one leaves, and a sender's moves up
+  -- what is read and not written where a value leaves the buffer, and a sender's moves up
   pub read_of_move : (capacity number : ℕ) (m : List ℕ) (cs : List ChName)
       → Run ∷ [] ≡ each_once (Go n ∷ Gate c ∷ Head c ∷ Tail c ∷ slot_numbered c capacity number ++ Go m ∷ map Gate cs) (Run ∷ [])
   read_of_move zero number m cs = rw (no_run_gates cs) refl
   read_of_move (suc k) number m cs = rw (no_run_gates cs) refl
 
-  -- .. where a sender's value is taken
+  -- what is read and not written where a sender's value is taken
   pub read_of_meet : (capacity number : ℕ) (m : List ℕ) (cs : List ChName)
       → Run ∷ Head c ∷ slot_numbered c capacity number
       ≡ each_once (Go n ∷ Gate c ∷ Go m ∷ map Gate cs) (Run ∷ Gate c ∷ Head c ∷ slot_numbered c capacity number)
   read_of_meet zero number m cs = rw (no_run_gates cs, channel_self c, no_head_gates c cs) refl
   read_of_meet (suc k) number m cs = rw (no_run_gates cs, channel_self c, no_head_gates c cs, no_slot_gates c (number % suc k) cs) refl
 
-  -- .. where the channel is closed and empty
+  -- what is read and not written where the channel is closed and empty
   pub read_of_end : (capacity number : ℕ) → Run ∷ Gate c ∷ Head c ∷ slot_numbered c capacity number
       ≡ each_once (Go n ∷ []) (Run ∷ Gate c ∷ Head c ∷ slot_numbered c capacity number)
   read_of_end zero number = refl

@@ -24,13 +24,13 @@ at_content : (P : CodeGoroutine → Type 0) (x : Option Seen) → At P (option_m
 at_content P None h = h
 at_content P (Some g) h = h
 
--- .. that it fits, of the one with the number
+-- an undo that fits the goroutine of a name fits the one with its number
 pub fits_there : (u : GoUndo) (m : Goroutines) (number : ℕ) (n : List ℕ) → name_at m number ≡ Some n → GoFitsAt u (goroutines_of m n)
     → At (λ g. Fits u g.content) (seen_at m number)
 fits_there u m number n named h =
     subst (At (λ g. Fits u g.content)) (sym (seen_named m number n named)) (at_content (Fits u) (seen_of m n) h)
 
--- .. and that there is room
+-- where there is room for the goroutine of a name, there is room for the one with its number
 pub room_there : (u : GoUndo) (m : Goroutines) (number : ℕ) (n : List ℕ) → name_at m number ≡ Some n → GoFitsAt u (goroutines_of m n)
     → need u ≤ go_rooms_of m n → At (λ g. need u ≤ g.room) (seen_at m number)
 room_there u m number n named h room = subst (At (λ g. need u ≤ g.room)) (sym (seen_named m number n named)) (by (seen_of m n) h room)
@@ -39,7 +39,7 @@ room_there u m number n named h room = subst (At (λ g. need u ≤ g.room)) (sym
     by None h r = h
     by (Some g) h r = r
 
--- .. and a goroutine that fits is found
+-- a goroutine that an undo fits is found
 pub is_found : (u : GoUndo) (m : Goroutines) (n : List ℕ) → GoFitsAt u (goroutines_of m n) → is_some (seen_of m n) ≡ false → ⊥
 is_found u m n h absent = by (seen_of m n) h absent
   where

@@ -42,7 +42,7 @@ first_as s {cells} (clause {a} {arms} {w} {ws} is rest) k otherwise =
     first_by k otherwise (can_proceed s w) (ready_from s (k + 1) ws) (first_going s cells (k + 1) arms) (first_as s rest (k + 1) otherwise)
     ∙ ap (λ b. pick_or (if b then Some k else first_going s cells (k + 1) arms) otherwise) (sym (ap (goes_by s) is))
 
--- .. or default, or to wait
+-- the choice where no clause can proceed: the default clause, or to wait
 without_by : (o : Option ℕ) → elim o [ Some i ↦ Default | None ↦ Park ] ≡ (if is_some o then Default else Park)
 without_by None = refl
 without_by (Some i) = refl

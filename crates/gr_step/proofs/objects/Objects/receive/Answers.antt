@@ -13,7 +13,7 @@ some_item : {X : Type 0} (xs : List X) (b : Bool) → b ≡ false → (xs ≡ []
 some_item [] b none h = absurd (let wrong : false ≡ true = sym none ∙ h refl in cc)
 some_item (x ∷ xs) b none h = refl
 
--- .. and none where it is
+-- there is no item where the buffer is empty
 no_item : {X : Type 0} (xs : List X) (b : Bool) → b ≡ true → (IsTrue b → xs ≡ []) → xs ≡ []
 no_item xs b is h = h is
 
