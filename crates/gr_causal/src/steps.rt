@@ -8,7 +8,7 @@ ghost use Rattle.gr_causal.specs.StepNames.{CountsSteps, name_of};
 
 /// A machine that steps by rules meets the laws, whatever the rules. Only what is written changes. A step that is possible in
 /// one state is possible in every state that agrees on what it touches, with the same note and the same contents written. It
-/// needs that a state is its contents, and that putting a cell changes the content of its object alone.
+/// requires that a state is its contents, and that putting a cell changes the content of its object alone.
 pub fn rules_make_a_machine<O, C, S, E, K>()
     ensures { ForEveryRulebook O C S E K (λ B. Laws (machine_of B)) }
 {}

@@ -171,8 +171,8 @@ impl Channel {
         Ok(Offered::Full(value))
     }
 
-    /// Takes the front item, for which the first waiting sender's value moves up, or meets the first waiting sender, as
-    /// the Go specification's "Receive operator" says. Refused, nothing has changed.
+    /// Takes the front item, and then the value of the first waiting sender moves up; or meets the first waiting sender. This
+    /// is the Go specification's "Receive operator". Refused, nothing has changed.
     pub fn take(&mut self) -> Result<Taken, NoMemory>
         requires { ¬ (self.old.content.senders ≡ []) → CanEnter self.old.content }
         ensures rule { IfOk result (λ r. TakeRule self.old.content r self.new.content) }

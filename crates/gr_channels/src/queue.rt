@@ -27,8 +27,8 @@ fn count_of<T>(queue: &VecDeque<Waiter<T>>, name: &GoName) -> usize
     queue.iter().filter(|waiter| waiter.go == *name).count()
 }
 
-/// Takes out all waiters of the goroutine, each with the place that it had when it was taken out: how many waiters stood
-/// before it then. The time is linear in the waiters.
+/// Takes out all waiters of the goroutine. Each comes with its place: how many waiters stood before it when it was taken out.
+/// The time is linear in the waiters.
 pub fn withdraw_from<T: Drop>(
     alloc: Global,
     queue: &mut VecDeque<Waiter<T>>,

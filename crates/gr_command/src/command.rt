@@ -13,7 +13,7 @@ pub enum Command {
     /// One step of the goroutine. At a select it takes the clause with this number, counted from 1, or the usual choice
     /// where no number is given.
     Step { go: GoName, case: Option<u32> },
-    /// Up to this many steps, from 1 to 1,000,000, of the ready goroutines by turns.
+    /// Up to this many steps, from 1 to 1,000,000, of the ready goroutines, round robin.
     Run { count: u32 },
     /// To take the last step back.
     Undo,

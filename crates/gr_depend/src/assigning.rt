@@ -243,8 +243,8 @@ fn has_given(program: &Program, code: &Code, step: &Record, name: &[u8]) -> bool
 impl Log {
     ghost use Rattle.gr_depend.specs.Logs.{records_of};
 
-    /// The name of the last step of a goroutine that gave a variable of this name in one of its frames a value, or a
-    /// parameter in a call. A `go` step gives a value to none, and a fault does not either. It takes no memory.
+    /// The name of the last step of a goroutine that gave a value to a variable of this name in one of its frames, or to a
+    /// parameter in a call. Neither a `go` step nor a fault gives a value. It takes no memory.
     pub fn assigned(
         &self,
         program: &Program,
@@ -261,8 +261,8 @@ impl Log {
     }
 }
 
-/// What steps gave values, by their records and the code, is what the rules say: of each instruction, of each step, and of
-/// the last step that gave a variable a value.
+/// Records and code say what steps gave values, and the rules say the same: of each instruction, of each step, and of the last
+/// step that gave a variable a value.
 pub fn law_of_assignments()
     ensures instructions { GivenByInstruction }
     ensures steps { (p : programs.Program) (s t : Contents) (r : steps.Record)

@@ -79,8 +79,8 @@ impl Log {
     ///
     /// # Errors
     ///
-    /// `NotTheSteps` where the names are not those of the steps, each once; else `Breaks` where the order does not respect
-    /// dependence; `NoMemory` where a growth was refused. The log is then as before.
+    /// `NotTheSteps` where the names are not those of the steps, each once. Else `Breaks` where the order does not respect
+    /// dependence. `NoMemory` where a growth was refused. After an error the log is as before.
     pub fn permuted(&mut self, alloc: Global, order: &[StepId]) -> Result<(), OrderRefused>
         requires { Distinct (map name (records_of self.old)) }
         ensures order { OnOk result (IsOrder conflict_of (records_of self.old) (records_of self.new)) }

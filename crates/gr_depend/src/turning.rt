@@ -61,8 +61,8 @@ fn if_before(first: usize, place: usize, after: usize) -> usize
     }
 }
 
-/// The first place of the order whose step comes too early, by these touches of an object: it comes before a step that it
-/// conflicts with, and that stands before it in the log. It is the bound where there is none before that.
+/// The first place of the order whose step comes too early, by these touches of an object: a step that it conflicts with comes
+/// later in the order, and earlier in the log. If no place below the bound has such a step, it is the bound.
 pub(crate) fn first_turned(touches: &[Touch], to: &[usize], bound: usize) -> usize
     ensures within { result ≤ bound }
     ensures turned { TouchesTurnedFrom result to.now touches.now }

@@ -27,8 +27,8 @@ use gr_eval::{Scalar, number_in, number_of, of_numbers, on_ints};
 use gr_tree::BinaryOp;
 use std::mem;
 
-/// What a step over whole numbers replaced: where its frame stood, and the content of the one cell that it wrote to, if it
-/// wrote to one.
+/// What a step over whole numbers replaced: where its frame stood, and the old content of the cell that it wrote, if it wrote
+/// one.
 #[derive(Clone, Copy)]
 pub(crate) struct IntChange {
     pub(crate) pc: usize,

@@ -39,7 +39,7 @@ impl Model for Frame {
 }
 
 impl Frame {
-    /// A frame that nobody sees.
+    /// A frame that no view shows.
     pub(crate) fn unseen(alloc: Global) -> Frame {
         Frame {
             function: 0,

@@ -18,7 +18,7 @@ use std::marker::Model;
 #[derive(Drop)]
 pub struct Goroutine {
     pub(crate) status: Status,
-    /// The innermost frame; where the goroutine is finished, one that nobody sees.
+    /// The innermost frame. Where the goroutine is finished, a frame that no view shows.
     pub(crate) top: Frame,
     /// The frames below it, the outermost first.
     pub(crate) below: Vec<Frame>,

@@ -25,8 +25,8 @@ use gr_eval::{Stop, as_channel, as_int, evaluate, evaluate_all};
 use gr_program::program::Literal;
 use std::alloc::Global;
 
-/// A clause of a select. A channel that is `None` is nil; a value that is to be sent may be a fault, which is one where the
-/// clause is chosen.
+/// A clause of a select. A channel that is `None` is nil. A value to send may be a fault, which stops the program only where
+/// the clause is chosen.
 #[derive(Debug, Drop)]
 pub enum Clause {
     Default,

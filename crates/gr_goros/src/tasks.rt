@@ -1,4 +1,4 @@
-//! What a step of a frame comes to that asks for nothing beyond its goroutine.
+//! Steps of a frame that ask for nothing beyond its goroutine.
 
 ghost use Rattle.std.specs.Prelude.{◌≡◌, true, false, IfOk, IfErr, slice_get};
 ghost use Rattle.gr_rules.specs.Outcomes.{gives, wrong};
@@ -65,8 +65,8 @@ pub(crate) fn only(
 }
 
 impl Frame {
-    /// What its instruction comes to, which is no call and asks for nothing beyond the goroutine. Where that is a step of the
-    /// frame, the frame went on; else it is as it was. Errors: the fault of an operand, and out of memory.
+    /// What its instruction comes to. The instruction is no call, and asks for nothing beyond the goroutine. Where that is a
+    /// step of the frame, the frame went on. Else it is as it was. Errors: the fault of an operand, and out of memory.
     #[inline]
     pub(crate) fn task(
         &mut self,

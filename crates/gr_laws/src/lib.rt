@@ -55,10 +55,10 @@ pub fn law_of_the_machine()
         → ((machine p).step s e ≡ None) ↔ ((r : Refusal) × (refusal p s e ≡ Some r)) }
 {}
 
-/// Why an event is refused, in the order of the reasons: the program does not run; there is no such goroutine; it is done; it
-/// waits; or it is ready and does not have that choice. A statement that is no select has the plain choice alone, and a
-/// select does not have those of `HasNoSuch`. Except for `unsound`, which no checked program meets, each reason holds exactly
-/// where it is given.
+/// Why an event is refused. The reasons, in their order: the program does not run; there is no such goroutine; it is done; it
+/// waits; it is ready and does not have that choice. A statement that is no select has the plain choice alone, and a select
+/// does not have those of `HasNoSuch`. Except for `unsound`, which no checked program meets, each reason holds exactly where it
+/// is given.
 pub fn law_of_refusals()
     ensures over { (p : Program) (s : State) (e : Event)
         → (refusal p s e ≡ Some program_is_over) ↔ (¬ (s.run ≡ live)) }
@@ -84,9 +84,9 @@ pub fn law_of_refusals()
         → (refusal p s e ≡ Some no_such_choice) ⊎ (refusal p s e ≡ Some unsound) }
 {}
 
-/// What a step touches, as two lists of objects none of which stands twice: what it wrote, and what it read and did not
-/// write. They have just the objects of the table's row. Any two such lists tell what the note of the step tells, and so
-/// whether the step conflicts with another.
+/// What a step touches, as two lists of objects, each object once: what it wrote, and what it read and did not write. They have
+/// just the objects of the table's row. Any two such lists tell what the note of the step tells, and so whether the step
+/// conflicts with another.
 pub fn law_of_touches()
     ensures once { (p : Program) (s t : State) (e : Event) (n : (machine p).Note)
         → (machine p).step s e ≡ Some (t, n)
@@ -99,9 +99,9 @@ pub fn law_of_touches()
         → clash p a b ≡ (meets same wa (rb ++ wb) || meets same wb (ra ++ wa)) }
 {}
 
-/// The two ends of a buffer are separate objects: a receive and a send on one channel conflict exactly where they share a
-/// goroutine or a slot of the buffer, a waiting sender moves up, one of them waits, or a value goes from hand to hand. A send
-/// that faults writes whether the program runs, which every step touches, and so conflicts with every step.
+/// The two ends of a buffer are separate objects. So a receive and a send on one channel conflict exactly in four cases: they
+/// share a goroutine or a slot of the buffer, a waiting sender moves up, one of them waits, or a value goes from hand to hand.
+/// A send that faults writes whether the program runs, which every step touches, and so conflicts with every step.
 pub fn law_of_one_buffer()
     ensures exactly { (p : Program) (s u t v : State) (receive send : Logged p) (c : ChName)
         → (machine p).step s receive.event ≡ Some (u, receive.note)
@@ -126,10 +126,10 @@ pub fn law_of_local_steps()
         → (o : Object) → In o ((machine p).touches n) → (o ≡ Run) ⊎ (o ≡ Go g) }
 {}
 
-/// Causal consistency of every run of every program: no two steps have the same name. Taking back the last step leaves the
-/// run before it. Taking back a step with all that depends on it, from the last to the first, each by putting back what it
-/// wrote over, leaves the run of the other steps. Any order of a run that respects dependence is a run with the same end,
-/// each step with its old kind and touches.
+/// Causal consistency of every run of every program: no two steps have the same name. Taking back the last step leaves the run
+/// before it. Taking back a step with all that depends on it, from the last to the first, leaves the run of the other steps.
+/// Each is taken back by putting back what it wrote over. Any order of a run that respects dependence is a run with the same
+/// end, each step with its old kind and touches.
 pub fn law_of_runs()
     ensures names { (p : Program) (t : State) (log : List (Logged p))
         → IsRun p log t
@@ -252,10 +252,10 @@ pub fn law_of_counts()
         → t.heads c ≤ length log }
 {}
 
-/// In every state that a run reaches, the buffer of each channel holds exactly the values that entered and have not left,
-/// each in the slot of its number. Who waits to send finds it full, who waits to receive finds it empty, and no goroutine
-/// waits on a closed channel. A channel that was not made is empty. A goroutine stands in the queues of what it waits for,
-/// and in no others, and in none of them twice for one clause. A step from there writes exactly the objects whose content it
+/// In every state that a run reaches, the buffer of each channel holds exactly the values that entered and have not left, each
+/// in the slot of its number. It is full where a goroutine waits to send, and empty where one waits to receive. No goroutine
+/// waits on a closed channel. A channel that was not made is empty. A goroutine stands in the queues of what it waits for, and
+/// in no others, and in none of them twice for one clause. A step from there writes exactly the objects whose content it
 /// changes.
 pub fn law_of_reached_states()
     ensures channels { (p : Program) (t : State)

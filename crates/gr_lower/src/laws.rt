@@ -17,7 +17,7 @@ ghost use Rattle.gr_lower.specs.CanLower.{CanDoAll, CanLower};
 ghost use Rattle.gr_lower.specs.Examples.{joining, looping, choosing, calling, calling_code, turning, turning_code, nesting};
 ghost use Rattle.gr_lower.specs.Examples.{nesting_code, MeansAs};
 
-/// Layouts of statements where two ways join, of loops, of a select, of a call and of nested statements: their code, what it
+/// Worked layouts: statements where two ways join, loops, a select, a call and nested statements. For each the code, what it
 /// means, the cells that it needs, and its lines. All of them meet the conditions of the law of layout.
 pub fn examples_of_layout()
     ensures joins { MeansAs joining 4 code.joining_code code.joining }

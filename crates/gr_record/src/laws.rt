@@ -95,8 +95,8 @@ pub fn law_of_the_log()
         → Running p t }
 {}
 
-/// Records that are kept stand beside their steps in a list of pairs. Which of them follow from a step, which do not, and
-/// which caused it, is the same for the records, the steps and the pairs.
+/// Records that are kept stand beside their steps in a list of pairs. Records, steps and pairs agree on which of them depend on
+/// a step, which do not, and which caused it.
 pub fn law_of_consequences()
     ensures pairs { (p : Program) (s t : Contents) (records : List Record) (log : List (Logged p))
         → Kept p s records log t

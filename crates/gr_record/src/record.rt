@@ -121,7 +121,7 @@ pub struct Waiting {
     pub spot: Spot,
 }
 
-/// What a step reached that communicated over one channel, and met nobody.
+/// What a step reached that communicated over one channel and met nobody.
 #[derive(Debug, Drop)]
 pub struct Passage {
     pub contact: Contact,

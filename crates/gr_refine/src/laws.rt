@@ -42,7 +42,7 @@ pub fn law_of_channels()
     ensures unmaking { UnmakingIsWritten }
 {}
 
-/// Changing the gates of several channels at once comes to the same as changing one after the other.
+/// Changing the gates of several channels at once does what changing one after the other does.
 pub fn law_of_gates()
     ensures gates { GatesAreWritten }
     ensures withdrawing { WithdrawingIsWritten }

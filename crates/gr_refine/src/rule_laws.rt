@@ -60,7 +60,7 @@ pub fn law_of_closes()
     ensures finds { ClosingFindsWaiters }
 {}
 
-/// Waking and withdrawing goroutines at once comes to the same as one after the other, whatever list names them.
+/// Waking and withdrawing goroutines at once does what doing so one after the other does, whatever list names them.
 pub fn law_of_orders()
     ensures waking { WakingInTurn }
     ensures withdrawing { WithdrawingInTurn }
@@ -78,7 +78,7 @@ pub fn law_of_picks()
     ensures has_values { OfEachSelect PickingHasValues }
 {}
 
-/// The steps of a select none of whose clauses can proceed.
+/// The steps of a select where no clause can proceed.
 pub fn law_of_selects()
     ensures made { NoneReadyIsMade }
     ensures some_ready { SomeReadyIsSound }

@@ -50,8 +50,8 @@ impl Machine {
     ghost use Rattle.gr_rollback.specs.Pasts.{Timeline};
     ghost use Rattle.gr_rollback.specs.Machines.{Stands};
 
-    /// The names of the step of a name and of all that depend on it, in the order of the log; none where no such step is kept.
-    /// Out of memory only where it is kept.
+    /// The names of a step and of all that depend on it, in the order of the log. `None` where no such step is kept. Out of
+    /// memory only where it is kept.
     pub fn dependents(&self, alloc: Global, id: &StepId) -> Result<Option<Vec<StepId>>, NoMemory>
         ensures { (p : Program) (w : Timeline p) → Stands p w self.now
             → IsTold p w.past.log id.now (dependents (clash p) w.past.log) result }
@@ -63,8 +63,8 @@ impl Machine {
         Ok(Some(ids))
     }
 
-    /// The names of the step of a name and of all that it depends on, in the order of the log; none where no such step is
-    /// kept. Out of memory only where it is kept.
+    /// The names of a step and of all that it depends on, in the order of the log. `None` where no such step is kept. Out of
+    /// memory only where it is kept.
     pub fn causes(&self, alloc: Global, id: &StepId) -> Result<Option<Vec<StepId>>, NoMemory>
         ensures { (p : Program) (w : Timeline p) → Stands p w self.now
             → IsTold p w.past.log id.now (causes (clash p) w.past.log) result }

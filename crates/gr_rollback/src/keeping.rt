@@ -88,9 +88,9 @@ impl Course {
     ghost use Rattle.gr_rollback.specs.Retracting.{LastGoesBack, Retracts, SameCourse, KeepsLogRoom};
 
     /// Takes the step of a goroutine with a choice, or where there is none with its usual one, and its record joins the log.
-    /// Refused, nothing has changed. A step over whole numbers alone, as most are, is looked for first: it leaves no choice, its
-    /// goroutine is ready after it, and it reached no other. This is the one caller of each of the two ways, so that both are
-    /// compiled into it.
+    /// Refused, nothing has changed. A step over whole numbers alone is looked for first, since most steps are such. It leaves
+    /// no choice, its goroutine is ready after it, and it reaches no other. This is the one caller of each of the two ways, so
+    /// that both are compiled into it.
     pub(crate) fn keep(
         &mut self,
         go: GoName,

@@ -28,7 +28,7 @@ fn is_alone(store: &Store, pool: &Pool, place: usize) -> bool
     }
 }
 
-/// Of how many ready goroutines the next step is local.
+/// The number of ready goroutines whose next step is local.
 fn count_alone(store: &Store, pool: &Pool) -> usize
     requires { IsRun store.now }
     ensures count { result ≡ length (filter (goes_alone (state_at store.now)) pool.now.ready) }
@@ -44,7 +44,7 @@ fn count_alone(store: &Store, pool: &Pool) -> usize
     count
 }
 
-/// Of the ready goroutines whose next step is local, the one with a number, counted from 0.
+/// The goroutine with a number, counted from 0, among the ready ones whose next step is local.
 fn nth_alone<'a>(store: &Store, pool: &'a Pool, number: usize) -> Option<&'a GoName>
     requires { IsRun store.now }
     ensures which { option_copied result ≡ slice_get (filter (goes_alone (state_at store.now)) pool.now.ready) number }

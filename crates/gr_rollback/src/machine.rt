@@ -17,8 +17,8 @@ use gr_program::program::Program;
 use gr_step::{StepRefused, Store};
 use std::alloc::Global;
 
-/// The machine of a program: its state, the log of the steps that led to it, and the steps that were taken back last, which
-/// can be taken again.
+/// The machine of a program: its state, the log of the steps that led there, and the steps that were taken back last and can be
+/// taken again.
 #[derive(Drop)]
 pub struct Machine {
     pub(crate) course: Course,
@@ -72,9 +72,9 @@ impl Machine {
         self.course.pool.next_after(&last.id.go)
     }
 
-    /// Takes the step of an event, whose record is then the last of the log, and tells its ordinal and its kind; nothing may be
-    /// done again after it. Refused, nothing has changed; but a step whose record found no room was taken, and is counted. A full
-    /// log and out of memory are one refusal.
+    /// Takes the step of an event, and tells its ordinal and its kind. Its record is then the last of the log, and nothing may
+    /// be done again. Refused, nothing has changed; but a step whose record found no room was taken, and is counted. A full log
+    /// and out of memory are one refusal.
     #[inline(always)]
     pub fn step(&mut self, event: Event) -> Result<Stepped, StepRefused>
         requires { IsMachine self.old }
@@ -88,8 +88,8 @@ impl Machine {
         Ok(told)
     }
 
-    /// Takes the step of a goroutine with its usual choice: at a select the lowest clause that can proceed, else the default
-    /// clause, else to wait. All else is as for the step of an event.
+    /// Takes the step of a goroutine with its usual choice. At a select that is the lowest clause that can proceed, else the
+    /// default clause, else to wait. All else is as for the step of an event.
     #[inline(always)]
     pub fn step_usual(&mut self, go: GoName) -> Result<Stepped, StepRefused>
         requires { IsMachine self.old }

@@ -76,9 +76,9 @@ impl Machine {
         Ok(())
     }
 
-    /// Takes the steps again that the last `undo` or `back` took back, in their old order and with their choices; none where
-    /// another step or order came since. It answers their names. Where memory runs out on the way, the first of these steps are
-    /// taken, which the refusal names, and the others may still be done.
+    /// Takes again the steps that the last `undo` or `back` took back, in their old order and with their choices, and answers
+    /// their names. There are none where another step or order came since. Where memory runs out on the way, the first of these
+    /// steps are taken. The refusal names them, and the others may still be done.
     pub fn redo(&mut self, alloc: Global) -> Result<Vec<StepId>, BackRefused>
         requires { IsMachine self.old }
         ensures again { (p : Program) (w : Timeline p) → Stands p w self.old → TakenAgain p w result self.new }

@@ -47,8 +47,8 @@ impl Machine {
     ghost use Rattle.gr_rollback.specs.Machines.{store_of, Stands, IsMachine};
     ghost use Rattle.gr_rollback.specs.Backs.{Reordered};
 
-    /// Puts the steps in the order of their names, which is accepted exactly where it respects dependence: the state stays, and
-    /// nothing may be done again. Refused, nothing has changed.
+    /// Puts the steps in the order of their names. The order is accepted exactly where it respects dependence. The state stays,
+    /// and nothing may be done again. Refused, nothing has changed.
     pub fn reorder(&mut self, alloc: Global, ids: &[StepId]) -> Result<(), BackRefused>
         requires { IsMachine self.old }
         ensures reordered { (p : Program) (w : Timeline p) → Stands p w self.old → Reordered p w ids.now result self.new }

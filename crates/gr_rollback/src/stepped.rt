@@ -1,4 +1,4 @@
-//! What is told of a step that was taken.
+//! What a caller learns of a step that was taken.
 
 ghost use Rattle.std.specs.Prelude.{◌≡◌};
 ghost use Rattle.gr_rollback.specs.Stepping.{told_by};

@@ -21,8 +21,8 @@ use gr_command::{Command, Reply};
 use gr_queries::{chan, console, log, show, text};
 use std::alloc::Global;
 
-/// Carries a command out, and tells how far memory allowed it. An error means that there was no memory to ask for the step,
-/// to look for it, or for the answer to a query. Nothing has changed then.
+/// Carries a command out, and tells how far memory allowed it. An error means that there was no memory to ask for the step, to
+/// look for it, or to answer a query. Then nothing has changed.
 pub(crate) fn carry_out(
     alloc: Global,
     debuggee: &mut Debuggee,

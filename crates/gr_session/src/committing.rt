@@ -66,9 +66,10 @@ pub(crate) enum Origin {
     Own,
 }
 
-/// Lets the steps of a batch of the same program join the log. Its goroutine has to be as it was lent, in a run that goes on,
-/// and the grant and the log need room for them. The program of a batch of unknown origin is compared with the one that runs.
-/// It tells whether program and goroutine were so. An error means that a growth was refused. Nothing has changed then.
+/// Lets the steps of a batch join the log. Four things are needed: the batch is of this program, the run goes on, the goroutine
+/// is as it was lent, and grant and log have room. The program of a batch of unknown origin is compared with the one that runs.
+/// The truth value says whether program and goroutine were so. An error means that a growth was refused, and then nothing has
+/// changed.
 pub(crate) fn commit(
     alloc: Global,
     debuggee: &mut Debuggee,

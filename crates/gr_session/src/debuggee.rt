@@ -18,7 +18,7 @@ pub struct Debuggee {
     pub(crate) machine: Machine,
     /// The lines with a breakpoint, each with its number as replies tell it.
     pub(crate) lines: IndexMap<usize, u32>,
-    /// How many steps workers may still take by turns.
+    /// The grant: how many steps workers may still take.
     pub(crate) grant: u32,
 }
 

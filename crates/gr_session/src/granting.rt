@@ -32,7 +32,7 @@ pub(crate) fn free(debuggee: &mut Debuggee, steps: u32) -> (Memory, Reply)
     (Memory::Enough, Reply::Granted(steps))
 }
 
-/// Takes a step by turns out of the grant, if that is above 0.
+/// Takes the next step of the round robin out of the grant, if the grant is above 0.
 pub(crate) fn turn(alloc: Global, debuggee: &mut Debuggee) -> (Memory, Reply)
     requires { IsDebuggee debuggee.old }
     ensures leads { (p : Program) → (w : World p) → Stands p w debuggee.old

@@ -20,8 +20,8 @@ pub enum Memory {
 #[derive(Drop)]
 pub enum Asked {
     Command(Command),
-    /// That the steps of a batch join the log, and whether its goroutine stood as it was lent, in a run of the same program
-    /// that went on.
+    /// The steps of a batch are to join the log. The truth value says whether its goroutine stood as it was lent, in a run of
+    /// the same program that went on.
     Batch(LocalRun, bool),
 }
 
@@ -31,7 +31,7 @@ pub struct Entry {
     /// The number of the asker, from 1.
     pub asker: u32,
     pub asked: Asked,
-    /// For a batch it was enough, or the batch would have no entry.
+    /// How far memory went. For a batch it was enough, since a batch that runs out of memory has no entry.
     pub memory: Memory,
 }
 

@@ -15,9 +15,9 @@ ghost use Rattle.gr_session.specs.Entries.{Means, Lead, Enters};
 ghost use Rattle.gr_session.specs.Copies.{IsBatch};
 ghost use Rattle.gr_session.specs.Committing.{MustBeStale};
 
-/// A legal journal has one meaning. In a world of a run, each entry leads to one next world, with one reply, by what it keeps
-/// of what the rules leave open. That world is again one of a run: its steps lead from the start of the program to its state.
-/// So the journal fixes its world. The journal before an entry and after it fix the entry's number and its reply.
+/// A legal journal has one meaning. In a world of a run, each entry leads to one next world, with one reply: the entry keeps
+/// what the rules leave open. That world is again one of a run, whose steps lead from the start of the program to its state. So
+/// the journal fixes its world. The journal before an entry and after it fix the entry's number and its reply.
 pub fn law_of_journals()
     ensures next { (p : Program) (w u v : World p) (asked : Asked) (memory : Memory) (a b : Said)
         → IsRun p w.log w.state
@@ -37,8 +37,8 @@ pub fn law_of_journals()
         → IsRun p u.log u.state }
 {}
 
-/// A batch need not be stale where its goroutine is as it was lent, and its limit was what the workers may take. So one that is
-/// committed with nothing between lease and commit is not.
+/// A batch need not be stale if its goroutine is as it was lent, and its limit was what the workers may take. So it need not be
+/// stale if nothing happened between lease and commit.
 pub fn law_of_batches()
     ensures { (p : Program) (s : Contents) (lent led : LentCopy) (grant : ℕ)
         → IsAsLentIn (loan_of lent) p s → 0 < grant → IsBatch grant lent led

@@ -8,7 +8,7 @@ use crate::journal::Memory;
 use gr_command::{Refusal, Reply};
 use gr_rollback::{LOG_LIMIT, StepRefused};
 
-/// Why a step that the rules allow is not kept: the log has no room for it, or else memory was wanting.
+/// Why a step that the rules allow is not kept: the log has no room for it, or else it is out of memory.
 pub(crate) fn unkept(debuggee: &Debuggee) -> Refusal
     ensures { SaysNoStep debuggee.now result }
 {
@@ -18,7 +18,7 @@ pub(crate) fn unkept(debuggee: &Debuggee) -> Refusal
     Refusal::NoMemory
 }
 
-/// Why a step is not kept that the machine refuses.
+/// Why a step that the machine refuses is not kept.
 pub(crate) fn told(debuggee: &Debuggee, why: StepRefused) -> Refusal
     ensures { Refuses debuggee.now why result }
 {

@@ -55,8 +55,8 @@ pub(crate) fn undo(alloc: Global, debuggee: &mut Debuggee) -> (Memory, Reply)
     }
 }
 
-/// Takes the step that is asked for back, with its consequences. An error means that there was no memory to look for it; nothing
-/// has changed then.
+/// Takes back the step that is asked for, with its consequences. An error means that there was no memory to look for it, and
+/// then nothing has changed.
 pub(crate) fn back(
     alloc: Global,
     debuggee: &mut Debuggee,

@@ -1,4 +1,4 @@
-//! Steps by turns.
+//! Steps of the ready goroutines, round robin.
 
 ghost use Rattle.std.specs.Prelude.{◌≡◌, ◌≤◌, IfOk, IfErr, OnOk};
 ghost use Rattle.gr_program.specs.Programs.{Program};
@@ -50,7 +50,7 @@ fn next_turn(debuggee: &Debuggee, wanted: u64, taken: u64) -> Result<&GoName, Ru
     }
 }
 
-// Takes the next step by turns, where this many are wanted and this many were taken. Refused, nothing has changed.
+// Takes the next step of the round robin, where this many are wanted and this many were taken. Refused, nothing has changed.
 #[inline(always)]
 fn take_turn(alloc: Global, debuggee: &mut Debuggee, wanted: u64, taken: u64) -> Result<(), RunEnd>
     requires { IsDebuggee debuggee.old }
@@ -79,7 +79,7 @@ pub(crate) fn ran(steps: u64, end: RunEnd) -> (Memory, Reply)
     (memory, Reply::Ran { steps, end })
 }
 
-/// Takes up to this many steps by turns, and tells how many and why no more.
+/// Takes up to this many steps of the ready goroutines, round robin, and tells how many and why no more.
 pub(crate) fn take_turns(alloc: Global, debuggee: &mut Debuggee, count: u32) -> (u64, RunEnd)
     requires { IsDebuggee debuggee.old }
     ensures few { result.0 ≤ count }

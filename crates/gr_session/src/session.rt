@@ -140,9 +140,9 @@ impl Session {
         }
     }
 
-    /// Lends a copy of a goroutine whose next step is local and no fault. Of those, in the order of names, it is the one at
-    /// the place, modulo their number. There is none where the grant is 0, the log is full, the program does not run, or no
-    /// goroutine is such.
+    /// Lends a copy of a goroutine whose next step is local and no fault. It is the one at the place, modulo their number,
+    /// among all such goroutines in the order of names. There is none where the grant is 0, the log is full, the program does
+    /// not run, or no goroutine is such.
     pub fn lease(&self, alloc: Global, place: u32) -> Result<Option<Lease>, NoMemory>
         ensures place { IfOk result (λ o. IfSome o (λ l. l.place ≡ place)) }
         ensures lent { IfOk result (λ o. IfSome o (λ l. InItsWorld (program_of self.now.program) self.now.journal
@@ -158,9 +158,9 @@ impl Session {
         }
     }
 
-    /// Commits a batch, which the journal keeps with its reply. Its steps join the log if its goroutine is as it was lent, in
-    /// a run of the same program that goes on, and if the grant and the log have room for them. The asker is one that `enrol`
-    /// of this session gave.
+    /// Commits a batch, which the journal keeps with its reply. Its steps join the log on three conditions: it is of the same
+    /// program, whose run goes on; its goroutine is as it was lent; and the grant and the log have room for them. The asker is
+    /// one that `enrol` of this session gave.
     pub fn commit(
         &mut self,
         alloc: Global,
@@ -253,7 +253,7 @@ impl Session {
         self.journal.as_slice()
     }
 
-    /// The grant: how many steps workers may still take by turns, from 0 to what `free` granted last.
+    /// The grant: how many steps workers may still take, from 0 to what `free` granted last.
     pub fn grant(&self) -> u32
         ensures { InItsWorld (program_of self.now.program) self.now.journal (λ w. result ≡ w.grant) }
     {
@@ -267,7 +267,7 @@ impl Session {
         room(&self.debuggee)
     }
 
-    /// Whether a goroutine can be lent: the grant is above 0, the log has room, and, while the program runs, some goroutine's
+    /// Whether a goroutine can be lent. The grant is then above 0, the log has room, the program runs, and some goroutine's
     /// next step is local and no fault.
     pub fn can_lend(&self) -> bool
         ensures { InItsWorld (program_of self.now.program) self.now.journal (λ w. IsTrue result
@@ -276,7 +276,7 @@ impl Session {
         can_lend(&self.debuggee)
     }
 
-    /// Whether a worker has to ask for a turn: the program runs, the grant is above 0, the log has room, some goroutine is
+    /// Whether a worker has to ask for a turn. The program then runs, the grant is above 0, the log has room, some goroutine is
     /// ready, and none can be lent.
     pub fn turn_due(&self) -> bool
         ensures { InItsWorld (program_of self.now.program) self.now.journal (λ w. IsTrue result

@@ -37,8 +37,8 @@ fn take_asked(
     }
 }
 
-/// Takes a step of a goroutine, which picks the clause, or makes its usual choice. An error means that there was no memory to
-/// ask for the step; nothing has changed then.
+/// Takes a step of a goroutine, which picks the clause that is asked for, or makes its usual choice. An error means that there
+/// was no memory to ask for the step, and then nothing has changed.
 pub(crate) fn step(
     alloc: Global,
     debuggee: &mut Debuggee,

@@ -27,7 +27,7 @@ use std::sync::Wait;
 pub(crate) enum Found {
     // It took a turn.
     Turned(Call),
-    // It is lent a goroutine, to take so many steps at most.
+    // It is lent a goroutine, to take at most this many steps.
     Lends(Lease, usize),
     // The workers are to end, or it was refused.
     Nothing,

@@ -57,8 +57,9 @@ impl<B: Room> Worker<B> {
     }
 }
 
-/// Works as often as the budget allows. It takes steps of a goroutine that is lent at the worker's place, without the lock, and
-/// commits them: at most 256, and at most as many as the grant and the log had room for. It takes a turn where none can be lent.
+/// Works as often as the budget allows. Without the lock it takes steps of the goroutine that is lent at its place, and then
+/// commits them. They are at most 256, and at most as many as the grant and the log had room for. Where none can be lent, it
+/// takes a turn.
 ///
 /// It waits while there is nothing to do. It ends after `close`, and where it is refused, as in a full journal or when out of
 /// memory. The worker's calls grow by those batches and turns. All calls of the gate are made without the lock.

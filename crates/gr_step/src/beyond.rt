@@ -14,7 +14,8 @@ use gr_record::Few;
 use gr_record::record::{Beyond, Contact, More, Operation, Passage, Touched};
 use std::alloc::Global;
 
-/// What a step reached that did this with a channel, ended or stopped the program or not, met nobody, and changed no channel.
+/// What a step reached that met nobody and changed no channel, by what it did with a channel, and whether it ended or stopped
+/// the program.
 pub(crate) fn with_more(
     alloc: Global,
     operation: Option<Operation>,
@@ -119,8 +120,8 @@ pub(crate) fn reached_with(
     Ok(Box::new(alloc, beyond)?)
 }
 
-/// What a step reached that did this with a channel, read these and wrote these, ended or stopped the program or not, and reached
-/// nothing else.
+/// What a step reached, by what it did with a channel, the objects that it read and wrote, and whether it ended or stopped the
+/// program. It reached nothing else.
 pub(crate) fn reached(
     alloc: Global,
     operation: Option<Operation>,

@@ -25,8 +25,8 @@ use gr_record::record::{Change, Form, Record};
 use std::alloc::Global;
 use std::mem;
 
-/// What is kept of the steps that a goroutine took on its copy: the program, its name, the goroutine as it was lent, and how
-/// many steps they were.
+/// What is kept of the steps that a goroutine took on its copy: the program, the goroutine's name, the goroutine as it was
+/// lent, and the number of steps.
 #[derive(Drop)]
 pub struct LocalRun {
     pub(crate) listing: Listing,
@@ -130,8 +130,8 @@ impl LentCopy {
     }
 }
 
-/// A name equal to this one, whose counts no other name shares. Whoever takes steps on a copy shares them with a record of each
-/// step. How many names share them is counted in memory that other threads then do not write.
+/// A name equal to this one, whose counts no other name shares. Each record of a step on the copy shares them. So their
+/// reference count lies in memory that no other thread writes.
 fn own_name(alloc: Global, go: &GoName) -> Result<GoName, NoMemory>
     ensures { IfOk result (λ name. name ≡ go.now) }
 {
@@ -225,7 +225,7 @@ impl Store {
     }
 }
 
-/// The steps of a lease, taken where its goroutine is as it was lent, are those of the store, one after the other, with their
+/// Where the goroutine is as it was lent, the steps of its lease are steps of the store, one after the other, with their
 /// records. They leave the goroutine as the lease has it, and ready.
 pub fn law_of_leases()
     ensures { (p : Program) (s : Contents) (n : List ℕ) (from to : CodeGoroutine) (records : List RecordSeen)

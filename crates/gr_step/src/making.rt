@@ -80,7 +80,7 @@ fn starting(alloc: Global, child: GoName) -> Result<Box<Beyond>, NoMemory>
     with_more(alloc, None, more, false)
 }
 
-/// How many items are in the buffer of a channel, of which it has at most as many as the channel has places.
+/// How many items are in the buffer of a channel: at most as many as the buffer has places.
 fn items_of(channel: &Channel) -> u32
     ensures { result ≡ length channel.now.content.items }
 {

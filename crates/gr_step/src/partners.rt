@@ -33,7 +33,7 @@ use gr_record::record::{Beyond, Change, Form, Operation, Passage, Touched};
 use gr_tables::channels::Channels;
 use std::alloc::Global;
 
-/// The change of a step that met nobody, and changed its channel so, if it did.
+/// The change of a step that met nobody, with its change of the channel, if there was one.
 #[inline(always)]
 fn told(kind: Kind, own: GoUndo, passage: Box<Passage>, undo: Option<ChanUndo>) -> Change
     ensures { (operation : attempts.Operation) (reads writes : List Object)
@@ -145,8 +145,8 @@ impl Objects {
         })
     }
 
-    /// The goroutine with a number goes past its communication with nobody, after a change of its channel in the same step, if
-    /// there was one. Refused, that change is taken back.
+    /// The goroutine with a number goes past its communication and meets nobody, after a change of its channel in the same
+    /// step, if there was one. Refused, that change is taken back.
     pub(crate) fn pass(
         &mut self,
         turn: &Turn<'_>,

@@ -87,9 +87,10 @@ impl Store {
         self.step_meant(event.go, Some(event.choice))
     }
 
-    /// Takes the step of a goroutine with its usual choice: at a select the lowest clause that can proceed, else the default
-    /// clause, else to wait. Errors: the program is over; there is no such goroutine; it is done; it waits: the first of these
-    /// that holds. Out of memory only where it is a step, and at a select of 2^32 clauses or more. Refused, nothing has changed.
+    /// Takes the step of a goroutine with its usual choice. At a select that is the lowest clause that can proceed, else the
+    /// default clause, else to wait. Errors: the program is over; there is no such goroutine; it is done; it waits: the first
+    /// of these that holds. Out of memory only where it is a step, and at a select of 2^32 clauses or more. Refused, nothing
+    /// has changed.
     pub fn step_usual(&mut self, go: GoName) -> Result<Record, StepRefused>
         requires run { IsRun self.old }
         requires counted { CanCount (contents_at self.old) }
@@ -107,8 +108,9 @@ impl Store {
         self.step_meant(go, None)
     }
 
-    /// Takes the step of a goroutine with a choice, or where there is none with its usual one. The errors are those of `step` and of
-    /// `step_usual`. Refused, nothing has changed. It is the one caller of what takes a step, which is then compiled into it.
+    /// Takes the step of a goroutine with a choice, or with its usual one where none is given. The errors are those of `step`
+    /// and of `step_usual`. Refused, nothing has changed. It is the one caller of the code that takes a step, which is then
+    /// compiled into it.
     pub fn step_meant(&mut self, go: GoName, choice: Option<Choice>) -> Result<Record, StepRefused>
         requires run { IsRun self.old }
         requires counted { CanCount (contents_at self.old) }
@@ -248,8 +250,8 @@ impl Store {
         self.objects.ready_cases(&self.listing, go)
     }
 
-    /// The choice of a goroutine where none is asked for: at a select the lowest clause that can proceed, else the default
-    /// clause, else to wait. It takes no memory, and is refused only at a select of 2^32 clauses or more.
+    /// The choice of a goroutine where none is asked for. At a select that is the lowest clause that can proceed, else the
+    /// default clause, else to wait. It takes no memory, and is refused only at a select of 2^32 clauses or more.
     pub fn usual_choice(&self, go: &GoName) -> Result<Choice, NoMemory>
         requires { IsRun self.now }
         ensures choice { IfOk result (λ choice. choice ≡ usual_by_rules (program_at self.now) (state_at self.now) go.now) }

@@ -41,7 +41,7 @@ fn undo_at(
     goroutines.undo(number, undo)
 }
 
-/// Takes changes of goroutines back, the last first, none of which needs a frame to come back.
+/// Takes changes of goroutines back, the last first. None of them needs a frame to come back.
 fn undo_each(goroutines: &mut Goroutines, undos: Vec<(GoName, GoUndo)>)
     requires fits { GoesFit undos.items (goroutines_of goroutines.old) }
     requires frames { NeedNoFrame undos.items }
@@ -66,7 +66,7 @@ fn undo_all(goroutines: &mut Goroutines, undos: Few<(GoName, GoUndo)>)
     }
 }
 
-/// Takes changes of channels back, the last first, for which there is room.
+/// Takes changes of channels back, the last first. There is room for them.
 pub(crate) fn put_back(channels: &mut Channels, undos: Few<(ChName, ChanUndo)>)
     requires fits { ChansFit (members undos) (contents_of channels.old) }
     requires room { HasRooms (members undos) (rooms_of channels.old) }
@@ -79,7 +79,7 @@ pub(crate) fn put_back(channels: &mut Channels, undos: Few<(ChName, ChanUndo)>)
     }
 }
 
-/// Takes a change of a channel back, if there was one, for which there is room.
+/// Takes a change of a channel back, if there was one. There is room for it.
 pub(crate) fn put_one_back(channels: &mut Channels, channel: &ChName, undo: Option<ChanUndo>)
     requires fits { ChansFit (listed channel.now undo) (contents_of channels.old) }
     requires room { HasRooms (listed channel.now undo) (rooms_of channels.old) }
@@ -159,7 +159,7 @@ impl Objects {
         }
     }
 
-    /// Takes back what a step did that communicated over one channel, and met nobody.
+    /// Takes back a step that communicated over one channel and met nobody.
     #[inline(never)]
     fn take_passage_back(
         &mut self,

@@ -41,8 +41,8 @@ impl Objects {
         Ok(Choice::Park)
     }
 
-    /// The choice of a goroutine that is ready, where none is asked for: at a select the lowest clause that can proceed, else the
-    /// default clause, else to wait. It takes no memory. Out of memory stands for clauses whose number 32 bits do not hold.
+    /// The choice of a ready goroutine where none is asked for. At a select that is the lowest clause that can proceed, else
+    /// the default clause, else to wait. It takes no memory. Out of memory stands for clauses whose number 32 bits do not hold.
     pub(crate) fn usual_choice_at(
         &self,
         listing: &Listing,
@@ -72,8 +72,8 @@ impl Objects {
         self.usual_of(cells, arms)
     }
 
-    /// The choice of a goroutine that is ready: the one that is asked for, or where there is none its usual one. It takes no memory.
-    /// Out of memory stands for clauses whose number 32 bits do not hold.
+    /// The choice of a ready goroutine: the one that is asked for, or its usual one where none is. It takes no memory. Out of
+    /// memory stands for clauses whose number 32 bits do not hold.
     pub(crate) fn choice_meant(
         &self,
         listing: &Listing,

@@ -325,8 +325,8 @@ impl Objects {
         self.begin_to_send(turn, channel, value)
     }
 
-    /// Waits to receive; the zero value matters where it is asked whether the clauses are those of the rules. Refused, nothing
-    /// has changed.
+    /// Waits to receive. The zero value serves only to compare the clauses with those of the rules. Refused, nothing has
+    /// changed.
     pub(crate) fn wait_to_receive(
         &mut self,
         turn: &Turn<'_>,
@@ -348,7 +348,7 @@ impl Objects {
         self.begin_to_receive(turn, channel, zero)
     }
 
-    /// Waits for any clause of its select, none of whose values to send is at fault. Refused, nothing has changed.
+    /// Waits for any clause of its select. None of the values to send is a fault. Refused, nothing has changed.
     pub(crate) fn wait_in_select(
         &mut self,
         turn: &Turn<'_>,

@@ -123,8 +123,8 @@ impl Lanes {
         self.note_channel(beyond, beyond.touched.read, touch, others_read(beyond))
     }
 
-    /// Adds a touch to three kinds of lists: those of the parts of its channel that a step wrote, of the goroutine that it
-    /// met, and of others. Refused, all lists are as before.
+    /// Adds a touch to the lists of the parts of its channel that a step wrote, of the goroutine that it met, and of others.
+    /// Refused, all lists are as before.
     #[inline(always)]
     pub(crate) fn note_written_beyond(
         &mut self,

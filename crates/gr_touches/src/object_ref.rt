@@ -61,7 +61,7 @@ impl ObjectRef<'_> {
     }
 }
 
-/// A look-up by borrowed names, which copies none of them.
+/// A look-up by borrowed names. It copies no name.
 impl Equivalent<Object> for ObjectRef<'_> {
     ghost use Rattle.gr_rules.specs.States.{same};
     ghost use Rattle.gr_touches.specs.ObjectRefs.{seen};

@@ -21,7 +21,7 @@ impl Lanes {
     ghost use Rattle.gr_touches.specs.Lists.{list_of, IsNumbered};
     ghost use Rattle.gr_touches.specs.Walks.{AreInReach, AreWalked, hits_any, meets_step};
 
-    /// Sets the marks of the steps on one side of a place that conflict with this step: they wrote what it read, or touched
+    /// Sets the marks of the steps that conflict with this step, on one side of a place. They wrote what it read, or touched
     /// what it wrote.
     pub fn mark_step(
         &self,

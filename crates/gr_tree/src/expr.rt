@@ -61,8 +61,8 @@ pub enum TypeTree {
     Paren(Box<TypeTree>),
 }
 
-/// An expression. Parentheses stay in the tree, since they count for its height. What a call names, and the type of a make with a
-/// size, lie on the heap, so that other expressions take no room for them.
+/// An expression. Parentheses stay in the tree, since they count for its height. The callee of a call, and the type of a make
+/// with a size, lie on the heap. So other expressions take no room for them.
 #[derive(Debug, Drop)]
 pub enum Expr {
     /// A whole number, at most 2^63.

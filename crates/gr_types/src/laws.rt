@@ -18,9 +18,9 @@ pub fn found_programs()
     ensures { (f : FileTree) (p : Program) → (program_in f ≡ Some p) ↔ ProgramOf f p }
 {}
 
-/// What the judgement asks of a tree beyond the rules of the language holds of the tree of every text, and so refuses none: the
-/// operator of each `x op= e` gives a number, the third part of a `for` declares nothing, and the statements of each function
-/// begin one after another, behind its start and before its closing brace.
+/// The judgement asks three things of a tree beyond the rules of the language. The tree of every text has them, so they refuse
+/// no text. The operator of each `x op= e` gives a number. The post statement of a `for` declares nothing. The statements of
+/// each function begin one after another, behind its start and before its closing brace.
 pub fn trees_of_texts()
     ensures updates { (text : List ℕ) (file : FileTree)
         → IsFileOf text file

@@ -72,8 +72,8 @@ pub fn law_of_consoles()
     ensures order { calls.LinesInOrder }
 {}
 
-/// The step that started a goroutine, the sends and receives of a channel by their number, the steps that are local, and why
-/// many steps end.
+/// Worked look-ups: the step that started a goroutine, the sends and receives of a channel by their number, local steps, and
+/// why a run of many steps ends.
 pub fn law_of_lookups()
     ensures finds { lookups.Finds }
     ensures local { lookups.AreLocal }

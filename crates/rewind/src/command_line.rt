@@ -156,7 +156,7 @@ fn matches<'a>(alloc: Global, words: &'a [&'a str]) -> Result<ArgMatches<'a>, Er
     command.try_get_matches_from(words)
 }
 
-// What is told where not just one thing is asked.
+// The message where not just one thing is asked.
 fn unclear(alloc: Global, nothing: bool) -> Error {
     let (kind, message) = if nothing {
         (ErrorKind::MissingRequiredArgument, NOTHING_ASKED)
@@ -174,11 +174,11 @@ fn told(alloc: Global, kind: ErrorKind, message: &str) -> Result<Error, AllocErr
     command.error(kind, message)
 }
 
-/// What the words of a command line ask for, the first of which is the program's own name: `rewind FILE` or `rewind FILE
-/// --workers N`, `rewind --check FILE`, or `rewind --explain CODE`.
+/// What a command line asks for: `rewind FILE`, `rewind FILE --workers N`, `rewind --check FILE` or `rewind --explain CODE`.
+/// Its first word is the program's own name.
 ///
-/// An error is `clap`'s, with the words that it has for the user: the command line is of none of these forms, asks for
-/// help or the version, or there is no memory for it.
+/// An error is `clap`'s, with its words for the user. The command line is of none of these forms, asks for help or the version,
+/// or there is no memory for it.
 pub fn settings<'a>(alloc: Global, words: &'a [&'a str]) -> Result<Settings<'a>, Error>
     ensures asked { IfOk result (λ settings.
         asked_in (map (λ word. word.now) words.entry.now) ≡ Some (asked_of settings)) }

@@ -93,7 +93,7 @@ impl<R: Read> Counted<R> {
     }
 }
 
-// What is told of a device that is interrupted each time.
+// The error of a device that is interrupted each time.
 fn interrupted() -> io::Error
     ensures { error_kind result ≡ ErrorKind.TimedOut }
 {

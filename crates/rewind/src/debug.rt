@@ -93,10 +93,10 @@ pub fn check<S: Read>(alloc: Global, source: &mut Counted<S>) -> Result<(), Debu
     }
 }
 
-/// Reads the source, opens a session of its program with one asker, and serves that asker's commands. The answer to
-/// each line is written before the next one is read: a command's reply, or `no Q1` or `no Q2` where the journal is
-/// full or there is no memory for its entry; `? bad command` for a rejected line; nothing for a blank one; and `ok`
-/// for `quit`, after which nothing is read.
+/// Reads the source, opens a session of its program with one asker, and serves that asker's commands. The answer to each line
+/// is written before the next one is read. A command is answered by its reply, or by `no Q1` or `no Q2` where the journal is
+/// full or there is no memory for its entry. A rejected line is answered by `? bad command`, and a blank one by nothing. `quit`
+/// is answered by `ok`, and then nothing is read.
 ///
 /// The session's memory is not given back: this is the last thing that a program does.
 ///

@@ -10,8 +10,9 @@ use crate::meanings::kinds::kinds;
 use crate::meanings::replies::replies;
 use crate::meanings::sources::sources;
 
-/// The page on a code: what it means, how it comes about, and what to do. A code is that of a refusal or of a refused source, or
-/// the name of a fault, a kind of step, an end of a run or a failure of the program. Each of them has a page, and nothing else.
+/// The page on a code: what it means, how it comes about, and what to do. A code is that of a refusal or of a refused source,
+/// or the name of a fault, a kind of step, an end of a run or a failure of the program. Each of them has a page, and nothing
+/// else has one.
 pub fn explain(code: &[u8]) -> Option<&'static str>
     ensures told { is_some result ≡ is_told code.now }
     ensures page { IfSome result (λ page. IsOn code.now page.now) }

@@ -167,7 +167,7 @@ pub fn refusal_code(fault: &DebugFault) -> Option<&'static [u8]>
     }
 }
 
-/// The exit status of a session that a fault ended: 1 where the source cannot be read or is refused, 3 where reading,
+/// The exit status of a session that a fault ended. It is 1 where the source cannot be read or is refused, and 3 where reading,
 /// writing or threads failed, or the program is out of memory.
 pub fn exit_status(fault: &DebugFault) -> u8
     ensures { result ≡ status_of fault.now }

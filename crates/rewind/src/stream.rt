@@ -65,9 +65,9 @@ impl<'a> Client for SessionDesk<'a> {
 /// Answers the lines that the reader gives, in order, up to `quit` or the end. A command is asked of the session for
 /// this desk, whose number `enrol` of the session gave.
 ///
-/// Each answer is written before the next line is read. The contract says it by what a failure leaves: a writer may
-/// fail at each write, and what was read then ends in the line whose answer was begun (`ServedPart`); a reader may
-/// fail at each byte, and the lines that were read whole are then answered (`ServedWhole`).
+/// Each answer is written before the next line is read. The contract says so by what a failure leaves. A writer may fail at
+/// each write: what was read then ends in the line whose answer was begun (`ServedPart`). A reader may fail at each byte: the
+/// lines that were read whole are then answered (`ServedWhole`).
 ///
 /// The fault names the device that failed. After `Read` the session stands after the last whole line. After `Write`
 /// the last command was asked, and a beginning of its answer may have gone out. After `Memory` no device failed, and

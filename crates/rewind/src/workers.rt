@@ -145,8 +145,8 @@ fn seats<B: Room, T: Wait>(
     Ok(workers)
 }
 
-// Does the task while the workers work, each on a thread of its own, then tells them to end and waits for them. The task is told
-// whether all of them could be started. How many could is answered beside what came of it.
+// Does the task while the workers work, each on a thread of its own. Then it tells them to end, and waits for them. The task
+// learns whether all of them could be started. The answer is what came of the task, and how many were started.
 #[tactic(auto, using(crate::proofs::Lent::session_send))]
 fn beside<B: Room + Send + Sync, T: Threads + Wait + Sync, J: Task + Drop>(
     rt: &T,
@@ -305,15 +305,15 @@ fn serve_beside<B: Room + Send + Sync, T: Threads + Wait + Sync, R: Read, W: Wri
     }
 }
 
-/// Reads the source, opens a session of its program, and serves one desk of it as `debug` serves a session, beside so many
-/// workers on threads of their own, which take the steps that `free` grants. In the end the workers are told to end and waited
-/// for, and the session is shared no more.
+/// Reads the source, opens a session of its program, and serves one desk of it as `debug` serves a session. Beside it this many
+/// workers, each on a thread of its own, take the steps that `free` grants. In the end it tells the workers to end, waits for
+/// them, and shares the session no more.
 ///
 /// The answers are those of a legal journal of the source's program, in which the desk's entries are its commands, in their
 /// order.
 ///
-/// After `Threads` a thread could not be started, and no command was read, or seats were missing in the end, and all lines were
-/// served. After the other faults what holds after those of `debug` holds.
+/// `Threads` means one of two things. Either a thread could not be started, and no command was read; or seats were missing in
+/// the end, and all lines were served. The other faults mean what they mean in `debug`.
 pub fn debug_beside<S: Read, R: Read, W: Write, T: Threads + Wait + Sync>(
     rt: &T,
     alloc: Global,

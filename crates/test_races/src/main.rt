@@ -1,7 +1,7 @@
 //! Desks and workers that race: `test_races DESKS WORKERS COMMANDS RACES FILE..`. In each race over a Go file this many desks
-//! and workers share a session, each on a thread of its own. Each desk asks this many commands that change a session, drawn
-//! at random. When all have ended, a fresh session takes the kept steps once more. Both sessions have to tell the same of
-//! each goroutine, of what it printed and of each channel.
+//! and workers share a session, each on a thread of its own. Each desk asks this many commands that change a session, drawn at
+//! random. When all have ended, a fresh session takes the kept steps once more. Both sessions have to answer alike about each
+//! goroutine, of what it printed and of each channel.
 //!
 //! For each file it writes how many races ended so, and what came of each race on standard error.
 //!

@@ -104,7 +104,7 @@ fn is_told_alike(
     Some(first.as_slice() == second.as_slice())
 }
 
-/// Whether two sessions tell the same of a goroutine, of what it printed, and of the first channels that it made, this many.
+/// Whether two sessions answer alike about a goroutine, what it printed, and this many of the first channels that it made.
 fn is_alike(
     alloc: Global,
     one: &mut Asked,
@@ -127,7 +127,7 @@ fn is_alike(
     Some(true)
 }
 
-/// How many goroutines the steps of a log know. `None` unless two sessions that took them tell the same of all goroutines and
+/// How many goroutines the steps of a log know. `None` unless two sessions that took them answer alike about all goroutines and
 /// channels.
 fn compare(
     alloc: Global,
@@ -166,7 +166,7 @@ fn compare_again(
 }
 
 /// How many steps a session of the source keeps, and how many goroutines they know. A fresh session takes the same steps, and
-/// has to tell the same of all goroutines and channels. `None` where it does not, or memory ran out.
+/// has to answer alike about all goroutines and channels. `None` where it does not, or memory ran out.
 pub fn replay(alloc: Global, source: &[u8], session: Session) -> Option<(usize, usize)> {
     let mut shared = Asked::new(session)?;
     let log = shared.log(alloc)?;

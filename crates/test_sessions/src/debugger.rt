@@ -244,7 +244,7 @@ fn serves_a_session(rt: HostRuntime) -> Result<(), Fail> {
     Ok(())
 }
 
-/// A program that waits in a select of so many clauses.
+/// A program that waits in a select of this many clauses.
 fn with_clauses(alloc: Global, count: u64) -> Option<Vec<u8>> {
     let mut text = Vec::new(alloc);
     let begins = b"package main\nfunc main() {\n\tc := make(chan int)\n\tselect {\n";

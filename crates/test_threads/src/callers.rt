@@ -111,7 +111,7 @@ fn ask_a_hundred<B: Room, T: Wait>(
     answers
 }
 
-/// 1 where the reply to the line comes to begin like this, which is asked up to 10,000 times.
+/// 1 where the reply to the line begins like this in the end. The line is asked up to 10,000 times.
 fn wait_until<B: Room, T: Wait + Clock>(
     rt: &T,
     alloc: Global,

@@ -61,7 +61,7 @@ struct Act {
     wanted: Wanted,
 }
 
-/// A scene in which nobody calls, and what it comes to.
+/// A scene in which nobody calls, and its result.
 const EMPTY: Scene<'static> = Scene {
     source: SPINNING,
     first: &[],

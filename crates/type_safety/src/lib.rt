@@ -20,7 +20,7 @@ ghost use Rattle.gr_lower.specs.CanLower.{CanLower};
 ghost use Rattle.gr_lower.specs.Lowered.{lowered, meaning};
 ghost use Rattle.type_safety.specs.Standing.{StandsAs, FrameSends, AreFresh};
 
-/// Progress. In every state that a run of a checked program reaches, while the program runs, each ready goroutine has a step:
+/// Progress. In every state that a run of a checked program reaches, each ready goroutine has a step while the program runs:
 /// the one with the usual choice. No event is refused as unsound, since no value of a wrong kind is met.
 pub fn law_of_checked_programs()
     ensures progress { (file : FileTree) (p : Program) (t : State) (name : List ℕ) (g : Goroutine)

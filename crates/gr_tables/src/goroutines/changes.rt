@@ -34,8 +34,8 @@ impl Goroutines {
         goroutine.local_step(self.alloc, code)
     }
 
-    /// The goroutine with a number takes its next step, if it is ready and the step is over whole numbers alone, as
-    /// `Goroutine::step_ints` does; else no content has changed.
+    /// The goroutine with a number takes its next step as `Goroutine::step_ints` does, if it is ready and the step is over
+    /// whole numbers alone. Else no content has changed.
     #[inline(always)]
     pub fn step_ints(&mut self, number: usize, code: &Code) -> Option<(u64, GoUndo)>
         requires { At (CanTry (program_code_of code.now)) (seen_at self.old number) }

@@ -174,7 +174,7 @@ pub fn all_targets(
     Ok(targets)
 }
 
-/// Whether what a name stands for takes values of a type.
+/// Whether a variable of this name takes values of a type.
 pub fn accepts(scope: &Scope, target: Option<usize>, own: &Type) -> Result<(), RuleError>
     ensures value { Holds result (pure.accepts (scope_of scope.now) target (ty_of own.now)) }
     ensures code { Tells result codes.WrongForm }
