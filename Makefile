@@ -22,7 +22,7 @@ bin/rewind: FORCE
 	$(NEEDS_RT)
 	tools/prove.py rewind_cli $@ --help
 
-quick: bin/rewind-quick ## builds the program without proofs, as bin/rewind-quick (3 minutes)
+quick: bin/rewind-quick ## builds the program without proofs, as bin/rewind-quick (2 minutes)
 
 bin/rewind-quick: bin/quick/rewind.bc tools/quick_program.py
 	$(NEEDS_RT)
@@ -34,10 +34,10 @@ bin/quick/rewind.bc: $(SOURCES) crates.txt tools/quick_module.py tools/keep_modu
 	$(NEEDS_RT)
 	tools/quick_module.py $@
 
-demo: bin/rewind-quick ## shows how to take back the step behind a deadlock (3 minutes with the quick build)
+demo: bin/rewind-quick ## shows how to take back the step behind a deadlock (2 minutes with the quick build)
 	@tools/demo.py bin/rewind-quick
 
-quick-page: page-needs page/out/rewind-quick.wasm ## the debugger in a web page of the quick build: bin/rewind-quick.html (3 minutes)
+quick-page: page-needs page/out/rewind-quick.wasm ## the debugger in a web page of the quick build: bin/rewind-quick.html (2 minutes)
 	page/inline.py page/out/rewind-quick.wasm bin/rewind-quick.html --unproved
 
 page: page-needs page/out/rewind.wasm ## the debugger in a web page of the proved program: bin/rewind.html (5 minutes after make)
@@ -92,7 +92,7 @@ uninstall: ## removes what install installed
 
 ## Test it
 
-test: bin/rewind-quick ## every test, without proofs (10 minutes on two processors)
+test: bin/rewind-quick ## every test, without proofs (7 minutes on two processors)
 	tests/run.py bin/rewind-quick
 
 gate: ## the gate: each proof from nothing, edits that must be refused, all tests and programs (hours; see README.md)
