@@ -18,7 +18,7 @@ use Rattle.gr_code.specs.CodeFrames.{CodeFrame, Task, Steps, Wants, asked_in, wi
 use Rattle.gr_code.specs.Programs.{ActionInBounds, ArmsInBounds, InBounds}
 use Rattle.gr_code.proofs.Staying.{then_given}
 
--- of the same function, at one of so many instructions, with m cells
+-- of the same function, at one of this many instructions, with m cells
 abbrev pub InPlace : ℕ → ℕ → ℕ → CodeFrame → Type 0
 InPlace function m count g = (g.function ≡ function) × (g.number < count) × (length g.cells ≡ m)
 

@@ -47,7 +47,7 @@ module _ (f : CodeFrame) (below : List CodeFrame) where
   told (undos.Faulted s) h e = at_innermost s (at_spot s) h.frames (λ k. (refl, refl)) e
   told (undos.Retried s) h e = (refl, refl)
 
-  -- where changes were taken back from x, which gave a goroutine with so many steps
+  -- where changes were taken back from x, which gave a goroutine with this many steps
   abbrev pub Stood : Option Spot → Option CodeGoroutine → CodeGoroutine → Type 0
   Stood (Some s) x g = IsAt s f
   Stood None x g = (h : CodeGoroutine) × (x ≡ Some h) × (h.steps ≡ g.steps)

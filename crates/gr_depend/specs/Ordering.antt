@@ -45,7 +45,8 @@ pub record AreInverse (from to : List ℕ) : Type 0 where
   pub goes : (i : ℕ) → i < length from → (place_at from i < length to) × (place_at to (place_at from i) ≡ i)
   pub comes : (p : ℕ) → p < length to → (place_at to p < length from) × (place_at from (place_at to p) ≡ p)
 
--- for each place in the order of the names the place of its step in the log, and for each place in the log that in the order
+-- for each place in the order of the names, the place of its step in the log; and for each place in the log, its place in the
+-- order
 pub record AreMoves (rs : List Record) (names : List StepId) (from to : List ℕ) : Type 0 where
   pub count : length from ≡ length names
   pub places : length to ≡ length rs

@@ -37,7 +37,7 @@ parked_for name s clause _ = s
 abbrev pub parked_in : List ℕ → Contents → List (Option ℕ × Communication) → Contents
 parked_in name s ws = fold (λ t w. parked_for name t w.0 w.1) s ws
 
--- who comes to wait for one communication after the other stands in the queues that the rules change
+-- a goroutine that comes to wait for one communication after the other stands in the queues that the rules change
 abbrev pub ParkingIsEnqueuing : Type 0
 ParkingIsEnqueuing = (name : List ℕ) (s : Contents) (ws : List (Option ℕ × Communication))
     → parked_in name s ws ≡ with_gates (enqueuing name ws) s (channels_but [] (all_waits ws))

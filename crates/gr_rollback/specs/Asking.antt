@@ -1,4 +1,4 @@
--- What is told of the step of a name: some steps of the log, by its place; or that there is none.
+-- The answer to a question about the step of a name: some steps of the log, by its place; or that there is none.
 use Rattle.std.specs.Prelude.{◌≡◌, ℕ, List, Option, Some, None, Vec, Result, Ok, Err}
 use Rattle.std.proofs.Common.{Global}
 use Rattle.gr_base.specs.declared.memory.NoMemory.{NoMemory}
@@ -22,7 +22,7 @@ abbrev pub Tells : (p : Program) → List (Logged p) → StepId → (ℕ → Lis
 Tells p log id steps (Some ids) = TellsSteps p log id steps ids.items
 Tells p log id steps None = (place : ℕ) → ¬ IsNamed p log id place
 
--- what is told, or that there was no memory for the names of a step that is kept
+-- the answer, or that there was no memory for the names of a step that is kept
 abbrev pub IsTold : (p : Program) → List (Logged p) → StepId → (ℕ → List (Logged p)) → Result (Option (Vec StepId Global)) NoMemory → Type 0
 IsTold p log id steps (Ok told) = Tells p log id steps told
 IsTold p log id steps (Err e) = IsKept p log id

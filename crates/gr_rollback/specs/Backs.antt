@@ -43,7 +43,8 @@ pub record LosesSome (p : Program) (w : Past p) (place : ℕ) (gone : List (Logg
   pub others : AreTheOthers w.log gone u.log
   pub run : IsRun p u.log u.state
 
--- what may be done again when these steps were taken back: they, in the order in which they were taken; but as before where it was none
+-- what may be done again when these steps were taken back: these, in the order in which they were taken; as before where there
+-- were none
 abbrev pub again_after : List Event → List Event → List Event
 again_after [] before = before
 again_after (e ∷ es) before = e ∷ es

@@ -38,11 +38,11 @@ pub record IsLentAt (s : State) (place : ℕ) (o : Option (List ℕ)) : Type 0 w
 abbrev pub SomeGoesAlone : State → Type 0
 SomeGoesAlone s = (n : List ℕ) × (goes_alone s n ≡ true)
 
--- so many steps of a goroutine, with no choice
+-- this many steps of a goroutine, with no choice
 abbrev pub own_events : List ℕ → ℕ → List Event
 own_events go count = replicate count (record { go = go; choice = Plain })
 
--- so many steps of the goroutine join those that are kept: each is a step where the others led
+-- this many steps of the goroutine join those that are kept: each is a step where the others led
 pub record JoinAll (p : Program) (w : Past p) (go : List ℕ) (count : ℕ) (steps : List (Logged p)) (t : State) : Type 0 where
   pub events : events_in p steps ≡ own_events go count
   pub leads : IsLog (machine p) w.state steps t

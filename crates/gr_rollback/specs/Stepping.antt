@@ -1,4 +1,4 @@
--- What is told of a step, the step that is asked for, and how the steps that were taken are counted.
+-- What a caller learns of a step, the step that is asked for, and how the steps that were taken are counted.
 use Rattle.std.specs.Prelude.{◌≡◌, ◌+◌, ◌-◌, ◌^◌, ◌⊎◌, ℕ, zero, suc, List, Option, Some, None, min}
 use Rattle.gr_base.specs.declared.events.Choice.{Choice}
 use Rattle.gr_base.specs.declared.events.Event.{Event}
@@ -24,12 +24,12 @@ told_by r = record { ordinal = r.id.n; kind = r.change.kind }
 abbrev pub one_more : ℕ → ℕ
 one_more taken = min (taken + 1) (2 ^ 64 - 1)
 
--- how many steps were taken, with so many more
+-- how many steps were taken, with this many more
 abbrev pub counted : ℕ → ℕ → ℕ
 counted zero taken = taken
 counted (suc more) taken = one_more (counted more taken)
 
--- how many steps were taken before, and after so many more; one that was taken back for memory may count too
+-- how many steps were taken before, and after this many more; one that was taken back when out of memory may count too
 abbrev pub MayCountOne : ℕ → ℕ → ℕ → Type 0
 MayCountOne more old new = (new ≡ counted more old) ⊎ (new ≡ one_more (counted more old))
 

@@ -70,8 +70,8 @@ same_variable = pointwise nat_eq
 abbrev pub assigns : Program → State → List ℕ → List ℕ → Event → Bool
 assigns p s g x e = same_go g e.go && list_any (same_variable x) (assigned p s e)
 
--- the place of the last of some steps, if there is one, from the place of the last after the first step, and from whether
--- the first is one
+-- the place of the last of some steps, if there is one. It follows from the last after the first step, and from whether the
+-- first is one
 abbrev pub later : Option ℕ → Bool → Option ℕ
 later (Some i) b = Some (suc i)
 later None b = if b then Some 0 else None

@@ -82,8 +82,8 @@ abbrev pub IsTurn : State → Option (List ℕ) → Option (List ℕ) → Type 0
 IsTurn s last (Some g) = HasTurn s last g
 IsTurn s last None = (g : List ℕ) → ¬ IsReady s g
 
--- Steps by turns, each with the usual choice. They lead from a state and a log to a state, a log, how many were taken, and
--- why they ended.
+-- Steps by the round robin, each with the usual choice. They lead from a state and a log to a state, a log, how many were
+-- taken, and why they ended.
 pub data Runs (p : Program) (breaks : List ℕ) (wanted : ℕ) : ℕ → State → List (StepOf (machine p)) → State → List (StepOf (machine p)) → ℕ → RunEnd → Type 0 where
   stops : {taken : ℕ} {s : State} {log : List (StepOf (machine p))} {why : RunEnd} (turn : Option (List ℕ))
       → IsTurn s (last_owner p log) turn

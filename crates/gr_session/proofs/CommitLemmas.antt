@@ -103,7 +103,7 @@ module _ (p : Program) (w : World p) (d : Debuggee) (s : Stands p w d) (b : Loan
       stands = s;
     }
 
-    -- it has, and so only memory may be wanted
+    -- the log has room for them, and so it can only run out of memory
     pub may_join : (rest : ℕ) → rest + length w.log ≡ most_steps → steps ≤ rest → (steps ≡ 0 → ⊥) → MayJoin p w (contents_at (store_in d)) b
     may_join rest all fits some = record {
       as_lent = lent_here p w d s b lent;

@@ -7,7 +7,7 @@ use Rattle.gr_rollback.specs.StepLeasing.{IsLease, SameLoan, LeadsOn, Stays, Can
 use Rattle.gr_lower.specs.Lowered.{lowered}
 use Rattle.gr_session.specs.Copies.{HasNoFurther, IsBatch, most_at, loan_of}
 
--- steps on the copy, of the same loan, at most so many
+-- steps on the copy, of the same loan, at most this many
 pub record OnTheWay (most : ℕ) (lent led : LentCopy) : Type 0 where
   pub lease : IsLease led
   pub loan : SameLoan lent led

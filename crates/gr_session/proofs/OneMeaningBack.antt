@@ -33,7 +33,7 @@ module _ (p : Program) (w u v : Past p) (i j : ℕ) (same : i ≡ j) where
   pub one_left : LosesAll p w i u → LosesAll p w j v → u ≡ v
   one_left first second = one_past p u v first.run second.run (first.log ∙ ap (kept (clash p) w.log) same ∙ sym second.log)
 
-  -- so many of the last consequences are one
+  -- this many of the last consequences are one list
   pub one_gone : (gone other : List (Logged p)) → length gone ≡ length other → LosesSome p w i gone u → LosesSome p w j other v → gone ≡ other
   one_gone gone other count first second =
       same_ends first.left second.left gone other count (sym first.last ∙ ap (dependents (clash p) w.log) same ∙ second.last)

@@ -54,7 +54,7 @@ module _ (p : Program) where
   consequences : (w : World p) (i j : ℕ) → i ≡ j → ids_of p (dependents (clash p) w.log i) ≡ ids_of p (dependents (clash p) w.log j)
   consequences w i j same = ap (λ i. ids_of p (dependents (clash p) w.log i)) same
 
-  -- as far as memory allowed, steps by turns come to one end
+  -- as far as memory allowed, steps by the round robin come to one end
   one_end : (w : World p) (wanted : ℕ) (memory : Memory) (x y : Past p) (m n : ℕ) (why because : RunEnd)
       → ByTurns p w wanted memory x m why → ByTurns p w wanted memory y n because → (x ≡ y) × (m ≡ n) × (why ≡ because)
   one_end w wanted memory x y m n why because (until_end reason all told) (until_end cause every said) =

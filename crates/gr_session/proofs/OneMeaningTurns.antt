@@ -1,4 +1,4 @@
--- Steps by turns go one way: a turn is of one goroutine, and a run stops at one place, for one reason.
+-- Steps by the round robin go one way: a turn is of one goroutine, and a run stops at one place, for one reason.
 use Rattle.std.proofs.Common.{◌≡◌, ℕ, ◌+◌, List, [], ◌∷◌, ◌++◌, length, Option, Some, None, inl, inr, refl, sym, ◌∙◌, ap, subst}
 use Rattle.std.specs.declared.cmp.Ordering.{Ordering}
 use Rattle.std.specs.declared.cmp.Ordering.TheVariants.{Less, Equal, Greater}
@@ -47,7 +47,7 @@ one_turn s last None (Some h) t u = absurd (t h (turn_is_ready s last h u))
 one_turn s last (Some g) None t u = absurd (u g (turn_is_ready s last g t))
 one_turn s last (Some g) (Some h) t u = ap Some (one_has_turn s last g h t u)
 
--- two ends of steps by turns that are one
+-- two ends of steps by the round robin that are one
 pub record SameEnd (p : Program) (s t : State) (old new : List (Logged p)) (m n : ℕ) (why because : RunEnd) : Type 0 where
   pub state : s ≡ t
   pub log : old ≡ new
@@ -66,7 +66,7 @@ module _ (p : Program) (breaks : List ℕ) (wanted : ℕ) where
       → q.event ≡ record { go = h; choice = usual_choice p s h } → r.event ≡ q.event
   one_event s g h r q same a b = a ∙ ap (λ g. record { go = g; choice = usual_choice p s g }) same ∙ sym b
 
-  -- steps by turns from one place come to one end
+  -- steps by the round robin from one place come to one end
   pub one_end_of_run : (taken : ℕ) (s u v : State) (log old new : List (Logged p)) (m n : ℕ) (why because : RunEnd)
       → Runs p breaks wanted taken s log u old m why → Runs p breaks wanted taken s log v new n because
       → SameEnd p u v old new m n why because
@@ -87,7 +87,7 @@ module _ (p : Program) (breaks : List ℕ) (wanted : ℕ) where
       (subst (λ y. Runs p breaks wanted (taken + 1) y (log ++ r ∷ []) v new n because) (sym one.1)
       (subst (λ y. Runs p breaks wanted (taken + 1) other (log ++ y ∷ []) v new n because) (sym one.0) more))
 
-  -- steps by turns lead on from what a run leads to
+  -- steps by the round robin lead on from what a run leads to
   pub runs_lead_on : (taken : ℕ) (s u : State) (log old : List (Logged p)) (m : ℕ) (why : RunEnd)
       → Runs p breaks wanted taken s log u old m why → IsRun p log s → IsRun p old u
   runs_lead_on taken s u log old m why (stops a t is) run = run

@@ -19,7 +19,7 @@ use Rattle.gr_session.proofs.OneMeaningRedo.{redo_leads_on}
 use Rattle.gr_session.proofs.OneMeaningOrders.{order_leads_on}
 
 module _ (p : Program) where
-  -- steps by turns lead on from a world of a run
+  -- steps by the round robin lead on from a world of a run
   turns_lead_on : (w : World p) (wanted : ℕ) (memory : Memory) (x : Past p) (m : ℕ) (why : RunEnd) → IsRun p w.log w.state
       → ByTurns p w wanted memory x m why → IsRun p x.log x.state
   turns_lead_on w wanted memory x m why run (until_end reason all told) = runs_lead_on p w.lines wanted 0 w.state x.state w.log x.log m reason all run

@@ -1,4 +1,4 @@
--- Steps by turns, and why they end.
+-- Steps of the ready goroutines, round robin, and why they end.
 use Rattle.std.proofs.Common.{◌≡◌, ℕ, suc, ◌+◌, ◌≤◌, ◌<◌, true, false, if◌then◌else◌, nat_eq, eq-eqb, eqb-true, le-leb, leb-true, List, length, Option, Some, None, inl, inr, refl, sym, ap, subst, ◌∙◌, arith}
 use Rattle.std.specs.Prelude.{nat_le}
 use Rattle.std.proofs.lemmas.Bool.{cases_Bool}
@@ -88,7 +88,7 @@ module _ (p : Program) (w : World p) (d : Debuggee) (s : Stands p w d) (owner : 
         → EndsBy p w wanted taken (at_break line)
     breaks_now e line at = record { owner = owner; turn = turn; why = by_break (Some (at_break line)) (rw (other_is taken 0 e) at) }
 
--- where so many were taken that more are wanted, nothing but their number is told of those wanted
+-- where more steps are wanted than were taken, only their number says how many are wanted
 goes_however : (p : Program) (w : World p) (wanted other taken : ℕ) (g : List ℕ) → taken < wanted → taken < other
     → why_end w.state w.lines wanted taken (length w.log) (Some g) ≡ None → why_end w.state w.lines other taken (length w.log) (Some g) ≡ None
 goes_however p w wanted other taken g less few none = by_state w.state.run none
@@ -122,7 +122,7 @@ LeadsOn p w v taken = (wanted : ℕ) → taken ≤ wanted → (u : Past p) (all 
     → Runs p w.lines wanted taken v.state v.log u.state u.log all why
     → Runs p w.lines wanted 0 w.state w.log u.state u.log all why
 
--- where a program stands after so many steps by turns
+-- where a program stands after this many steps, round robin
 pub record HasGone (p : Program) (w : World p) (taken : ℕ) (d : Debuggee) : Type 0 where
   pub past : Past p
   pub stands : Stands p (moved p w past (again_past taken w.again)) d

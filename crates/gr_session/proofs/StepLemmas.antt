@@ -27,7 +27,7 @@ use Rattle.gr_session.specs.Carried.{LeadsTo}
 use Rattle.gr_session.proofs.DebuggeeLemmas.{log_length}
 use Rattle.gr_session.proofs.Basics.{some_inj}
 
--- a step that the log has no room for, and one that memory was wanting for
+-- a step that the log has no room for, and one that was out of memory
 pub no_room : (p : Program) (w : World p) (d : Debuggee) (e : Event) → Stands p w d → refusal p w.state e ≡ None
     → LOG_LIMIT ≤ length (records_of (log_in d)) → IsNoStep p w e refusals.LogFull
 no_room p w d e s allowed full = by_limit allowed (subst (λ n. most_steps ≤ n) (log_length p w d s) full)

@@ -16,8 +16,9 @@ abbrev pub with_steps : (p : Program) → World p → Loan → List (Logged p) �
 with_steps p w b steps t =
     record (moved p w (record { log = w.log ++ steps; state = t }) (again_past b.steps w.again)) { grant = w.grant - b.steps }
 
--- What comes of the steps of a loan in a world, and whether the goroutine stood as it was lent, in a run of the same program that
--- goes on. The rules do not see how a goroutine stands in code, and so its content is that of a store to which the steps lead.
+-- What comes of the steps of a loan in a world, and whether the goroutine stood as it was lent. For that, a run of the same
+-- program must go on. The rules do not see how a goroutine stands in code. So its content is that of a store to which the steps
+-- lead.
 pub data Commits (p : Program) (w : World p) (b : Loan) : Bool → World p → Said → Type 0 where
   -- it did: the steps join the log, each where the ones before it lead
   all_join : {t : State} (s : Contents) (steps : List (Logged p))

@@ -37,7 +37,7 @@ use Rattle.gr_session.specs.declared.journal.Memory.TheVariants.{Enough, EnoughF
 use Rattle.gr_session.specs.Targets.{step_asked}
 
 -- A world: the steps that are kept, the oldest first, and the state to which they lead. Beside these, the events that `redo`
--- takes, the first of them first, the lines with a breakpoint, and the grant: how many steps workers may still take by turns.
+-- takes, the first of them first, the lines with a breakpoint, and the grant: how many steps workers may still take.
 pub record World (p : Program) : Type 0 where
   pub log : List (Logged p)
   pub state : State
@@ -60,7 +60,7 @@ course_of p w = record { past = past_of p w; again = w.again }
 abbrev pub moved : (p : Program) → World p → Past p → List Event → World p
 moved p w u again = record { log = u.log; state = u.state; again = again; lines = w.lines; grant = w.grant }
 
--- what may be taken again after so many steps
+-- what may be taken again after this many steps
 abbrev pub again_past : ℕ → List Event → List Event
 again_past zero again = again
 again_past (suc taken) again = []
@@ -80,7 +80,8 @@ pub record IsAsked (p : Program) (log : List (Logged p)) (target : Target) (plac
   pub asked : step_asked p log target ≡ Some id
   pub named : IsNamed p log id place
 
--- At most so many steps by turns, as far as memory allowed: to which past they lead, how many were taken, and why they ended.
+-- At most this many steps, round robin, as far as memory allowed: to which past they lead, how many were taken, and why they
+-- ended.
 pub data ByTurns (p : Program) (w : World p) (wanted : ℕ) : Memory → Past p → ℕ → RunEnd → Type 0 where
   -- a reason ended them
   until_end : {taken : ℕ} {after : Past p} {why : RunEnd} (reason : turns.RunEnd)
@@ -93,7 +94,7 @@ pub data ByTurns (p : Program) (w : World p) (wanted : ℕ) : Memory → Past p 
       → why_end after.state w.lines wanted taken (length after.log) (Some g) ≡ None
       → ByTurns p w wanted (EnoughFor taken) after taken ends.Memory
 
--- the world after so many steps by turns
+-- the world after this many steps, round robin
 abbrev pub turned : (p : Program) → World p → Past p → ℕ → World p
 turned p w after taken = moved p w after (again_past taken w.again)
 

@@ -21,7 +21,7 @@ use Rattle.gr_session.specs.declared.journal.Memory.TheVariants.{Enough, EnoughF
 use Rattle.gr_session.specs.Journal.{World, past_of, moved}
 use Rattle.gr_session.specs.Debuggees.{Stands}
 
--- memory is spoken of only where it was wanting
+-- the memory of an entry is less than enough only where it ran out
 abbrev pub memory_of : Refusal → Memory
 memory_of refusals.NoMemory = EnoughFor 0
 memory_of why = Enough

@@ -1,4 +1,4 @@
--- Steps by turns, one after the other, and why they end.
+-- Steps of the ready goroutines, round robin, one after the other, and why they end.
 use Rattle.std.specs.Prelude.{◌≡◌, ℕ, List, [], length, Option, Some, None, Result, Ok, Err}
 use Rattle.gr_program.specs.Programs.{Program}
 use Rattle.gr_rules.specs.States.{State}
@@ -17,7 +17,7 @@ use Rattle.gr_session.specs.declared.journal.Memory.TheVariants.{Enough, EnoughF
 use Rattle.gr_session.specs.Journal.{World, past_of, moved, ByTurns, turned}
 use Rattle.gr_session.specs.Debuggees.{Stands}
 
--- for how many steps by turns memory was enough
+-- for how many steps, round robin, memory was enough
 abbrev pub memory_at : ℕ → RunEnd → Memory
 memory_at taken ends.Memory = EnoughFor taken
 memory_at taken why = Enough
@@ -47,12 +47,12 @@ abbrev pub Ends : (p : Program) → World p → ℕ → ℕ → RunEnd → Type 
 Ends p w wanted taken ends.Memory = (g : List ℕ) × HasTurn p w wanted taken g
 Ends p w wanted taken why = (reason : turns.RunEnd) × EndsBy p w wanted taken reason × (end_in why ≡ Some reason)
 
--- a step by turns is taken, or nothing has changed
+-- the next step of the round robin is taken, or nothing has changed
 abbrev pub Turns : (p : Program) → World p → ℕ → ℕ → Result (Unit {0}) RunEnd → Debuggee → Type 0
 Turns p w wanted taken (Ok done) d = TakesTurn p w wanted taken d
 Turns p w wanted taken (Err why) d = Ends p w wanted taken why × Stands p w d
 
--- at most so many steps by turns were taken, and the program stands where they lead
+-- at most this many steps were taken, round robin, and the program stands where they lead
 pub record GoesByTurns (p : Program) (w : World p) (wanted taken : ℕ) (why : RunEnd) (d : Debuggee) : Type 0 where
   pub after : Past p
   pub by_turns : ByTurns p w wanted (memory_at taken why) after taken why

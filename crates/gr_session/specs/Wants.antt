@@ -1,4 +1,4 @@
--- What a command may want memory for, and what it leaves.
+-- What a command may need memory for, and what it leaves.
 use Rattle.gr_command.specs.declared.command.Command.{Command}
 use Rattle.gr_command.specs.declared.command.Command.TheVariants as commands
 
@@ -13,7 +13,7 @@ LeavesStore (commands.Order ids) = ⊥
 LeavesStore commands.Turn = ⊥
 LeavesStore command = Unit {0}
 
--- the command may want memory beside that of its entry, before it is carried out: for names, for a breakpoint, or for an answer
+-- the command may need memory beside that of its entry, before it is carried out: for names, for a breakpoint, or for an answer
 abbrev pub MayWantMemory : Command → Type 0
 MayWantMemory (commands.Run count) = ⊥
 MayWantMemory commands.Undo = ⊥

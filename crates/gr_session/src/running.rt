@@ -97,7 +97,7 @@ pub(crate) fn take_turns(alloc: Global, debuggee: &mut Debuggee, count: u32) -> 
     }
 }
 
-/// Takes up to this many steps by turns.
+/// Takes up to this many steps of the ready goroutines, round robin.
 pub(crate) fn run(alloc: Global, debuggee: &mut Debuggee, count: u32) -> (Memory, Reply)
     requires { IsDebuggee debuggee.old }
     ensures leads { (p : Program) → (w : World p) → Stands p w debuggee.old

@@ -34,14 +34,14 @@ abbrev pub places : ℕ → ℕ → List Entry → List ℕ
 places asker first [] = []
 places asker first (e ∷ es) = if e.asker == asker then first ∷ places asker (suc first) es else places asker (suc first) es
 
--- the journal got so many steps of a goroutine as one entry, whose number and reply these are
+-- the journal got this many steps of a goroutine as one entry, with this number and reply
 pub record EntersSteps (p : Program) (asker : ℕ) (go : List ℕ) (steps : ℕ) (old new : List Entry) (number : ℕ) (reply : Said) : Type 0 where
   pub loan : Loan
   pub name : loan.name ≡ go
   pub count : loan.steps ≡ steps
   pub enters : EntersBatch p asker loan old new number reply
 
--- the journal got a command or so many steps of a goroutine as one entry, whose number and reply these are
+-- the journal got a command, or this many steps of a goroutine, as one entry, with this number and reply
 abbrev pub EntersCall : Program → ℕ → Wanted → List Entry → List Entry → ℕ → Said → Type 0
 EntersCall p asker (Command command) old new number reply = EntersCommand p asker command old new number reply
 EntersCall p asker (Batch go steps) old new number reply = EntersSteps p asker go steps old new number reply
@@ -63,7 +63,7 @@ pub record IsTied (session : Seen) (asker : Asker) : Type 0 where
 abbrev pub with_call : Asker → Wanted → Receipt → Asker
 with_call a wanted r = record a { calls = a.calls ++ record { asked = wanted; receipt = r } ∷ [] }
 
--- the asker has one call more, of what it wanted and with this receipt, whose number is larger than all before
+-- the asker has one call more, of what it asked and with this receipt. The receipt's number is larger than all before
 abbrev pub GainsBy : Asker → Wanted → Receipt → Asker → Type 0
 GainsBy old wanted r new = (new ≡ with_call old wanted r) × All (λ c. c.receipt.number < r.number) old.calls
 
@@ -79,8 +79,8 @@ pub record WasFull (p : Program) (asker : Asker) : Type 0 where
   pub full : length journal ≡ JOURNAL_LIMIT
   pub calls : All (IsEntry p journal asker.number) asker.calls
 
--- the asker has one call more, whose receipt is shown, or it was refused, and nothing changed; a journal that is told to be full
--- was full
+-- the asker has one call more, and its receipt is shown; or it was refused, and nothing changed. A journal that was said to be
+-- full was full
 abbrev pub Asked : Program → Asker → Wanted → Result (Bor Receipt) AskRefused → Asker → Type 0
 Asked p old wanted result new =
     IfOk result (λ r. GainsBy old wanted r.now new) × OnErr result (new ≡ old) × (IsErrOf result JournalFull → WasFull p old)

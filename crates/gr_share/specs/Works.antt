@@ -17,12 +17,12 @@ use Rattle.gr_share.specs.Calls.{Asker}
 abbrev pub most_lent : (p : Program) → World p → ℕ
 most_lent p w = min (most_steps - length w.log) w.grant
 
--- where this journal leads, the goroutine at the place is lent, to take so many steps at most
+-- where this journal leads, the goroutine at the place is lent, to take at most this many steps
 pub record Lends (p : Program) (journal : List Entry) (place : ℕ) (lease : Lent) (limit : ℕ) : Type 0 where
   pub place_is : lease.place ≡ place
   pub lent : InItsWorld p journal (λ w. IsLoan p w place lease.copy × (limit ≡ most_lent p w))
 
--- a goroutine of this name was lent at the place, to take so many steps or more
+-- a goroutine of this name was lent at the place, to take this many steps or more
 pub record WasLent (p : Program) (place : ℕ) (go : List ℕ) (steps : ℕ) : Type 0 where
   pub journal : List Entry
   pub lease : Lent

@@ -22,8 +22,8 @@ use Rattle.gr_record.specs.Effects.{Effect}
 use Rattle.gr_record.specs.Fews.{members}
 use Rattle.gr_record.specs.Parts.{reads_in, writes_in, begun_in, made_in}
 
--- it did this with a channel, read these and wrote these, started and made these, ended or stopped the program or not, and reached
--- nothing else
+-- what it did with a channel, read, wrote, started and made, and whether it ended or stopped the program; it reached nothing
+-- else
 pub record ReachesAll (did : Option Operation) (read written : List Object) (begun : Option (List ℕ)) (made : Option ChName) (stopped : Bool)
     (b : Beyond) : Type 0 where
   pub operation : b.operation ≡ did

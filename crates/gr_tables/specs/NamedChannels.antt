@@ -136,12 +136,12 @@ is_at_gate ParkedReceiver = true
 is_at_gate (Withdrawn s r) = true
 is_at_gate (Closed s r) = true
 
--- each of these changes wrote a gate alone, that of a channel among these
+-- each of these changes wrote the gate of a channel among these, and nothing else
 abbrev pub AreAtGates : List ChName → List (ChName × ChanUndo) → Type 0
 AreAtGates names [] = Unit {0}
 AreAtGates names (e ∷ es) = (is_at_gate e.1 ≡ true) × (list_any (same_channel e.0) names ≡ true) × AreAtGates names es
 
--- these changes are the first ones, and the others after them each wrote a gate alone, that of a channel among these
+-- these changes are the first ones; each of the others after them wrote the gate of a channel among these, and nothing else
 pub record MoreAtGates (names : List ChName) (done us : List (ChName × ChanUndo)) : Type 0 where
   pub more : List (ChName × ChanUndo)
   pub are : us ≡ done ++ more

@@ -71,7 +71,7 @@ stretch_long : (w : Bool) (place count : ℕ) → length (stretch w place count)
 stretch_long w place zero = refl
 stretch_long w place (suc count) = ap suc (stretch_long w (suc place) count)
 
--- a lane has room for so many touches that fit
+-- a lane has room for this many touches that fit
 pub has_room_for : (l : Lanes) (o : Object) (other : same Run o ≡ false) (i : ℕ) (at : slice_get (keys l.map) i ≡ Some o) (v : LaneSeen)
     (value : Some v ≡ slice_get (values l.map) i) (count : ℕ) → length (list_of l o) + count ≤ capacity_of l o → count ≤ v.1
 has_room_for l o other i at v value count fits =
@@ -88,7 +88,7 @@ no_room_for l o other absent count some fits =
     let size : capacity_of l o ≡ 0 = rw other (ap (λ x. size_of (unwrap_or x nothing)) absent) in
     omega (arith, some, fits, size)
 
--- where the touches fit, there is room for so many in the list of Run, and in that of the goroutine
+-- where the touches fit, there is room for this many in the list of Run, and in that of the goroutine
 module _ (l : Lanes) (go : List ℕ) (place count : ℕ) (fits : Fits l (λ q. list_of l q ++ own_touches go place count q)) where
   pub run_fits : length l.run.items + count ≤ vec_capacity l.run
   run_fits =

@@ -31,7 +31,7 @@ list_numbered l i = option_map_or (λ k. k.0) (slice_get (values l.map) i) l.run
 abbrev pub KeepsLists : Lanes → Lanes → Type 0
 KeepsLists old new = (q : Object) → list_of new q ≡ list_of old q
 
--- the number is that of the list of the object, and these touches are a part of the list that has all the wanted ones
+-- the number is that of the object's list, and these touches are a part of the list with all the wanted ones
 pub record IsNumbered (l : Lanes) (o : Object) (which : Wanted) (number : ℕ) (ts : List Touch) : Type 0 where
   pub below : number < length (keys l.map) + 1
   pub list : list_numbered l number ≡ list_of l o

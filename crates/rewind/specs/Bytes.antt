@@ -15,7 +15,7 @@ abbrev pub Next : Option (List ℕ) → Option (List ℕ) → Option ℕ → Typ
 Next had has None = Keeps had has × IsAtEnd has
 Next had has (Some b) = Consumes had has (b ∷ [])
 
--- bytes of a line were read, of which so many are kept that it shows whether there were too many
+-- bytes of a line were read, and enough of them are kept to show whether there were too many
 pub record Part (had has : Option (List ℕ)) (kept : List ℕ) : Type 0 where
   pub text : List ℕ
   pub plain : Plain text

@@ -81,6 +81,6 @@ abbrev pub asked_by : List Row → Option Asked
 asked_by rows =
     the_one (first_of (codes "FILE") rows) (first_of (codes "check") rows) (first_of (codes "explain") rows) (first_of (codes "workers") rows)
 
--- what the words of a command line ask for, the first of which is the program's own name
+-- what the words of a command line ask for; the first of them is the program's own name
 abbrev pub asked_in : List Text → Option Asked
 asked_in words = asked_by (matches_of rewind_line words)

@@ -46,8 +46,8 @@ commands (l ∷ ls) = commands_at (meaning l) (commands ls)
 abbrev pub Gets : Type 0 → Type 1
 Gets S = S → Command → Answer → S → Type 0
 
--- of a session that is asked for one of its askers, by its journal: it has an entry more, with this reply, or is as before; it is out
--- of memory only where the journal makes room, or the command may want memory itself
+-- of a session that is asked for one of its askers, by its journal: it has an entry more, with this reply, or is as before. It
+-- is out of memory only where the journal makes room, or the command may need memory itself
 abbrev pub of_session : Program → ℕ → List Entry → Command → Answer → List Entry → Type 0
 of_session program asker old c (Replied said) new = EntersCommand program asker c old new (length new) said
 of_session program asker old c JournalFull new = (length old ≡ JOURNAL_LIMIT) × (new ≡ old)

@@ -34,7 +34,7 @@ not_wrong x e = cc
 fault_not_wrong : {A : Type 0} (e : Fault) → ◌≡◌ {A = Outcome A} (faults e) wrong → ⊥
 fault_not_wrong f e = cc
 
--- a clause that is picked is one of so many
+-- a clause that is picked is one of the clauses of the select
 abbrev pub Within : ℕ → Choice → Type 0
 Within n (choices.Pick i) = In i (range_with_len 1 n)
 Within n _ = Unit {0}

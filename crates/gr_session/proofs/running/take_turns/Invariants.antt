@@ -6,7 +6,7 @@ use Rattle.gr_session.specs.Debuggees.{IsDebuggee, Stands, store_in}
 use Rattle.gr_session.proofs.RunLemmas.{HasGone}
 use Rattle.gr_session.proofs.running.take_turns.Given as goal
 
--- so many steps were taken by turns
+-- this many steps were taken, round robin
 abbrev pub invariant-loop-taken : goal.invariant-loop-taken
 invariant-loop-taken l = record {
   few : l.taken ≤ l.count;
