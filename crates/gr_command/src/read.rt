@@ -72,7 +72,7 @@ fn back(alloc: Global, text: &[u8]) -> Result<Option<Line>, NoMemory>
     Ok(read_target(alloc, text)?.map(|target| Line::Command(Command::Back(target))))
 }
 
-/// To put the steps that the text names in their order, if it has a word and each names a step.
+/// The command that puts the steps in the order of the text, if the text has a word and each word names a step.
 fn order(alloc: Global, text: &[u8]) -> Result<Option<Line>, NoMemory>
     ensures { IfOk result (λ line. line ≡ order_asked (words_of text.now)) }
 {

@@ -102,7 +102,7 @@ fn instruction_at(function: &FunctionCode, number: usize) -> Option<&Instruction
     function.instructions.get(number)
 }
 
-/// Whether a variable of a function is called so; none is the blank identifier.
+/// Whether a variable of a function has this name. No variable is called `_`.
 #[tactic(auto, using(crate::proofs::CalledLemmas::variable_found, crate::proofs::CalledLemmas::no_variable))]
 fn is_named(function: &Function, variable: Option<usize>, name: &[u8]) -> bool
     ensures { result ≡ is_called name.now (declared_of function.now.variables.items) variable }

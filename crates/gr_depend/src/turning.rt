@@ -10,7 +10,7 @@ use gr_touches::Touch;
 #[derive(Clone, Copy)]
 struct Latest {
     touch: usize,
-    /// That of the touches that wrote.
+    /// The latest place among the touches that wrote.
     write: usize,
 }
 

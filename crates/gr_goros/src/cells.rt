@@ -184,7 +184,7 @@ pub(crate) fn write_two(
     Ok(Former::Each(kept))
 }
 
-/// So many cells without a value.
+/// This many cells without a value.
 pub(crate) fn empty(alloc: Global, count: usize) -> Result<Vec<Option<Value>>, NoMemory>
     ensures { IfOk result (λ cells. cells.items ≡ replicate count None) }
 {

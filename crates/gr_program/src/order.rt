@@ -8,7 +8,7 @@ ghost use Rattle.gr_program.specs.Views.{opening_of, stmt_of, stmts_of, cases_of
 use crate::program::{Case, Opening, Stmt};
 use gr_scan::token::Place;
 
-/// The start of what stands at this place, if it comes after the last one.
+/// The start of the statement at this place, if it comes after the last one.
 fn next_start(last: usize, place: Place) -> Option<usize>
     ensures { result ≡ spec.next_start last place.start }
 {

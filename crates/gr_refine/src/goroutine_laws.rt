@@ -37,7 +37,7 @@ pub fn law_of_tasks()
     ensures is_there { OfEachGoroutine TaskIsThere }
 {}
 
-/// A local step of a goroutine of code is the step of the rules. Where the rules have such a step, so has code.
+/// A local step of a goroutine of code is the step of the rules. Where the rules have such a step, code has one too.
 pub fn law_of_local_steps()
     ensures step { OfEachGoroutine LocalStepIsAStep }
     ensures is_there { OfEachGoroutine LocalStepIsThere }

@@ -176,9 +176,9 @@ impl Machine {
         ids
     }
 
-    /// Takes the step of a name back with all that depends on it, and nothing else, from the last to the first; nothing is
-    /// replayed. It answers the names of the steps that were taken back, in the order of the log; they may be done again. Where
-    /// memory runs out on the way, the last of these steps are back, but not all, and the refusal names them.
+    /// Takes a step back with all that depends on it, and nothing else, from the last to the first. Nothing is replayed. It
+    /// answers the names of the steps that were taken back, in the order of the log; they may be done again. Where memory runs
+    /// out on the way, the last of these steps are back, but not all, and the refusal names them.
     pub fn back(&mut self, alloc: Global, id: &StepId) -> Result<Vec<StepId>, BackRefused>
         requires { IsMachine self.old }
         ensures back { (p : Program) (w : Timeline p) → Stands p w self.old → TakenBack p w id.now result self.new }

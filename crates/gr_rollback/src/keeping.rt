@@ -87,7 +87,7 @@ impl Course {
     ghost use Rattle.gr_rollback.specs.Steps.{Kept};
     ghost use Rattle.gr_rollback.specs.Retracting.{LastGoesBack, Retracts, SameCourse, KeepsLogRoom};
 
-    /// Takes the step of a goroutine with a choice, or where there is none with its usual one, and its record joins the log.
+    /// Takes the step of a goroutine with a choice, or with its usual one where none is given. Its record joins the log.
     /// Refused, nothing has changed. A step over whole numbers alone is looked for first, since most steps are such. It leaves
     /// no choice, its goroutine is ready after it, and it reaches no other. This is the one caller of each of the two ways, so
     /// that both are compiled into it.

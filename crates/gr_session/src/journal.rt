@@ -41,7 +41,7 @@ pub struct DeskId {
     pub number: u32,
 }
 
-/// That the journal keeps what was asked.
+/// A receipt for what was asked: the journal keeps it.
 #[derive(Debug, Drop)]
 pub struct Receipt {
     /// The number of the entry, from 1.

@@ -32,7 +32,7 @@ pub(crate) fn told(debuggee: &Debuggee, why: StepRefused) -> Refusal
     }
 }
 
-/// That a command was not carried out.
+/// The answer for a command that was not carried out.
 pub(crate) fn refused(why: Refusal) -> (Memory, Reply)
     ensures { result ≡ (memory_of why, Reply.Refused why) }
 {

@@ -19,7 +19,7 @@ use gr_command::{Refusal, Reply, Target};
 use gr_rollback::BackRefused;
 use std::alloc::Global;
 
-/// That a growth was refused after these steps.
+/// The reply that a growth was refused after these steps.
 fn partly(ids: Vec<StepId>) -> (Memory, Reply)
     ensures { Tells result (BackRefused.NoMemory ids) }
 {

@@ -68,7 +68,7 @@ fn take_turn(alloc: Global, debuggee: &mut Debuggee, wanted: u64, taken: u64) ->
     }
 }
 
-/// That this many steps were taken, and why no more.
+/// The reply that this many steps were taken, and why no more.
 pub(crate) fn ran(steps: u64, end: RunEnd) -> (Memory, Reply)
     ensures { result ≡ (memory_at steps end, Reply.Ran steps end) }
 {

@@ -14,7 +14,7 @@ use std::sync::Wait;
 #[derive(Debug, Drop)]
 pub enum Asked {
     Command(Command),
-    /// That this many steps of a goroutine, which a worker took on a copy, join the log.
+    /// This many steps of a goroutine, which a worker took on a copy, join the log.
     Batch(GoName, usize),
 }
 

@@ -74,7 +74,8 @@ impl Objects {
         }
     }
 
-    /// Picks a clause, if it can proceed; a value to send that is at fault is a fault of the step. Refused, nothing has changed.
+    /// Picks a clause, if it can proceed. A value to send that is a fault is the fault of the step. Refused, nothing has
+    /// changed.
     fn pick(
         &mut self,
         turn: &Turn<'_>,
@@ -102,7 +103,7 @@ impl Objects {
         Ok(Some(change))
     }
 
-    /// Does the communication of a clause whose value to send, if it has one, is not at fault, if it can proceed. Refused,
+    /// Does the communication of a clause, if it can proceed. The value that it sends, if it sends, is no fault. Refused,
     /// nothing has changed.
     fn communicate(
         &mut self,

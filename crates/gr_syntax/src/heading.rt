@@ -178,7 +178,7 @@ fn condition_of_for(
     })
 }
 
-/// The third part of a for, if it has one.
+/// The post statement of a for, if it has one.
 #[tactic(auto, unfolding(crate::specs::StatementReading::post_at))]
 fn post(
     alloc: Global,

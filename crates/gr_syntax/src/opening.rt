@@ -33,7 +33,7 @@ pub(crate) enum Joint {
     Comma,
     /// `=` or `:=`
     Values,
-    /// `+=`, and so for each operator of Go's that has such a form.
+    /// `+=` and the like, for each operator of Go that has such a form.
     Update(BinaryOp),
     /// `++`
     Increment,
@@ -98,7 +98,7 @@ fn joint_of(mark: Mark) -> Option<Joint>
     }
 }
 
-/// What comes first and joins a name to the rest of a simple statement, if it does.
+/// The token that joins a name to the rest of a simple statement, if it comes first.
 pub(crate) fn first_joint(tokens: &[Token]) -> Option<(Joint, &[Token])>
     ensures value { SeesOperator result (operator_at joint_of (tokens_of tokens.now)) }
     ensures shorter { IfSome result (λ p. length p.1.now < length tokens.now) }

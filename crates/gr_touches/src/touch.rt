@@ -1,6 +1,6 @@
 //! Touches of an object.
 
-/// That the step at a place of the log touched an object, and whether it wrote it.
+/// A touch of an object by the step at a place of the log, and whether it wrote the object.
 #[derive(Clone, Copy, Debug, PartialEq, Eq)]
 pub struct Touch {
     /// The place in the log, counted from 0.

@@ -14,7 +14,7 @@ pub enum Simple {
     Assign(Vec<Vec<u8>>, Vec<Expr>),
     /// `x, y := e, f`
     Define(Vec<Vec<u8>>, Vec<Expr>),
-    /// `x += e`, and so for each operator of Go's that has such a form.
+    /// `x += e` and the like, for each operator of Go that has such a form.
     Update(Vec<u8>, BinaryOp, Expr),
     /// `x++`
     Increment(Vec<u8>),

@@ -8,7 +8,8 @@ use std::fs;
 use std::fs::File;
 use std::io::{ErrorKind, Write};
 
-/// Tells of the file in plain words, after the line of a fault; nothing where the fault is no matter of the file.
+/// Says in plain words what is wrong with the file, after the line of a fault. Says nothing where the fault does not concern
+/// the file.
 pub(crate) fn tell_of(rt: &HostRuntime, fault: &DebugFault, file: &str) {
     match fault {
         DebugFault::Source => tell(rt, words_of_unread(rt, file)),

@@ -31,7 +31,7 @@ enum Act<'a> {
     Run(usize, usize),
     // The last batch that was run is committed: this many steps joined the log, or it is stale.
     Commit(Option<u32>),
-    // So much is left of the grant.
+    // This much is left of the grant.
     Grant(u32),
     // The log takes this many steps more.
     Room(usize),

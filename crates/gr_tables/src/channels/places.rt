@@ -29,7 +29,7 @@ impl Places {
         }
     }
 
-    /// Both together, if that is a number of places in memory.
+    /// The sum of both, if it is a number of places in memory.
     fn plus(self, other: Places) -> Option<Places>
         ensures some { IfSome result (λ sum. room_of sum ≡ plus (room_of self) (room_of other)) }
         ensures fits { Within (plus (room_of self) (room_of other)) (each (2 ^ 64 - 1)) → IsSome result }
@@ -82,7 +82,7 @@ fn freed_by(undo: &ChanUndo) -> Places
     freed
 }
 
-/// The room at one channel that taking back the changes from a place on needs, if that is a number of places in memory.
+/// The room that one channel needs for taking back the changes from a place on, if it is a number of places in memory.
 pub(super) fn room_to_go_back(
     undos: &[(ChName, ChanUndo)],
     from: usize,

@@ -30,7 +30,7 @@ use std::collections::VecDeque;
 /// What takes a value on the left of `:=`.
 #[derive(Drop)]
 pub enum Taker {
-    /// A variable that the block declares already; none for the blank identifier.
+    /// A variable that the block declares already. There is none for the blank identifier.
     Old(Option<usize>),
     /// A new variable of this type.
     New(Type),
