@@ -21,7 +21,7 @@ pub struct Finished<B: Room> {
     pub workers: Vec<Worker<B>>,
 }
 
-/// F1: a seat is missing. All comes back.
+/// The end of the sharing is refused, since a seat is missing. All comes back.
 #[derive(Drop)]
 pub struct Unfinished<B: Room> {
     pub shared: Shared<B>,
