@@ -152,7 +152,7 @@ pub data Arrival : Type 0 where
   Child : Arrival
   -- its own communication, of a clause of its select, with what it got
   Passes : (clause : Option ℕ) (got : Option (values.Value × Bool)) → Arrival
-  -- that of a partner
+  -- the communication of a partner
   IsMet : (clause : Option ℕ) (got : Option (values.Value × Bool)) → Arrival
 
 -- the innermost frame past its instruction

@@ -1,4 +1,5 @@
--- The variables that steps gave values, by their names: what an instruction gives values, and where the goroutine of a step stood.
+-- The variables that steps gave values, by their names: what an instruction gives values, and where the goroutine of a step
+-- stood.
 use Rattle.std.specs.Prelude.{◌≡◌, ℕ, Bool, false, ◌&&◌, find, reverse, List, [], ◌∷◌, slice_get, Option, Some, None, option_map, option_and_then, if◌then◌else◌}
 use Rattle.std.specs.Option.{option_map_or, option_or}
 use Rattle.std.specs.List.{list_any}
@@ -85,11 +86,11 @@ stood r = spot_before r.id.go (goroutines_changed r.id.go r.change)
 abbrev pub gave : Program → ProgramCode → Record → List (List ℕ)
 gave p code r = if is_fault r.change.kind then [] else given_from p code (stood r)
 
--- whether a variable with this number, or none for the blank identifier, is called so
+-- whether the variable with this number has this name; none is the blank identifier
 abbrev pub is_called : List ℕ → List Declared → Option ℕ → Bool
 is_called x ds k = list_any (same_variable x) (names_of ds (k ∷ []))
 
--- whether one of them is called so
+-- whether one of them has this name
 abbrev pub any_called : List ℕ → List (List ℕ) → Bool
 any_called x names = list_any (same_variable x) names
 

@@ -38,8 +38,8 @@ pub record IsSpread (rs : List Record) (start k : ℕ) (marks : List Bool) : Typ
   pub before : take (k - start) marks ++ marks_after conflict_of found (drop k rs) ≡ dependent_marks conflict_of rs start
   pub rest : (j : ℕ) → k ≤ start + j → j < length marks → slice_index_or marks j false ≡ hits_at conflict_of found rs (start + j)
 
--- while causes are marked: the marks from the place k on are those of the causes, and before it each step is marked that conflicts
--- with a cause after it
+-- while causes are marked: the marks from the place k on are those of the causes, and before it each step is marked that
+-- conflicts with a cause after it
 pub record IsTraced (rs : List Record) (end k : ℕ) (marks : List Bool) : Type 0 where
   pub after : drop k marks ≡ cause_marks conflict_of (drop k rs) (end - k)
   pub rest : (j : ℕ) → j < k → slice_index_or marks j false ≡ hits_at conflict_of (causes conflict_of (drop k rs) (end - k)) rs j

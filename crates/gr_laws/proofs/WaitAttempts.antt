@@ -1,4 +1,5 @@
--- Ways to ask, to meet a goroutine and to end that leave goroutines in the queues of what they wait for, and change all that is written.
+-- Ways to ask, to meet a goroutine and to end that leave goroutines in the queues of what they wait for, and change all that is
+-- written.
 use Rattle.std.proofs.Common.{fold, ◌≡◌, ◌⊎◌, ℕ, ◌+◌, ◌%◌, if◌then◌else◌, arith, ◌==◌, Bool, true, false, List, [], ◌∷◌, map, Option, Some, None, option_map, refl, sym, ◌∙◌, ap, subst, inl, inr}
 use Rattle.std.specs.List.{AllByRecursion}
 use Rattle.gr_base.specs.declared.kinds.Fault.{Fault}

@@ -1,4 +1,5 @@
--- Checked programs of the whole language: names are resolved to numbers, constants to their values, parentheses and labels are gone.
+-- Checked programs of the whole language: names are resolved to numbers, constants to their values, parentheses and labels are
+-- gone.
 use Rattle.std.specs.Prelude.{ℕ, ℤ, pos, Bool, false, List, Option}
 use Rattle.gr_scan.specs.declared.token.Place.{Place}
 use Rattle.gr_tree.specs.declared.expr.UnaryOp.{UnaryOp}
@@ -43,8 +44,8 @@ pub data Printed : Type 0 where
   PrintExpr : (value : Expr) → Printed
   PrintText : (bytes : List ℕ) → Printed
 
--- What a statement does that has no statements in it. A target is a variable, or none for the blank identifier. `break` and
--- `continue` say how many for and select statements around them lie further inside than theirs.
+-- What is done by a statement that has no statements in it. A target is a variable, or none for the blank identifier. `break`
+-- and `continue` say how many for and select statements around them lie further inside than theirs.
 pub data Act : Type 0 where
   Assign : (targets : List (Option ℕ)) (values : Exprs) → Act
   AssignReceive : (value ok : Option ℕ) (channel : Expr) (zero : Literal) → Act

@@ -45,7 +45,7 @@ queue_left_by (TakesLenOf c) = ParkedReceiver
 queue_left_by (TakesCapOf c) = ParkedReceiver
 queue_left_by (Closes c) = ParkedReceiver
 
--- what a step reached that communicated so over a channel, met nobody, and changed the channel so, if it did
+-- what a step reached that communicated over a channel and met nobody, with its change of the channel, if there was one
 abbrev pub reached_on : Contact → Option ChanUndo → Beyond
 reached_on c undo = record {
   operation = Some c.operation;

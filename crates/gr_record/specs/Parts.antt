@@ -73,7 +73,7 @@ begun_in b = begun_by_more b.more
 abbrev pub made_in : Beyond → Option ChName
 made_in b = made_by_more b.more
 
--- of the channel these were read, and these written, before whatever else was
+-- these parts of the channel were read, and these written, before anything else
 pub record AreTouched (t : Touched) (c : Option ChName) (reads writes : List Object) : Type 0 where
   pub read : parts_before t.read t.slot c [] ≡ reads
   pub written : parts_before t.written t.slot c [] ≡ writes

@@ -37,7 +37,7 @@ abbrev pub HasClauseHere : ProgramCode → List CodeFrame → Option ℕ → Typ
 HasClauseHere code [] clause = Unit {0}
 HasClauseHere code (f ∷ below) clause = IfGiven (λ i. HasClause i clause) (instruction_in code f)
 
--- of a goroutine that takes a step
+-- what arrives at a goroutine that takes a step
 module _ (means : ℕ → Meanings) (p : Program) (code : ProgramCode) (e : Event) (g : CodeGoroutine) (f : CodeFrame) (below : List CodeFrame) where
   -- the value of a part arrives, and a channel that it made
   abbrev pub ValueArrives : Type 0
@@ -99,13 +99,13 @@ module _ (means : ℕ → Meanings) (p : Program) (code : ProgramCode) (e : Even
   FaultedIsRuled = goroutine_of (frame_of means code) (faulted g)
       ≡ rules_with_frames (actor_of (frame_of means code) p e g f below) (map (frame_of means code) g.frames)
 
--- of each goroutine of code that takes a step
+-- P holds of each goroutine of code that takes a step
 abbrev pub OfEachStep : ((means : ℕ → Meanings) (p : Program) (code : ProgramCode) (e : Event) (g : CodeGoroutine) (f : CodeFrame) (below : List CodeFrame)
     → Type 0) → Type 0
 OfEachStep P = (means : ℕ → Meanings) (p : Program) (code : ProgramCode) (e : Event) (g : CodeGoroutine) (f : CodeFrame) (below : List CodeFrame)
     → P means p code e g f below
 
--- of a goroutine that is met, or woken, or starts
+-- what arrives at a goroutine that is met or woken, and one that starts
 module _ (means : ℕ → Meanings) (p : Program) (code : ProgramCode) where
   abbrev pub MeetingArrives : Type 0
   MeetingArrives = (clause : Option ℕ) (got : Option (values.Value × Bool)) (g after : CodeGoroutine)
@@ -132,6 +132,6 @@ module _ (means : ℕ → Meanings) (p : Program) (code : ProgramCode) where
   abbrev pub StartedIsRuled : Type 0
   StartedIsRuled = (first : CodeFrame) → goroutine_of (frame_of means code) (started first) ≡ rules_started (frame_of means code first)
 
--- of each code of a program
+-- P holds of each program with its code
 abbrev pub OfEachProgram : ((ℕ → Meanings) → Program → ProgramCode → Type 0) → Type 0
 OfEachProgram P = (means : ℕ → Meanings) (p : Program) (code : ProgramCode) → P means p code

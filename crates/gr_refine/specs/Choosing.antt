@@ -99,6 +99,6 @@ module _ (frame : CodeFrame → Frame) (s : Contents) (a : Actor) (ws : List Com
   ParkingHasValues = AreChannels s → Sound frame s (choose a ws choices.Park) → default_from 1 ws ≡ None → list_any (can_proceed s) ws ≡ false
       → ¬ (values_of ws ≡ wrong)
 
--- of each select, in each state
+-- P holds of each select, in each state
 abbrev pub OfEachSelect : ((CodeFrame → Frame) → Contents → Actor → List Communication → Type 0) → Type 0
 OfEachSelect P = (frame : CodeFrame → Frame) (s : Contents) (a : Actor) (ws : List Communication) → P frame s a ws

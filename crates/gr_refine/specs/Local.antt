@@ -22,7 +22,7 @@ use Rattle.gr_refine.specs.Tasks.{Acts}
 abbrev pub printed_by : Outcome Task → Option (List ℕ)
 printed_by o = elim o [ gives (Wants (Prints line)) ↦ Some line | _ ↦ None ]
 
--- what the store contains after a step of this kind, which left the goroutine so; a fault stops the program
+-- what the store contains after a step of this kind that left the goroutine with this content; a fault stops the program
 abbrev pub after_local : Contents → List ℕ → Kind → CodeGoroutine → Contents
 after_local s n kind g = elim kind [ kinds.Fault e ↦ record (with_goroutine s n (Some g)) { run = faulted e } | _ ↦ with_goroutine s n (Some g) ]
 

@@ -1,5 +1,5 @@
--- The steps that make a channel, start a goroutine, and count, by what the store contains (Go: Making slices, maps and channels, Go
--- statements, Length and capacity).
+-- The steps that make a channel, start a goroutine, and count, by what the store contains (Go: Making slices, maps and
+-- channels, Go statements, Length and capacity).
 use Rattle.std.specs.Prelude.{◌≡◌, ℕ, pos, negsuc, ◌+◌, ◌<◌, ◌≤◌, false, List, [], length, Option, Some, None}
 use Rattle.gr_base.specs.declared.names.ChName.{ChName}
 use Rattle.gr_base.specs.declared.values.Value.{Value}
@@ -83,7 +83,7 @@ module _ (frame : CodeFrame → Frame) (s : Contents) (a : Actor) where
   Counts attempt operation n = (on : Frame) (g : CodeGoroutine) → resumed a.frame (values.Int (pos n)) ≡ gives on → goroutine_of frame g ≡ onward a on
       → StepsTo frame attempt s (with_goroutine s a.name (Some g)) (reported a None operation kinds.Length)
 
-  -- of the items and the places of a channel, and of nil
+  -- `len` and `cap` of a channel and of nil: how many items, and how many places
   abbrev pub CountingItems : Type 0
   CountingItems = (c : ChName) (x : Content) → s.channels c ≡ Some x → Counts (take_len a (Some c)) (Some (takes_len_of c)) (length x.items)
 
@@ -105,6 +105,6 @@ module _ (frame : CodeFrame → Frame) (s : Contents) (a : Actor) where
   CountingPlacesGoesOn = (c : ChName) → Sound frame s (take_cap a (Some c))
       → (x : Content) × (s.channels c ≡ Some x) × (¬ (resumed a.frame (values.Int (pos x.capacity)) ≡ wrong))
 
--- of each goroutine, in each state
+-- P holds of each goroutine, in each state
 abbrev pub OfEachActor : ((CodeFrame → Frame) → Contents → Actor → Type 0) → Type 0
 OfEachActor P = (frame : CodeFrame → Frame) (s : Contents) (a : Actor) → P frame s a

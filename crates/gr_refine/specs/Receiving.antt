@@ -78,7 +78,7 @@ module _ (frame : CodeFrame → Frame) (s : Contents) (a : Actor) (clause : Opti
   ReceivingEndsWell = Sound frame s (receive a clause c initial otherwise)
       → s.channels c ≡ Some x → IsChannel x → x.items ≡ [] → x.senders ≡ [] → x.closed ≡ true → ¬ (past a.frame clause (Some (initial, false)) ≡ wrong)
 
--- of each receive, in each state
+-- P holds of each receive, in each state
 abbrev pub OfEachReceive : ((CodeFrame → Frame) → Contents → Actor → Option ℕ → ChName → Content → Value → Attempt → Type 0) → Type 0
 OfEachReceive P = (frame : CodeFrame → Frame) (s : Contents) (a : Actor) (clause : Option ℕ) (c : ChName) (x : Content) (initial : Value)
     (otherwise : Attempt)

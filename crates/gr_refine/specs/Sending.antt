@@ -60,7 +60,7 @@ module _ (frame : CodeFrame → Frame) (s : Contents) (a : Actor) (clause : Opti
   SendingGoesOn = Sound frame s (send a clause c v otherwise) → s.channels c ≡ Some x → IsChannel x → x.closed ≡ false → x.receivers ≡ []
       → length x.items < x.capacity → ¬ (past a.frame clause None ≡ wrong)
 
--- of each send, in each state
+-- P holds of each send, in each state
 abbrev pub OfEachSend : ((CodeFrame → Frame) → Contents → Actor → Option ℕ → ChName → Content → Value → Attempt → Type 0) → Type 0
 OfEachSend P = (frame : CodeFrame → Frame) (s : Contents) (a : Actor) (clause : Option ℕ) (c : ChName) (x : Content) (v : Value) (otherwise : Attempt)
     → P frame s a clause c x v otherwise

@@ -45,6 +45,6 @@ module _ (means : ℕ → Meanings) (code : ProgramCode) where
   abbrev pub SameGoroutinesStand : Type 0
   SameGoroutinesStand = (s t : Contents) → ((n : List ℕ) → t.goroutines n ≡ s.goroutines n) → ContentsStand s → ContentsStand t
 
--- of each code of a program
+-- P holds of each code of a program
 abbrev pub OfEachCode : ((ℕ → Meanings) → ProgramCode → Type 0) → Type 0
 OfEachCode P = (means : ℕ → Meanings) (code : ProgramCode) → P means code

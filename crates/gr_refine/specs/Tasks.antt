@@ -99,7 +99,7 @@ abbrev pub LocalStaysWithin : Type 0
 LocalStaysWithin = (code : ProgramCode) (g : CodeGoroutine) (f : CodeFrame) (below : List CodeFrame)
     → g.frames ≡ f ∷ below → is_local code g ≡ true → stays_within below (task_of code g) ≡ true
 
--- of each goroutine of code, in each state
+-- P holds of each goroutine of code, in each state
 abbrev pub OfEachGoroutine : ((means : ℕ → Meanings) (p : Program) (code : ProgramCode) (s : Contents) (e : Event) (g : CodeGoroutine) (f : CodeFrame)
     (below : List CodeFrame) → Type 0) → Type 0
 OfEachGoroutine P = (means : ℕ → Meanings) (p : Program) (code : ProgramCode) (s : Contents) (e : Event) (g : CodeGoroutine) (f : CodeFrame)

@@ -1,4 +1,5 @@
--- The step of a goroutine that comes to wait, by what the store contains (Go: Send statements, Receive operator, Select statements).
+-- The step of a goroutine that comes to wait, by what the store contains (Go: Send statements, Receive operator, Select
+-- statements).
 use Rattle.std.specs.Prelude.{◌≡◌, fold, ℕ, ◌+◌, true, List, [], ◌∷◌, ◌++◌, Option, Some, None, option_map}
 use Rattle.gr_base.specs.declared.values.Value.{Value}
 use Rattle.gr_base.specs.declared.kinds.Kind.{Kind}
@@ -33,7 +34,7 @@ parked_for name s clause (Receiving (Some c) initial) = with_channel s c
     (option_map (with_receiver (record { go = name; case = clause; value = tt })) (s.channels c))
 parked_for name s clause _ = s
 
--- of the queues for these, one after the other
+-- the contents with the goroutine in the queues for these communications, one after the other
 abbrev pub parked_in : List ℕ → Contents → List (Option ℕ × Communication) → Contents
 parked_in name s ws = fold (λ t w. parked_for name t w.0 w.1) s ws
 

@@ -1,5 +1,5 @@
--- What is known of a program that runs: the steps that are kept, the state to which they lead, and the steps that may be done again.
--- Lanese, Nishida, Palacios and Vidal, A theory of reversibility for Erlang (2018): a system with its history.
+-- What is known of a program that runs: the steps that are kept, the state to which they lead, and the steps that may be done
+-- again. Lanese, Nishida, Palacios and Vidal, A theory of reversibility for Erlang (2018): a system with its history.
 use Rattle.std.specs.Prelude.{List, [], map}
 use Rattle.gr_base.specs.declared.events.Event.{Event}
 use Rattle.gr_base.specs.declared.names.StepId.{StepId}

@@ -37,7 +37,7 @@ pub record Loses (o : Option (List ℕ)) (old new : pools.Goroutines) : Type 0 w
   pub gone : (q : List ℕ) → is_go q o ≡ true → is_among q new.ready ≡ false
   pub others : (q : List ℕ) → is_go q o ≡ false → is_among q new.ready ≡ is_among q old.ready
 
--- a pool comes to what is ready before a step that changed goroutines so, and started this one
+-- a pool comes to what is ready before a step that made these changes of goroutines, and started this one
 pub record BringsStepBack (us : List (List ℕ × GoUndo)) (o : Option (List ℕ)) (old new : pools.Goroutines) : Type 0 where
   pub mid : pools.Goroutines
   pub back : BringsBack us old mid

@@ -40,8 +40,8 @@ pub record RollsBack (at : ℕ) (marks : List Bool) (c : Course) : Type 0 where
   pub once : (r : Record) → In r (records_of c.log) → Distinct (touched_by r)
   pub pool : HasReady c.pool (contents_at c.store)
 
--- A front of the log stands. Of the steps behind it the marked ones are back, and the others are laid aside, for which the log has
--- room.
+-- A front of the log stands. Of the steps behind it the marked ones are back, and the others are laid aside, for which the log
+-- has room.
 pub record IsOnTheWay (start : Course) (at : ℕ) (marks : List Bool) (c : Course) (r : Rollback) : Type 0 where
   pub before : List Bool
   pub after : List Bool

@@ -99,7 +99,7 @@ clauses_by d = elim d [ gives (Chooses cs) ↦ cs | _ ↦ [] ]
 abbrev pub clauses_in : List Frame → List Communication
 clauses_in fs = elim fs [ [] ↦ [] | f ∷ below ↦ clauses_by (deed f) ]
 
--- those that a choice looks at
+-- the clauses that a choice looks at
 abbrev pub looked_at : Choice → List Communication → List Communication
 looked_at (choices.Pick i) cs = elim (clause_at cs i) [ Some c ↦ c ∷ [] | None ↦ [] ]
 looked_at _ cs = cs

@@ -17,7 +17,7 @@ use Rattle.gr_session.specs.Journal.{World, Leads}
 use Rattle.gr_session.specs.Batches.{Commits}
 use Rattle.gr_session.specs.Debuggees.{Stands}
 
--- a command leads to the world as which the program then stands, with this reply
+-- a command leads to the world in which the program then stands, with this reply
 pub record LeadsTo (p : Program) (w : World p) (command : Command) (memory : Memory) (reply : Said) (d : Debuggee) : Type 0 where
   pub world : World p
   pub leads : Leads p w command memory world reply
@@ -40,7 +40,7 @@ refusal_said (backs.NoMemory ids) = (EnoughFor (length ids.items), PartlyDone id
 abbrev pub Tells : Memory × Reply → BackRefused → Type 0
 Tells answer why = (answer.0, said_of answer.1) ≡ refusal_said why
 
--- the steps of a loan come to the world as which the program then stands, with this reply
+-- the steps of a loan lead to the world in which the program then stands, with this reply
 pub record CommitsTo (p : Program) (w : World p) (loan : Loan) (stood : Bool) (reply : Said) (d : Debuggee) : Type 0 where
   pub world : World p
   pub commits : Commits p w loan stood world reply

@@ -24,8 +24,8 @@ pub record IsTurnDue (p : Program) (w : World p) : Type 0 where
   pub ready : IsReady w.state owner
   pub none_alone : ¬ SomeGoesAlone w.state
 
--- a goroutine can be lent: workers may take a step, and, while the program runs, some goroutine's next step reaches no further than
--- itself
+-- a goroutine can be lent: workers may take a step, and, while the program runs, some goroutine's next step reaches no further
+-- than itself
 pub record CanLend (p : Program) (w : World p) : Type 0 where
   pub may_step : MayStep p w
   pub some_alone : SomeGoesAlone w.state

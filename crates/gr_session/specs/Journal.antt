@@ -116,7 +116,7 @@ pub data Leads (p : Program) (w : World p) : Command → Memory → World p → 
   has_no_memory : {go : List ℕ} {clause : Option ℕ}
       → refusal p w.state (event_asked p w.state go clause) ≡ None → length w.log < most_steps
       → Leads p w (commands.Step go clause) (EnoughFor 0) w (replies.No refusals.NoMemory)
-  -- steps by turns
+  -- the next steps of the round robin are taken
   runs : {wanted taken : ℕ} {memory : Memory} {after : Past p} {why : RunEnd}
       → ByTurns p w wanted memory after taken why
       → Leads p w (commands.Run wanted) memory (turned p w after taken) (replies.Ran taken why)

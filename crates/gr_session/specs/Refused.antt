@@ -1,4 +1,4 @@
--- What it says of a source that it was not opened, and at which position.
+-- What a refusal to open says of a source, and at which position.
 use Rattle.std.specs.Prelude.{◌≡◌, ℕ, List, length, Option, Some, None, option_map, slice_get}
 use Rattle.gr_scan.specs.declared.position.Position.{Position}
 use Rattle.gr_scan.specs.declared.scan.ScanError.{ScanError}

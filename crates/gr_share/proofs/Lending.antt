@@ -46,7 +46,8 @@ module _ (p : Program) (journal : List Entry) (one : OneWorld p journal) where
         };
       }
 
-  -- what a worker asks before it waits: whether the workers are to end, whether a goroutine can be lent, and whether a turn is due
+  -- what a worker asks before it waits: whether the workers are to end, whether a goroutine can be lent, and whether a turn is
+  -- due
   abbrev Idle : Bool → Bool → Type 0
   Idle idle closed = IsTrue idle ↔ ((closed ≡ false) × InItsWorld p journal (λ w. ¬ CanLend p w × ¬ IsTurnDue p w))
 

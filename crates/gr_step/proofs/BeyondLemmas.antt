@@ -23,7 +23,8 @@ live_or : (b : Bool) (old : _) → run_of (if b then Live else old) ≡ (if b th
 live_or true old = refl
 live_or false old = refl
 
--- the change of each goroutine and of each channel, the one that it started and the one that it made, and whether the program runs
+-- the change of each goroutine and of each channel, the one that it started and the one that it made, and whether the program
+-- runs
 pub taken : (n : List ℕ) (change : Effect) (box : Beyond) (rest : Beyond) (old : Objects) (mid : Channels) (new : Objects)
     → change.beyond ≡ Some box → rest ≡ box
     → IsForgotten (begun_in rest) (after_back ((n, change.own) ∷ members rest.met) old.goroutines) new.goroutines

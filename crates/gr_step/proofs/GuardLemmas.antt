@@ -1,5 +1,5 @@
--- A goroutine that is not ready, or whose program does not run: it has no choice, and no step of its own. The usual choice of one that is
--- ready is a step.
+-- A goroutine that is not ready, or whose program does not run: it has no choice, and no step of its own. The usual choice of
+-- one that is ready is a step.
 use Rattle.std.proofs.Common.{◌≡◌, ◌∙◌, ℕ, List, Option, Some, None, refl, sym, ap}
 use Rattle.std.specs.Prelude.{option_map}
 use Rattle.gr_base.specs.declared.events.Choice.{Choice}

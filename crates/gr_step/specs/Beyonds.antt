@@ -35,11 +35,11 @@ pub record ReachesAll (did : Option Operation) (read written : List Object) (beg
   pub makes : made_in b ≡ made
   pub stops : b.stops ≡ stopped
 
--- it reached so, and started and made nothing
+-- it reached this, and started and made nothing
 abbrev pub Reaches : Option Operation → List Object → List Object → Bool → Beyond → Type 0
 Reaches did read written stopped b = ReachesAll did read written None None stopped b
 
--- the change reaches beyond its goroutine, and so
+-- the change reached beyond its goroutine: what it did, read and wrote, and whether it stopped the program
 abbrev pub ReachesBeyond : Option Operation → List Object → List Object → Bool → Effect → Type 0
 ReachesBeyond did read written stopped c = elim c.beyond [ Some b ↦ Reaches did read written stopped b | None ↦ ⊥ ]
 
@@ -64,7 +64,7 @@ pub record Stops (n : List ℕ) (fault : Fault) (did : Option Operation) (read :
   pub back : undone c.own (faulted g) ≡ g
   pub fits : Fits c.own (faulted g)
 
--- the goroutines have changed so, and whether the program runs is this
+-- the goroutines have these changes, and this says whether the program runs
 pub record ChangesObjects (change : Goroutines → Goroutines → Type 0) (run : Run) (old new : Objects) : Type 0 where
   pub goroutines : change old.goroutines new.goroutines
   pub runs : new.run ≡ run

@@ -1,4 +1,4 @@
--- What a communication leaves that proceeds, and one that cannot.
+-- What is left by a communication that proceeds, and by one that cannot.
 use Rattle.std.specs.Prelude.{◌≡◌, ℕ, Bool, if◌then◌else◌, List, map, Option, Some, None}
 use Rattle.gr_base.specs.declared.events.Event.{Event}
 use Rattle.gr_program.specs.Programs.{Program}

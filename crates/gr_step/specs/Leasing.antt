@@ -79,7 +79,8 @@ loan_kept b = record { program = program_in b.listing; name = b.go; goroutine = 
 abbrev pub loan_of : LentCopy → Loan
 loan_of l = loan_kept l.batch
 
--- of a lease: its program, its goroutine's name and content when it was lent, and that after its steps, with their records
+-- what a lease has: its program, its goroutine's name and content when it was lent, and its content after the steps, with their
+-- records
 abbrev pub program_lent : LentCopy → Program
 program_lent l = (loan_of l).program
 

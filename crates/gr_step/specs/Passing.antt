@@ -32,7 +32,7 @@ pub record ArrivesAt (code : ProgramCode) (n : List ℕ) (arrival : Arrival) (u 
   pub back : undone u after ≡ before
   pub fits : Fits u after
 
--- what a change tells that reached beyond its goroutine, started and made nothing, and left the program running
+-- what is told by a change that reached beyond its goroutine, started and made nothing, and left the program running
 pub record Tells (c : Effect) (kind : Kind) (operation : Option Operation) (reads writes : List Object) (own : GoUndo) (met : List (List ℕ × GoUndo))
     (changed : List (ChName × ChanUndo)) : Type 0 where
   pub kind_is : c.kind ≡ kind

@@ -32,11 +32,11 @@ pub record Acting (p : Program) (e : Event) (number : ℕ) (o : Objects) : Type 
   pub there : (contents_in o).goroutines e.go ≡ Some goroutine
   pub is_ready : goroutine.status ≡ ready
 
--- of the goroutine of an event
+-- P holds of the goroutine of an event
 abbrev pub OfGoroutine : Event → Contents → (CodeGoroutine → Type 0) → Type 0
 OfGoroutine e s P = (g : CodeGoroutine) → s.goroutines e.go ≡ Some g → P g
 
--- of the goroutine of an event, as the rules see it at its next step
+-- P holds of the goroutine of an event, as the rules see it at its next step
 abbrev pub OfActor : Program → Event → Contents → (Actor → Type 0) → Type 0
 OfActor p e s P = (g : CodeGoroutine) (f : CodeFrame) (below : List CodeFrame) → s.goroutines e.go ≡ Some g → g.frames ≡ f ∷ below
     → P (actor_of (frame_in p) p e g f below)

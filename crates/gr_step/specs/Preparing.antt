@@ -1,4 +1,4 @@
--- What a step has ready that reaches beyond its goroutine, before it changes anything.
+-- What a step that reaches beyond its goroutine has ready before it changes anything.
 use Rattle.std.specs.Prelude.{◌≡◌, ℕ, List, [], ◌∷◌, ◌++◌, map, length, false, Some, None, option_map}
 use Rattle.gr_base.specs.declared.names.ChName.{ChName}
 use Rattle.gr_base.specs.declared.events.Event.{Event}
@@ -73,7 +73,7 @@ pub record IsExchange (code : ProgramCode) (n m : List ℕ) (passes meets : Arri
   pub tells : Tells c kind (Some operation) reads writes own ((m, met) ∷ []) changed
   pub exchanges : Exchanges code n m passes meets names own met done changed old new
 
--- a goroutine can go past its communication with nobody, after these changes of channels in the same step
+-- a goroutine can go past its communication and meet nobody, after these changes of channels in the same step
 pub record CanPass (code : ProgramCode) (e : Event) (number : ℕ) (passes : Arrival) (done : List (ChName × ChanUndo)) (o : Objects) : Type 0 where
   pub named : name_at o.goroutines number ≡ Some e.go
   pub can : CanArriveAt code passes (goroutines_of o.goroutines e.go)

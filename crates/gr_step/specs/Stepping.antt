@@ -47,7 +47,7 @@ pub record MayAct (t : Turn) (o : Objects) : Type 0 where
 abbrev pub IsPlain : Turn → Type 0
 IsPlain t = (event_for t).choice ≡ Plain
 
--- of its goroutine
+-- P holds of the goroutine whose turn it is
 abbrev pub OfItsGoroutine : Turn → Objects → (CodeGoroutine → Type 0) → Type 0
 OfItsGoroutine t o P = OfGoroutine (event_for t) (contents_in o) P
 

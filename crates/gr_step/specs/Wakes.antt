@@ -74,7 +74,8 @@ pub record LeadsOver (us : List (List ℕ × GoUndo)) (old new : List ℕ → Op
 abbrev pub written_by_close : ChName → (List ℕ → Option CodeGoroutine) → List (List ℕ) → List Object
 written_by_close c f names = Gate c ∷ map Go names ++ map Gate (channels_but (c ∷ []) (all_waits_known f names))
 
--- The goroutine of the event went past its close of a channel with this content, on which nobody waits any more, and the change goes back.
+-- The goroutine of the event went past its close of a channel with this content, on which nobody waits any more, and the change
+-- goes back.
 pub record Closing (code : ProgramCode) (e : Event) (c : ChName) (x : Content) (change : Effect) (old new : Objects) : Type 0 where
   pub between : List ℕ → Option CodeGoroutine
   pub met : List (List ℕ × GoUndo)

@@ -1,4 +1,5 @@
--- What the parser reads of functions and files, as functions on lists of tokens. It is a stepping stone of the proofs: no public clause speaks of it.
+-- What the parser reads of functions and files, as functions on lists of tokens. It is a stepping stone of the proofs: no
+-- public clause speaks of it.
 use Rattle.std.specs.Prelude.{ℕ, true, List, [], ◌∷◌, ◌++◌, Option, Some, None, Result, Ok, if◌then◌else◌}
 use Rattle.gr_scan.specs.declared.token.Mark.TheVariants as marks
 use Rattle.gr_scan.specs.Tokens.{Tok}

@@ -80,7 +80,8 @@ after_mark m (At p (Sign k) ∷ ts) = if sameb the_type k m then Some ts else No
 abbrev pub is_make : List ℕ → Bool
 is_make x = pointwise nat_eq x (codes "make")
 
--- Type = name | "struct" "{" "}" | "chan" [ "<-" ] Type | "<-" "chan" Type | "(" Type ")" . A "<-" after "chan" belongs to that "chan".
+-- Type = name | "struct" "{" "}" | "chan" [ "<-" ] Type | "<-" "chan" Type | "(" Type ")" .
+-- A "<-" after "chan" belongs to that "chan".
 pub data SpellsType : WrittenType → List Tok → List Tok → Type 0 where
   type_name : {p : Place} {x : List ℕ} {rest : List Tok} → SpellsType (TypeName x) (At p (words.Name x) ∷ rest) rest
   type_unit : {p q r : Place} {rest : List Tok}
@@ -100,7 +101,8 @@ pub data SpellsType : WrittenType → List Tok → List Tok → Type 0 where
       → SpellsType (ParenType t) (At p (Sign marks.LeftParen) ∷ ts) rest
 
 mutual
-  -- Unary = number | string | name | Call | "(" Expr ")" | "struct" "{" "}" "{" "}" | "make" "(" Type [ "," Expr ] [ "," ] ")" | UnaryOp Unary .
+  -- Unary = number | string | name | Call | "(" Expr ")" | "struct" "{" "}" "{" "}" | "make" "(" Type [ "," Expr ] [ "," ] ")"
+  --     | UnaryOp Unary .
   -- Call = name "(" [ Exprs [ "," ] ] ")", the name not "make".
   pub data SpellsUnary : Tree → List Tok → List Tok → Type 0 where
     number : {p : Place} {n : ℕ} {rest : List Tok} → SpellsUnary (Number n) (At p (words.Number n) ∷ rest) rest
@@ -144,7 +146,8 @@ mutual
         → SpellsUnary e ts rest
         → SpellsUnary (Unary op e) (At p (Sign (unary_mark op)) ∷ ts) rest
 
-  -- Expr = Unary | Expr BinOp Expr . Its operators bind at least as strongly as the level; those that bind alike associate to the left.
+  -- Expr = Unary | Expr BinOp Expr .
+  -- Its operators bind at least as strongly as the level; those that bind alike associate to the left.
   pub data SpellsExpr : ℕ → Tree → List Tok → List Tok → Type 0 where
     alone : {l : ℕ} {e : Tree} {ts rest : List Tok} → SpellsUnary e ts rest → SpellsExpr l e ts rest
     binary : {l : ℕ} {p : Place} {op : BinaryOp} {a b : Tree} {ts mid rest : List Tok}

@@ -1,4 +1,5 @@
--- What the parser's functions read, as functions on lists of tokens. It is a stepping stone of the proofs: no public clause speaks of it.
+-- What the parser's functions read, as functions on lists of tokens. It is a stepping stone of the proofs: no public clause
+-- speaks of it.
 use Rattle.std.specs.Prelude.{ℕ, zero, suc, ◌+◌, max, Bool, true, false, List, [], ◌∷◌, ◌++◌, length, Option, Some, None, Result, Ok, Err, nat_lt, if◌then◌else◌}
 use Rattle.gr_scan.specs.declared.token.Place.{Place}
 use Rattle.gr_scan.specs.declared.token.Mark.{Mark}
@@ -14,7 +15,7 @@ use Rattle.gr_tree.specs.declared.expr.Direction.TheVariants as directions
 use Rattle.gr_tree.specs.Exprs.{WrittenType, TypeName, UnitType, Chan, ParenType, Tree, Number, Text, Name, UnitValue, Paren, Call, Make, MakeSized, Unary, Binary, Trees, none, more}
 use Rattle.gr_syntax.specs.Grammar.{level, after_mark, is_make}
 
--- why nothing is read: no tree begins so, or it is too high
+-- why nothing is read: no tree begins like this, or it is too high
 pub data ReadError : Type 0 where
   Wrong : ReadError
   High : ReadError

@@ -58,7 +58,8 @@ pub data SpellsSimple : Simple → List Tok → List Tok → Type 0 where
   decrement : {p q : Place} {x : List ℕ} {rest : List Tok}
       → SpellsSimple (Decrement x) (At p (words.Name x) ∷ At q (Sign marks.MinusMinus) ∷ rest) rest
 
--- Act = Simple | "var" Names ( Type [ "=" Exprs ] | "=" Exprs ) | "go" Call | "return" [ Expr ] | "break" [ name ] | "continue" [ name ] .
+-- Act = Simple | "var" Names ( Type [ "=" Exprs ] | "=" Exprs ) | "go" Call | "return" [ Expr ] | "break" [ name ]
+--     | "continue" [ name ] .
 pub data SpellsAct : Act → List Tok → List Tok → Type 0 where
   plain : {s : Simple} {ts rest : List Tok} → SpellsSimple s ts rest → SpellsAct (Plain s) ts rest
   var : {p : Place} {xs : List (List ℕ)} {t : WrittenType} {ts mid rest : List Tok}
@@ -163,7 +164,8 @@ pub data SpellsComm : Comm → List Tok → List Tok → Type 0 where
       → SpellsComm (DefineAs xs e) ts rest
 
 mutual
-  -- Stmt = Act | Block | If | "for" ForHead Block | "select" "{" Clauses "}" | name ":" [ Stmt ] . A statement stands where its first token does.
+  -- Stmt = Act | Block | If | "for" ForHead Block | "select" "{" Clauses "}" | name ":" [ Stmt ] .
+  -- A statement stands where its first token does.
   pub data SpellsStatement : Statement → List Tok → List Tok → Type 0 where
     does : {p : Place} {w : Word} {a : Act} {ts rest : List Tok}
         → SpellsAct a (At p w ∷ ts) rest

@@ -15,7 +15,7 @@ use Rattle.gr_touches.specs.Touches.{touches_for}
 abbrev pub LaneSeen : Type 0
 LaneSeen = List Touch × ℕ
 
--- that of an object without a lane
+-- the lane of an object that has none: no touch, and no room
 abbrev pub nothing : LaneSeen
 nothing = ([], 0)
 

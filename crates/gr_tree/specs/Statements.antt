@@ -30,7 +30,7 @@ pub data Simple : Type 0 where
   Increment : (name : List ℕ) → Simple
   Decrement : (name : List ℕ) → Simple
 
--- what a statement does that has no statements in it
+-- what is done by a statement that has no statements in it
 pub data Act : Type 0 where
   Plain : (simple : Simple) → Act
   Var : (names : List (List ℕ)) (type : WrittenType) → Act

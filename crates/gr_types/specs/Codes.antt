@@ -43,7 +43,7 @@ label_code label_faults.Blank = codes.WrongLabel
 label_code label_faults.DeclaredTwice = codes.DeclaredTwice
 label_code label_faults.Unused = codes.WrongLabel
 
--- of a rule that is broken at an offset and a label that does not fit, the one that stands first
+-- the first in the text of two faults: a rule that is broken at an offset, and a label that does not fit
 abbrev pub earlier_of : RefusalCode → ℕ → Option UnfitLabel → RefusalCode × ℕ
 earlier_of code at None = (code, at)
 earlier_of code at (Some label) = if nat_lt label.place.start at then (label_code label.fault, label.place.start) else (code, at)

@@ -1,4 +1,5 @@
--- What an expression is (Go: Expressions, Calls, Operators, Constant expressions, Making channels, Length and capacity, Receive operator).
+-- What an expression is (Go: Expressions, Calls, Operators, Constant expressions, Making channels, Length and capacity, Receive
+-- operator).
 use Rattle.std.specs.Prelude.{◌≡◌, ℕ, zero, ℤ, pos, negsuc, Bool, true, false, ◌||◌, List, [], ◌∷◌, Option, Some, None, if◌then◌else◌, codes}
 use Rattle.gr_tree.specs.declared.expr.Direction.{Direction}
 use Rattle.gr_tree.specs.declared.expr.UnaryOp.{UnaryOp}

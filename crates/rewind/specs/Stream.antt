@@ -46,15 +46,15 @@ commands (l ∷ ls) = commands_at (meaning l) (commands ls)
 abbrev pub Gets : Type 0 → Type 1
 Gets S = S → Command → Answer → S → Type 0
 
--- of a session that is asked for one of its askers, by its journal: it has an entry more, with this reply, or is as before. It
--- is out of memory only where the journal makes room, or the command may need memory itself
+-- what a session answers to one of its askers, by its journal: it has an entry more, with this reply, or is as before. It is
+-- out of memory only where the journal makes room, or the command may need memory itself
 abbrev pub of_session : Program → ℕ → List Entry → Command → Answer → List Entry → Type 0
 of_session program asker old c (Replied said) new = EntersCommand program asker c old new (length new) said
 of_session program asker old c JournalFull new = (length old ≡ JOURNAL_LIMIT) × (new ≡ old)
 of_session program asker old c NoMemory new =
     (length old ≢ JOURNAL_LIMIT) × (new ≡ old) × (Grows (length old) ⊎ MayWantMemory c)
 
--- of a desk of a shared session of a program: it has a call more, with this reply on its receipt, or is as before; the journal is
+-- what a desk of a shared session answers: it has a call more, with this reply on its receipt, or is as before; the journal is
 -- told to be full only if it was
 abbrev pub of_desk : Program → Asker → Command → Answer → Asker → Type 0
 of_desk program old c (Replied said) new = (r : Receipt) × GainsBy old (asks.Command c) r new × (said ≡ said_of r.reply)

@@ -1,4 +1,5 @@
--- A reader with prompts and a writer with explanations, as contracts speak of them: they carry the bytes of the devices within them.
+-- A reader with prompts and a writer with explanations, as contracts speak of them: they carry the bytes of the devices within
+-- them.
 use Rattle.rewind.specs.declared.terminal.Prompted.{Prompted}
 use Rattle.rewind.specs.declared.terminal.Explained.{Explained}
 
