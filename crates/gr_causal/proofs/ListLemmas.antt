@@ -139,7 +139,7 @@ module _ {A : Type 0} where
         );
       }
 
-  -- and with x in front of a rearrangement of the rest it is one of all
+  -- a rearrangement of the rest, with x in front of it, is one of all
   pub front_rearranged : (L : List A) (x : A) (N R : List A) → Picks x L R → Distinct L → Rearranges R N → Rearranges L (x ∷ N)
   front_rearranged L x N R p d o =
       let e = Distinct-picked x L R p d in record {

@@ -54,7 +54,7 @@ slot_before c n xs room =
 pub slot_first : {X : Type 0} → (c n : ℕ) (x : X) (xs : List X) → slot_from c (n % c) n (x ∷ xs) ≡ Some (n, x)
 slot_first c n x xs = rw (eq-eqb (n % c) (n % c) refl) refl
 
--- and another slot has none of it
+-- a slot that is not the first number's has none of it
 pub slot_rest : {X : Type 0} → (c i n : ℕ) (x : X) (xs : List X) → (n % c ≡ i → ⊥) → slot_from c i n (x ∷ xs) ≡ slot_from c i (n + 1) xs
 slot_rest c i n x xs other =
     elim (eqb_tells (n % c) i) [ inl h ↦ absurd (other (h.1)) | inr h ↦ rw (h.0) refl ]

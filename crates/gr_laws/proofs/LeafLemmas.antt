@@ -40,7 +40,7 @@ module _ (s : State) (names : List (List ℕ)) where
   Kept (head_has d n) = Unit {0}
   Kept (slot_has d i x) = Unit {0}
 
-  -- and these wait no more
+  -- these goroutines wait no more
   abbrev pub Freed : Cell → Type 0
   Freed (go_has m y) = In m names → waits_at y ≡ []
   Freed (gate_has d y) = (n : List ℕ) (w : Wait) → channel_of w ≡ d → In n names → Stands y n w → ⊥

@@ -112,7 +112,7 @@ module _ (p : Program) (s : State) (e : Event) where
   pub reason : (q : Refusal) → refusal p s e ≡ Some q → Reason q
   reason q d = by_run s.run refl q d
 
-  -- and so the other way
+  -- what of the state makes each refusal come
   pub if_over : (s.run ≡ live → ⊥) → refusal p s e ≡ Some program_is_over
   if_over n = by_state s.run n
     where

@@ -296,7 +296,7 @@ meets_alike os ps qs rs f g = as_true _ _
     (λ t. let m = meets_by os ps t in meets_in qs rs m.0 ((f m.0).0 m.1) ((g m.0).0 m.2))
     (λ t. let m = meets_by qs rs t in meets_in os ps m.0 ((f m.0).1 m.1) ((g m.0).1 m.2))
 
--- so lists that tell the touches of two steps tell whether they conflict
+-- lists that tell the touches of two steps tell whether they conflict
 pub clash_by_lists : (p : Program) (a b : Logged p) (ra wa rb wb : List Object) → TellTouches ra wa a.note
     → TellTouches rb wb b.note
     → clash p a b ≡ (meets same wa (rb ++ wb) || meets same wb (ra ++ wa))

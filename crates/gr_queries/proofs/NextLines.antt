@@ -139,7 +139,7 @@ pub none_untold : {A : Type 0} {S : Type 0} (counts : IndexMap (List ℕ) ℕ S)
 none_untold counts s n g ls k there is all counted =
     ap (λ m. drop m (texts_of s n)) (sym counted) ∙ ap (drop k) (text_is s n g ls there is) ∙ lines_from ls k ∙ ap bytes_in (all_dropped ls k all)
 
--- then nothing is told
+-- where there is no next line, nothing is told
 pub nothing_told : (before : List (List ℕ)) (left : List (List ℕ)) → left ≡ [] → before ≡ before ++ take 1 left
 nothing_told before left none = sym (append-nil before) ∙ ap (λ l. before ++ take 1 l) (sym none)
 

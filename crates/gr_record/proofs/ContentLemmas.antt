@@ -135,6 +135,6 @@ module _ (us vs : List ChanUndo) (z : Content) (valid : IsChannel z) (fits : All
     ])
   ]
 
-  -- which gives what taking them back in their order gives
+  -- taking back in either order gives the same
   pub either_order : all_undone vs w ≡ all_undone us y
   either_order = all_parts (all_undone vs w) (all_undone us y) second_back.valid same_part

@@ -91,7 +91,7 @@ none_changed (e ∷ es) f c none fits = elim (cases_Bool (same_channel c e.0)) [
   | inr n ↦ rw n (none_changed es f c none fits.1)
 ]
 
--- and where those of each channel do, all fit
+-- where the changes of each channel fit, all fit
 module _ (f : ChName → Option Content) where
   abbrev FitEach : List (ChName × ChanUndo) → Type 0
   FitEach us = (c : ChName) → ((x : Content) → f c ≡ Some x → AllFit (at_channel c us) x) × (f c ≡ None → at_channel c us ≡ [])

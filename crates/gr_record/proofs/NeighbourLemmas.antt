@@ -145,7 +145,7 @@ module _ (s m t : Contents) (a b : Record) (near : AreNeighbours s m t a b) wher
       middle_is : m.channels c ≡ chan_back (channels_changed b.change) c (t.channels c)
       middle_is = sym (second_channel c) ∙ after_is b t wb c (t.channels c) not_by_second
 
-      -- and it is not there
+      -- a channel whose gate the second did not write, and which is not there
       module _ (none : t.channels c ≡ None) where
         middle_none : m.channels c ≡ None
         middle_none = middle_is ∙ ap (chan_back (channels_changed b.change) c) none ∙ back_of_none (channels_changed b.change) c
@@ -169,7 +169,7 @@ module _ (s m t : Contents) (a b : Record) (near : AreNeighbours s m t a b) wher
           taken = untouched (start_none ∙ sym middle_none) (last_none ∙ sym none);
         }
 
-      -- and it is there
+      -- a channel whose gate the second did not write, and which is there
       module _ (z : Content) (there : t.channels c ≡ Some z) where
         abbrev us : List ChanUndo
         us = changes_of a c

@@ -87,7 +87,7 @@ module _ (p : Program) (s m t : Contents) (a b : Record) (k l : Logged p) (stand
     channel = λ c. (one_channel s m t a b near c).taken;
   }
 
-  -- so it is the state between the two steps in the other order
+  -- the first taken back gives the state between the two steps in the other order
   other_way : (x : State) × Goes (machine p) (state_in p s) l x × Goes (machine p) x k (state_in p t)
   other_way = swapped (machine p) (machine_laws p) (state_in p s) k (state_in p m) l (state_in p t) (goes p s a k m first) (goes p m b l t second)
       (free (machine p) (machine_laws p) k l none)

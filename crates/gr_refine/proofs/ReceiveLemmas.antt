@@ -54,7 +54,7 @@ module _ (frame : CodeFrame → Frame) (s : Contents) (a : Actor) (clause : Opti
       (proceeding_is_a_step frame s after a clause (receives_from c) Take (Some (v, true)) on g taken_cells passes is
       (leaving_is_written frame (with_goroutine s a.name (Some g)) c x y v rest there valid items refl))
 
-  -- and the value of a sender moves up
+  -- the front item is taken, and the value of a sender moves up
   abbrev moved_cells : Waiter Value → List Cell → List Cell
   moved_cells w cells = gate_has c (Some (without (w.go ∷ []) (gate_of x))) ∷ head_has c (x.head + 1) ∷ tail_has c (tail_of x + 1)
       ∷ slot_has c (x.head % x.capacity) (Some (tail_of x, w.value)) ∷ cells

@@ -34,7 +34,7 @@ AttemptIsOfTheDeed = (frame : CodeFrame → Frame) (s : Contents) (p : Program) 
     (o : Outcome Deed)
     → IsUp s e g f below → deed (frame f) ≡ o → Ends frame s (attempt p e) (act_by (actor_of frame p e g f below) e.choice o)
 
--- so a step of that is a step of the machine
+-- a step of the attempt is a step of the machine
 abbrev pub StepIsOfTheMachine : Type 0
 StepIsOfTheMachine = (frame : CodeFrame → Frame) (s t : Contents) (p : Program) (e : Event) (report : Report) (step : StepsTo frame (attempt p e) s t report)
     → (machine p).step (state_of frame s) e ≡ Some (state_of frame t, note_of (state_of frame s) (attempt p e) report step.cells)

@@ -30,7 +30,7 @@ abbrev pub FitNamed : List (ChName × ChanUndo) → (ChName → Option Content) 
 FitNamed [] f = Unit {0}
 FitNamed (e ∷ es) f = FitsThere e.1 (back_named es e.0 (f e.0)) × FitNamed es f
 
--- those of one channel
+-- the changes of one channel among these
 abbrev pub at_channel : ChName → List (ChName × ChanUndo) → List ChanUndo
 at_channel c [] = []
 at_channel c (e ∷ es) = if same_channel c e.0 then e.1 ∷ at_channel c es else at_channel c es
@@ -51,7 +51,7 @@ abbrev pub NamedChangesFit : Type 0
 NamedChangesFit = (frame : CodeFrame → Frame) (os : List Object) (us : List (ChName × ChanUndo)) (after later : Contents)
     → StandsLater frame os us after later → FitNamed us later.channels
 
--- and that takes the step back at each channel
+-- taking the changes back takes the step back at each channel
 abbrev pub NamedChangesGoBack : Type 0
 NamedChangesGoBack = (frame : CodeFrame → Frame) (os : List Object) (us : List (ChName × ChanUndo)) (before after later back : Contents)
     → StandsLater frame os us after later → ((c : ChName) → before.channels c ≡ back_named us c (after.channels c))

@@ -48,7 +48,7 @@ module _ (means : ℕ → Meanings) (p : Program) (code : ProgramCode) (s : Cont
   AttemptIsOfTheTask = (o : Outcome Task) → Acts means p code s e g f below → task_of code g ≡ o
       → Ends (frame_of means code) s (attempt p e) (act_by (actor_of (frame_of means code) p e g f below) e.choice (deed_meant means code o))
 
-  -- so its steps are those of the goroutine
+  -- the steps of the task's attempt are those of the goroutine
   abbrev pub TaskIsAStep : Type 0
   TaskIsAStep = (o : Outcome Task) (t : Contents) (report : Report) → Acts means p code s e g f below → task_of code g ≡ o
       → StepsTo (frame_of means code) (act_by (actor_of (frame_of means code) p e g f below) e.choice (deed_meant means code o)) s t report

@@ -12,7 +12,7 @@ use Rattle.gr_channels.specs.Objects.{Part, head_slot, tail_slot, is_written}
 use Rattle.gr_rules.specs.States.{same}
 use Rattle.gr_refine.specs.TakingBack.{part_of, all_undone, any_written}
 
--- those of a change from this content
+-- the objects that a change from this content writes
 abbrev pub written_objects : ChName → ChanUndo → Content → List Object
 written_objects c Buffered x = Tail c ∷ Slot c (tail_slot x) ∷ []
 written_objects c (Took v) x = Head c ∷ Slot c (head_slot x) ∷ []

@@ -88,7 +88,7 @@ module _ (p : Program) (s : State) (n : List ℕ) where
     abbrev by_tests : Bool → Bool → Choice
     by_tests a b = get_or (if a then Default ∷ (if b then Park ∷ [] else []) else (if b then Park ∷ [] else [])) 0 Plain
 
-    -- so the usual choice is to have none
+    -- where a plain step is allowed, the usual choice is to have none
     plain_allowed : usual_choice p s n ≡ Plain
     plain_allowed =
         ap (λ ns. get_or (map Pick ns ++ filter (may p s n) (Default ∷ Park ∷ [])) 0 Plain)

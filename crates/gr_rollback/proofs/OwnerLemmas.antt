@@ -53,7 +53,7 @@ module _ (frame : CodeFrame → Frame) (p : Program) (e : Event) (s t : Contents
   pub own_is_ready : IsReadyIn s e.go
   own_is_ready = by_run s.run refl
 
-  -- which the rules allow
+  -- the rules allow the step
   pub step_is_allowed : refusal p (state_of frame s) e ≡ None
   step_is_allowed = by_refusal (refusal p (state_of frame s) e) refl
     where

@@ -98,7 +98,7 @@ module _ (p : Program) (w : Timeline p) (m : Machine) (s : Stands p w m) where
           };
         }
 
-    -- or refused
+    -- the order is refused
     pub same_stands : records_of log ≡ steps_of m → Stands p w (with_log m log)
     same_stands same =
         stands_still p w m (with_log m log) s

@@ -38,7 +38,7 @@ module _ (p : Program) (s : Contents) (begins : state_in p s ≡ start p) (check
         absurd (let f : Some (goroutine_of (frame_in p) g) ≡ None = some in cc)
   ]
 
-  -- which is ready
+  -- the goroutine of `main` is ready
   by_option : (o : Option CodeGoroutine) → s.goroutines [] ≡ o → (x : Goroutine) → x.status ≡ ready → option_map (goroutine_of (frame_in p)) o ≡ Some x
       → IsReadyIn s []
   by_option None is x up e = absurd (let f : None ≡ Some x = e in cc)

@@ -22,7 +22,7 @@ use Rattle.gr_session.specs.Granting.{MayStep, IsTurnDue, CanLend, IsLent}
 use Rattle.gr_session.proofs.Basics.{or_right}
 use Rattle.gr_session.proofs.OneMeaningTurns.{turn_is_ready}
 
--- so many of which with more there are at most the limit
+-- what is at most the limit with more is at most the limit without
 pub within : (limit counted kept more : ℕ) → counted ≡ kept → kept + more ≤ limit → counted ≤ limit
 within limit counted kept more same few = omega (arith, same, few)
 

@@ -27,7 +27,7 @@ neither_before g h first second = by_order (go_cmp g h) refl
 one_first : (P : List ℕ → Type 0) (g h : List ℕ) → IsFirst P g → IsFirst P h → g ≡ h
 one_first P g h a b = neither_before g h (b.first g a.holds) (a.first h b.holds)
 
--- whose turn it is, is ready
+-- a goroutine whose turn it is, is ready
 pub turn_is_ready : (s : State) (last : Option (List ℕ)) (g : List ℕ) → HasTurn s last g → IsReady s g
 turn_is_ready s None g turn = turn.holds
 turn_is_ready s (Some last) g (inl turn) = turn.holds.0

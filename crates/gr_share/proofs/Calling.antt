@@ -33,7 +33,7 @@ more_work p place old mid new before after = (
   All-append (λ (d : Call). IsWork p place d.asked) before.0 after.0 before.2 after.2,
 )
 
--- so there is at most one call more
+-- a worker that works once has at most one call more
 pub one_call : (p : Program) (place : ℕ) (old new : Asker) → WorksOnce p place old new → length new.calls ≤ length old.calls + 1
 one_call p place old new (inl same) = omega (arith, ap (λ (a : Asker). length a.calls) same)
 one_call p place old new (inr once) =

@@ -50,7 +50,7 @@ module _ (code : ProgramCode) (number : ℕ) (n : List ℕ) (arrival : Arrival) 
   pub still_named : (other : ℕ) (m : List ℕ) → name_at old other ≡ Some m → name_at new other ≡ Some m
   still_named other m is = ap (λ ks. slice_get ks other) changes.2.sets.names ∙ is
 
-  -- and all other goroutines
+  -- all other goroutines stay
   pub others_stay : (m : List ℕ) → same_go m n ≡ false → goroutines_of new m ≡ goroutines_of old m
   others_stay m apart = ap (λ (f : List ℕ → Option CodeGoroutine). f m) arrives_at.is ∙ ap (λ b. if b then Some arrives_at.after else goroutines_of old m) apart
 

@@ -92,7 +92,7 @@ same_status g after (gives fs) is = sym (ap (λ (o : Outcome CodeGoroutine). eli
 same_status g after (faults x) is = absurd (subst {0, 0} (λ (o : Outcome CodeGoroutine). elim o [ faults _ ↦ Unit {0} | _ ↦ ⊥ ]) is tt)
 same_status g after wrong is = absurd (subst {0, 0} (λ (o : Outcome CodeGoroutine). elim o [ wrong ↦ Unit {0} | _ ↦ ⊥ ]) is tt)
 
--- so all that had frames have them still
+-- all goroutines that had frames have them still
 module _ (code : ProgramCode) (n : List ℕ) (u : GoUndo) (f h : List ℕ → Option CodeGoroutine) (k : ArrivesAt code n Completion u f h) where
   live_at : (q : List ℕ) → is_live_there (f q) ≡ true → is_live_there (h q) ≡ true
   live_at q live = ap (λ (g : List ℕ → Option CodeGoroutine). is_live_there (g q)) k.is ∙ elim (cases_Bool (same_go q n)) [

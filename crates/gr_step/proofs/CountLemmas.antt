@@ -130,7 +130,7 @@ module _ (p : Program) (e : Event) (number : ℕ) (o : Objects) (acting : Acting
     pub nil_room : c.beyond ≡ None → HasRoom e.go c new
     nil_room beyond = count_room None [] (told_none e.go c beyond)
 
-  -- those of nil
+  -- how many items and places nil has
   module _ (c : Effect) (new : Objects) (changes : Counted 0 c new) (kind : c.kind ≡ kinds.Length) (beyond : c.beyond ≡ None) where
     pub nil_len_takes : task_of (lowered p) g ≡ gives (Wants (TakesLen None)) → Takes p e (attempt p e) s c (contents_in new)
     nil_len_takes task =

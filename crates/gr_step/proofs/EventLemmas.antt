@@ -132,7 +132,7 @@ module _ (p : Program) (e : Event) (number : ℕ) (o : Objects) (a : Acting p e 
   status_is : (status : Status) → HasStatus (state_in p s) e.go status → ready ≡ status
   status_is status h = sym a.is_ready ∙ ap (λ (x : Goroutine). x.status) (some_is (sym there ∙ h.here)) ∙ h.has
 
-  -- so it is refused for its choice alone
+  -- an event of a ready goroutine is refused for its choice alone
   pub refused_for_choice : (r : Refusal) → refusal p (state_in p s) e ≡ Some r → r ≡ no_such_choice
   refused_for_choice program_is_over h = absurd (reason p (state_in p s) e program_is_over h a.runs)
   refused_for_choice no_such_goroutine h = absurd (some_not (sym there ∙ (reason p (state_in p s) e no_such_goroutine h).1))

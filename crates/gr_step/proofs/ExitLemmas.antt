@@ -61,7 +61,7 @@ module _ (p : Program) (e : Event) (number : ℕ) (o : Objects) (acting : Acting
 
   module _ (plain : e.choice ≡ Plain) (u : GoUndo) (new : Goroutines)
       (own : Placed e.go acting.goroutine (finished acting.goroutine) u o.goroutines new) where
-    -- but for that of `main`
+    -- the last return of a goroutine other than that of `main`
     pub return_takes : ¬ (e.go ≡ []) → Takes p e (attempt p e) (contents_in o) (record { kind = kinds.Return; own = u; beyond = None })
         (contents_in (record o { goroutines = new }))
     return_takes other =

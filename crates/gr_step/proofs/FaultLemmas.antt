@@ -104,7 +104,7 @@ module _ (p : Program) (s : Contents) (e : Event) (g : CodeGoroutine) (f : CodeF
       ∙ ap clauses_by (deed_is (meaning p) p (lowered p) g f below acts.fits acts.up.frames acts.stand)
       ∙ none_by p (task_of (lowered p) g) none
 
-  -- so a fault of no operation reads nothing
+  -- a fault of no operation reads nothing
   pub plain_fault_row : (fault : Fault) → e.choice ≡ Plain → FaultRow p e s g fault None []
   plain_fault_row fault plain =
       ap (λ o. row (state_in p s) e (code_report g None (kinds.Fault fault)) (option_map (goroutine_of (frame_in p)) o) None) acts.up.there

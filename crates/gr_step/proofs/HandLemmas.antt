@@ -64,7 +64,7 @@ module _ (p : Program) (e : Event) (number : ℕ) (old : Objects) (acting : Acti
       (ToReceive c w.case) (receiver_waits p s acting.running c x made w first m.met_one m.waits m.there m.waiting_for) in
       can_meet p e number old acting clause has None both.1 c w.go w.case (Some (v, true)) m its
 
-  -- and then it was
+  -- the receiver was met
   module _ (meet : CanMeet p e (contents_in old) clause None c w.go w.case (Some (v, true)))
       (mid : Channels) (is_mid : contents_of mid ≡ updated same_channel (contents_of old.channels) c (Some (record x { receivers = ws })))
       (u : ChanUndo) (at_gate : is_at_gate u ≡ true) (goes : GoesBack ((c, u) ∷ []) old.channels mid) (names : List ChName) (to_leave : AreToLeave names c meet.m.waits)
@@ -136,7 +136,7 @@ module _ (p : Program) (e : Event) (number : ℕ) (old : Objects) (acting : Acti
           (sends_on c) [] (objects.Gate c ∷ objects.Go w.go ∷ map objects.Gate (channels_but (c ∷ []) its_receiver.m.waits)) ((r.channel, u) ∷ []) change
           (record old { channels = mid }) new) same done)
 
-      -- and then it was handed over
+      -- the value was handed over
       pub was_handed : OfActor p e (contents_in old) (λ a. (otherwise : Attempt) → Takes p e (send a clause c v otherwise) (contents_in old) change (contents_in new))
       was_handed = handed p e number old acting clause has c v sound found.content made is_open w first.0 first.1 its_receiver mid
           (after_handed c old.channels mid found.content made v z u answered w first.0 first.1).1 u (ap is_at_gate answered.rule.1) goes r.names.items

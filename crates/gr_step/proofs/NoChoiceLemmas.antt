@@ -113,7 +113,7 @@ module _ (p : Program) (s : Contents) (n : List ℕ) where
       refused_may choice no_such_choice
       (task_has_no_choice (meaning p) p (lowered p) s (chosen_by n choice) g h.f h.below h.acts plain chosen)
 
-  -- so it has no clause to pick, and its step is plain
+  -- a goroutine whose task is no select has no clause to pick, and its step is plain
   none_of : (test : ℕ → Bool) (ns : List ℕ) → ((i : ℕ) → test i ≡ false) → filter test ns ≡ []
   none_of test [] none = refl
   none_of test (i ∷ ns) none = ap (λ b. if b then i ∷ filter test ns else filter test ns) (none i) ∙ none_of test ns none

@@ -34,7 +34,7 @@ pub record WaitsNoMore (c : ChName) (y : Content) (n : List ℕ) (ws : List Wait
   pub thin : thinned n y ≡ y
   pub nowhere : channels_but (c ∷ []) ws ≡ []
 
--- so it is met without any withdrawal
+-- a goroutine that waits nowhere else is met without any withdrawal
 met_alone : (u : Contents) (c : ChName) (y : Content) (n : List ℕ) (g : CodeGoroutine) (ws : List Wait) → WaitsNoMore c y n ws
     → met_in u c (thinned n y) n g ws ≡ with_goroutine (with_channel u c (Some y)) n (Some g)
 met_alone u c y n g ws alone =

@@ -131,7 +131,7 @@ module _ (m : Goroutines) (number : ℕ) (n : List ℕ) (g : CodeGoroutine) (nam
 pub present_there : (m : Goroutines) (i : ℕ) (name : List ℕ) → name_at m i ≡ Some name → true ≡ is_some (seen_of m name) → ¬ (None ≡ seen_at m i)
 present_there m i name named present none = let no : false ≡ true = ap is_some (none ∙ seen_named m i name named) ∙ sym present in cc
 
--- so of the goroutine that acts, whose count of steps can rise
+-- the goroutine that acts is at its number, and its count of steps can rise
 module _ (p : Program) (e : Event) (number : ℕ) (o : Objects) (acting : Acting p e number o) where
   pub at_number : (P : CodeGoroutine → Type 0) → P acting.goroutine → At (λ x. P x.content) (seen_at o.goroutines number)
   at_number P is = at_named o.goroutines number e.go acting.goroutine acting.named acting.there P is

@@ -250,7 +250,7 @@ module _ (p : Program) (e : Event) (number : ℕ) (o : Objects) (a : Acting p e 
     pub plain_elsewhere : is_select_in code x.content.frames ≡ false → is_plain e.choice ≡ is_none (refusal p (state_in p (contents_in o)) e)
     plain_elsewhere other = plain_alone (no_select (lowered p) a.goroutine.frames (sym (ap₂ is_select_in is its_frames) ∙ other))
 
-    -- or at one with these arms
+    -- the goroutine that is found under its number: it stands at a select with these arms
     module _ (f : CodeFrame) (cells : Variables) (arms : List Arm) (selects : SelectsIn code x.content.frames arms)
         (first : slice_get x.content.frames 0 ≡ Some f) (are : cells ≡ f.cells) where
       here : (below : List CodeFrame) × (a.goroutine.frames ≡ f ∷ below)

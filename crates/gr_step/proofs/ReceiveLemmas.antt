@@ -164,7 +164,7 @@ module _ (p : Program) (s : Contents) (run : Running p s) (e : Event) (g : CodeG
     both_go = one_first (lowered p) e.go (Passes clause (Some (v, true))) own s.goroutines between goes ((w.go, met) ∷ []) t.goroutines
         (one_first (lowered p) w.go (IsMet w.case None) met between t.goroutines meeting [] t.goroutines (no_change t.goroutines))
 
-    -- and its value moves up
+    -- a sender is met, and its value moves up
     module _ (rest : List Value) (items : x.items ≡ v ∷ rest)
         (is_channels : t.channels ≡ withdrawn w.go names (updated same_channel s.channels c
         (Some (record x { head = x.head + 1; items = rest ++ w.value ∷ []; senders = ws })))) where
@@ -212,7 +212,7 @@ module _ (p : Program) (s : Contents) (run : Running p s) (e : Event) (g : CodeG
           })
           change tells
 
-    -- which gives its own value
+    -- a sender is met, and gives its own value
     module _ (items : x.items ≡ []) (given : w.value ≡ v)
         (is_channels : t.channels ≡ withdrawn w.go names (updated same_channel s.channels c (Some (record x { senders = ws })))) where
       abbrev was_met : Report

@@ -135,7 +135,7 @@ module _ (p : Program) (e : Event) (number : ℕ) (o : Objects) (acting : Acting
         on : Arrived p e.go Child g u known went
         on = arrived_from p e number o acting Child u known went named there change
 
-        -- and the child is put under its name
+        -- the goroutine went past its statement, and the child is put under its name
         module _ (place : ℕ) (child : Seen) (new : Goroutines) (here_known : name_at known place ≡ Some next)
             (begins : IsStarted (entered (lowered p) function vs) child.content) (b : Beyond) (reach : ReachesChild next b) where
           place_named : name_at went place ≡ Some next

@@ -76,7 +76,7 @@ module _ (p : Program) (e : Event) (number : ℕ) (o : Objects) (running : Runni
     as_step : ChangesBy number (λ a b. IsStep (kinds.Pure, r.1) (local (lowered p) a.content) a b) o.goroutines new
     as_step = (change.0, change.1, change.2, change.3.is)
 
-    -- and is a step of the rules
+    -- a step over whole numbers is a step of the rules
     pub count_takes : Takes p e (attempt p e) (contents_in o) (counted_by r.1) (contents_in (record o { goroutines = new }))
     count_takes = local_takes p e number o acting kinds.Pure r.1 new as_step plain (λ (f : Fault) is. let no : kinds.Pure ≡ kinds.Fault f = is in cc)
 

@@ -36,7 +36,7 @@ abbrev pub clause_of : Wait → Option ℕ
 clause_of (ToSend c clause) = clause
 clause_of (ToReceive c clause) = clause
 
--- that of one that waits at its operation, and of one that waits at a select
+-- the clause of a wait by itself, and of one at a select
 by_itself : (c : Communication) (w : Wait) → In w (waits_for None c) → clause_of w ≡ None
 by_itself (Sending (Some c) v) w (inl is) = ap clause_of is
 by_itself (Sending (Some c) v) w (inr bad) = absurd bad

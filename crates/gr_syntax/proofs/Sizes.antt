@@ -49,7 +49,7 @@ mutual
   exprs_long (last_expr d) = omega (arith, expr_long d)
   exprs_long (comma_expr d ds) = omega (arith, expr_long d, exprs_long ds)
 
--- and one at least
+-- a tree takes at least one token
 pub unary_shrinks : {e : Tree} {ts rest : List Tok} → SpellsUnary e ts rest → length rest < length ts
 unary_shrinks {e} d = omega (arith, unary_long d, height_pos e)
 

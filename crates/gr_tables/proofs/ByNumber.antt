@@ -117,7 +117,7 @@ module _ {S : Type 0} (m : IndexMap (List ℕ) (Option Seen) S) (i : ℕ) where
   pub written_unique : (w : Option Seen) → IsUnique same_go m → IsUnique same_go (with_value_at m i w)
   written_unique w unique = subst (IsDistinct same_go) (sym (keys-with_value_at m i w)) unique
 
-  -- and changes what is seen at the name with the number, and nowhere else
+  -- a write by number changes what is seen at the name with the number, and nowhere else
   written_seen : (w : Option Seen) → IsUnique same_go m → (name : List ℕ) → slice_get (keys m) i ≡ Some name
       → (q : List ℕ) → there (get same_go (with_value_at m i w) q) ≡ updated same_go (λ n. there (get same_go m n)) name w q
   written_seen w unique name here q =

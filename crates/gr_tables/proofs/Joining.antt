@@ -16,7 +16,7 @@ use Rattle.gr_tables.proofs.RoomLemmas.{frees-append, needs-append, joined_room,
 pub all_fit : (us vs : List (ChName × ChanUndo)) (a b : Channels) → ChansFit us (contents_of a) → GoesBack vs a b → ChansFit (us ++ vs) (contents_of b)
 all_fit us vs a b h g = AllFit-join same_channel chan_undone FitsAt (contents_of b) (contents_of a) us vs g.back h g.fits
 
--- and there is room for all of them
+-- after more changes, there is room for all of them
 pub all_have_rooms : (us vs : List (ChName × ChanUndo)) (a b : Channels) → HasRooms us (rooms_of a) → GoesBack vs a b → HasRooms (us ++ vs) (rooms_of b)
 all_have_rooms us vs a b h g q =
     subst (λ n. Within n (rooms_of b q)) (sym (needs-append us vs q))

@@ -81,7 +81,7 @@ module _ {S : Type 0} (m : Table S) (unique : IsUnique same m) (i : ℕ) (k : Ob
   pub written : (w : LaneSeen) (q : Object) → get same (with_value_at m i w) q ≡ cond (same k q) (Some w) (get same m q)
   written w q = (updates-with_value_at m i w same_equiv unique k own at).0 q
 
--- and leaves the keys, of which no two are one
+-- a write by number leaves the keys, and no two of them are one
 pub written_unique : {S : Type 0} (m : Table S) (i : ℕ) (w : LaneSeen) → IsUnique same m → IsUnique same (with_value_at m i w)
 written_unique m i w unique = subst (IsDistinct same) (sym (keys-with_value_at m i w)) unique
 

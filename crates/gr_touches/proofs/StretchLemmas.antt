@@ -66,7 +66,7 @@ own_added go place count before b run wrote read q = elim (cases_Bool (same Run 
         ∙ wrote q ∙ by (same (Go go) q) (before q)
         ∙ ap (λ (c : Bool). before q ++ (if c then stretch false place count else if same (Go go) q then stretch true place count else [])) (sym f)
 
--- so many touches
+-- a stretch has as many touches as it has steps
 stretch_long : (w : Bool) (place count : ℕ) → length (stretch w place count) ≡ count
 stretch_long w place zero = refl
 stretch_long w place (suc count) = ap suc (stretch_long w (suc place) count)

@@ -13,7 +13,7 @@ abbrev pub takes : Wanted → Bool → Bool
 takes All writes = true
 takes Writes writes = writes
 
--- those of the touches that are wanted
+-- the touches that are wanted, of these
 abbrev pub wanted : Wanted → List Touch → List Touch
 wanted which ts = filter (λ t. takes which t.writes) ts
 

@@ -51,7 +51,7 @@ state_with name g = put (states.start program) (go_has name g)
 abbrev pub kind_from : List ℕ → Option Goroutine → Option Kind
 kind_from name g = option_map (λ r. kind_of r.1.kind) ((machine program).step (state_with name g) (steps name))
 
--- so deep in calls of `again`
+-- a goroutine this deep in calls of `again`
 abbrev pub deep : ℕ → Option Goroutine
 deep n = elim (called 0 (Int (pos 5) ∷ []) again) [ gives f ↦ Some (record (started f) { frames = replicate n f }) | _ ↦ None ]
 

@@ -30,7 +30,7 @@ past n text long short = absurd (omega arith)
 pub long_source : (text : List ℕ) → TEXT_LIMIT < length text → NoProgram text
 long_source text long = λ p h. past TEXT_LIMIT text long h.scanned.short
 
--- so it is said of each text that is too long
+-- the refusal of a text that is too long says so
 long_refused : (error : OpenError) (all : List ℕ) → error ≡ opening.Scan scanning.TooLong None → TEXT_LIMIT < length all → SaysWhy error all
 long_refused error all e long =
     subst (λ f. SaysWhy f all) (sym e) (record { fault = long; place = refl; none = long_source all long })
@@ -83,7 +83,7 @@ unserved (Serve Write) source reader writer h = absurd h
 unserved (Serve Memory) source reader writer h = inl (Keeps-refl reader.bytes, Keeps-refl writer.bytes)
 unserved Threads source reader writer h = absurd h
 
--- and its fault names no device but the source
+-- a fault of the source names no device but the source
 pub source_blamed : (fault : DebugFault) (source : Change) (reader writer : Device) → SourceLeft fault source → BlamesSource fault source
     → BlamesDevice fault source (record { old = reader; new = reader }) (record { old = writer; new = writer })
 source_blamed Source source reader writer h b = (b, (refl, refl))

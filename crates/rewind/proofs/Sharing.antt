@@ -45,7 +45,7 @@ ends program (Err why) (Err fault) old desk reader writer fresh stream told =
     subst (λ f. StreamLeft program f reader writer × BlamesStream f reader writer) (sym told.0)
     (left_beside program why reader writer (record { old = old; fresh = fresh; desk = desk; left = stream.0 }), stream.1)
 
--- and so is that of the source
+-- the fault of a served session is the session's or the source's
 pub served : {A : Type 0} (program : Program) (result : Result A DebugFault) (source reader writer : Change)
     → Opened source.old.bytes source.new.bytes program → BesideEnds program result reader writer → OnOk result (DebuggedBeside source reader writer)
 served program (Ok v) source reader writer opened h = record { program = program; opened = opened; settled = h.0 }
