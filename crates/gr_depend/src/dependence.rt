@@ -14,7 +14,7 @@ use gr_base::NoMemory;
 use gr_touches::{Direction, Origin, Wanted};
 use std::alloc::Global;
 
-/// As many marks, none of which is set.
+/// This many marks, none of them set.
 fn no_marks(alloc: Global, count: usize) -> Result<Vec<bool>, NoMemory>
     ensures { IfOk result (λ marks. marks.items ≡ replicate count false) }
 {

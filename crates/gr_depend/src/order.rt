@@ -46,7 +46,7 @@ struct Moves {
     to: Vec<usize>,
 }
 
-/// As many places, all the same.
+/// A list of this many places, all the same.
 fn places(alloc: Global, count: usize, place: usize) -> Result<Vec<usize>, NoMemory>
     ensures { IfOk result (λ places. places.items ≡ replicate count place) }
 {

@@ -20,7 +20,7 @@ use gr_step::{Beyond, Form, Record};
 pub(crate) enum Prior {
     Ready,
     Unready,
-    /// As it is after the change.
+    /// The goroutine was ready before the change exactly if it is after it.
     Same,
 }
 
