@@ -83,7 +83,7 @@ export class DirectEdges {
   newSources({ id, goroutine }) {
     const own = this.log.before(id);
     const known = own ? this.causes(own) : new Map();
-    const others = [...this.causes(id)].filter(([name]) => name !== goroutine);
+    const others = [...this.causes(id)].filter(([name]) => name !== goroutine).sort(([one], [other]) => this.log.row(stepName(one, 1)) - this.log.row(stepName(other, 1)));
     return others.filter(([name, number]) => number > (known.get(name) || 0)).map(([name, number]) => stepName(name, number));
   }
 

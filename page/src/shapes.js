@@ -1,35 +1,9 @@
 // What a worker hands on of the replies that it got, so that long texts are read beside the page.
 
+import { listsIn } from "./lists.js";
 import { parseReplies } from "./protocol.js";
 
-const ZERO = "0".charCodeAt(0);
 const LINES = 1100; // of more lines the last are handed on: more than a goroutine has frames
-
-// A list of steps as numbers: of each goroutine the first and the last that is listed. Such a line may be long, so it is not split.
-/**
- * @param {string} line
- * @returns {Listed}
- */
-function listed(line) {
-  const [status, ...rest] = line.slice(0, 40).split(" ");
-  const isOk = status === "ok";
-  const count = Number(rest[isOk ? 0 : 1]) || 0;
-  /** @type {Map<string, number[]>} */
-  const spans = new Map();
-  let at = line.indexOf("g");
-  for (let left = count; left > 0 && at >= 0; left--) {
-    const sign = line.indexOf("#", at);
-    let number = 0;
-    let end = sign + 1;
-    for (let digit = line.charCodeAt(end) - ZERO; digit >= 0 && digit <= 9; digit = line.charCodeAt(++end) - ZERO) number = 10 * number + digit;
-    const name = line.slice(at, sign);
-    const span = spans.get(name);
-    if (span) span[1] = number;
-    else spans.set(name, [number, number]);
-    at = end + 1;
-  }
-  return { isOk, count, spans, last: isOk ? "ok" : line };
-}
 
 // A log as columns: the goroutine and the kind of each step.
 /**
@@ -66,6 +40,6 @@ const SHAPES = { replies: (reply) => reply, columns, tail };
  * @param {string} shape
  */
 export function shaped(text, shape) {
-  if (shape === "listed") return text.split("\n").filter((line) => line).map(listed);
+  if (shape === "listed") return listsIn(text);
   return parseReplies(text).map(SHAPES[shape]);
 }

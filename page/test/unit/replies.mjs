@@ -20,7 +20,7 @@ export function replies() {
   equal("a fault", parseFault("rewind: C7 at 2:15\n"), { code: "C7", line: 2, column: 15, text: "rewind: C7 at 2:15" });
   equal("no fault", parseFault("hello"), null);
   const [list] = shaped("ok 4 g0#1 g0.1#1 g0#2 g0#3\n", "listed");
-  equal("a list of steps as the first and last of each goroutine", [list.count, [...list.spans]], [4, [["g0", [1, 3]], ["g0.1", [1, 1]]]]);
+  equal("a list of steps as the first and last of each goroutine", [list.count, [...list.spans].sort()], [4, [["g0", [1, 3]], ["g0.1", [1, 1]]]]);
   const [log] = shaped("| g0#1 make\n| g0.1#1 pick 2\n| g0#2 make\nok 3\n", "columns");
   equal("a log as columns", [log.names, log.kinds, [...log.of], [...log.kindOf]], [["g0", "g0.1"], ["make", "pick 2"], [0, 1, 0], [0, 1, 0]]);
   const [refused] = shaped("no Q1\n", "columns");
