@@ -19,6 +19,7 @@ export class Annotating {
     this.done = -1; // the stamp up to which everything is found
     this.timer = 0;
     this.work = Promise.resolve();
+    this.turns = 0; // how often something was looked for
     /** @type {Map<string, string>} */
     this.functionOf = new Map();
     /** @type {import("./session.js").Session | null} */
@@ -27,7 +28,8 @@ export class Annotating {
 
   /** @param {number} stamp */
   begin(stamp) {
-    this.work = this.work.then(() => this.find(stamp)).then(() => {}, (fault) => this.failed(fault));
+    const turn = ++this.turns;
+    this.work = this.work.then(() => this.find(stamp, turn)).then(() => {}, (fault) => this.failed(fault));
   }
 
   /** @param {unknown} fault */
@@ -46,8 +48,11 @@ export class Annotating {
     await pause();
   }
 
-  /** @param {number} stamp */
-  async find(stamp) {
+  /**
+   * @param {number} stamp
+   * @param {number} turn
+   */
+  async find(stamp, turn) {
     const { page } = this;
     const { session } = page;
     const isOld = () => stamp !== page.stamp || session !== page.session;
@@ -60,6 +65,7 @@ export class Annotating {
     this.done = stamp;
     this.show();
     page.tell();
+    await this.findCauses(session, () => isOld() || turn !== this.turns);
   }
 
   // Shows what was found since.
@@ -118,6 +124,20 @@ export class Annotating {
     for (let row = from; row < to && !isOld(); row += some) {
       const missing = log.steps(row, Math.min(to, row + some)).filter(({ id }) => follower.notes.has(id) && !follower.notes.get(id)?.edges);
       if (missing.length) await follower.inTurn(async () => (isOld() ? undefined : direct.find(missing)));
+    }
+  }
+
+  // Finds the causes of the other steps around the view of a long log, so that pointing at one of them need not ask for a long list.
+  /**
+   * @param {import("./session.js").Session} session
+   * @param {() => boolean} isOld
+   */
+  async findCauses(session, isOld, [from, to] = this.wanted(session).edges) {
+    const { log, follower, direct } = session;
+    if (log.length <= ALL_EDGES || log.length > FOLLOWED) return;
+    for (let row = from; row < to && !isOld(); row += EDGES_OF_LONG) {
+      const ids = log.steps(row, Math.min(to, row + EDGES_OF_LONG)).map(({ id }) => id).filter((id) => follower.notes.get(id)?.causes === null);
+      if (ids.length) await follower.inTurn(async () => (isOld() ? undefined : direct.askCauses(ids)));
     }
   }
 

@@ -4,7 +4,7 @@ import { NOTHING_POINTED } from "./picture.js";
 import { SessionGone, Unanswered } from "./remote.js";
 import { goroutineOf, numberOf } from "./protocol.js";
 
-const DELAY = 25; // milliseconds that the pointer rests before a step is asked for
+const DELAY = 25; // milliseconds that the pointer rests before it is asked what is not known of a step
 
 export class Pointing {
   /** @param {import("./page.js").Page} page */
@@ -54,7 +54,7 @@ export class Pointing {
     this.pointed = id;
     if (this.pinned) return;
     clearTimeout(this.timer);
-    this.timer = window.setTimeout(() => this.color(), DELAY);
+    this.timer = window.setTimeout(() => this.color(), this.page.session?.known.has(id) ? 0 : DELAY);
   }
 
   // Keeps a step chosen, or lets it go.
@@ -90,7 +90,7 @@ export class Pointing {
       return this.draw();
     }
     try {
-      const [causes, consequences] = await session.mirror.lists([`causes ${id}`, `deps ${id}`]);
+      const [causes, consequences] = await session.known.of(id);
       if (asked !== this.asked || session !== this.page.session) return;
       this.about = { id, causes: causes.count - 1, consequences: consequences.count - 1 };
       this.view = { ...NOTHING_POINTED, causes: causes.spans, consequences: consequences.spans };

@@ -4,6 +4,7 @@
 import { CHANGES, wordsOf } from "./protocol.js";
 import { DirectEdges } from "./direct.js";
 import { Follower } from "./follower.js";
+import { Known } from "./known.js";
 import { Log } from "./log.js";
 import { Mirror } from "./mirror.js";
 import { NOTHING } from "./scene.js";
@@ -38,6 +39,7 @@ export class Session {
     this.mirror = new Mirror(machine, this.statements, this.log, this.clauses);
     this.follower = new Follower(machine, this.statements, this.log, this.clauses);
     this.direct = new DirectEdges(this.follower);
+    this.known = new Known(this.mirror, this.follower, this.log);
     /** @type {string[]} */
     this.commands = []; // that changed it
     /** @type {Set<number>} */

@@ -2,6 +2,7 @@
 
 import { counts, failed } from "./checks.mjs";
 import { followers } from "./unit/follower.mjs";
+import { knownLists, lists } from "./unit/known.mjs";
 import { lesson } from "./unit/lesson.mjs";
 import { logs } from "./unit/log.mjs";
 import { picture } from "./unit/picture.mjs";
@@ -9,7 +10,7 @@ import { replies } from "./unit/replies.mjs";
 import { runs } from "./unit/runs.mjs";
 import { statements } from "./unit/statements.mjs";
 
-const PARTS = { logs, followers, statements, replies, runs, picture, lesson };
+const PARTS = { logs, followers, statements, replies, lists, knownLists, runs, picture, lesson };
 
 for (const [name, part] of Object.entries(PARTS)) {
   try {
