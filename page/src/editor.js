@@ -158,22 +158,23 @@ export class Editor {
     this.editor.scrollIntoView({ line: line - 1, ch: 0 }, 60);
   }
 
-  // Shows a refusal below its line, and underlines what it is about: `length` letters from its column on, which counts bytes.
-  // Returns whether there is such a line.
+  // Shows a refusal below its line, and marks what it is about: `length` letters from its column on, which counts bytes, and the whole
+  // statement around them. Returns whether there is such a line.
   /**
-   * @param {{line: number, column: number, length: number}} place
+   * @param {{line: number, column: number, length: number, whole: {start: number, end: number} | null}} place
    * @param {string} message
    */
-  refuse({ line, column, length }, message) {
+  refuse({ line, column, length, whole }, message) {
     this.clearRefusal();
     if (!line || line > this.editor.lineCount()) return false;
     const text = this.editor.getLine(line - 1);
     const at = Math.min(decoder.decode(encoder.encode(text).subarray(0, column - 1)).length, Math.max(0, text.length - 1));
     const start = this.editor.indexFromPos({ line: line - 1, ch: at });
-    const mark = this.mark(start, start + Math.max(1, length), "refused-word");
+    const marks = [this.mark(start, start + Math.max(1, length), "refused-word")];
+    if (whole) marks.push(this.mark(whole.start, whole.end, "refused-statement"));
     const handle = this.editor.addLineClass(line - 1, "background", "refused-line");
     const widget = this.editor.addLineWidget(line - 1, make("div", { class: "refusal-note" }, message), { noHScroll: true });
-    this.refusal = [() => mark.clear(), () => this.editor.removeLineClass(handle, "background", "refused-line"), () => widget.clear()];
+    this.refusal = [() => marks.forEach((mark) => mark.clear()), () => this.editor.removeLineClass(handle, "background", "refused-line"), () => widget.clear()];
     this.reveal(line);
     return true;
   }

@@ -38,6 +38,14 @@ interface RefusalForm {
   words?: number[]; back_to?: string;
 }
 
+// A source that was refused, as it is read to say what is wrong in it.
+type GoConstant = bigint | boolean | null;
+interface GoToken { kind: string; text: string; line: number; column: number; offset: number }
+interface GoValue { kind: string; own: string; first: number; last: number; constant: GoConstant }
+interface GoFunction { name: string; parameters: [string, string][]; result: string | null; line: number; heading: string }
+type Fields = {[name: string]: string};
+interface FormFault { form: string; first: number; last: number; fields: Fields }
+
 interface PointedView {
   pointed: string; causes: Map<string, number[]>; consequences: Map<string, number[]>; forbids: string[]; count: number;
   cycle: string[]; fault: string; found: Set<string> | null; last: number; direct: boolean;

@@ -6,11 +6,12 @@ import { knownLists, lists } from "./unit/known.mjs";
 import { lesson } from "./unit/lesson.mjs";
 import { logs } from "./unit/log.mjs";
 import { picture } from "./unit/picture.mjs";
+import { refusals } from "./unit/refusals.mjs";
 import { replies } from "./unit/replies.mjs";
 import { runs } from "./unit/runs.mjs";
 import { statements } from "./unit/statements.mjs";
 
-const PARTS = { logs, followers, statements, replies, lists, knownLists, runs, picture, lesson };
+const PARTS = { logs, followers, statements, refusals, replies, lists, knownLists, runs, picture, lesson };
 
 for (const [name, part] of Object.entries(PARTS)) {
   try {

@@ -58,7 +58,8 @@ async function refusedTexts(hands) {
   await hands.source(`package main\nimport "fmt"\nfunc main() {}\n`);
   holds("an import is refused in words for students", /import/.test(await hands.text(".refusal-note")) && !/a syntax error/.test(await hands.text(".refusal-note")));
   await hands.source("package main\nfunc main() {\n\tx := 1\n\tx = x + true\n}\n");
-  equal("the whole statement is marked", (await hands.texts(".refused-word")).join("").replace(/\s/g, ""), "x=x+true");
+  equal("the whole statement is marked", (await hands.texts(".refused-statement")).join("").replace(/\s/g, ""), "x=x+true");
+  equal("and in it what is wrong", await hands.texts(".refused-word"), ["true"]);
 }
 
 async function keptLines(hands) {
@@ -98,24 +99,25 @@ async function saidInPage(source) {
   const { Session, program, explain, parseFault, page } = window.rewind;
   const session = await Session.open(program, new TextEncoder().encode(source));
   const refusal = parseFault(session.errors);
-  const { line, column, sentence } = explain(page.given.refusals, source, refusal);
-  return { code: refusal.code, said: line ? `${line}:${column}: ${sentence}` : sentence };
+  const { line, column, sentence, instead } = explain(page.given.refusals, source, refusal);
+  return [line ? `${line}:${column}: ${sentence}` : sentence, ...(instead ? [`write instead: ${instead}`] : [])];
 }
 
-// Refusals come out as the clients have them, but for those of the checker that its own reader finds.
+// Refusals come out as the clients have them.
 async function refusalsAsTold(hands) {
-  const same = { S: 0, P: 0, C: 0 };
-  const other = { S: 0, P: 0, C: 0 };
+  const other = [];
+  let same = 0;
   for (const file of readdirSync(REFUSED).filter((name) => name.endsWith(".go"))) {
     const source = readFileSync(REFUSED + file, "utf8");
     if (source.includes("\ufffd")) continue; // it is no text
-    const { code, said } = await hands.browser.run(`(${saidInPage})(${JSON.stringify(source)})`);
-    const told = readFileSync(REFUSED + file.replace(/go$/, "expect"), "utf8").split("\n")[0].replace(/^[^:]*: ?/, "");
-    (told === said ? same : other)[code[0]]++;
+    const said = await hands.browser.run(`(${saidInPage})(${JSON.stringify(source)})`);
+    const [told, ...more] = readFileSync(REFUSED + file.replace(/go$/, "expect"), "utf8").trimEnd().split("\n");
+    const all = [told.replace(/^[^:]*: ?/, ""), ...more.filter((line) => line.startsWith("write instead: "))];
+    if (JSON.stringify(all) === JSON.stringify(said)) same++;
+    else other.push(file);
   }
-  console.log(`of refused sources, ${same.S + same.P} of the scanner and the parser and ${same.C} of the checker are told as the clients tell them`);
-  holds("nearly all refusals of the scanner and the parser are told as the clients tell them", other.S + other.P <= 6 && same.S + same.P > 200);
-  holds("and the usual ones of the checker", same.C >= 25);
+  equal("each refusal of a source is told as the clients tell it", other, []);
+  holds(`${same} of them`, same > 390);
 }
 
 // A browser that cannot compile the program.
