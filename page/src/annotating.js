@@ -83,6 +83,7 @@ export class Annotating {
   async findClauses(session) {
     const { scene } = session;
     if (session.log.isOver) return;
+    if (scene.isPartial) scene.isStuck = await session.mirror.isStuck();
     const clauses = await session.mirror.readyClauses(scene.goroutines);
     scene.clauses = clauses;
     if (clauses.size && scene === this.page.session?.scene && !this.page.past.isOn) this.page.showScene(scene);
@@ -153,7 +154,7 @@ export class Annotating {
   /** @param {import("./session.js").Session} session */
   findCycle(session) {
     const { scene, log } = session;
-    const isStuck = log.length > 0 && !log.isOver && !scene.goroutines.some(({ state }) => state === "ready");
+    const isStuck = log.length > 0 && !log.isOver && scene.isStuck && !scene.isPartial;
     this.page.cycle = isStuck ? cycleIn(waitGraph(waitsOf(scene), scene, this.page.note, (id) => log.kindOf(id))) : [];
   }
 

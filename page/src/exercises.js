@@ -6,7 +6,7 @@
  * @param {{log: import("./log.js").Log, scene: Scene, commands: string[], cycle: string[], pinned: string}} state
  */
 export function isReached(goal, { log, scene, commands, cycle, pinned }) {
-  const isStuck = log.length > 0 && !log.isOver && !scene.goroutines.some(({ state }) => state === "ready");
+  const isStuck = log.length > 0 && !log.isOver && scene.isStuck;
   const ends = /** @type {{[end: string]: boolean}} */ ({
     ended: log.end?.kind === "exit",
     deadlock: isStuck,

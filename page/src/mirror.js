@@ -208,6 +208,15 @@ export class Mirror {
     return this.answer((remote) => remote.questions(commands, "listed"));
   }
 
+  // Whether no goroutine is ready: a run of one step is tried and undone.
+  isStuck() {
+    return this.answer(async (remote) => {
+      const [reply] = await remote.questions(["run 1"]);
+      if (reply.words[1] === "1") await remote.questions(["undo"]);
+      return reply.words[2] === "stuck";
+    });
+  }
+
   // The clauses that each ready goroutine at a select could take now: each is tried and undone.
   /** @param {Goroutine[]} goroutines */
   async readyClauses(goroutines) {

@@ -22,7 +22,9 @@ export async function readScene(remote, names, channels, statements) {
   const refused = replies.slice(0, -1).find((reply) => !reply.isOk);
   if (refused) throw new Unanswered(refused.last);
   const goroutines = shown.map((_, at) => placed(parseGoroutine(replies[at]), statements));
-  return { goroutines, channels: made.map((name, at) => parseChannel(name, replies[shown.length + at])), console, hidden, clauses: new Map() };
+  const isPartial = names.length > shown.length;
+  const isStuck = !isPartial && !goroutines.some(({ state }) => state === "ready");
+  return { goroutines, channels: made.map((name, at) => parseChannel(name, replies[shown.length + at])), console, hidden, isPartial, isStuck, clauses: new Map() };
 }
 
 // A goroutine with its place in the user's source.
@@ -37,4 +39,4 @@ export function placed(goroutine, statements) {
 }
 
 /** @type {Scene} */
-export const NOTHING = { goroutines: [], channels: [], console: { isOk: true, count: 0, lines: [] }, hidden: 0, clauses: new Map() };
+export const NOTHING = { goroutines: [], channels: [], console: { isOk: true, count: 0, lines: [] }, hidden: 0, isPartial: false, isStuck: false, clauses: new Map() };

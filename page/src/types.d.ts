@@ -21,7 +21,10 @@ interface Token { text: string; at: number; line: number; column: number }
 interface Statement { line: number; column: number; start: number; end: number; text: string; expandedLine: number; clauses: string[]; func: string }
 
 // What the panes show: the session at one moment.
-interface Scene { goroutines: Goroutine[]; channels: Channel[]; console: Tail; hidden: number; clauses: Map<string, Clause[]> }
+// Of many goroutines some are not shown: then `isPartial`, and whether none is ready is asked of the session.
+interface Scene {
+  goroutines: Goroutine[]; channels: Channel[]; console: Tail; hidden: number; isPartial: boolean; isStuck: boolean; clauses: Map<string, Clause[]>;
+}
 interface Clause { number: number; text: string }
 
 interface Story { name: string; title: string; source: string; script: string; shows: string; level?: string; told: Told[] }

@@ -90,8 +90,7 @@ export class Words {
     const end = log.end;
     if (end?.kind.startsWith("fault")) return { tone: "bad", text: this.faultText(end, note(end.id)) };
     if (end) return this.ended(scene);
-    const isStuck = scene.goroutines.length > 0 && log.length > 0 && !scene.goroutines.some(({ state }) => state === "ready") && !scene.hidden;
-    if (!isStuck) return null;
+    if (!scene.isStuck || !log.length) return null;
     const around = cycle.length ? ` ${[...cycle, cycle[0]].join(" waits for ")}.` : "";
     return { tone: "bad", text: `Deadlock: no goroutine is ready. ${listed(waitsOf(scene).map(waitText), "; ")}.${around}` };
   }
@@ -99,8 +98,8 @@ export class Words {
   /** @param {Scene} scene */
   ended(scene) {
     const left = scene.goroutines.filter(({ name, state }) => state !== "done" && name !== "g0").map(({ name, state, line }) => `${name} (${state === "ready" ? "stopped" : state}${line ? ` at line ${line}` : ""})`);
-    const said = left.length ? ` Left behind: ${listed(left, ", ")}.` : " Every goroutine is done.";
-    return { tone: left.length ? "warn" : "good", text: `The program has ended.${said}` };
+    const all = scene.isPartial ? ` The first ${scene.goroutines.length} goroutines are done; the others are not shown.` : " Every goroutine is done.";
+    return { tone: left.length ? "warn" : "good", text: `The program has ended.${left.length ? ` Left behind: ${listed(left, ", ")}.` : all}` };
   }
 
   /**

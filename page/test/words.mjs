@@ -28,6 +28,21 @@ async function manyGoroutines(hands) {
   equal("of many goroutines, console and channels stand above the cards", [...tops].sort((one, other) => one - other), tops);
 }
 
+// Main starts 230 goroutines that wait for ever, and either waits too or ends.
+const waiting = (last) => `package main\nfunc wait(c chan int) { <-c }\nfunc main() {\n\tc := make(chan int)\n\tfor i := 0; i < 230; i++ { go wait(c) }\n\t${last}\n}\n`;
+
+// More goroutines than the panes show: what is said of all is true of those too that are not shown.
+async function unseenGoroutines(hands) {
+  await hands.source(waiting("<-c"));
+  await hands.perform("run 880");
+  equal("while one of many goroutines is ready, no deadlock is told", await hands.browser.run("document.getElementById('state').hidden"), true);
+  await hands.perform("run 5000");
+  holds("a deadlock of many goroutines is told", (await hands.text("#state")).startsWith("Deadlock: no goroutine is ready. g0 waits"));
+  await hands.source("package main\nfunc work() { }\nfunc wait(c chan int) { <-c }\nfunc main() {\n\tc := make(chan int)\n\tfor i := 0; i < 230; i++ { go work() }\n\tfor i := 0; i < 1500; i++ { }\n\tgo wait(c)\n}\n");
+  await hands.perform("run 9000");
+  holds("of an end nothing is told of goroutines that are not shown", /^The program has ended\. The first 200 goroutines are done; the others are not shown\./.test(await hands.text("#state")));
+}
+
 async function ends(hands) {
   await hands.perform("run 5");
   equal("an ended program is told to have ended before", await hands.text("#status"), "The program has ended before: there is no step to take.");
@@ -106,7 +121,7 @@ async function arrows(hands) {
   await hands.browser.size(1280, 800);
 }
 
-const WORDS = [states, ends, manyGoroutines, places, byMouse, longTexts, arrows];
+const WORDS = [states, ends, unseenGoroutines, manyGoroutines, places, byMouse, longTexts, arrows];
 
 export async function saidWords(browser) {
   for (const words of WORDS) await words(new Hands(browser));

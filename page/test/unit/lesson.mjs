@@ -20,7 +20,7 @@ const CONSOLE = { isOk: true, count: 1, lines: ["20"] };
 function waits() {
   const scene = {
     goroutines: [one("g0", "waiting", 3, { a: "g0/c1" }), one("g0.1", "waiting", 7, { a: "g0/c1", b: "g0/c2" }), one("g0.2", "done", null)],
-    channels: [channel("g0/c1", 0, [], ["g0"]), channel("g0/c2", 0, ["g0.1=5"], [])], console: CONSOLE, hidden: 0, clauses: new Map(),
+    channels: [channel("g0/c1", 0, [], ["g0"]), channel("g0/c2", 0, ["g0.1=5"], [])], console: CONSOLE, hidden: 0, isPartial: false, isStuck: true, clauses: new Map(),
   };
   equal("who waits for what", waitsOf(scene).map(waitText), ["g0 waits at line 3 to receive from g0/c1", "g0.1 waits at line 7 to send 5 to g0/c2"]);
   const graph = waitGraph(waitsOf(scene), scene, () => undefined, () => "");
@@ -32,7 +32,7 @@ function waits() {
 function exercises() {
   const log = new Log();
   log.append("g0", "pure");
-  const scene = { goroutines: [one("g0", "waiting", 3)], channels: [], console: CONSOLE, hidden: 0, clauses: new Map() };
+  const scene = { goroutines: [one("g0", "waiting", 3)], channels: [], console: CONSOLE, hidden: 0, isPartial: false, isStuck: true, clauses: new Map() };
   const reached = (goal, commands = ["back g0#2"]) => isReached(goal, { log, scene, commands, cycle: [], pinned: "g0#1" });
   equal("goals that are reached", [{ printed: "20" }, { end: "deadlock" }, { kept: ["g0#1"] }, { without: ["g0#2"] }, { most: 1 }, { chosen: "g0#1" }].map((goal) => reached(goal)), Array(6).fill(true));
   equal("goals that are not", [{ printed: "30" }, { end: "ended" }, { kept: ["g0#2"] }, { without: ["g0#1"] }, { most: 0 }, { only: "^step" }, { end: "cycle" }].map((goal) => reached(goal)), Array(7).fill(false));
@@ -56,7 +56,7 @@ function comparisons() {
   const { same, rows } = paired([row("g0#1"), row("g0#2"), row("g0.1#1")], [row("g0#1"), row("g0.1#1"), row("g0#2"), row("g0#3")]);
   equal("where two logs part", same, 1);
   equal("and how", rows.map(({ left, right }) => [left?.note, right?.note]), [["", ""], ["place 3 there", "place 3 there"], ["place 2 there", "place 2 there"], [undefined, "only here"]]);
-  const scene = (x, lines) => ({ goroutines: [one("g0", "ready", 3, { x })], channels: [], console: { isOk: true, count: lines.length, lines }, hidden: 0, clauses: new Map() });
+  const scene = (x, lines) => ({ goroutines: [one("g0", "ready", 3, { x })], channels: [], console: { isOk: true, count: lines.length, lines }, hidden: 0, isPartial: false, isStuck: false, clauses: new Map() });
   const found = differences(scene("2", ["a", "b", "a"]), scene("1", ["a"]));
   equal("what goes with a step", [found.lines, found.variables], [["b", "a"], [{ name: "g0 f x", was: "2", becomes: "1" }]]);
 }
