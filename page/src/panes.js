@@ -7,6 +7,7 @@ import { waitText, waitsOf } from "./waits.js";
 
 const FRAMES = 8; // of more frames the innermost are shown until the others are unfolded
 const MANY = 8; // cards: above more of them stand the channels
+const HOLDERS = 4; // variables that are named beside a channel
 const LINES = 1000; // of more lines of the console the last are shown
 
 /**
@@ -122,12 +123,26 @@ function listed(title, values) {
   return make("div", {}, make("dt", {}, title), make("dd", { class: values.length ? "" : "none" }, ...(values.length ? values : ["none"])));
 }
 
+// The names of the variables that hold each channel, the outermost frames first.
+/** @param {Goroutine[]} goroutines */
+function holdersOf(goroutines) {
+  /** @type {Map<string, Set<string>>} */
+  const holders = new Map();
+  const variables = goroutines.flatMap(({ frames }) => [...frames].reverse().flatMap((frame) => frame.variables));
+  for (const { name, value } of variables) {
+    if (value.includes("/c")) holders.set(value, (holders.get(value) || new Set()).add(name));
+  }
+  return holders;
+}
+
 /**
  * @param {Channel} channel
+ * @param {string[]} holders
  * @param {PaneEvents} on
  */
-function channelCard({ name, capacity, isClosed, items, senders, receivers }, on) {
-  const top = make("div", { class: "top" }, make("strong", {}, name), make("span", { class: "state" }, `${isClosed ? "closed" : "open"}, room for ${capacity}`));
+function channelCard({ name, capacity, isClosed, items, senders, receivers }, holders, on) {
+  const called = make("span", { class: "state", title: "the variables that hold it" }, holders.slice(0, HOLDERS).join(", "));
+  const top = make("div", { class: "top" }, make("strong", {}, name), called, make("span", { class: "state" }, `${isClosed ? "closed" : "open"}, room for ${capacity}`));
   const sending = senders.filter((it) => !parseWaiter(it).clause).length; // their sends come after those of the items
   const item = (/** @type {string} */ it, /** @type {number} */ at) => asked("Find the step that sent it", it, () => on.findStep({ item: [name, items.length - at + sending] }));
   const waiter = (/** @type {string} */ it) => asked("Find the step in which it began to wait", it, () => on.findStep({ waiter: parseWaiter(it).goroutine }));
@@ -141,7 +156,8 @@ function channelCard({ name, capacity, isClosed, items, senders, receivers }, on
  * @param {PaneEvents} on
  */
 export function showChannels(host, scene, on) {
-  host.replaceChildren(...scene.channels.map((it) => channelCard(it, on)));
+  const holders = holdersOf(scene.goroutines);
+  host.replaceChildren(...scene.channels.map((it) => channelCard(it, [...(holders.get(it.name) || [])], on)));
   if (!scene.channels.length) host.append(make("p", { class: "none" }, "No channel was made yet."));
 }
 

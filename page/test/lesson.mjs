@@ -130,6 +130,7 @@ async function clicks(hands) {
   await hands.key("r");
   const items = await hands.texts('[data-channel="g0/c1"] dd .asked-value');
   equal("items and waiters of a channel can be clicked", items, ["3", "4", "g0=5"]);
+  holds("a channel is shown with the variables that hold it", /^g0.c1\s+ch\s+open/.test(await hands.text('[data-channel="g0/c1"] .top')));
   const sends = [];
   for (const number of [3, 4]) {
     sends.push(await hands.browser.run(`rewind.page.session.user.ask('back send g0/c1 ${number}').then(async (it) => (await rewind.page.session.user.ask('redo'), it.words[2]))`));
