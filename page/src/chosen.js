@@ -47,7 +47,7 @@ export function showChosen(page) {
   const said = `${describeStep(step, page.note(about.id), session.log.length)}. It depends on `;
   const causes = make("span", { class: "cause-word" }, `${inSteps(about.causes)} ↑`);
   const consequences = make("span", { class: "consequence-word" }, `${inSteps(about.consequences)} ↓`);
-  const on = about.consequences === 1 ? "; on it rests " : "; on it rest ";
+  const on = about.consequences === 1 ? "; on it depends " : "; on it depend ";
   find("chosen-text").replaceChildren(make("strong", {}, pinned ? "Chosen: " : ""), said, causes, on, consequences, ".");
   if (step.row === 0) enable("earlier", false);
   if (step.row === session.log.length - 1) enable("later", false);

@@ -1,6 +1,6 @@
 // The direct dependences between goroutines, from the causes of steps.
 //
-// A step of one goroutine rests directly on a step of another where that is the last of the other in its causes, is not in the causes
+// A step of one goroutine depends directly on a step of another where that is the last of the other in its causes, is not in the causes
 // of its own goroutine's step before, and is in those of no third such step. To these come who woke whom, and whose value was taken.
 
 import { edgeKind, endsAll, isWait, mayWake, restsOnOthers, takesFrom } from "./edges.js";

@@ -68,7 +68,7 @@ export class Words {
     const [word] = wordsOf(line);
     const count = listedSteps(reply).length;
     if (reply.words[1] === "B4") return `Not possible: ${reply.words[3]} depends on ${reply.words[2]}, so it cannot come before it.`;
-    if (!reply.isOk) return this.meaning(reply.words[1]) || "This line is no command.";
+    if (!reply.isOk) return this.meaning(reply.words[1]) || "This line is no command: Help lists them.";
     if (word === "step") return `${reply.words[1]}: ${this.kind(reply.words.slice(2).join(" "))}`;
     if (word === "undo") return `${reply.words[1]} is taken back.`;
     if (word === "back") return `${inSteps(count)} taken back: ${reply.words[2]}${count === 1 ? "" : " and what depended on it"}.`;
