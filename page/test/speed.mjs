@@ -16,11 +16,14 @@ func main() {
 const LONG_PRINTS = PRINTS.replace("println(n)", `println("${"x".repeat(10000)}", n)`);
 // Milliseconds on a machine that has other work; a processor of one's own takes half of it.
 const CLICK = 500;
-const POINTING = 900;
+const POINTING = 250;
 const LOOKING = 900;
 
 // Runs in the page: the milliseconds of an act until the next frame is drawn.
 const untilShown = (act) => `(async () => { const began = performance.now(); await ${act}; await new Promise((go) => requestAnimationFrame(() => setTimeout(go, 0))); return performance.now() - began; })()`;
+
+// Runs in the page: points at the step of a row.
+const pointing = (row) => `(rewind.page.pointing.pointed = rewind.page.session.log.id(${row}), rewind.page.pointing.color())`;
 
 const median = (times) => [...times].sort((one, other) => one - other)[times.length >> 1];
 
@@ -54,11 +57,16 @@ async function clicksAtLength(hands) {
   await hands.idle();
   const step = await timesOf(hands, () => "rewind.page.step('g0')");
   const undo = await timesOf(hands, () => "rewind.page.perform('undo')");
-  const pointed = await timesOf(hands, (at) => `(rewind.page.pointing.pointed = rewind.page.session.log.id(99990 - ${at}), rewind.page.pointing.color())`);
-  console.log(`at 100,000 steps: a step shows in ${step.toFixed(0)} ms, an undo in ${undo.toFixed(0)} ms, causes and consequences in ${pointed.toFixed(0)} ms`);
+  await hands.browser.run("rewind.page.annotating.work");
+  const pointed = await timesOf(hands, (at) => pointing(99990 - at));
+  const again = await timesOf(hands, (at) => pointing(99990 - at));
+  const far = await timesOf(hands, (at) => pointing(50000 - at));
+  console.log(`at 100,000 steps: a step shows in ${step.toFixed(0)} ms, an undo in ${undo.toFixed(0)} ms`);
+  console.log(`causes and consequences of a step in view show in ${pointed.toFixed(0)} ms, again in ${again.toFixed(0)} ms, of one far away in ${far.toFixed(0)} ms`);
   holds("a step shows soon at 100,000 steps", step < CLICK);
   holds("an undo shows soon there", undo < CLICK);
-  holds("causes and consequences get their colours soon there", pointed < POINTING);
+  holds("causes and consequences get their colours soon there", pointed < POINTING && again < POINTING);
+  holds("also those of a step that is far away", far < POINTING);
   await hands.idle();
   const past = await timesOf(hands, (at) => `rewind.page.past.lookAt(99900 - ${at})`, 3);
   holds("a past state near the end shows soon there", past < LOOKING);
