@@ -11,6 +11,7 @@ const SESSIONS = new URL("../../crates/sessions/data/", import.meta.url).pathnam
 const STORIES = ["lost_update", "deadlock", "send_on_closed", "leaked_goroutine", "race_in_select", "buffered_channel", "prime_sieve",
   "fibonacci_select", "default_selection", "replayed_workers_1", "replayed_workers_2", "replayed_race_in_select"];
 const MOVES = 12; // a round
+const LISTS = 5; // steps of a round whose causes and consequences are compared
 
 // Numbers that look random, the same for each seed.
 function dice(seed) {
@@ -114,10 +115,28 @@ async function round(hands, program, seed) {
     const before = counts.failed;
     for (const key of Object.keys(told)) equal(`round ${seed}, ${name}: ${key}`, shown[key], told[key]);
     equal(`round ${seed}, ${name}: every step has its edges`, [shown.noted, shown.lost], [shown.log.length, ""]);
+    await listsAgree(hands, native, shown.log, roll, `round ${seed}, ${name}`);
     await clausesAgree(native, shown, `round ${seed}, ${name}`);
     if (counts.failed > before) console.log(done.join(" | "));
   } finally {
     native.close();
+  }
+}
+
+// How many steps a reply lists, and of each goroutine the first and the last.
+function spansIn({ last }) {
+  const ids = last.split(" ").slice(2);
+  const spans = {};
+  for (const [name, number] of ids.map((id) => id.split("#"))) spans[name] = [spans[name]?.[0] || Number(number), Number(number)];
+  return [ids.length, Object.entries(spans).sort()];
+}
+
+// Causes and consequences of some steps are those that the program tells.
+async function listsAgree(hands, native, log, roll, what) {
+  for (let count = 0; count < LISTS && log.length; count++) {
+    const id = log[roll(log.length)].split(" ")[0];
+    const shown = await hands.browser.run(`rewind.page.session.known.of(${JSON.stringify(id)}).then((lists) => lists.map((it) => [it.count, [...it.spans].sort()]))`);
+    equal(`${what}: causes and consequences of ${id}`, shown, [spansIn(await native.ask(`causes ${id}`)), spansIn(await native.ask(`deps ${id}`))]);
   }
 }
 
