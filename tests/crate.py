@@ -3,7 +3,7 @@
 
     tests/crate.py test_parts|test_sessions|test_threads|test_races
 
-`test_races` is a program: it races two desks and four workers once over each of its sources.
+`test_races` is a program: it races two desks and four workers twice over each of its sources, once with commands that are drawn.
 """
 import glob
 import os
@@ -13,7 +13,7 @@ import sys
 
 TOP = os.path.dirname(os.path.dirname(os.path.abspath(__file__)))
 # Desks, workers, commands of each desk, races.
-RACE = ["2", "4", "1000", "1"]
+RACE = ["2", "4", "1000", "2"]
 
 
 def words_of(crate):

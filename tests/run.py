@@ -29,6 +29,8 @@ PARTS = {
     "model": ["tests/second.py", "--seconds", "60", "--sessions", "100000", "PROGRAM"],
     "replay": ["tests/replay.py", "PROGRAM", "--sessions", "100000", "--seconds", "60", "--jobs", "1"],
     "growth": ["tests/hostile/growth.py", "PROGRAM", "--commands", "10", "--jobs", "1"],
+    "growth of desks": ["tests/hostile/growth.py", "PROGRAM", "--commands", "10", "--jobs", "1", "--workers", "1"],
+    "growth of workers": ["tests/hostile/beside.py", "PROGRAM"],
     "test_parts": ["tests/crate.py", "test_parts"],
     "devices": ["tests/hostile/devices.py", "PROGRAM", "--sessions", "1", "--jobs", "1"],
     "documents": ["tests/documents.py", "PROGRAM"],

@@ -10,5 +10,7 @@ status=0
 for part in limits commands devices growth texts; do
   python3 "$here/$part.py" "$program" --jobs "$jobs" || status=1
 done
-(cd "$here/../../crates/test_races/data" && "$here/../../bin/test_races" 4 2 1000 8 *.go && "$here/../../bin/test_races" 2 4 1000 100 *.go) || status=1
+python3 "$here/growth.py" "$program" --jobs "$jobs" --workers 1 || status=1
+python3 "$here/beside.py" "$program" || status=1
+(cd "$here/../../crates/test_races/data" && "$here/../../bin/test_races" 4 2 1000 100 *.go && "$here/../../bin/test_races" 2 4 1000 100 *.go) || status=1
 exit "$status"

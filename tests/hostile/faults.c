@@ -3,6 +3,7 @@
    REFUSE_LINE n   growths count from when line n of standard input was read until line n + 1 is; line 0 is what comes before the first
    REFUSE_AT k     the k-th of these growths is refused
    REFUSE_REST     all after it are refused, too, until line n + 1 is read
+   REFUSE_OTHERS   growths of all threads but the first count, in place of those of a line
    REFUSE_COUNT    at the end, `growths N` goes to standard error
 
    Of standard input IN_.., of the file that is opened FILE_..:
@@ -35,17 +36,15 @@ static long setting(const char *device, const char *what) {
 
 static long line, growths;
 
+static int counts(void) {
+    return setting("REFUSE", "OTHERS") >= 0 ? gettid() != getpid() : line == setting("REFUSE", "LINE");
+}
+
 static int is_refused(void) {
-    static long at = -2, in, rest;
-    if (at == -2) {
-        at = setting("REFUSE", "AT");
-        in = setting("REFUSE", "LINE");
-        rest = setting("REFUSE", "REST");
-    }
-    if (line != in)
+    if (!counts())
         return 0;
-    growths += 1;
-    if (growths != at && !(rest >= 0 && at >= 0 && growths > at))
+    long at = setting("REFUSE", "AT"), now = __atomic_add_fetch(&growths, 1, __ATOMIC_RELAXED);
+    if (now != at && !(setting("REFUSE", "REST") >= 0 && at >= 0 && now > at))
         return 0;
     errno = ENOMEM;
     return 1;

@@ -1,7 +1,8 @@
 #!/usr/bin/env python3
 """Each growth inside one call refused in turn: what stands after it, and the same call made again with memory.
 
-    tests/hostile/growth.py [PROGRAM] [--jobs N] [--rest R] [--commands C]      (bin/rewind, all processors, R = 1, all commands)
+    tests/hostile/growth.py [PROGRAM] [--jobs N] [--rest R] [--commands C] [--workers W]
+        (bin/rewind, all processors, R = 1, all commands, W = 0)
 
 Every command of the example sessions, and of `kinds`, which has a step of every kind, is one case: its k-th growth is refused,
 for k = 1, 2, .. until it meets none, and with `--rest 1` once more with all growths after that in the same command. Either the
@@ -15,6 +16,8 @@ program ends with `rewind: memory`, and the replies up to there went out. Or the
 Or the reply is the one with memory, and so is all after it. 'Nothing is changed' is asked of every goroutine, channel and
 text, the log, the console, `redo` and a `run`; where a part is done, of a session that takes the steps of the log anew.
 Opening each example is a case too: it ends in `S8`, `P4`, `C11` or `rewind: memory`, or a refusal cannot be told.
+
+With workers a desk answers the commands, and no step is granted. Sessions that grant steps are left out.
 """
 import re
 import sys
@@ -39,11 +42,16 @@ def expect(holds, what):
         raise Wrong(what)
 
 
+def program():
+    """The program, with workers if they are asked for."""
+    return Program(settings.program, ["--workers", str(settings.workers)] if settings.workers else [])
+
+
 class Case:
     """A command after others, with what it does where there is memory."""
 
     def __init__(self, source, commands, at):
-        self.program, self.source = Program(settings.program), source
+        self.program, self.source = program(), source
         self.environment = library.environment
         self.before, self.command, self.place = commands[:at], commands[at], {"REFUSE_LINE": str(at + 1)}
         whole = replies(self.run(self.before + [b"log", self.command, b"log"]).output)
@@ -146,29 +154,29 @@ def of_command(part):
     return tally
 
 
-def opening_is(program, name, ended, rest):
+def opening_is(opener, name, ended, rest):
     """What became of a refusal while the source was opened, and whether that is well; `ended` is the run without commands."""
     if ended.status == 0:
         source, commands = examples()[name], asked(script_of(name))
-        again = program.run(source, commands, **dict(library.environment, **rest))
-        return "as with memory", again[:3] == program.run(source, commands)[:3]
+        again = opener.run(source, commands, **dict(library.environment, **rest))
+        return "as with memory", again[:3] == opener.run(source, commands)[:3]
     if not ended.error:
         # Of a refused source, or under further refusals, there may be no memory for the line either.
         return "no line, status %d" % ended.status, ended.status in (1, 3)
     if (ended.status, ended.error) == MEMORY or ended.status == 1 and ended.error in OPENING:
         return ended.error.decode().strip(), True
-    return "as with memory", ended[:3] == program.run(examples()[name])[:3]
+    return "as with memory", ended[:3] == opener.run(examples()[name])[:3]
 
 
 def of_opening(name):
     """A tally of the growths refused while a source is opened."""
-    tally, program, source = Tally(), Program(settings.program), examples()[name]
-    told = program.run(source, REFUSE_LINE="0", REFUSE_COUNT="1", **library.environment)
+    tally, opener, source = Tally(), program(), examples()[name]
+    told = opener.run(source, REFUSE_LINE="0", REFUSE_COUNT="1", **library.environment)
     for rest in range(settings.rest + 1):
         for growth in range(1, int(re.search(rb"growths (\d+)", told.error)[1]) + 1):
             refused = dict({"REFUSE_LINE": "0", "REFUSE_AT": str(growth)}, **({"REFUSE_REST": "1"} if rest else {}))
-            ended = program.run(source, **refused, **library.environment)
-            what, well = opening_is(program, name, ended, refused)
+            ended = opener.run(source, **refused, **library.environment)
+            what, well = opening_is(opener, name, ended, refused)
             tally.note(("open", what), not (well and not ended.output) and "opening %s, growth %d%s: %s" % (
                 name, growth, " and all after it" * rest, ended))
     tally.note(("open", "commands"))
@@ -202,8 +210,15 @@ def tell_table(tally):
         print("| %s | %d | %d | %s |" % (kind, cases, sum(ends.values()), ", ".join("%s %d" % end for end in ends.most_common())))
 
 
-def main():
+def names_of_sessions():
+    """The sessions; with workers those that grant no steps."""
     names = sessions() + ["kinds"]
+    grants = [name for name in names if any(line.split()[0] in (b"free", b"turn") for line in session(name)[1])]
+    return [name for name in names if not (settings.workers and name in grants)]
+
+
+def main():
+    names = names_of_sessions()
     commands = [(name, at) for name in names for at in range(len(session(name)[1]))]
     if settings.commands:
         commands = one_of_each(commands)[:settings.commands]
@@ -218,6 +233,6 @@ def main():
     return tally.close(refused)
 
 
-settings, library = given("Each growth refused.", rest=1, commands=0), Preloaded()
+settings, library = given("Each growth refused.", rest=1, commands=0, workers=0), Preloaded()
 if __name__ == "__main__":
     sys.exit(main())

@@ -42,8 +42,8 @@ def read_all(pipe):
 class Program:
     """A debugger, run on sources and commands that are given as bytes."""
 
-    def __init__(self, path):
-        self.path = os.path.abspath(path)
+    def __init__(self, path, words=()):
+        self.path, self.words = os.path.abspath(path), list(words)
         self.folder = tempfile.TemporaryDirectory(dir=MEMORY if os.path.isdir(MEMORY) else None)
         self.source = os.path.join(self.folder.name, "program.go")
         self.commands = os.path.join(self.folder.name, "commands")
@@ -55,7 +55,7 @@ class Program:
         output, error = os.pipe(), os.pipe()
         actions = [(os.POSIX_SPAWN_OPEN, 0, self.commands, os.O_RDONLY, 0),
                    (os.POSIX_SPAWN_DUP2, output[1], 1), (os.POSIX_SPAWN_DUP2, error[1], 2)]
-        child = os.posix_spawn(self.path, [self.path, self.source], dict(os.environ, **environment), file_actions=actions)
+        child = os.posix_spawn(self.path, [self.path, *self.words, self.source], dict(os.environ, **environment), file_actions=actions)
         os.close(output[1])
         os.close(error[1])
         return child, output[0], error[0]

@@ -1,4 +1,4 @@
-//! Commands that are drawn at random.
+//! Commands that change a session: drawn at random, or of a short list in turn.
 ghost use Rattle.std.specs.Prelude.{◌<◌};
 
 use gr_base::{GoName, StepId};
@@ -45,4 +45,17 @@ pub fn draw(alloc: Global, chance: &mut Pcg32) -> Option<Command> {
             case: None,
         }),
     }
+}
+
+/// The command of this number in a list that begins anew at its end; `None` where memory ran out. Its `back` empties the log
+/// under the workers whenever `main` has taken a step.
+pub fn in_turn(alloc: Global, number: u32) -> Option<Command> {
+    let go = GoName::main(alloc).ok()?;
+    Some(match number % 5 {
+        0 => Command::Step { go, case: None },
+        1 => Command::Back(Target::Step(StepId { go, n: 1 })),
+        2 => Command::Undo,
+        3 => Command::Free(50),
+        _ => Command::Run { count: 3 },
+    })
 }

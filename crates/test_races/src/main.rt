@@ -1,9 +1,10 @@
 //! Desks and workers that race: `test_races DESKS WORKERS COMMANDS RACES FILE..`. In each race over a Go file this many desks
-//! and workers share a session, each on a thread of its own. Each desk asks this many commands that change a session, drawn at
-//! random. When all have ended, a fresh session takes the kept steps once more. Both sessions have to answer alike about each
-//! goroutine, of what it printed and of each channel.
+//! and workers share a session, each on a thread of its own. Each desk asks this many commands that change a session: in every
+//! other race they are drawn at random, and in the others they come in turn. When all have ended, a fresh session takes the kept
+//! steps once more. Both sessions have to answer alike about each goroutine, about what it printed and about each channel.
 //!
-//! For each file it writes how many races ended so, and what came of each race on standard error.
+//! For each file it writes how many races ended so and how many commands got an entry, and what came of each race on standard
+//! error.
 //!
 //! Exit status: 0; 1 where a session differs, memory ran out, or the words are not these.
 #![tactic(auto)]
@@ -58,18 +59,18 @@ fn course_of<T: Threads + Wait + Sync>(
     })
 }
 
-/// Races over a file, and reports on it. Answers whether it is as it should be.
-fn is_alike<T: Threads + Wait + Sync>(
+/// Races over a file, and reports on it. Answers how many commands got an entry, where it is as it should be.
+fn asked_in<T: Threads + Wait + Sync>(
     rt: &HostRuntime,
     threads: &T,
     file: &str,
     source: &[u8],
     load: Load,
-) -> io::Result<bool> {
+) -> io::Result<Option<usize>> {
     let seed = load.seed;
     let Some(course) = course_of(threads, rt.alloc(), source, load) else {
         eprintln!(rt; "{file}: race {seed} differs")?;
-        return Ok(false);
+        return Ok(None);
     };
     let Course {
         asked,
@@ -80,7 +81,7 @@ fn is_alike<T: Threads + Wait + Sync>(
     eprintln!(rt;
         "{file}: {asked} commands, {worked} batches and turns; {kept} steps kept, {goroutines} goroutines"
     )?;
-    Ok(true)
+    Ok(Some(asked))
 }
 
 /// Has callers race over a file this often, and reports how often it was as it should be. Answers whether it always was.
@@ -93,16 +94,18 @@ fn tell<T: Threads + Wait + Sync>(
 ) -> io::Result<bool> {
     let source = fs::read(rt, file)?;
     let mut alike = 0u32;
+    let mut commands = 0usize;
     for race in 0..races {
         let load = Load {
             seed: race as u64,
             ..load
         };
-        if is_alike(rt, threads, file, source.as_slice(), load)? {
+        if let Some(asked) = asked_in(rt, threads, file, source.as_slice(), load)? {
             alike = alike.saturating_add(1);
+            commands = commands.saturating_add(asked);
         }
     }
-    println!(rt; "{file}: {alike} of {races} alike")?;
+    println!(rt; "{file}: {alike} of {races} alike, {commands} commands")?;
     Ok(alike == races)
 }
 

@@ -2,7 +2,8 @@
 ghost use Rattle.std.specs.Prelude.{◌≡◌};
 ghost use Rattle.gr_program.specs.Views.{program_of};
 
-use crate::chance::draw;
+use crate::chance::{draw, in_turn};
+use gr_command::Command;
 use gr_share::{Desk, Finished, Open, Opened, Room, Session, Shared, Worker, finish, worker};
 use rand_pcg::Pcg32;
 use std::alloc::Global;
@@ -11,7 +12,8 @@ use std::sync::atomic::{AtomicU64, Ordering};
 use std::thread;
 use std::thread::Threads;
 
-/// Who calls, and what each desk asks: this many commands, drawn by this seed and the desk's number.
+/// Who calls, and how many commands each desk asks. With an even seed they are drawn by the seed and the desk's number, and
+/// with an odd one they come in turn.
 #[derive(Clone, Copy)]
 pub struct Load {
     pub desks: u32,
@@ -37,7 +39,18 @@ enum Caller<B: Room> {
     Works(Worker<B>),
 }
 
-/// Asks that many commands, and ends early where memory runs out.
+impl Load {
+    /// What a desk asks next, after so many commands.
+    fn command(&self, alloc: Global, chance: &mut Pcg32, asked: u32) -> Option<Command> {
+        if self.seed % 2 == 0 {
+            draw(alloc, chance)
+        } else {
+            in_turn(alloc, asked)
+        }
+    }
+}
+
+/// Asks that many commands, and ends early where one is refused or memory runs out.
 fn ask_all<B: Room, T: Wait>(
     rt: &T,
     alloc: Global,
@@ -46,8 +59,8 @@ fn ask_all<B: Room, T: Wait>(
     load: Load,
 ) {
     let mut chance = Pcg32::new(load.seed, desk.number() as u64);
-    for _ in 0..load.commands {
-        let Some(command) = draw(alloc, &mut chance) else {
+    for asked in 0..load.commands {
+        let Some(command) = load.command(alloc, &mut chance, asked) else {
             return;
         };
         if desk.ask(rt, alloc, shared, command).is_err() {
