@@ -22,6 +22,10 @@ const ENDING: &[u8] =
 const COUNTING: &[u8] =
     b"package main\nfunc spin(n int) { for i := 0; i < n; i++ { } }\nfunc main() {\n\tgo spin(200)\n\tselect {}\n}\n";
 
+/// A goroutine that has the length of a buffer in a temporary when it is lent, and does not need it any more when it is lent again.
+const MEASURING: &[u8] =
+    b"package main\nfunc work(c chan int, x int) {\n\ty := len(c) + x\n\tfor y < 9 {\n\t\ty++\n\t}\n}\nfunc main() {\n\tc := make(chan int, 1)\n\tgo work(c, 1)\n\tselect {}\n}\n";
+
 /// What is done, and what is to come of it.
 #[derive(Clone, Copy)]
 enum Act<'a> {
@@ -131,7 +135,7 @@ struct Story {
     acts: &'static [Act<'static>],
 }
 
-const STORIES: [Story; 6] = [
+const STORIES: [Story; 7] = [
     Story {
         name: "a batch joins the log",
         source: SPINNING,
@@ -168,6 +172,27 @@ const STORIES: [Story; 6] = [
             Act::Room(1_000_000),
             Act::Ask(b"redo", b"ok 3 g0#1 g0#2 g0#3\n"),
             Act::Commit(Some(5)),
+        ],
+    },
+    Story {
+        name: "what came back with its temporaries is as it was lent",
+        source: MEASURING,
+        lines: &[
+            b"step g0",
+            b"step g0",
+            b"step g0",
+            b"step g0.1",
+            b"free 1000",
+        ],
+        acts: &[
+            Act::Run(2, 2),
+            Act::Ask(b"undo", b"ok g0.1#1\n"),
+            Act::Ask(b"step g0.1", b"ok g0.1#1 length\n"),
+            Act::Commit(Some(2)),
+            Act::Run(2, 2),
+            Act::Ask(b"undo", b"ok g0.1#3\n"),
+            Act::Ask(b"step g0.1", b"ok g0.1#3 pure\n"),
+            Act::Commit(Some(2)),
         ],
     },
     Story {

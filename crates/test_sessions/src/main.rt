@@ -5,5 +5,7 @@
 mod batching;
 #[cfg(test)]
 mod debugger;
+#[cfg(test)]
+mod looking;
 
 fn main(_rt: HostRuntime) {}
