@@ -1,11 +1,14 @@
 #!/usr/bin/env python3
 """Makes a release of the proved program: files that need no toolchain.
 
-    tools/dist.py MODULE.bc PAGE.html FOLDER    (FOLDER gets the page, an archive for Linux, SHA256SUMS and README.md)
-    tools/dist.py --verify FOLDER               (whether the sums are right, and the version is that of CHANGELOG.md)
+    tools/dist.py [--trial] MODULE.bc PAGE.html FOLDER
 
-MODULE.bc is the LLVM module that `page/module/proved_module.py` leaves. The program is linked statically, so that it runs on any
-Linux. The same module, page and sources give the same bytes: entries stand in the order of their names, with one time and owner.
+FOLDER gets the page, an archive for Linux, SHA256SUMS and README.md. MODULE.bc is the program's LLVM module, as
+page/module/proved_module.py leaves it. It is compiled and linked statically, so that the program runs on any Linux.
+
+The same commit gives the same bytes: an archive has its files in the order of their names, with the time of the commit
+and one owner. The tree must be that of a commit, but for the folder dist, and the version that of CHANGELOG.md. A trial
+may be of a changed tree, of any version and of the quick build; its texts say so.
 """
 import glob
 import hashlib
@@ -20,13 +23,26 @@ import tarfile
 import tempfile
 
 import kit
+import notices
 
 TEXTS = f"{kit.ROOT}/tools/release"
-TIME = 1767225600  # 2026-01-01
-EXAMPLES = ("deadlock", "lost_update", "ping_pong", "prime_sieve")
-# What is linked into the program, beside the repository's own crates.
-LINKED = {"clap": "MIT or Apache-2.0", "indexmap": "MIT or Apache-2.0", "itoa": "MIT or Apache-2.0", "thiserror": "MIT or Apache-2.0"}
-C_LIBRARY = "/usr/share/doc/libc6-dev/copyright"
+SESSIONS = f"{kit.ROOT}/crates/sessions/data"
+EXAMPLES = ("deadlock", "leaked_goroutine", "lost_update", "prime_sieve", "race_in_select", "send_on_closed")
+PAGE = "rewind.html"
+# What a folder of a release may hold, and how many bytes of each.
+NAMES = re.compile(r"rewind\.html|rewind-[\d.]+-x86_64-linux\.tar\.xz|SHA256SUMS|README\.md")
+MOST = {"html": 2_500_000, "xz": 1_500_000}
+UNPROVED = "(unproved build)"
+PROVED = "The program is the proved one."
+TRIAL = "This is a trial and no release: the program may be unproved, and the tree changed."
+# Parts of these packages of Debian are in the files, or decide their bytes.
+PACKAGES = {
+    "libc6-dev": "the C library, in the program",
+    "binutils": "the linker of the program",
+    "libjs-codemirror": "the editor, in the page",
+    "zlib1g": "how the page is compressed",
+    "liblzma5": "how the archive is compressed",
+}
 
 
 def said_by(*words):
@@ -38,122 +54,163 @@ def read(path):
         return file.read()
 
 
-def facts(program):
+def version():
+    """The program's version, by the file that its texts are made from."""
+    return re.search(r"^version\n    text: (\S+)$", read(f"{kit.ROOT}/words/program.txt"), re.M)[1]
+
+
+def check_tree():
+    """Ends the program where the tree is not that of a commit, or CHANGELOG.md does not begin with the version."""
+    changed = said_by("git", "status", "--porcelain", "--", ".", ":!dist")
+    if changed:
+        kit.stop(f"a release is of a commit, and the tree has changed: {changed.splitlines()[0]}")
+    newest = re.search(r"^## (.*)$", read(f"{kit.ROOT}/CHANGELOG.md"), re.M)[1]
+    if newest != version():
+        kit.stop(f"CHANGELOG.md begins with '{newest}', and the program's version is {version()}")
+
+
+def check_program(program, is_trial):
+    """Ends the program where that of the release has another version, or is not proved."""
+    said = said_by(program, "--version")
+    wanted = f"rewind {version()}"
+    if said != wanted and not (is_trial and said == f"{wanted} {UNPROVED}"):
+        kit.stop(f"the program says '{said}', and that of a release says '{wanted}'")
+
+
+def version_of(package):
+    """The version of a package of Debian."""
+    words = ["dpkg-query", "--show", "--showformat", "${Version}", package]
+    ran = subprocess.run(words, capture_output=True, text=True) if shutil.which(words[0]) else None
+    return ran.stdout if ran and not ran.returncode else "not known"
+
+
+def facts(is_trial):
     """What the texts of a release say of it."""
-    version = said_by(program, "--version").split()[1]
-    return {"VERSION": version, "COMMIT": said_by("git", "rev-parse", "HEAD"), "KIT": said_by("rt", "version")}
+    rows = [(f"`{name}`", version_of(name), what) for name, what in PACKAGES.items()]
+    compiler = said_by("cc", "--version").splitlines()[0]
+    rows.append(("`cc`", compiler, "the beginning and the end of the program"))
+    return {
+        "VERSION": version(),
+        "COMMIT": said_by("git", "rev-parse", "HEAD"),
+        "KIT": said_by("rt", "version"),
+        "STATE": TRIAL if is_trial else PROVED,
+        "PACKAGES": "\n".join(f"| {' | '.join(row)} |" for row in rows),
+    }
 
 
-def filled(text, told):
-    return re.sub(r"\b(VERSION|COMMIT|KIT)\b", lambda word: told[word[0]], text)
+def filled(name, told):
+    """A text of the release, with what is told in place of words in capitals."""
+    return re.sub(rf"\b({'|'.join(told)})\b", lambda word: told[word[0]], read(f"{TEXTS}/{name}"))
 
 
-def notices(folder):
-    """The licenses of what is linked into the program: the kit's crates, and the C library."""
-    parts = ["What is linked into bin/rewind, beside Rewind itself.\n"]
-    for name, terms in LINKED.items():
-        own = f"{folder}/rattle/{name}/LICENSE-MIT"
-        parts.append(f"{name}: {terms}\n" + (f"\n{read(own)}" if os.path.exists(own) else ""))
-    parts.append("The GNU C Library, linked statically. Rewind's sources are free, so it can be linked again with another one: make dist.\n")
-    if os.path.exists(C_LIBRARY):
-        parts.append(read(C_LIBRARY))
-    return "\n".join(parts)
+def write(path, content):
+    with open(path, "wb") as file:
+        file.write(content)
+    os.chmod(path, 0o644)
 
 
-def static_program(module, out):
-    """Compiles the module and links it with the C library in it, without symbols."""
-    subprocess.run([f"{kit.ROOT}/tools/quick_program.py", "--static", module, out], check=True)
+def quietly(*words, **more):
+    subprocess.run(words, stdout=subprocess.DEVNULL, check=True, env={**os.environ, **more})
 
 
 def staged(program, folder, told):
-    """The files of the archive, under `folder`."""
-    subprocess.run([f"{kit.ROOT}/tools/install.sh", folder, "/"], stdout=subprocess.DEVNULL, check=True, env={**os.environ, "REWIND_PROGRAM": program})
-    subprocess.run([f"{kit.ROOT}/tools/vsix.py", "--stored", program, f"{folder}/rewind.vsix"], stdout=subprocess.DEVNULL, check=True)
+    """Leaves the files of the archive in `folder`."""
+    quietly(f"{kit.ROOT}/tools/install.sh", folder, "/", REWIND_PROGRAM=program)
+    quietly(f"{kit.ROOT}/tools/vsix.py", "--stored", program, f"{folder}/rewind.vsix")
     shutil.copy(f"{kit.ROOT}/LICENSE", folder)
-    texts = {"README.md": read(f"{TEXTS}/README.md"), "VERIFY.md": read(f"{TEXTS}/VERIFY.md"), "NOTICES": notices(kit.folder())}
-    for name, text in texts.items():
-        with open(f"{folder}/{name}", "w", encoding="utf-8") as file:
-            file.write(text if name == "NOTICES" else filled(text, told))
+    write(f"{folder}/NOTICES", notices.of_program(kit.folder()).encode())
+    for name in ("README.md", "VERIFY.md"):
+        write(f"{folder}/{name}", filled(name, told).encode())
     os.mkdir(f"{folder}/examples")
     for name in EXAMPLES:
-        for path in glob.glob(f"{kit.ROOT}/crates/sessions/data/{name}.*"):
-            shutil.copy(path, f"{folder}/examples")
+        for ending in ("go", "script", "expect"):
+            shutil.copy(f"{SESSIONS}/{name}.{ending}", f"{folder}/examples")
 
 
-def packed(folder, top):
+def entry_of(archive, path, name, time):
+    """The entry of a file, which tells nothing of the machine, its user and their settings."""
+    entry = archive.gettarinfo(path, arcname=name)
+    entry.uid = entry.gid = 0
+    entry.uname = entry.gname = "root"
+    entry.mtime = time
+    runs = entry.isdir() or entry.issym() or entry.mode & 0o100
+    entry.mode = 0o755 if runs else 0o644
+    return entry
+
+
+def packed(folder, top, time):
     """The archive of a folder, whose files are named below `top`."""
     content = io.BytesIO()
     with tarfile.open(fileobj=content, mode="w", format=tarfile.USTAR_FORMAT) as archive:
         for path in sorted(glob.glob(f"{folder}/**", recursive=True)):
-            entry = archive.gettarinfo(path, arcname=os.path.join(top, os.path.relpath(path, folder)))
-            entry.uid = entry.gid = 0
-            entry.uname = entry.gname = "root"
-            entry.mtime = TIME
-            entry.mode = 0o755 if entry.isdir() or entry.mode & 0o100 else 0o644
+            entry = entry_of(archive, path, os.path.normpath(os.path.join(top, os.path.relpath(path, folder))), time)
             if entry.isfile():
                 with open(path, "rb") as file:
                     archive.addfile(entry, file)
             else:
                 archive.addfile(entry)
-    return lzma.compress(content.getvalue(), preset=9 | lzma.PRESET_EXTREME)
+    return lzma.compress(content.getvalue(), preset=6 | lzma.PRESET_EXTREME)
 
 
-def sums(folder):
-    names = sorted(name for name in os.listdir(folder) if name not in ("SHA256SUMS", "README.md"))
-    return "".join(f"{sha256(os.path.join(folder, name))}  {name}\n" for name in names)
-
-
-def sha256(path):
-    with open(path, "rb") as file:
-        return hashlib.sha256(file.read()).hexdigest()
-
-
-def about(told, names):
-    rows = "".join(f"- `{name}`\n" for name in names)
-    return (
-        f"# Rewind {told['VERSION']}\n\n{rows}\n"
-        "The page opens from disk or from any static server, in a browser that runs WebAssembly. The archive is for Linux on x86-64; "
-        "unpack it with `tar -xJf`, and read README.md in it. Neither needs the toolchain.\n\n"
-        f"Made from commit `{told['COMMIT']}` with `{told['KIT']}` by `make dist`; `sha256sum --check SHA256SUMS` checks the files.\n"
-    )
-
-
-def make(module, page, out):
-    os.makedirs(out, exist_ok=True)
+def made(module, page, told, is_trial):
+    """The name and the bytes of each file."""
+    top = f"rewind-{told['VERSION']}-x86_64-linux"
+    time = int(said_by("git", "log", "-1", "--format=%ct"))
     with tempfile.TemporaryDirectory(prefix="rewind-dist-") as work:
-        static_program(module, f"{work}/rewind")
-        told = facts(f"{work}/rewind")
-        top = f"rewind-{told['VERSION']}-x86_64-linux"
+        program = f"{work}/rewind"
+        subprocess.run([f"{kit.ROOT}/tools/quick_program.py", "--static", module, program], check=True)
+        check_program(program, is_trial)
         os.mkdir(f"{work}/{top}")
-        staged(f"{work}/rewind", f"{work}/{top}", told)
-        for old in glob.glob(f"{out}/*"):
-            os.remove(old)
-        with open(f"{out}/{top}.tar.xz", "wb") as file:
-            file.write(packed(f"{work}/{top}", top))
-    shutil.copy(page, f"{out}/rewind.html")
-    with open(f"{out}/SHA256SUMS", "w", encoding="utf-8") as file:
-        file.write(sums(out))
-    with open(f"{out}/README.md", "w", encoding="utf-8") as file:
-        file.write(about(told, ["rewind.html", f"{top}.tar.xz"]))
+        staged(program, f"{work}/{top}", told)
+        archive = packed(f"{work}/{top}", top, time)
+    with open(page, "rb") as file:
+        return {f"{top}.tar.xz": archive, PAGE: file.read()}
 
 
-def verify(out):
-    """Whether the files are those of the sums, and their version is the newest of the changes."""
-    newest = re.search(r"^## (\d+\.\d+\.\d+)", read(f"{kit.ROOT}/CHANGELOG.md"), re.M)
-    wanted = [f"rewind-{newest[1]}-x86_64-linux.tar.xz", "rewind.html"]
-    found = sorted(name for name in os.listdir(out) if name not in ("SHA256SUMS", "README.md"))
-    if found != wanted:
-        kit.fail(f"{out} holds {', '.join(found)}, and not {', '.join(wanted)}")
-    if read(f"{out}/SHA256SUMS") != sums(out):
-        kit.fail(f"the sums of {out}/SHA256SUMS are not those of the files")
+def check_sizes(files):
+    """Ends the program where a file is larger than a release may be."""
+    for name, content in files.items():
+        most = MOST[name.rpartition(".")[2]]
+        if len(content) > most:
+            kit.fail(f"{name} has {len(content):,} bytes, and a release at most {most:,}")
+
+
+def emptied(folder):
+    """Makes the folder, or removes from it what an earlier release left."""
+    os.makedirs(folder, exist_ok=True)
+    strange = [name for name in sorted(os.listdir(folder)) if not NAMES.fullmatch(name)]
+    if strange:
+        kit.stop(f"{folder} has {strange[0]}, which is no file of a release: name another folder")
+    for name in os.listdir(folder):
+        os.remove(f"{folder}/{name}")
+
+
+def make(module, page, folder, is_trial):
+    if not is_trial:
+        check_tree()
+    told = facts(is_trial)
+    files = made(module, page, told, is_trial)
+    check_sizes(files)
+    sums = {name: hashlib.sha256(content).hexdigest() for name, content in files.items()}
+    told["FILES"] = "\n".join(f"| `{name}` | {len(files[name]):,} | `{sums[name]}` |" for name in files)
+    emptied(folder)
+    for name, content in files.items():
+        write(f"{folder}/{name}", content)
+    write(f"{folder}/SHA256SUMS", "".join(f"{it}  {name}\n" for name, it in sums.items()).encode())
+    write(f"{folder}/README.md", filled("RELEASE.md", told).encode())
+    print("\n".join(f"{folder}/{name}: {len(content):,} bytes" for name, content in files.items()))
 
 
 def main():
-    if len(sys.argv) == 3 and sys.argv[1] == "--verify":
-        return verify(sys.argv[2])
-    if len(sys.argv) != 4:
+    words = [it for it in sys.argv[1:] if it != "--trial"]
+    if len(words) != 3:
         sys.exit(__doc__)
-    return make(*map(os.path.abspath, sys.argv[1:]))
+    module, page, folder = map(os.path.abspath, words)
+    for path in (module, page):
+        if not os.path.isfile(path):
+            kit.stop(f"there is no {path}")
+    make(module, page, folder, len(words) < len(sys.argv) - 1)
 
 
-main()
+if __name__ == "__main__":
+    main()
