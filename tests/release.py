@@ -1,48 +1,80 @@
 #!/usr/bin/env python3
-"""Tests a release as a user has it: in an empty folder, with no toolchain on the path.
+"""Tests a release as a user has it: its two files in an empty folder, and no toolchain on the path.
 
-    tests/release.py FOLDER     (as `make dist` leaves it)
+    tests/release.py [--no-page] FOLDER     (as `make dist` or `make quick-dist` leaves it)
 
-The sums are right; the program that is unpacked runs every example session; the shell, the hunt and the adapter start from where they
-were unpacked; the page shows a deadlock in headless Chromium. The last line counts the checks.
+The sums are right. The unpacked program needs no library and runs every example session. The shell, the hunt and the adapter
+start from where they were unpacked. The page shows a deadlock in headless Chromium, from disk and from a static server. For
+the page Debian's chromium and nodejs are installed where they are missing; where that cannot be done, it is skipped.
 """
+import contextlib
 import json
 import os
+import re
+import shutil
+import struct
 import subprocess
 import sys
 import tarfile
 import tempfile
+import zipfile
 
 TOP = os.path.dirname(os.path.dirname(os.path.abspath(__file__)))
-PATH = {"PATH": "/usr/bin:/bin", "HOME": "/nonexistent", "LANG": "C.UTF-8"}
+PATH = "/usr/bin:/bin"
+PAGE = "rewind.html"
 SECONDS = 300
-# Runs in node: the page from disk, and what it says of a deadlock.
+# Runs in sh: each example of a folder, whose replies are compared with those beside it.
+COMPARED = """
+cd "$2" && for it in *.go; do
+  "$1" "$it" <"${it%.go}.script" 2>&1 | cmp - "${it%.go}.expect"
+done
+"""
+# Runs in node: opens the page, runs the story of the deadlock, and writes what the page says of its end.
 LOOK = """
 import { Browser } from "%(top)s/page/test/browser.mjs";
 import { Hands } from "%(top)s/page/test/hands.mjs";
 const browser = await Browser.open();
-await browser.load("%(page)s");
-const hands = new Hands(browser);
-await hands.story("deadlock");
-await hands.key("r");
-console.log(await hands.text("#state"));
-await browser.close();
-process.exit(0);
+try {
+  await browser.load(process.argv[2]);
+  const hands = new Hands(browser);
+  await hands.story("deadlock");
+  await hands.key("r");
+  console.log(await hands.text("#state"));
+} finally {
+  await browser.close();
+}
 """
 
 
-def said(words, given="", env=PATH):
-    """What a command writes to both streams."""
-    ran = subprocess.run(words, input=given, stdout=subprocess.PIPE, stderr=subprocess.STDOUT, text=True, timeout=SECONDS, env=env)
-    return ran.stdout
+class Unpacked:
+    """A folder with the files of a release, and the folder that its archive is unpacked to."""
+
+    def __init__(self, folder, work):
+        (name,) = [name for name in os.listdir(folder) if name.endswith(".tar.xz")]
+        self.work = work
+        for it in (name, PAGE):
+            shutil.copy(os.path.join(folder, it), work)
+        with tarfile.open(os.path.join(work, name)) as archive:
+            archive.extractall(work)
+        self.top = os.path.join(work, name.removesuffix(".tar.xz"))
+        self.env = {"PATH": PATH, "HOME": work, "LANG": "C.UTF-8", "TMPDIR": work}
+
+    def path(self, name):
+        return os.path.join(self.top, name)
+
+    def said(self, words, given=""):
+        """What a command writes to both streams."""
+        how = {"input": given, "stdout": subprocess.PIPE, "stderr": subprocess.STDOUT, "cwd": self.work, "env": self.env}
+        return subprocess.run(words, text=True, errors="replace", timeout=SECONDS, **how).stdout
 
 
-def unpacked(folder, into):
-    """The one folder of the archive."""
-    (name,) = [name for name in os.listdir(folder) if name.endswith(".tar.xz")]
-    with tarfile.open(os.path.join(folder, name)) as archive:
-        archive.extractall(into)
-    return os.path.join(into, name[: -len(".tar.xz")])
+def wants_loader(program):
+    """Whether a program for 64 bits asks the system for a loader, as each does that needs a shared library."""
+    with open(program, "rb") as file:
+        content = file.read()
+    (start,) = struct.unpack_from("<Q", content, 32)
+    size, count = struct.unpack_from("<HH", content, 54)
+    return any(struct.unpack_from("<I", content, start + size * at)[0] == 3 for at in range(count))
 
 
 def request(command, **arguments):
@@ -50,48 +82,84 @@ def request(command, **arguments):
     return f"Content-Length: {len(text)}\r\n\r\n{text}"
 
 
-def page_says(folder, work):
-    script = os.path.join(work, "look.mjs")
-    page = os.path.join(work, "rewind.html")
-    with open(os.path.join(folder, "rewind.html"), "rb") as one, open(page, "wb") as other:
-        other.write(one.read())
-    with open(script, "w", encoding="utf-8") as file:
-        file.write(LOOK % {"top": TOP, "page": page})
-    return said(["node", script], env={**os.environ})
-
-
-def checks(folder, work):
-    """Of each thing that is checked, whether it holds, and what was seen."""
-    top = unpacked(folder, work)
-    source = os.path.join(top, "examples", "deadlock.go")
-    seen = said(["sh", "-c", 'cd "$1" && sha256sum --check --strict SHA256SUMS', "sh", folder])
+def check_program(folder, it):
+    """The program, and what starts it."""
+    program, source = it.path("bin/rewind"), it.path("examples/deadlock.go")
+    seen = it.said(["sh", "-c", 'cd "$1" && sha256sum --check --strict SHA256SUMS', "sh", folder])
     yield "the sums are right", seen.count(": OK") == 2, seen
-    seen = said(["file", os.path.join(top, "bin", "rewind")])
-    yield "the program needs no library", "static" in seen, seen
-    seen = said([sys.executable, os.path.join(TOP, "tests", "sessions.py"), os.path.join(top, "bin", "rewind")])
-    yield "the program runs every example session", seen.endswith(" passed, 0 failed\n"), seen
-    seen = said([os.path.join(top, "bin", "rewind-shell"), source], "run 100\nwhy\nquit\n")
+    seen = shutil.which("rt", path=PATH)
+    yield "no toolchain is on the path", seen is None, seen
+    yield "the program needs no library", not wants_loader(program), program
+    seen = it.said([sys.executable, os.path.join(TOP, "tests", "sessions.py"), program])
+    yield "the program runs every example session", seen.endswith(" passed, 0 failed\n") and seen[0] != "0", seen
+    seen = it.said(["sh", "-c", COMPARED, "sh", program, it.path("examples")])
+    yield "the examples give the replies beside them", not seen, seen
+    seen = it.said([it.path("bin/rewind-shell"), source], "run 100\nwhy\nquit\n")
     yield "the shell says why the program is stuck", "waits" in seen and "Traceback" not in seen, seen
-    seen = said([os.path.join(top, "bin", "rewind-hunt"), "--seed", "1", source])
+    seen = it.said([it.path("bin/rewind-hunt"), "--seed", "1", source])
     yield "the hunt finds a schedule that ends badly", "deadlock" in seen and "Traceback" not in seen, seen
-    seen = said([os.path.join(top, "bin", "rewind-dap")], request("initialize", adapterID="rewind"))
-    yield "the adapter answers an editor", '"supportsStepBack": true' in seen or '"supportsStepBack":true' in seen, seen
-    seen = page_says(folder, work)
-    yield "the page shows the deadlock", "deadlock" in seen.lower() or "asleep" in seen, seen
+    seen = it.said([it.path("bin/rewind-dap")], request("initialize", adapterID="rewind"))
+    yield "the adapter answers an editor", re.search('"supportsStepBack": ?true', seen), seen
+    with open(program, "rb") as file, zipfile.ZipFile(it.path("rewind.vsix")) as package:
+        yield "the extension has the program", package.read("extension/bin/rewind") == file.read(), package.namelist()
+
+
+@contextlib.contextmanager
+def server(folder):
+    """The address of a static server of a folder."""
+    words = ["/usr/bin/python3", "-u", "-m", "http.server", "--bind", "127.0.0.1", "0"]
+    how = {"stdout": subprocess.PIPE, "stderr": subprocess.DEVNULL, "text": True, "cwd": folder}
+    with subprocess.Popen(words, **how) as child:
+        try:
+            yield re.search(r"http://[\d.:]+/", child.stdout.readline())[0]
+        finally:
+            child.kill()
+
+
+def check_page(it):
+    """The page, from disk and from a server."""
+    script = os.path.join(it.work, "look.mjs")
+    with open(script, "w", encoding="utf-8") as file:
+        file.write(LOOK % {"top": TOP})
+    seen = it.said(["node", script, f"file://{it.work}/{PAGE}"])
+    yield "the page shows the deadlock, from disk", seen.startswith("Deadlock: "), seen
+    with server(it.work) as address:
+        seen = it.said(["node", script, f"{address}{PAGE}"])
+    yield "the page shows the deadlock, from a server", seen.startswith("Deadlock: "), seen
+
+
+def why_not():
+    """Why the page cannot be tried here, or nothing."""
+    ran = subprocess.run([f"{TOP}/page/needs.sh", "chromium", "nodejs"], capture_output=True, text=True)
+    return ran.stderr.strip().removeprefix("rewind: ") if ran.returncode else None
+
+
+def checks(folder, work, is_skipped):
+    """Of each thing that is checked, whether it holds, and what was seen; nothing for what is skipped."""
+    it = Unpacked(folder, work)
+    yield from check_program(folder, it)
+    reason = "--no-page is given" if is_skipped else why_not()
+    if reason:
+        yield f"the page: {reason}", None, ""
+    else:
+        yield from check_page(it)
 
 
 def main():
-    if len(sys.argv) != 2 or not os.path.exists(os.path.join(sys.argv[1], "SHA256SUMS")):
+    words = [it for it in sys.argv[1:] if it != "--no-page"]
+    if len(words) != 1 or not os.path.exists(os.path.join(words[0], "SHA256SUMS")):
         print("tests: name the folder of a release, as tests/release.py dist", file=sys.stderr)
         sys.exit(2)
-    counts = [0, 0]
+    counts = {"passed": 0, "failed": 0, "skipped": 0}
     with tempfile.TemporaryDirectory(prefix="rewind-release-") as work:
-        for what, holds, seen in checks(os.path.abspath(sys.argv[1]), work):
-            counts[0 if holds else 1] += 1
-            if not holds:
-                print(f"FAILED {what}: {' '.join(seen.split())[:400]}")
-    print(f"{counts[0]} passed, {counts[1]} failed")
-    sys.exit(1 if counts[1] else 0)
+        for what, holds, seen in checks(os.path.abspath(words[0]), work, len(words) < len(sys.argv) - 1):
+            verdict = "skipped" if holds is None else "passed" if holds else "failed"
+            counts[verdict] += 1
+            if verdict != "passed":
+                print(f"{'FAILED' if verdict == 'failed' else 'skipped:'} {what} {' '.join(str(seen).split())[:400]}".rstrip())
+    print(", ".join(f"{count} {verdict}" for verdict, count in counts.items() if count or verdict != "skipped"))
+    sys.exit(1 if counts["failed"] else 0)
 
 
-main()
+if __name__ == "__main__":
+    main()
