@@ -41,6 +41,7 @@ PARTS = {
     "edits": ["tests/edits.py", "PROGRAM"],
     "shown": ["tests/shown.py"],
     "workers": ["tests/workers.py", "PROGRAM"],
+    "release files": ["tests/dist.py"],
 }
 
 
