@@ -11,7 +11,7 @@ RT = $(if $(HAS_RT),rt,$(error rewind: 'rt' is not on the path: install the Ratt
 NEEDS_RT = @: $(RT)
 
 .DEFAULT_GOAL := $(if $(HAS_RT),all,help)
-.PHONY: all help quick quick-page demo test gate edits words command-line-test bench replay second-opinion hostile times gate-times dap-test page page-test vsix dist dist-check \
+.PHONY: all help quick quick-page demo test gate edits words command-line-test bench replay second-opinion hostile times gate-times dap-test page page-test vsix dist quick-dist dist-check \
 	page-pictures install uninstall clean
 
 ## Use it
@@ -77,8 +77,11 @@ page/out/rewind.bc: bin/rewind page/module/proved_module.py page/module/keep_mod
 vsix: $(if $(wildcard bin/rewind),,bin/rewind-quick) ## the extension for VS Code, with all it needs: bin/rewind.vsix (a second)
 	tools/vsix.py $(firstword $(wildcard bin/rewind) bin/rewind-quick) bin/rewind.vsix
 
-dist: page ## the release: the page, and an archive for Linux, which need no toolchain (a minute after make page)
+dist: page ## the release: the page, and an archive for Linux, which need no toolchain (2 minutes after make page)
 	tools/dist.py page/out/rewind.bc bin/rewind.html dist
+
+quick-dist: quick-page ## the same of the quick build, to try how it is made: bin/quick-dist (2 minutes after make quick-page)
+	tools/dist.py --trial bin/quick/rewind.bc bin/rewind-quick.html bin/quick-dist
 
 dist-check: ## makes the release in two fresh clones, and compares the files byte by byte (minutes after make; else hours)
 	$(NEEDS_RT)

@@ -1,20 +1,48 @@
 #!/bin/sh
-# dist_check.sh: makes the release of HEAD in two fresh clones, in folders of different names, and compares the files byte by byte. What
-# is proved in this repository need not be proved again: the clones begin with its kept proofs.
+# dist_check.sh [--trial]: makes the release twice, in fresh clones, and compares the files byte by byte. Names of folders, umask, time
+# zone, language and the user's name differ. Where a release is committed, the clones are of the commit that dist/README.md names, and
+# the committed files must be the same; else they are of HEAD. What is proved in this repository need not be proved again: the clones
+# begin with its kept proofs. A trial is of HEAD with the quick build, which the clones make from nothing.
 set -eu
 top=$(cd "$(dirname "$0")/.." && pwd)
 work=$(mktemp -d "${TMPDIR:-/var/tmp}/rewind-dist.XXXXXX")
 trap 'rm -rf "$work"' EXIT
-for name in one a_longer_name; do
-  git clone --quiet "$top" "$work/$name"
+target=dist
+made=dist
+if [ "${1:-}" = --trial ]; then
+  target=quick-dist
+  made=bin/quick-dist
+fi
+
+commit=$(git -C "$top" rev-parse HEAD)
+committed=
+if [ "$target" = dist ] && git -C "$top" cat-file -e HEAD:dist/SHA256SUMS 2>/dev/null; then
+  git -C "$top" archive HEAD dist | tar -x -C "$work"
+  committed=$work/dist
+  commit=$(sed -n 's/.*from commit `\([0-9a-f]\{40\}\)`.*/\1/p' "$committed/README.md")
+fi
+
+# make_in NAME UMASK [VARIABLE=VALUE..]: makes the release in the clone of this name.
+make_in() {
+  clone=$work/$1
+  mask=$2
+  shift 2
+  git clone --quiet --no-checkout "$top" "$clone"
+  git -C "$clone" checkout --quiet --detach "$commit"
+  mkdir "$clone.temporary"
   for kept in "$top"/crates/*/out; do
-    [ -d "$kept" ] && cp -r "$kept" "$work/$name/crates/$(basename "$(dirname "$kept")")/out"
+    crate=$clone/crates/$(basename "$(dirname "$kept")")
+    [ "$target" = dist ] && [ -d "$kept" ] && [ -d "$crate" ] && cp -r "$kept" "$crate/out"
   done
-  make -C "$work/$name" dist >"$work/$name.log" 2>&1 || {
-    tail -5 "$work/$name.log" >&2
+  (umask "$mask" && env TMPDIR="$clone.temporary" "$@" make -C "$clone" "$target") >"$clone.log" 2>&1 || {
+    tail -5 "$clone.log" >&2
     exit 1
   }
-done
-diff -r "$work/one/dist" "$work/a_longer_name/dist"
-echo "the files of both are equal:"
-cat "$work/one/dist/SHA256SUMS"
+}
+
+make_in one 022 TZ=UTC LC_ALL=C.UTF-8 USER=one LOGNAME=one
+make_in a_folder_of_a_longer_name 077 TZ=Asia/Kathmandu LC_ALL=C USER=another LOGNAME=another
+diff -r "$work/one/$made" "$work/a_folder_of_a_longer_name/$made"
+[ -z "$committed" ] || diff -r "$committed" "$work/one/$made"
+echo "the files of both${committed:+, and those that are committed,} are equal:"
+cat "$work/one/$made/SHA256SUMS"
