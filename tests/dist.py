@@ -117,7 +117,7 @@ def main():
     for what, holds, seen in [*check_files(folder, told), *check_texts(folder, told)]:
         counts[0 if holds else 1] += 1
         if not holds:
-            print(f"FAILED {what}: {seen}")
+            print(f"FAILED {what}: {' '.join(str(seen).split())[:300]}")
     print(f"{counts[0]} passed, {counts[1]} failed")
     return 1 if counts[1] else 0
 
