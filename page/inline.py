@@ -17,6 +17,7 @@ HERE = os.path.dirname(os.path.realpath(__file__))
 ROOT = os.path.dirname(HERE)
 sys.path.insert(0, f"{ROOT}/tools")
 import kit  # noqa: E402
+import notices  # noqa: E402
 
 MIRROR = "/usr/share/javascript/codemirror"
 LICENCE = "/usr/share/doc/libjs-codemirror/copyright"
@@ -171,8 +172,9 @@ def exercises():
 def given():
     """All that the page shows and does not compute."""
     refusals = json.loads(read(f"{ROOT}/clients/rewind_client/refusals.json"))
-    told = {"stories": stories(), "exercises": exercises(), "refusals": refusals}
-    return {"codes": codes(), "kinds": kinds(), "faults": faults(), "commands": commands(), "licence": read(LICENCE), **told}
+    licence = notices.of_page(kit.folder(), read(LICENCE))
+    told = {"stories": stories(), "exercises": exercises(), "refusals": refusals, "licence": licence}
+    return {"codes": codes(), "kinds": kinds(), "faults": faults(), "commands": commands(), **told}
 
 
 def program(wasm):

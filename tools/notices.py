@@ -1,4 +1,4 @@
-"""The licenses of what is linked into the program: the toolchain's crates, and the system's C library."""
+"""The licenses of what is linked into the program: the toolchain's crates, and in the archive the system's C library."""
 import os
 import re
 
@@ -8,6 +8,7 @@ C_LIBRARY = "/usr/share/doc/libc6-dev/copyright"
 # Of a crate with several licenses, the first of these names is taken.
 TERMS = ("LICENSE-MIT", "LICENSE", "LICENSE-APACHE")
 HEAD = "What is linked into bin/rewind, beside Rewind itself."
+OF_PAGE = "What is linked into the page's program, beside Rewind itself."
 LIBRARY = """The GNU C Library, and parts of GCC's runtime library, which its exception lets programs of any license hold.
 Rewind's sources are free, so 'make dist' links the program with another C library."""
 
@@ -31,11 +32,25 @@ def license_of(folder, name):
     return read(found[0]) if found else None
 
 
+def of_crates(folder):
+    """The licenses of the crates, and which crates have none."""
+    told = {name: license_of(folder, name) for name in crates(folder)}
+    without = ", ".join(name for name, text in told.items() if not text)
+    texts = [f"{name}\n\n{text}" for name, text in told.items() if text]
+    return [*texts, f"The toolchain has no text of a license for its crates {without}."]
+
+
+def joined(parts):
+    return f"\n\n{'-' * 78}\n\n".join(parts) + "\n"
+
+
 def of_program(folder):
     """The text for an archive of the program."""
     if not os.path.exists(C_LIBRARY):
         kit.stop(f"there is no {C_LIBRARY}, which the archive must hold: install Debian's package libc6-dev")
-    told = {name: license_of(folder, name) for name in crates(folder)}
-    without = f"The toolchain has no text of a license for its crates {', '.join(it for it in told if not told[it])}."
-    parts = [HEAD, *(f"{name}\n\n{text}" for name, text in told.items() if text), without, LIBRARY, read(C_LIBRARY)]
-    return ("\n\n" + "-" * 78 + "\n\n").join(parts) + "\n"
+    return joined([HEAD, *of_crates(folder), LIBRARY, read(C_LIBRARY)])
+
+
+def of_page(folder, editor):
+    """The text for the page, with that of Rewind and of the page's editor."""
+    return joined([read(f"{kit.ROOT}/LICENSE"), editor.strip(), OF_PAGE, *of_crates(folder)])
