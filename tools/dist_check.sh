@@ -42,7 +42,7 @@ make_in() {
 
 make_in one 022 TZ=UTC LC_ALL=C.UTF-8 USER=one LOGNAME=one
 make_in a_folder_of_a_longer_name 077 TZ=Asia/Kathmandu LC_ALL=C USER=another LOGNAME=another
-diff -r "$work/one/$made" "$work/a_folder_of_a_longer_name/$made"
-[ -z "$committed" ] || diff -r "$committed" "$work/one/$made"
+diff -rq "$work/one/$made" "$work/a_folder_of_a_longer_name/$made"
+[ -z "$committed" ] || diff -rq "$committed" "$work/one/$made"
 echo "the files of both${committed:+, and those that are committed,} are equal:"
 cat "$work/one/$made/SHA256SUMS"
