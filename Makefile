@@ -133,10 +133,10 @@ times: ## how long demo, quick, quick-page and test take on two processors, in f
 	$(NEEDS_RT)
 	tools/times.py
 
-gate-times: ## the gate in a fresh clone, with the processor minutes of each crate: bin/gate.md (hours)
+gate-times: ## the gate in a fresh clone, with the processor minutes of each crate: bench/GATE.md (hours)
 	$(NEEDS_RT)
 	mkdir -p bin
-	tools/gate.py --table bin/gate.md --log bin/gate.log
+	tools/gate.py --table bench/GATE.md --log bin/gate.log
 
 ## Make again what is made
 

@@ -6,7 +6,6 @@
 Takes bin/rewind, bin/bench_channels and bin/bench_front. Figures depend on what else the machine does: leave it alone.
 """
 import argparse
-import datetime
 import os
 import re
 import subprocess
@@ -14,6 +13,8 @@ import sys
 
 HERE = os.path.dirname(os.path.abspath(__file__))
 TOP = os.path.dirname(HERE)
+sys.path.append(f"{TOP}/tools")
+from figures import origin, told  # noqa: E402
 BENCHES = {
     "steps": "rewind", "core": "rewind", "rollback": "rewind", "workers": "rewind", "channels": "bench_channels", "front": "bench_front",
 }
@@ -21,26 +22,11 @@ HEAD = """# Measurements
 
 Written by `make bench`. Times are of processors and not by the clock, but for those of workers.
 
-| Machine | Commit | Date | Program |
-|---|---|---|---|
-| %s | %s | %s | %s |
+%s
 
 | Bench | What | Figure |
 |---|---|---|
 """
-
-
-def told(*words):
-    """What a command prints, without its newline."""
-    return subprocess.run(words, cwd=TOP, stdout=subprocess.PIPE, check=True, text=True).stdout.strip()
-
-
-def machine():
-    """The processor, how many there are, and the memory."""
-    with open("/proc/cpuinfo", encoding="utf-8") as lines:
-        name = next((line.partition(":")[2].strip() for line in lines if line.startswith("model name")), "unknown processor")
-    gigabytes = os.sysconf("SC_PAGE_SIZE") * os.sysconf("SC_PHYS_PAGES") / 1e9
-    return f"{name}, {os.cpu_count()} processors, {gigabytes:.0f} GB"
 
 
 def row_of_core(line):
@@ -86,10 +72,8 @@ def main():
         found, missed = rows(bench)
         text += ["| %s | %s | %s |\n" % it for it in found]
         status = status or missed
-    version = told(f"{TOP}/bin/rewind", "--version")
-    head = HEAD % (machine(), told("git", "rev-parse", "--short", "HEAD"), datetime.date.today().isoformat(), version)
     with open(asked.out, "w", encoding="utf-8") as file:
-        file.write(head + "".join(text))
+        file.write(HEAD % origin(Program=told(f"{TOP}/bin/rewind", "--version")) + "".join(text))
     return status
 
 

@@ -22,6 +22,8 @@ import sys
 import tempfile
 import time
 
+from figures import origin
+
 PHASES = ("proof", "tests", "edits")
 PAUSE = 0.2
 TICKS = os.sysconf("SC_CLK_TCK")
@@ -182,7 +184,8 @@ def rows_of(below, watch, processor):
 def markdown(below, watch, wall, processor, ended):
     rows = rows_of(below, watch, processor)
     chain_minutes, chain = longest_chain(below, watch.table()[1])
-    lines = ["| Crate | Proof | Tests | Edits | Together | Clock: proof | Tests | Edits |", "|---" * 8 + "|"]
+    lines = ["# The gate, crate by crate", "", "Written by `make gate-times`.", "", origin(), ""]
+    lines += ["| Crate | Proof | Tests | Edits | Together | Clock: proof | Tests | Edits |", "|---" * 8 + "|"]
     for crate, own, whole, own_walls in rows:
         cells = ["%.1f" % minutes if minutes >= 0.05 else "" for minutes in own + [whole] + own_walls]
         lines.append("| %s | %s |" % (crate, " | ".join(cells)))
