@@ -146,8 +146,15 @@ def here(plan: Plan) -> Outcomes:
 
 
 def in_processes(plan: Plan) -> Outcomes:
-    """The outcomes of some processes at once, as they come; a text says what went wrong."""
-    pool = multiprocessing.Pool(plan.jobs, ignore_interrupts)
+    """The outcomes of some processes at once, as they come; a text says what went wrong.
+
+    Where the system has no locks between processes, as Python 3.9 has none without /dev/shm, this process finds them all.
+    """
+    try:
+        pool = multiprocessing.Pool(plan.jobs, ignore_interrupts)
+    except OSError:
+        yield from here(plan)
+        return
     try:
         yield from pool.imap_unordered(Share(plan), range(plan.runs), SHARE)
     finally:

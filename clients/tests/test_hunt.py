@@ -2,6 +2,7 @@
 from __future__ import annotations
 
 import io
+import multiprocessing
 import os
 import re
 import subprocess
@@ -304,6 +305,17 @@ def test_a_schedule_is_that_of_its_seed_and_number(rewind: str) -> None:
     other = hunted(plan_of(rewind, path, runs=40, seed=2))
     assert alone.outcomes == together.outcomes
     assert alone.outcomes != other.outcomes
+
+
+def test_a_system_without_locks_between_processes(rewind: str, monkeypatch: pytest.MonkeyPatch) -> None:
+    """One process finds what several do."""
+
+    def refuses(*_: object) -> None:
+        raise OSError(38, "Function not implemented")
+
+    together = hunt(plan_of(rewind, EXAMPLES / "philosophers.go", runs=20, jobs=2), lambda _: None)
+    monkeypatch.setattr(multiprocessing, "Pool", refuses)
+    assert hunt(plan_of(rewind, EXAMPLES / "philosophers.go", runs=20, jobs=2), lambda _: None).outcomes == together.outcomes
 
 
 def test_every_manner_is_a_schedule_of_the_program(rewind: str) -> None:
