@@ -140,7 +140,6 @@ impl Ord for GoName {
 
     ghost matches_eq = { Prim.search (comparing, rules) };
 
-    #[inline(always)]
     fn cmp(&self, other: &GoName) -> Ordering {
         let others = other.counts();
         match self.counts() {

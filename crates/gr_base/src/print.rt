@@ -98,7 +98,6 @@ fn print_long_step(text: &mut Vec<u8>, step: &StepId) -> Result<(), NoMemory>
 
 /// Writes the mark and the number in decimal, which take at most 21 bytes, so that they end at a place. It answers where they
 /// start.
-#[inline]
 fn write_count(mark: u8, n: u64, bytes: &mut [u8], end: usize) -> usize
     requires room { 21 ≤ end }
     requires within { end ≤ length bytes.old }
@@ -112,7 +111,6 @@ fn write_count(mark: u8, n: u64, bytes: &mut [u8], end: usize) -> usize
 }
 
 /// Writes counts so that they end at a place, each after a dot, and answers where they start.
-#[inline]
 fn write_counts(counts: &[u32], bytes: &mut [u8], end: usize) -> usize
     requires room { length counts.now * 21 ≤ end }
     requires within { end ≤ length bytes.old }
@@ -130,7 +128,6 @@ fn write_counts(counts: &[u32], bytes: &mut [u8], end: usize) -> usize
 }
 
 /// Writes the name of the goroutine with these counts so that it ends at a place, and answers where it starts.
-#[inline]
 fn write_go(counts: &[u32], bytes: &mut [u8], end: usize) -> usize
     requires room { length counts.now * 21 + 2 ≤ end }
     requires within { end ≤ length bytes.old }

@@ -130,7 +130,6 @@ impl Log {
     }
 
     /// Takes the last step out, if there is one. It takes no memory.
-    #[inline]
     pub fn pop(&mut self) -> Option<Record>
         ensures taken { MatchOption result (records_of self.old ≡ []) (λ step. records_of self.old ≡ records_of self.new ++ step
             ∷ []) }

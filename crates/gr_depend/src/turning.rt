@@ -42,7 +42,6 @@ impl Latest {
 }
 
 /// Where the step at a place of the log comes in the order.
-#[inline]
 fn target_of(to: &[usize], place: u32) -> usize
     ensures { result ≡ place_at to.now place }
 {
@@ -50,7 +49,6 @@ fn target_of(to: &[usize], place: u32) -> usize
 }
 
 /// The lesser of the two places, where the second comes before a third.
-#[inline]
 fn if_before(first: usize, place: usize, after: usize) -> usize
     ensures { result ≡ (if nat_lt place after then min first place else first) }
 {

@@ -18,7 +18,6 @@ use gr_tree::BinaryOp;
 use std::alloc::Global;
 
 /// The value in a cell that has one.
-#[inline]
 pub(crate) fn held<'a>(cells: &'a [Option<Value>], number: usize) -> Seen<'a>
     requires { rules.held (slice_get cells.now number) ≢ wrong }
     ensures { rules.held (slice_get cells.now number) ≡ gives (value_of result) }
@@ -30,7 +29,6 @@ pub(crate) fn held<'a>(cells: &'a [Option<Value>], number: usize) -> Seen<'a>
 }
 
 /// The value of an operand that has no operands of its own.
-#[inline]
 fn leaf<'a>(cells: &'a [Option<Value>], operand: &Operand) -> Option<Seen<'a>>
     requires { rules.evaluate cells.now (operand_of operand.now) ≢ wrong }
     ensures { IfSome result (λ v. rules.evaluate cells.now (operand_of operand.now) ≡ gives (value_of v)) }
@@ -43,7 +41,6 @@ fn leaf<'a>(cells: &'a [Option<Value>], operand: &Operand) -> Option<Seen<'a>>
 }
 
 /// The value of an operand that has no operands of its own, or of an operator on two such operands.
-#[inline]
 fn of_leaves<'a>(cells: &'a [Option<Value>], operand: &Operand) -> Option<Result<Seen<'a>, Fault>>
     requires { rules.evaluate cells.now (operand_of operand.now) ≢ wrong }
     ensures { IfSome result (λ r. rules.evaluate cells.now (operand_of operand.now) ≡ seen_outcome r) }
@@ -62,7 +59,6 @@ fn of_leaves<'a>(cells: &'a [Option<Value>], operand: &Operand) -> Option<Result
 }
 
 /// The number in a cell that has one.
-#[inline]
 pub fn number_in(cells: &[Option<Value>], cell: usize) -> Option<i64>
     ensures { IfSome result (λ n. rules.held (slice_get cells.now cell) ≡ gives (values.Int n)) }
 {

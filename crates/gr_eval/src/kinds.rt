@@ -6,7 +6,6 @@ ghost use Rattle.gr_rules.specs.Deeds as rules;
 use gr_base::{ChName, Value};
 
 /// The number that the value is.
-#[inline]
 pub fn as_int(value: Value) -> i64
     requires { rules.as_int value ≢ wrong }
     ensures { rules.as_int value ≡ gives result }
@@ -18,7 +17,6 @@ pub fn as_int(value: Value) -> i64
 }
 
 /// The truth value that the value is.
-#[inline]
 pub fn as_truth(value: Value) -> bool
     requires { rules.as_truth value ≢ wrong }
     ensures { rules.as_truth value ≡ gives result }
@@ -30,7 +28,6 @@ pub fn as_truth(value: Value) -> bool
 }
 
 /// The channel that the value is, or nil.
-#[inline]
 pub fn as_channel(value: Value) -> Option<ChName>
     requires { rules.as_channel value ≢ wrong }
     ensures { rules.as_channel value ≡ gives result }

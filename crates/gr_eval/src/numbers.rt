@@ -14,7 +14,6 @@ const BITS: i64 = 64;
 const FAR_RIGHT: i64 = 63;
 
 /// The sum.
-#[inline]
 pub fn add(x: i64, y: i64) -> i64
     ensures { result ≡ wrapped (x +ℤ y) }
 {
@@ -22,7 +21,6 @@ pub fn add(x: i64, y: i64) -> i64
 }
 
 /// The difference.
-#[inline]
 pub fn subtract(x: i64, y: i64) -> i64
     ensures { result ≡ wrapped (x -ℤ y) }
 {
@@ -30,7 +28,6 @@ pub fn subtract(x: i64, y: i64) -> i64
 }
 
 /// The product.
-#[inline]
 #[tactic(auto, using(crate::proofs::Wrapping::product_is))]
 pub fn multiply(x: i64, y: i64) -> i64
     ensures { result ≡ wrapped (x *ℤ y) }
@@ -39,7 +36,6 @@ pub fn multiply(x: i64, y: i64) -> i64
 }
 
 /// The number with the other sign.
-#[inline]
 pub fn negate(x: i64) -> i64
     ensures { result ≡ wrapped (neg_ℤ x) }
 {
@@ -47,7 +43,6 @@ pub fn negate(x: i64) -> i64
 }
 
 /// The number with each bit turned.
-#[inline]
 pub fn turn(x: i64) -> i64
     ensures { result ≡ wrapped (complement x) }
 {
@@ -55,7 +50,6 @@ pub fn turn(x: i64) -> i64
 }
 
 /// The quotient, rounded toward zero; that of the least number by -1 is the least number.
-#[inline]
 pub fn divide(x: i64, y: i64) -> Result<i64, Fault>
     ensures ok { IfOk result (λ z. divided int_div x y ≡ gives (Int z)) }
     ensures fault { IfErr result (λ e. divided int_div x y ≡ faults e) }
@@ -67,7 +61,6 @@ pub fn divide(x: i64, y: i64) -> Result<i64, Fault>
 }
 
 /// What the quotient leaves, with the sign of `x`.
-#[inline]
 pub fn remainder(x: i64, y: i64) -> Result<i64, Fault>
     ensures ok { IfOk result (λ z. divided int_rem x y ≡ gives (Int z)) }
     ensures fault { IfErr result (λ e. divided int_rem x y ≡ faults e) }
@@ -79,7 +72,6 @@ pub fn remainder(x: i64, y: i64) -> Result<i64, Fault>
 }
 
 /// The number times 2 to the count.
-#[inline]
 pub fn shift_left(x: i64, count: i64) -> Result<i64, Fault>
     ensures ok { IfOk result (λ z. shifted left x count ≡ gives (Int z)) }
     ensures fault { IfErr result (λ e. shifted left x count ≡ faults e) }
@@ -94,7 +86,6 @@ pub fn shift_left(x: i64, count: i64) -> Result<i64, Fault>
 }
 
 /// The number by 2 to the count, rounded down.
-#[inline]
 pub fn shift_right(x: i64, count: i64) -> Result<i64, Fault>
     ensures ok { IfOk result (λ z. shifted right x count ≡ gives (Int z)) }
     ensures fault { IfErr result (λ e. shifted right x count ≡ faults e) }
@@ -106,7 +97,6 @@ pub fn shift_right(x: i64, count: i64) -> Result<i64, Fault>
 }
 
 /// The bits that both numbers have.
-#[inline]
 #[tactic(auto, using(crate::proofs::Words::word_and))]
 pub fn and(x: i64, y: i64) -> i64
     ensures { result ≡ wrapped (both x y) }
@@ -115,7 +105,6 @@ pub fn and(x: i64, y: i64) -> i64
 }
 
 /// The bits that the first number has and the second has not.
-#[inline]
 pub fn and_not(x: i64, y: i64) -> i64
     ensures { result ≡ wrapped (both x (complement y)) }
 {
@@ -123,7 +112,6 @@ pub fn and_not(x: i64, y: i64) -> i64
 }
 
 /// The bits that either number has.
-#[inline]
 #[tactic(auto, using(crate::proofs::Words::word_or))]
 pub fn or(x: i64, y: i64) -> i64
     ensures { result ≡ wrapped (either x y) }
@@ -132,7 +120,6 @@ pub fn or(x: i64, y: i64) -> i64
 }
 
 /// The bits that one number has and the other has not.
-#[inline]
 #[tactic(auto, using(crate::proofs::Words::word_xor))]
 pub fn xor(x: i64, y: i64) -> i64
     ensures { result ≡ wrapped (differing x y) }

@@ -10,7 +10,6 @@ use gr_base::{Fault, Value};
 use gr_tree::{BinaryOp, UnaryOp};
 
 /// The unary operator on a value that it is for.
-#[inline]
 pub fn apply(op: UnaryOp, value: Value) -> Value
     requires { rules.apply op value ≢ wrong }
     ensures { rules.apply op value ≡ gives result }
@@ -20,7 +19,6 @@ pub fn apply(op: UnaryOp, value: Value) -> Value
 
 /// The binary operator on two values that it is for. Errors: the fault with which the
 /// program stops, for a divisor 0 or a negative shift count.
-#[inline]
 pub fn operate(op: BinaryOp, left: Value, right: Value) -> Result<Value, Fault>
     requires { rules.operate op left right ≢ wrong }
     ensures ok { IfOk result (λ v. rules.operate op left right ≡ gives v) }
@@ -30,7 +28,6 @@ pub fn operate(op: BinaryOp, left: Value, right: Value) -> Result<Value, Fault>
 }
 
 /// Whether the left operand alone decides.
-#[inline]
 pub fn settles(op: BinaryOp, value: &Value) -> bool
     ensures { result ≡ rules.settles op value.now }
 {
@@ -38,7 +35,6 @@ pub fn settles(op: BinaryOp, value: &Value) -> bool
 }
 
 /// Whether the left operand alone decides.
-#[inline]
 pub(crate) fn settles_seen(op: BinaryOp, value: Seen) -> bool
     ensures { result ≡ rules.settles op (value_of value.entry) }
 {
@@ -50,7 +46,6 @@ pub(crate) fn settles_seen(op: BinaryOp, value: Seen) -> bool
 }
 
 /// The unary operator on a value that it is for.
-#[inline]
 pub(crate) fn apply_seen(op: UnaryOp, value: Seen) -> Scalar
     requires { rules.apply op (value_of value) ≢ wrong }
     ensures { rules.apply op (value_of value.entry) ≡ gives (scalar_value result) }
@@ -93,7 +88,6 @@ pub fn on_ints(op: BinaryOp, x: i64, y: i64) -> Result<Scalar, Fault>
 }
 
 /// `==` or `!=`, by whether the operands are equal.
-#[inline]
 fn compared(op: BinaryOp, equal: bool) -> Scalar
     requires { rules.compared op equal ≢ wrong }
     ensures { rules.compared op equal ≡ gives (scalar_value result) }
@@ -106,7 +100,6 @@ fn compared(op: BinaryOp, equal: bool) -> Scalar
 }
 
 /// The operator on two truth values.
-#[inline]
 fn on_truths(op: BinaryOp, a: bool, b: bool) -> Scalar
     requires { rules.on_truths op a b ≢ wrong }
     ensures { rules.on_truths op a b ≡ gives (scalar_value result) }

@@ -18,7 +18,6 @@ pub enum Scalar {
 
 impl Scalar {
     /// The scalar as a value.
-    #[inline]
     pub fn to_value(self) -> Value
         ensures { result ≡ scalar_value self }
     {
@@ -29,7 +28,6 @@ impl Scalar {
     }
 
     /// The scalar as a value that is looked at.
-    #[inline]
     pub fn to_seen<'a>(self) -> Seen<'a>
         ensures { value_of result ≡ scalar_value self }
     {
@@ -53,7 +51,6 @@ pub enum Seen<'a> {
 
 impl<'a> Seen<'a> {
     /// The value, looked at.
-    #[inline]
     pub fn of(value: &'a Value) -> Seen<'a>
         ensures { value_of result ≡ value.now }
     {
@@ -67,7 +64,6 @@ impl<'a> Seen<'a> {
     }
 
     /// The value of the literal.
-    #[inline]
     pub fn of_literal(literal: Literal) -> Seen<'a>
         ensures { value_of result ≡ operands.value_of (literal_of literal) }
     {
@@ -80,7 +76,6 @@ impl<'a> Seen<'a> {
     }
 
     /// The value with a name of its own.
-    #[inline]
     pub fn to_value(self, alloc: Global) -> Result<Value, NoMemory>
         ensures ok { IfOk result (λ v. v ≡ value_of self.entry) }
         ensures needed { OnErr result (IsNamed (value_of self.entry)) }

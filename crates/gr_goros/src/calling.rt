@@ -25,7 +25,6 @@ use std::mem;
 pub(crate) const MOST_FRAMES: usize = 1000;
 
 /// The number of the function that an instruction calls, and the arguments, if it is a call.
-#[inline]
 pub(crate) fn call_in(instruction: &Instruction) -> Option<(usize, &[Operand])>
     ensures { MatchOption result (is_calling (instruction_of instruction.now) ≡ false)
         (λ c. CallsWith (instruction_of instruction.now) c.0 (operands_of c.1.now)) }
@@ -43,7 +42,6 @@ pub(crate) fn call_in(instruction: &Instruction) -> Option<(usize, &[Operand])>
 }
 
 /// Gives a value to the parameter with a number, if there is one that keeps it.
-#[inline]
 fn give(cells: &mut Vec<Option<Value>>, parameters: &[Option<usize>], number: usize, value: Value)
     ensures { cells.new.items ≡ given (slice_get parameters.now number) value cells.old.items }
 {
@@ -54,7 +52,6 @@ fn give(cells: &mut Vec<Option<Value>>, parameters: &[Option<usize>], number: us
 
 /// Gives the values of operands, in a frame with its own cells, to parameters from left to right. Errors: the fault of the first
 /// that has one, and out of memory.
-#[inline]
 #[tactic(auto, using(crate::proofs::CallLemmas::begins, crate::proofs::CallLemmas::right_here, crate::proofs::CallLemmas::stops_here))]
 fn pass(
     alloc: Global,
@@ -114,7 +111,6 @@ impl Frame {
 
 impl Goroutine {
     /// Whether it can have no more frames.
-    #[inline]
     fn is_deepest(&self) -> bool
         requires { IsLive self.now.content }
         ensures { result ≡ is_deepest_of self.now.content.frames }

@@ -14,7 +14,6 @@ use std::alloc::Global;
 use std::mem;
 
 /// What a cell held, from which it is put back.
-#[inline]
 fn kept(slot: usize, held: Option<Value>) -> Former
     ensures { (cells : Variables) → restored result cells ≡ slice_set cells slot held }
 {
@@ -29,7 +28,6 @@ fn kept(slot: usize, held: Option<Value>) -> Former
 }
 
 /// Writes to a cell, if there is one with the number, and answers what it held.
-#[inline]
 pub(crate) fn write(cells: &mut Vec<Option<Value>>, slot: usize, value: Value) -> Former
     ensures after { cells.new.items ≡ slice_set cells.old.items slot (Some value) }
     ensures back { restored result cells.new.items ≡ cells.old.items }
@@ -90,7 +88,6 @@ fn put_each(cells: &mut Vec<Option<Value>>, mut written: Vec<(usize, Option<Valu
 }
 
 /// Puts back what the cells held before a change.
-#[inline]
 pub(crate) fn put_back(cells: &mut Vec<Option<Value>>, former: Former)
     ensures { cells.new.items ≡ restored former cells.old.items }
 {
@@ -137,7 +134,6 @@ pub(crate) fn assign(
 }
 
 /// The number and the truth value that two cells hold, if they do, behind the number of the first cell.
-#[inline]
 fn number_and_truth(
     cells: &[Option<Value>],
     first: usize,

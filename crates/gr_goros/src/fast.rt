@@ -38,7 +38,6 @@ pub(crate) struct IntChange {
 }
 
 /// The truth value that the operand is, where that stands in a cell.
-#[inline]
 fn truth_of(cells: &[Option<Value>], operand: &Operand) -> Option<bool>
     ensures { IfSome result (λ b. evaluate cells.now (operand_of operand.now) ≡ gives (Truth b)) }
 {
@@ -53,7 +52,6 @@ fn truth_of(cells: &[Option<Value>], operand: &Operand) -> Option<bool>
 
 impl IntChange {
     /// The frame before it.
-    #[inline(always)]
     pub(crate) fn undo(self) -> FrameUndo
         ensures { result ≡ kept_of self }
     {
@@ -72,7 +70,6 @@ impl IntChange {
 impl Goroutine {
     /// Takes the next step, if it is ready and the step is over whole numbers alone, and answers its ordinal and what it
     /// replaced. `None` where it is another step; nothing has changed.
-    #[inline(always)]
     pub fn step_ints(&mut self, code: &Code) -> Option<(u64, GoUndo)>
         requires right { self.old.content.status ≡ ready → ¬ (task_of (program_code_of code.now) self.old.content ≡ wrong) }
         requires counted { self.old.content.steps + 1 < 2 ^ 64 }
@@ -98,7 +95,6 @@ impl Goroutine {
 
 impl Frame {
     /// Goes on at another instruction.
-    #[inline(always)]
     fn jump_to(&mut self, on: usize) -> IntChange
         ensures after { self.new ≡ at_number self.old on }
         ensures back { frame_before (kept_of result) self.new ≡ self.old }
@@ -150,7 +146,6 @@ impl Frame {
     }
 
     /// Takes the step of a statement without operands, if it is one over whole numbers.
-    #[inline(always)]
     fn step_without_operands(&mut self, action: &Action) -> Option<IntChange>
         ensures counts { ChangesInts result (performed self.old (action_of action.now) nothing) self.old self.new }
         ensures alone { IfSome result (λ _. (caller : Bool) → is_local_action caller (action_of action.now) ≡ true) }

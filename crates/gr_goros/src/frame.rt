@@ -49,7 +49,6 @@ impl Frame {
     }
 
     /// The function with a number before its first instruction, with these cells.
-    #[inline]
     pub(crate) fn begin(function: u32, cells: Vec<Option<Value>>) -> Frame
         ensures { result ≡ record { function = function; number = 0; cells = cells.items } }
     {
@@ -110,7 +109,6 @@ impl Frame {
     }
 
     /// The number of the function.
-    #[inline]
     pub fn function(&self) -> usize
         ensures { result ≡ self.now.function }
     {
@@ -118,7 +116,6 @@ impl Frame {
     }
 
     /// The number of the function, as it is kept.
-    #[inline]
     pub(crate) fn kept_function(&self) -> u32
         ensures { result ≡ self.now.function }
     {
@@ -126,7 +123,6 @@ impl Frame {
     }
 
     /// The number of the next instruction.
-    #[inline]
     pub fn pc(&self) -> usize
         ensures { result ≡ self.now.number }
     {
@@ -134,7 +130,6 @@ impl Frame {
     }
 
     /// Where it stands.
-    #[inline]
     pub fn spot(&self) -> Spot
         ensures { result ≡ spot_of self.now }
     {
@@ -145,7 +140,6 @@ impl Frame {
     }
 
     /// The variables by their numbers, and then the temporaries; `None` has no value yet.
-    #[inline]
     pub fn cells(&self) -> &[Option<Value>]
         ensures { result.now ≡ self.now.cells }
     {
@@ -153,7 +147,6 @@ impl Frame {
     }
 
     /// The next instruction.
-    #[inline]
     #[tactic(auto, using(crate::proofs::CodeLemmas::found_instruction, crate::proofs::CodeLemmas::no_instruction, crate::proofs::CodeLemmas::no_function_in))]
     pub(crate) fn instruction<'a>(&self, code: &'a Code) -> &'a Instruction
         requires { ¬ (instruction_in (program_code_of code.now) self.now ≡ wrong) }
@@ -184,7 +177,6 @@ impl Frame {
     }
 
     /// Goes on at another instruction.
-    #[inline]
     pub(crate) fn go_on(&mut self, on: usize) -> FrameUndo
         ensures after { self.new ≡ at_number self.old on }
         ensures back { frame_before result self.new ≡ self.old }
@@ -310,7 +302,6 @@ impl Frame {
     }
 
     /// Takes the change back.
-    #[inline]
     pub(crate) fn undo(&mut self, undo: FrameUndo)
         ensures { self.new ≡ frame_before undo self.old }
     {
@@ -320,7 +311,6 @@ impl Frame {
     }
 
     /// Takes the change back, in the function with a number.
-    #[inline]
     pub(crate) fn undo_in(&mut self, function: u32, undo: FrameUndo)
         ensures { self.new ≡ frame_in function undo self.old }
     {
@@ -329,7 +319,6 @@ impl Frame {
     }
 
     /// Stands there.
-    #[inline]
     pub(crate) fn stand_at(&mut self, spot: Spot)
         ensures { self.new ≡ at_spot spot self.old }
     {

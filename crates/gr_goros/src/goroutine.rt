@@ -73,7 +73,6 @@ impl Goroutine {
     }
 
     /// What it does next.
-    #[inline]
     pub fn status(&self) -> &Status
         ensures { status_of result.now ≡ self.now.content.status }
     {
@@ -81,7 +80,6 @@ impl Goroutine {
     }
 
     /// How many steps it took.
-    #[inline]
     pub fn steps(&self) -> u64
         ensures { result ≡ self.now.content.steps }
     {
@@ -89,7 +87,6 @@ impl Goroutine {
     }
 
     /// How many goroutines it started.
-    #[inline]
     pub fn children(&self) -> u32
         ensures { result ≡ self.now.content.children }
     {
@@ -97,7 +94,6 @@ impl Goroutine {
     }
 
     /// How many channels it made.
-    #[inline]
     pub fn channels(&self) -> u32
         ensures { result ≡ self.now.content.channels }
     {

@@ -34,7 +34,6 @@ pub(crate) fn arm_at(arms: &[Arm], number: u32) -> Option<&Arm>
 }
 
 /// The code of a function.
-#[inline]
 #[tactic(auto, using(crate::proofs::CodeLemmas::found_function, crate::proofs::CodeLemmas::no_function))]
 pub(crate) fn code_of(code: &Code, function: usize) -> &FunctionCode
     requires { ¬ (slice_get (program_code_of code.now).functions function ≡ None) }

@@ -80,7 +80,6 @@ pub enum Need {
 }
 
 /// Whether the instruction of a frame, which has a caller or not, asks for nothing beyond its goroutine.
-#[inline]
 pub(crate) fn asks_nothing(instruction: &Instruction, has_caller: bool) -> bool
     ensures { result ≡ is_local_instruction has_caller (instruction_of instruction.now) }
 {
@@ -324,7 +323,6 @@ pub(crate) fn need_of(alloc: Global, frame: &Frame, instruction: &Instruction) -
 
 impl Goroutine {
     /// Whether the next step is that of a select, which leaves a choice.
-    #[inline]
     pub fn is_select(&self, code: &Code) -> bool
         requires { ¬ (task_of (program_code_of code.now) self.now.content ≡ wrong) }
         ensures { result ≡ is_select_in (program_code_of code.now) self.now.content.frames }
@@ -333,7 +331,6 @@ impl Goroutine {
     }
 
     /// The clauses of the select at which it stands, if it stands at one.
-    #[inline]
     pub fn arms<'a>(&self, code: &'a Code) -> Option<&'a [Arm]>
         requires { ¬ (task_of (program_code_of code.now) self.now.content ≡ wrong) }
         ensures { MatchOption result (is_select_in (program_code_of code.now) self.now.content.frames ≡ false)

@@ -23,7 +23,6 @@ use std::mem;
 impl Goroutine {
     /// Whether the next instruction asks for nothing beyond the goroutine. Its step is then local. A call that is too deep,
     /// and a fault, are local too.
-    #[inline]
     pub fn is_local(&self, code: &Code) -> bool
         requires { ¬ (task_of (program_code_of code.now) self.now.content ≡ wrong) }
         ensures { result ≡ is_local_now (program_code_of code.now) self.now.content }

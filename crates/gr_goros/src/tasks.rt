@@ -67,7 +67,6 @@ pub(crate) fn only(
 impl Frame {
     /// What its instruction comes to. The instruction is no call, and asks for nothing beyond the goroutine. Where that is a
     /// step of the frame, the frame went on. Else it is as it was. Errors: the fault of an operand, and out of memory.
-    #[inline]
     pub(crate) fn task(
         &mut self,
         alloc: Global,
@@ -114,7 +113,6 @@ impl Frame {
     }
 
     /// What a statement comes to, as `task` does.
-    #[inline]
     #[tactic(auto, using(crate::proofs::TaskLemmas::updated_is))]
     fn perform(
         &mut self,
@@ -146,7 +144,6 @@ impl Frame {
     }
 
     /// Goes on.
-    #[inline]
     fn move_on(&mut self, alloc: Global, operands: &[Operand], on: usize) -> Result<Task, Stop>
         requires { ¬ (performed self.old (GoesOn on) (operands_of operands.now) ≡ wrong) }
         ensures { Does result (performed self.old (GoesOn on) (operands_of operands.now)) self.old self.new }
@@ -161,7 +158,6 @@ impl Frame {
     }
 
     /// Goes on where the condition holds, or where it does not.
-    #[inline]
     fn test(
         &mut self,
         alloc: Global,
@@ -209,7 +205,6 @@ impl Frame {
     }
 
     /// Assigns with an operator.
-    #[inline]
     fn update(
         &mut self,
         alloc: Global,
@@ -236,7 +231,6 @@ impl Frame {
     }
 
     /// The value of a variable.
-    #[inline]
     fn held(&self, alloc: Global, variable: usize) -> Result<Value, NoMemory>
         requires { ¬ (rules.held (slice_get self.now.cells variable) ≡ wrong) }
         ensures { IfOk result (λ v. rules.held (slice_get self.now.cells variable) ≡ gives v) }
@@ -248,7 +242,6 @@ impl Frame {
     }
 
     /// Assigns the values of the operands.
-    #[inline]
     fn assign_all(
         &mut self,
         alloc: Global,

@@ -28,7 +28,6 @@ pub fn place_of(known: &[GoName], ready: &[usize], name: &GoName) -> Result<usiz
 }
 
 /// Whether the name stands at the place.
-#[inline(always)]
 pub fn stands_at(known: &[GoName], ready: &[usize], name: &GoName, place: usize) -> bool
     requires within { All (λ place. place < length known.now) ready.now }
     requires ordered { IsInOrder (names_at known.now ready.now) }

@@ -24,7 +24,6 @@ pub enum Operation {
 
 impl Operation {
     /// The channel.
-    #[inline]
     pub fn channel(&self) -> &ChName
         ensures { result.now ≡ channel_in self.now }
     {
@@ -159,7 +158,6 @@ impl Model for Change {
 
 impl Change {
     /// How it is kept.
-    #[inline(always)]
     pub fn form(&self) -> &Form
         ensures { effect_in result.now ≡ self.now }
     {
@@ -167,7 +165,6 @@ impl Change {
     }
 
     /// The kind of the step.
-    #[inline(always)]
     pub fn kind(&self) -> Kind
         ensures { result ≡ self.now.kind }
     {
@@ -204,7 +201,6 @@ fn wrote_line(own: &GoUndo) -> bool
 
 impl Waiting {
     /// The kind of the step.
-    #[inline(always)]
     pub fn kind(&self) -> Kind
         ensures { result ≡ kind_of_wait self.now.contact.operation }
     {

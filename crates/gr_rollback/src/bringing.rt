@@ -37,7 +37,6 @@ fn prior_in(status: &Status) -> Prior
 }
 
 /// Whether a goroutine was ready before the change that replaced this.
-#[inline]
 pub(crate) fn prior_to(undo: &GoUndo) -> Prior
     ensures { TellsPrior result undo.now }
 {
@@ -56,7 +55,6 @@ pub(crate) fn prior_to(undo: &GoUndo) -> Prior
 }
 
 /// Brings the pool back before a change of a goroutine that it knows. It takes no memory.
-#[inline]
 fn bring_back(pool: &mut Pool, go: &GoName, undo: &GoUndo)
     requires { is_among go.now pool.old.known ≡ true }
     ensures { BringsBack ((go.now, undo.now) ∷ []) pool.old pool.new }
@@ -103,7 +101,6 @@ fn bring_beyond_back(pool: &mut Pool, go: &GoName, own: &GoUndo, beyond: &Beyond
 }
 
 /// Brings the pool back before a step, whose goroutine and those that it met are known. It takes no memory.
-#[inline]
 pub(crate) fn bring_step_back(pool: &mut Pool, step: &Record)
     requires own { is_among step.now.id.go pool.old.known ≡ true }
     requires met { AllKnown (met_by step.now.change) pool.old }

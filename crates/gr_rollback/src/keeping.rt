@@ -22,7 +22,6 @@ use gr_pool::Pool;
 use gr_step::{Record, StepRefused, Store};
 
 /// Takes a step back directly after it, which takes no memory.
-#[inline(never)]
 fn withdraw(store: &mut Store, step: Record)
     requires fits { CanGoBack step.id.go step.change (contents_at store.old) }
     requires room { HasRoomFor step store.old }
@@ -35,7 +34,6 @@ fn withdraw(store: &mut Store, step: Record)
 
 /// Lets the record of a step join the log, and makes the goroutine known that the step started. Refused, the record is handed
 /// back, and no record has changed.
-#[inline(always)]
 fn enter(log: &mut Log, pool: &mut Pool, step: Record) -> Result<(), Record>
     requires { Distinct (touched_by step) }
     ensures ok { OnOk result (records_of log.new ≡ records_of log.old ++ step ∷ []) }
@@ -114,7 +112,6 @@ impl Course {
     }
 
     /// Lets the record of a step that reached no further than its goroutine join the log. Refused, the step is taken back.
-    #[inline(always)]
     fn join(&mut self, step: Record) -> Result<Stepped, StepRefused>
         requires fits { CanGoBack step.id.go step.change (contents_at self.old.store) }
         requires room { HasRoomFor step self.old.store }

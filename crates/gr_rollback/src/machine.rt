@@ -75,7 +75,6 @@ impl Machine {
     /// Takes the step of an event, and tells its ordinal and its kind. Its record is then the last of the log, and nothing may
     /// be done again. Refused, nothing has changed; but a step whose record found no room was taken, and is counted. A full log
     /// and out of memory are one refusal.
-    #[inline(always)]
     pub fn step(&mut self, event: Event) -> Result<Stepped, StepRefused>
         requires { IsMachine self.old }
         ensures taken { (p : ProgramSeen) (w : Timeline p) → Stands p w self.old → Taken p w event result self.new }

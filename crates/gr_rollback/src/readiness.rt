@@ -54,7 +54,6 @@ fn settle_own(pool: &mut Pool, store: &Store, go: &GoName)
 
 /// Makes the goroutine of a step unready where it is so in the store. The step reached no further than the goroutine, which was
 /// ready; what the step replaced tells of most that it is ready still.
-#[inline(always)]
 fn settle_alone(pool: &mut Pool, store: &Store, go: &GoName, own: &GoUndo)
     requires own { is_among go.now pool.old.ready ≡ true }
     requires ready { KeepsStatus own.now → IsReadyIn (contents_at store.now) go.now }
@@ -115,7 +114,6 @@ fn settle_others(pool: &mut Pool, store: &Store, step: &Record)
 }
 
 /// Settles the goroutine of a step, which was ready, and those that the step met and started.
-#[inline]
 fn settle_further(pool: &mut Pool, store: &Store, step: &Record)
     requires own { is_among step.now.id.go pool.old.ready ≡ true }
     requires met { KnowsReady (met_by step.now.change) (contents_at store.now) pool.old }
@@ -138,7 +136,6 @@ pub(crate) fn settle_again(pool: &mut Pool, store: &Store, step: &Record)
 
 /// Brings the pool to what is ready after a step, whose goroutine was ready; those that it met and started are known. Where the
 /// step reached no further than its goroutine, and that is ready still, the pool stays. It takes no memory.
-#[inline(always)]
 pub(crate) fn settle_taken(pool: &mut Pool, store: &Store, step: &Record)
     requires own { is_among step.now.id.go pool.old.ready ≡ true }
     requires ready { step.now.change.beyond ≡ None → KeepsStatus step.now.change.own

@@ -15,7 +15,6 @@ pub struct Stepped {
 
 impl Stepped {
     /// What the record of a step tells.
-    #[inline(always)]
     pub(crate) fn of(step: &Record) -> Stepped
         ensures { result ≡ told_by step.now }
     {

@@ -17,7 +17,6 @@ use gr_command::Reply;
 use gr_queries::next_line;
 
 /// The line of a goroutine's next statement, if it has a breakpoint.
-#[inline(always)]
 pub(crate) fn breakpoint_at(debuggee: &Debuggee, go: &GoName) -> Option<u32>
     requires { IsDebuggee debuggee.now }
     ensures { (p : Program) → (w : World p) → Stands p w debuggee.now

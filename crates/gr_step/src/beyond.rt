@@ -38,7 +38,6 @@ pub(crate) fn with_more(
 }
 
 /// What a step reached that did this with a channel, touched these parts of it, and reached nothing else.
-#[inline(always)]
 pub(crate) fn waited(
     alloc: Global,
     operation: Option<Operation>,
@@ -60,7 +59,6 @@ pub(crate) fn waited(
 }
 
 /// What a step reached that met nobody, by what it did with a channel and touched of it, before it changes anything.
-#[inline(always)]
 pub(crate) fn passage(alloc: Global, contact: Contact) -> Result<Box<Passage>, NoMemory>
     ensures told { (reads writes : List Object) → AreTouched contact.touched (Some (channel_in contact.operation)) reads writes
         → IfOk result (λ passage. IsReached (operation_of contact.operation) reads writes (reached_by_passage passage.value)) }

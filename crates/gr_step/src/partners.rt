@@ -34,7 +34,6 @@ use gr_tables::channels::Channels;
 use std::alloc::Global;
 
 /// The change of a step that met nobody, with its change of the channel, if there was one.
-#[inline(always)]
 fn told(kind: Kind, own: GoUndo, passage: Box<Passage>, undo: Option<ChanUndo>) -> Change
     ensures { (operation : attempts.Operation) (reads writes : List Object)
         → IsReached operation reads writes (reached_by_passage passage.value)
@@ -47,7 +46,6 @@ fn told(kind: Kind, own: GoUndo, passage: Box<Passage>, undo: Option<ChanUndo>) 
 }
 
 /// The change of a step that met one goroutine, and changed these channels.
-#[inline(always)]
 fn told_with(
     kind: Kind,
     own: GoUndo,
@@ -68,7 +66,6 @@ fn told_with(
 
 /// A goroutine leaves the queues of the channels of these names, after a change of a channel in the same step. Refused, that
 /// change is taken back.
-#[inline]
 fn leave_after(
     channels: &mut Channels,
     alloc: Global,
@@ -184,7 +181,6 @@ impl Objects {
     }
 
     /// What arrives takes two goroutines past their communication, one after the other. Refused, neither has changed.
-    #[inline(always)]
     fn both_arrive(
         &mut self,
         turn: &Turn<'_>,

@@ -56,7 +56,6 @@ fn arm_numbered(arms: &[Arm], number: u32) -> Option<&Arm>
 }
 
 /// The clause with a number, if it receives from a channel, and no clause sends.
-#[inline(always)]
 fn picked_of(
     alloc: Global,
     cells: &[Option<Value>],
@@ -85,7 +84,6 @@ fn picked_of(
 impl Objects {
     /// The clause that an event picks, which is possible, if it receives and no clause of the select sends. No value can then
     /// be at fault.
-    #[inline(always)]
     pub(crate) fn picked(&self, turn: &Turn<'_>) -> Result<Option<Picked>, NoMemory>
         requires may { MayAct turn.now self.now }
         requires possible { IsPossible turn.now self.now }
@@ -106,7 +104,6 @@ impl Objects {
     }
 
     /// Receives in the clause that an event picks, which is possible. Refused, nothing has changed.
-    #[inline(always)]
     pub(crate) fn receive_picked(
         &mut self,
         turn: &Turn<'_>,

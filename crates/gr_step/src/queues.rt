@@ -62,7 +62,6 @@ pub(crate) fn all_waits(
 
 /// Puts a goroutine at the end of the queue of those that wait to send on a channel, outside a select. Refused, no content has
 /// changed.
-#[inline(always)]
 pub(crate) fn queue_to_send(
     channels: &mut Channels,
     alloc: Global,
@@ -87,7 +86,6 @@ pub(crate) fn queue_to_send(
 
 /// Puts a goroutine at the end of the queue of those that wait to receive from a channel, outside a select. Refused, no content
 /// has changed.
-#[inline(always)]
 pub(crate) fn queue_to_receive(
     channels: &mut Channels,
     alloc: Global,

@@ -28,7 +28,6 @@ use gr_record::record::{Change, Contact, Operation};
 
 impl Objects {
     /// Takes the front item, where nobody waits to send. Refused, nothing has changed.
-    #[inline(always)]
     pub(crate) fn take_item(
         &mut self,
         meeting: &Meeting<'_>,
@@ -101,7 +100,6 @@ impl Objects {
     }
 
     /// Takes the value of the first goroutine that waits to send, where there is no item. Refused, nothing has changed.
-    #[inline(always)]
     pub(crate) fn meet(&mut self, meeting: &Meeting<'_>, zero: Value) -> Result<Change, NoMemory>
         requires may { MayMeet meeting.now self.old }
         requires sound { MayTry meeting.now self.old (to_receive meeting.now zero) }

@@ -39,7 +39,6 @@ pub(crate) fn kind_by(clause: Option<u32>, kind: Kind) -> Kind
 
 impl Objects {
     /// Hands a value to the first goroutine that waits to receive it. Refused, nothing has changed.
-    #[inline(always)]
     pub(crate) fn hand(&mut self, meeting: &Meeting<'_>, value: Value) -> Result<Change, NoMemory>
         requires may { MayMeet meeting.now self.old }
         requires sound { MayTry meeting.now self.old (to_send meeting.now value) }
@@ -76,7 +75,6 @@ impl Objects {
     }
 
     /// Puts a value into the buffer. Refused, nothing has changed.
-    #[inline(always)]
     pub(crate) fn buffer(&mut self, meeting: &Meeting<'_>, value: Value) -> Result<Change, NoMemory>
         requires may { MayMeet meeting.now self.old }
         requires sound { MayTry meeting.now self.old (to_send meeting.now value) }

@@ -22,7 +22,6 @@ use gr_record::record::Change;
 
 impl Objects {
     /// Takes the step of an event, whose goroutine is ready. Refused, nothing has changed.
-    #[inline(always)]
     pub(crate) fn take(&mut self, turn: &Turn<'_>) -> Result<Change, StepRefused>
         requires may { MayAct turn.now self.old }
         ensures ok { IfOk result (TakesStep turn.now self.old self.new) }
@@ -38,7 +37,6 @@ impl Objects {
     }
 
     /// Takes a step that reaches no further than its goroutine.
-    #[inline(always)]
     fn take_alone(&mut self, turn: &Turn<'_>) -> Result<Change, StepRefused>
         requires may { MayAct turn.now self.old }
         requires task { AsksNothing turn.now self.old true }

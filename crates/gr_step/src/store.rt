@@ -135,7 +135,6 @@ impl Store {
 
     /// Takes the step of an event, whose goroutine is ready: its number, and the ordinal of its next step. Refused, nothing has
     /// changed.
-    #[inline(always)]
     fn take(&mut self, event: Event, number: usize, ordinal: u64) -> Result<Record, StepRefused>
         requires run { IsRun self.old }
         requires acting { Acting (program_at self.old) event number self.old.objects }
@@ -168,7 +167,6 @@ impl Store {
     }
 
     /// Takes the step of an event, if it is one over whole numbers alone; else nothing has changed, and the event is handed back.
-    #[inline(always)]
     pub fn step_ints(&mut self, event: Event) -> Result<Record, Event>
         requires run { IsRun self.old }
         requires counted { CanCount (contents_at self.old) }

@@ -130,7 +130,6 @@ fn unmake(channels: &mut Channels, made: Option<ChName>)
 impl Objects {
     /// Takes the step of a goroutine back, where what it wrote stands. It takes memory only where there is no room; refused,
     /// nothing has changed, and the change is handed back.
-    #[inline]
     pub(crate) fn undo_change(
         &mut self,
         go: &GoName,

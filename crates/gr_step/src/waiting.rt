@@ -89,7 +89,6 @@ fn gates(alloc: Global, waits: &[Wait]) -> Result<Vec<Object>, NoMemory>
 }
 
 /// What a wait to send touches of its channel, which is there: it writes the gate, and reads where the next value enters.
-#[inline(always)]
 fn touched_to_send(channels: &Channels, channel: &ChName, value: &Value) -> Touched
     requires { AreMade ((None, deeds.Sending (Some channel.now) (gives value.now)) ∷ []) (contents_of channels.now) }
     ensures { (frame : CodeFrame → Frame) → AreTouched result (Some channel.now)
@@ -102,7 +101,6 @@ fn touched_to_send(channels: &Channels, channel: &ChName, value: &Value) -> Touc
 }
 
 /// What a wait to receive touches of its channel, which is there: it writes the gate, and reads where the front item is.
-#[inline(always)]
 fn touched_to_receive(channels: &Channels, channel: &ChName) -> Touched
     requires { (initial : value.Value)
         → AreMade ((None, deeds.Receiving (Some channel.now) initial) ∷ []) (contents_of channels.now) }
@@ -186,7 +184,6 @@ impl Objects {
     }
 
     /// Begins to wait to send a value on a channel. Refused, nothing has changed.
-    #[inline(always)]
     fn wait_for_receiver(
         &mut self,
         turn: &Turn<'_>,
@@ -219,7 +216,6 @@ impl Objects {
     }
 
     /// Begins to wait to receive from a channel. Refused, nothing has changed.
-    #[inline(always)]
     fn wait_for_sender(
         &mut self,
         turn: &Turn<'_>,
@@ -246,7 +242,6 @@ impl Objects {
     }
 
     /// Begins to wait to send a value, on nil forever. Refused, nothing has changed.
-    #[inline(always)]
     fn begin_to_send(
         &mut self,
         turn: &Turn<'_>,
@@ -275,7 +270,6 @@ impl Objects {
     }
 
     /// Begins to wait to receive, on nil forever. Refused, nothing has changed.
-    #[inline(always)]
     fn begin_to_receive(
         &mut self,
         turn: &Turn<'_>,

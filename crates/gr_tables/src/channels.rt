@@ -50,7 +50,6 @@ impl Channels {
     }
 
     /// The channel of a name, which is there.
-    #[inline(always)]
     pub fn at(&self, name: &ChName) -> &Channel
         requires { ¬ (None ≡ seen_of self.now name.now) }
         ensures { Some result.now ≡ seen_of self.now name.now }

@@ -63,7 +63,6 @@ impl Goroutines {
     }
 
     /// Whether the goroutine of a name has the number, and is there.
-    #[inline(always)]
     fn is_at(&self, name: &GoName, number: usize) -> bool
         ensures named { IsTrue result → name_at self.now number ≡ Some name.now }
         ensures present { IsTrue result → IsSome (seen_of self.now name.now) }
@@ -108,7 +107,6 @@ impl Goroutines {
     }
 
     /// The goroutine with a number, which is there.
-    #[inline(always)]
     pub fn at(&self, number: usize) -> &Goroutine
         requires { ¬ (None ≡ seen_at self.now number) }
         ensures value { Some result.now ≡ seen_at self.now number }

@@ -17,7 +17,6 @@ impl Lanes {
     ghost use Rattle.gr_touches.specs.Room.{NotesFor};
 
     /// Adds a touch to the lists of parts of a channel. Refused, all lists are as before.
-    #[inline]
     pub(crate) fn note_parts(
         &mut self,
         channel: &ChName,

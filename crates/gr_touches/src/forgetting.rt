@@ -18,7 +18,6 @@ impl Lanes {
     ghost use Rattle.gr_base.specs.declared.objects.Object.{Object};
 
     /// Takes the touches of the last step from the lists. It takes no memory.
-    #[inline]
     pub fn forget(&mut self, step: &Record)
         ensures lists { (before : Object → List Touch) (place : ℕ)
             → ((q : Object) → list_of self.old q ≡ before q ++ kept_for q place step.now) → (q : Object)
@@ -32,7 +31,6 @@ impl Lanes {
     }
 
     /// Takes the touches of the last step, which reached no further than its goroutine, from the lists.
-    #[inline]
     fn forget_alone(&mut self, step: &Record)
         requires { step.now.change.beyond ≡ None }
         ensures lists { (before : Object → List Touch) (place : ℕ)

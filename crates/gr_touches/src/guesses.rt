@@ -20,7 +20,6 @@ pub(crate) struct Guesses {
 }
 
 /// The class of the objects of a kind with a count. Few counts have a class each.
-#[inline(always)]
 fn class(kind: u32, count: u32) -> usize
     ensures { result < 256 }
 {
@@ -28,7 +27,6 @@ fn class(kind: u32, count: u32) -> usize
 }
 
 /// The class of a goroutine.
-#[inline(always)]
 fn class_of_go(go: &GoName) -> usize
     ensures { result < 256 }
 {
@@ -39,7 +37,6 @@ fn class_of_go(go: &GoName) -> usize
 }
 
 /// The class of an object.
-#[inline(always)]
 fn class_of(object: &ObjectRef<'_>) -> usize
     ensures { result < 256 }
 {
@@ -65,19 +62,16 @@ impl Guesses {
     }
 
     /// A guess of the number of the lane of an object.
-    #[inline(always)]
     pub(crate) fn of(&self, object: &ObjectRef<'_>) -> usize {
         self.numbers[class_of(object)].get()
     }
 
     /// A guess of the number of the lane of a goroutine.
-    #[inline(always)]
     pub(crate) fn of_go(&self, go: &GoName) -> usize {
         self.numbers[class_of_go(go)].get()
     }
 
     /// Keeps the number of the lane of an object.
-    #[inline]
     pub(crate) fn keep(&self, object: &ObjectRef<'_>, number: usize) {
         self.numbers[class_of(object)].set(number);
     }

@@ -70,7 +70,6 @@ impl Lanes {
     }
 
     /// The number of the lane of an object, by a second guess: the lane that came after the previous one the last time.
-    #[inline(never)]
     fn look_further(&self, object: &ObjectRef<'_>) -> Option<usize>
         ensures named { IfSome result (λ i. slice_get (keys self.now.map) i ≡ Some (seen object.now)) }
         ensures absent { IfNone result (get same self.now.map (seen object.now) ≡ None) }
@@ -132,7 +131,6 @@ impl Lanes {
     }
 
     /// The touches in the list with a number: that of a lane, and behind the lanes that of `Run`.
-    #[inline]
     pub fn list_with(&self, number: usize) -> &[Touch]
         ensures { result.now ≡ list_numbered self.now number }
     {
@@ -158,7 +156,6 @@ impl Lanes {
     }
 
     /// The number of the list of `Run`, and the wanted ones of its touches.
-    #[inline]
     pub(crate) fn numbered_run(&self, wanted: Wanted) -> (usize, &[Touch])
         ensures { IsNumbered self.now objects.Run wanted result.0 result.1.now }
     {
@@ -169,7 +166,6 @@ impl Lanes {
     }
 
     /// The number of the list of an object that is not `Run`, and all its touches.
-    #[inline]
     pub(crate) fn numbered_lane<N: Named>(&self, object: &N) -> Option<(usize, &[Touch])>
         requires { same objects.Run (N.object object.now) ≡ false }
         ensures some { IfSome result (λ list. (wanted : WantedSeen)
@@ -216,7 +212,6 @@ impl Lanes {
     }
 
     /// Makes a lane for an object that has none, with one touch.
-    #[inline(never)]
     fn add_lane(&mut self, object: &ObjectRef<'_>, touch: Touch) -> Result<(), NoMemory>
         requires other { same objects.Run (seen object.now) ≡ false }
         requires absent { get same self.old.map (seen object.now) ≡ None }

@@ -31,7 +31,6 @@ pub enum Wanted {
 
 impl Wanted {
     /// Whether a touch is wanted.
-    #[inline]
     fn takes(self, touch: Touch) -> bool
         ensures { result ≡ takes self touch.writes }
     {
@@ -43,7 +42,6 @@ impl Wanted {
 }
 
 /// Sets the mark of a touch, if it is wanted.
-#[inline]
 fn mark(marks: &mut [bool], base: usize, touch: Touch, wanted: Wanted)
     requires from { base ≤ touch.place }
     requires below { touch.place < base + length marks.old }

@@ -125,7 +125,6 @@ impl Lanes {
 
     /// Adds a touch to the lists of the parts of its channel that a step wrote, of the goroutine that it met, and of others.
     /// Refused, all lists are as before.
-    #[inline(always)]
     pub(crate) fn note_written_beyond(
         &mut self,
         beyond: &Beyond,
@@ -147,7 +146,6 @@ impl Lanes {
     }
 
     /// Adds a touch to the lists of a goroutine and of others. Refused, all lists are as before.
-    #[inline(always)]
     fn note_partner(&mut self, go: &GoName, touch: Touch, others: &[Object]) -> Result<(), NoMemory>
         ensures { NotesFor result (objects.Go go.now ∷ others.now) touch self.old self.new }
     {

@@ -23,7 +23,6 @@ pub enum ObjectRef<'a> {
 
 impl<'a> ObjectRef<'a> {
     /// The object.
-    #[inline]
     pub fn of(object: &'a Object) -> ObjectRef<'a>
         ensures { seen result ≡ object.now }
     {
@@ -119,12 +118,10 @@ impl Named for GoName {
         }
     }
 
-    #[inline(always)]
     fn guess(&self, guesses: &Guesses) -> usize {
         guesses.of_go(self)
     }
 
-    #[inline(always)]
     fn as_ref(&self) -> ObjectRef<'_> {
         ObjectRef::Go(self)
     }
@@ -140,12 +137,10 @@ impl Named for ObjectRef<'_> {
         self.equivalent(key)
     }
 
-    #[inline(always)]
     fn guess(&self, guesses: &Guesses) -> usize {
         guesses.of(self)
     }
 
-    #[inline(always)]
     fn as_ref(&self) -> ObjectRef<'_> {
         *self
     }

@@ -146,7 +146,6 @@ impl<'a> TouchedObjects<'a> {
     }
 
     /// The first of the objects, and the rest; `None` where only `others` are left.
-    #[inline]
     pub fn split_first(self) -> Option<(ObjectRef<'a>, TouchedObjects<'a>)>
         ensures first { MatchOption result (seen_in self.entry ≡ self.entry.others.now) (λ r. seen_in self.entry ≡ seen r.0
             ∷ seen_in r.1) }
@@ -166,7 +165,6 @@ fn run_unless<'a>(stops: bool) -> Option<ObjectRef<'a>>
 }
 
 /// The objects beside its channel that a step read.
-#[inline]
 pub(crate) fn others_read(beyond: &Beyond) -> &[Object]
     ensures { result.now ≡ read_by_more beyond.now.more }
 {
@@ -177,7 +175,6 @@ pub(crate) fn others_read(beyond: &Beyond) -> &[Object]
 }
 
 /// The objects beside its channel that a step wrote.
-#[inline]
 pub(crate) fn others_written(beyond: &Beyond) -> &[Object]
     ensures { result.now ≡ written_by_more beyond.now.more }
 {
@@ -233,7 +230,6 @@ fn in_contact<'a>(front: ObjectRef<'a>, contact: &'a Contact, parts: Parts) -> T
 }
 
 /// The objects that a step read. The step used one channel, and met no partner.
-#[inline]
 pub(crate) fn read_in(contact: &Contact) -> TouchedObjects<'_>
     ensures { seen_in result ≡ variants.Run ∷ reads_in (reached_on contact.now None) }
 {
@@ -241,7 +237,6 @@ pub(crate) fn read_in(contact: &Contact) -> TouchedObjects<'_>
 }
 
 /// The objects that a step of goroutine `own` wrote. The step used one channel, and met no partner.
-#[inline]
 fn written_in<'a>(own: ObjectRef<'a>, contact: &'a Contact) -> TouchedObjects<'a>
     ensures { seen_in result ≡ seen own.entry ∷ writes_in (reached_on contact.now None) }
 {
@@ -258,7 +253,6 @@ pub(crate) fn read_beyond(beyond: &Beyond) -> TouchedObjects<'_>
 }
 
 /// The objects that a step read and did not write.
-#[inline]
 pub fn reads(step: &Record) -> TouchedObjects<'_>
     ensures { seen_in result ≡ read_by step.now }
 {
@@ -271,7 +265,6 @@ pub fn reads(step: &Record) -> TouchedObjects<'_>
 }
 
 /// The objects that a step wrote.
-#[inline]
 pub fn writes(step: &Record) -> TouchedObjects<'_>
     ensures { seen_in result ≡ written_by step.now }
 {

@@ -70,7 +70,6 @@ impl Lanes {
     }
 
     /// Sets the marks of the touches of `Run` that wrote it.
-    #[inline]
     fn mark_run(&self, origin: Origin, walked: &mut [bool], marks: &mut [bool])
         requires reach { AreInReach self.now origin (length marks.old) }
         requires count { length walked.old ≡ length (keys self.now.map) + 1 }
@@ -83,7 +82,6 @@ impl Lanes {
     }
 
     /// Sets the marks of the touches of a goroutine.
-    #[inline]
     fn mark_go(&self, origin: Origin, go: &GoName, walked: &mut [bool], marks: &mut [bool])
         requires reach { AreInReach self.now origin (length marks.old) }
         requires count { length walked.old ≡ length (keys self.now.map) + 1 }
@@ -97,7 +95,6 @@ impl Lanes {
     }
 
     /// Sets the marks of the wanted touches in a list. A list is walked once.
-    #[inline]
     fn mark_numbered(
         &self,
         origin: Origin,

@@ -20,7 +20,6 @@ use std::alloc::Global;
 
 impl Goroutines {
     /// The goroutine with a number takes its next step, as `Goroutine::local_step` does. Refused, no content has changed.
-    #[inline]
     pub fn local_step(&mut self, number: usize, code: &Code) -> Result<(Kind, GoUndo), NoMemory>
         requires { At (StepsAlone (program_code_of code.now)) (seen_at self.old number) }
         ensures step { IfOk result (λ r. ChangesBy number
@@ -36,7 +35,6 @@ impl Goroutines {
 
     /// The goroutine with a number takes its next step as `Goroutine::step_ints` does, if it is ready and the step is over
     /// whole numbers alone. Else no content has changed.
-    #[inline(always)]
     pub fn step_ints(&mut self, number: usize, code: &Code) -> Option<(u64, GoUndo)>
         requires { At (CanTry (program_code_of code.now)) (seen_at self.old number) }
         ensures step { IfSome result (λ r. ChangesBy number (StepsOn (program_code_of code.now) r) self.old self.new) }

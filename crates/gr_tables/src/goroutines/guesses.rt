@@ -16,7 +16,6 @@ pub(super) struct Guesses {
 }
 
 /// The class of a name, by its last count. Few counts have a class each.
-#[inline(always)]
 fn class(name: &GoName) -> usize
     ensures { result < 256 }
 {
@@ -35,13 +34,11 @@ impl Guesses {
     }
 
     /// A guess of the number of a goroutine.
-    #[inline(always)]
     pub(super) fn of(&self, name: &GoName) -> usize {
         self.numbers[class(name)].get()
     }
 
     /// Keeps the number of a goroutine.
-    #[inline]
     pub(super) fn keep(&self, name: &GoName, number: usize) {
         self.numbers[class(name)].set(number);
     }
