@@ -98,7 +98,7 @@ uninstall: ## removes what install installed
 test: bin/rewind-quick ## every test, without proofs (7 minutes on two processors)
 	tests/run.py bin/rewind-quick
 
-gate: ## the gate: each proof from nothing, edits that must be refused, all tests and programs (hours; see README.md)
+gate: ## the gate: each proof from nothing, edits that must be refused, all tests and programs (an hour and a half on four processors)
 	RT_JOBS=$(RT_JOBS) $(RT) ci
 
 edits: ## the edits that must be refused and that the gate leaves out (hours; CRATE=NAME for one crate)
@@ -133,7 +133,7 @@ times: ## how long demo, quick, quick-page and test take on two processors, in f
 	$(NEEDS_RT)
 	tools/times.py
 
-gate-times: ## the gate in a fresh clone, with the processor minutes of each crate: bench/GATE.md (hours)
+gate-times: ## the gate in a fresh clone, with the processor minutes of each crate: bench/GATE.md (as long)
 	$(NEEDS_RT)
 	mkdir -p bin
 	tools/gate.py --table bench/GATE.md --log bin/gate.log
