@@ -38,7 +38,8 @@ def row_of_core(line):
 def row_of_rollback(line):
     """Work on a log, and its time."""
     found = re.match(r"(.+?)\s{2,}(\d+)\s+(-?[\d.]+)$", line)
-    return found[1], f"{found[3]} ms ({found[2]} steps)"
+    time = f"{found[3]} ms" if float(found[3]) >= 1 else "under 1 ms"
+    return found[1], f"{time} ({found[2]} {'step' if found[2] == '1' else 'steps'})"
 
 
 def row(bench, line):

@@ -19,11 +19,11 @@ import traceback
 
 sys.dont_write_bytecode = True
 
-from documents import blocks, commands, editors, files, language, made, manual, names, stories  # noqa: E402
+from documents import blocks, commands, editors, figures, files, language, made, manual, names, stories  # noqa: E402
 from documents.checks import Checks  # noqa: E402
 from documents.program import Program  # noqa: E402
 
-PARTS = (blocks, stories, manual, commands, language, editors, files, names, made)
+PARTS = (blocks, stories, manual, commands, language, editors, files, names, made, figures)
 
 
 def run_part(part, checks, program):
