@@ -69,13 +69,13 @@ one of FILE, '--check <FILE>' and '--explain <CODE>' is required";
 pub(crate) const TOO_MUCH_ASKED: &str = "\
 FILE, '--check <FILE>' and '--explain <CODE>' exclude each other, and '--workers <N>' goes with FILE alone";
 
-pub(crate) const FILE_HELP: &str = "The source: debugs it by the commands of standard input";
+pub(crate) const FILE_HELP: &str = "The source to debug, by the commands on standard input";
 
 pub(crate) const WORKERS_HELP: &str = "\
-The number of workers that take steps on their own, as many in all as 'free' grants (0 to 64)";
+The number of workers (0 to 64), which take steps on their own, as many in all as 'free' grants";
 
 pub(crate) const CHECK_HELP: &str = "\
-Only tells whether the source is accepted: nothing where it is, else the line of its refusal";
+Only checks the source: prints nothing if it is accepted, else the line of its refusal";
 
 pub(crate) const EXPLAIN_HELP: &str = "\
 Says what a code, a fault, a kind of step or an end of a run means, and what to do";
@@ -83,7 +83,7 @@ Says what a code, a fault, a kind of step or an end of a run means, and what to 
 pub(crate) const PROMPT: &str = "(rewind) ";
 
 pub(crate) const NO_COMMAND: &str = "\
-this line is no command (rewind --help lists the commands)
+this line is not a command (rewind --help lists the commands)
 ";
 
 pub(crate) const BANNER: &str = "\

@@ -13,7 +13,7 @@ read: reading the commands failed
 
 Example: standard input is a folder.
 
-What to do: The session stood after the last whole line. Look at where
+What to do: The session stands after the last whole line. Look at where
 standard input comes from.
 ",
     ),

@@ -13,8 +13,8 @@ N1: the program has ended, or a fault stopped it
 
 Example: 'step g0' after 'ok g0#5 exit'.
 
-What to do: Take a step back first: 'undo', or 'back' with the step to go back
-before.
+What to do: Take a step back first: 'undo', or 'back' with the step to take
+back.
 ",
     ),
     (

@@ -103,7 +103,7 @@ Example: 'println(1 2)' is refused at 3:12, the first token that does not fit
 (on line 3 of a file, in the body of 'main', after a tab).
 
 What to do: Look at the token there and the one before it: often an operator,
-a comma, a bracket or the end of a line is missing.
+a comma, a bracket or a line break is missing.
 ",
     ),
     (
@@ -148,7 +148,7 @@ Example: 'println(x)' is refused at 3:2 (on line 3 of a file, in the body of
 'main', after a tab).
 
 What to do: Declare it before its use, with ':=' or 'var', or correct its
-spelling. Only the language's own functions are there without a declaration.
+spelling. Only the built-in functions need no declaration.
 ",
     ),
     (
