@@ -45,8 +45,8 @@ enum Act<'a> {
 
 /// A session, with one who asks it and the batches that were run.
 #[derive(Drop)]
-struct Asking {
-    session: Session,
+pub(crate) struct Asking {
+    pub(crate) session: Session,
     desk: DeskId,
     batches: Vec<Batch>,
     ghost enrolled: { (1 ≤ desk.number) × (desk.number ≤ session.askers) },
@@ -66,7 +66,7 @@ fn says(reply: &Reply, joined: Option<u32>) -> bool {
 }
 
 impl Asking {
-    fn new(alloc: Global, source: &[u8]) -> Option<Asking> {
+    pub(crate) fn new(alloc: Global, source: &[u8]) -> Option<Asking> {
         let mut session = Session::open(alloc, source).ok()?;
         let desk = session.enrol().ok()?;
         Some(Asking {
@@ -76,7 +76,7 @@ impl Asking {
         })
     }
 
-    fn reply(&mut self, alloc: Global, line: &[u8]) -> Option<Reply> {
+    pub(crate) fn reply(&mut self, alloc: Global, line: &[u8]) -> Option<Reply> {
         let Ok(Line::Command(command)) = read_command(alloc, line) else {
             return None;
         };

@@ -1,7 +1,7 @@
 //! What a user of the library asks a session's machine: its store, and its log.
 
+use crate::batching::Asking;
 use gr_base::{ChName, GoName, Object};
-use gr_command::{Line, read_command};
 use rewind::Session;
 use std::alloc::Global;
 use std::test::Fail;
@@ -10,17 +10,13 @@ use std::test::Fail;
 const CHOOSING: &[u8] =
     b"package main\nfunc main() {\n\tc := make(chan int, 1)\n\tc <- 5\n\tselect {\n\tcase v := <-c:\n\t\tprintln(v)\n\tcase c <- 2:\n\t}\n}\n";
 
-/// The session of the source after these lines.
-fn after(alloc: Global, source: &[u8], lines: &[&[u8]]) -> Option<Session> {
-    let mut session = Session::open(alloc, source).ok()?;
-    let desk = session.enrol().ok()?;
+/// Asks these lines of a session of the source.
+fn after(alloc: Global, source: &[u8], lines: &[&[u8]]) -> Option<Asking> {
+    let mut asking = Asking::new(alloc, source)?;
     for line in lines {
-        let Ok(Line::Command(command)) = read_command(alloc, line) else {
-            return None;
-        };
-        session.ask(alloc, desk, command).ok()?;
+        asking.reply(alloc, line)?;
     }
-    Some(session)
+    Some(asking)
 }
 
 /// Whether the store and the log of the session say this.
@@ -48,8 +44,8 @@ fn tells(alloc: Global, session: &Session) -> Option<bool> {
 #[test]
 fn store_and_log_tell_what_was_done(rt: HostRuntime) -> Result<(), Fail> {
     let lines: [&[u8]; 5] = [b"step g0", b"step g0", b"step g0", b"undo", b"step g0"];
-    let session = after(rt.alloc(), CHOOSING, &lines).ok_or("the session")?;
-    match tells(rt.alloc(), &session) {
+    let asking = after(rt.alloc(), CHOOSING, &lines).ok_or("the session")?;
+    match tells(rt.alloc(), &asking.session) {
         Some(true) => Ok(()),
         _ => Err("what is told".into()),
     }
