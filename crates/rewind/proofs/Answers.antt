@@ -1,5 +1,5 @@
 -- Answers to lines, one after another.
-use Rattle.std.proofs.Common.{◌≡◌, ℕ, suc, codes, true, false, List, [], ◌∷◌, ◌++◌, length, refl, sym, ap, subst, ◌∙◌, append-nil, append_assoc, arith, Ok, Err, IfOk, Vec, Global}
+use Rattle.std.proofs.Common.{◌≡◌, ℕ, suc, codes, true, false, List, [], ◌∷◌, ◌++◌, length, refl, sym, ap, subst, ◌∙◌, append-nil, append_assoc, arith, Ok, Err, OnOk}
 use Rattle.std.specs.declared.option.Option.{Option}
 use Rattle.std.specs.declared.result.Result.{Result}
 use Rattle.gr_program.specs.Programs.{Program}
@@ -116,10 +116,12 @@ pub Begun-same : {S : Type 0} {gets : Gets S} {k l : List ℕ} {old new : S} {a 
 Begun-same e s = record { answers = s.answers; answered = rw (← e) s.answered; count = s.count; written = rw (← e) s.written }
 
 -- what came of one command, with its text or without memory for one
-pub told : {S E : Type 0} (gets : Gets S) (command : Command) (old new : S) (result : Result (Vec ℕ Global) E) (a : Answer)
-    → gets old command a new → IfOk result (λ text. text.items ≡ answer_text a) → IsAnswered gets (says.Command command) old new result
-told gets command old new (Ok text) a h e = record { answers = a ∷ []; answered = (new, h, refl); text_is = e ∙ sym (append-nil (answer_text a)) }
-told gets command old new (Err e) a h t = record { answers = a ∷ []; answered = (new, h, refl) }
+pub told : {S A E : Type 0} (gets : Gets S) (command : Command) (old new : S) (before text : List ℕ) (result : Result A E) (a : Answer)
+    → gets old command a new → before ≡ [] → OnOk result (text ≡ before ++ answer_text a) → IsAnswered gets (says.Command command) old new text result
+told gets command old new before text (Ok v) a h none e =
+    let put : text ≡ answer_text a = rw none at e in
+    record { answers = a ∷ []; answered = (new, h, refl); text_is = put ∙ sym (append-nil (answer_text a)) }
+told gets command old new before text (Err e) a h none t = record { answers = a ∷ []; answered = (new, h, refl) }
 
 -- an entry of a session is numbered by its place
 pub entered : (program : Program) (asker : ℕ) (command : Command) (old new : List Entry) (number : ℕ) (said : Said)

@@ -1,6 +1,5 @@
 -- How the lines of a client end: a stepping stone of the proofs, of which no public clause speaks.
-use Rattle.std.specs.Prelude.{◌≡◌, ℕ, Bool, List, ◌∷◌, [], Result, Ok, Err, Vec}
-use Rattle.std.proofs.Common.{Global}
+use Rattle.std.specs.Prelude.{◌≡◌, ℕ, Bool, List, ◌∷◌, [], Result, Ok, Err}
 use Rattle.gr_command.specs.declared.command.Line.{Line}
 use Rattle.gr_command.specs.Commands.{meaning}
 use Rattle.rewind.specs.declared.stream.ServeFault.{ServeFault}
@@ -11,9 +10,9 @@ use Rattle.rewind.specs.Served.{Served, ServedAll}
 use Rattle.rewind.specs.Fault.{LineLeft, Left, Blames, BlamesWriter}
 
 -- a line was answered, with this text or without memory for one
-abbrev pub IsAnswered : {S E : Type 0} → Gets S → Line → (old new : S) → Result (Vec ℕ Global) E → Type 0
-IsAnswered gets line old new (Ok text) = Answers gets line old new text.items
-IsAnswered gets line old new (Err e) = AnsweredLine gets line old new
+abbrev pub IsAnswered : {S A E : Type 0} → Gets S → Line → (old new : S) → (text : List ℕ) → Result A E → Type 0
+IsAnswered gets line old new text (Ok v) = Answers gets line old new text
+IsAnswered gets line old new text (Err e) = AnsweredLine gets line old new
 
 -- a line was answered, and the writer got the answer; whether it was `quit`; or what a fault leaves
 abbrev pub LineEnds : {S : Type 0} → Gets S → List ℕ → (old new : S) → Result Bool ServeFault → (writer : Change) → Type 0

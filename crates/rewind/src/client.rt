@@ -1,5 +1,5 @@
 //! Clients of a session, and how the lines of one are answered.
-ghost use Rattle.std.specs.Prelude.{◌≡◌, IfOk};
+ghost use Rattle.std.specs.Prelude.{◌≡◌, ◌++◌, [], OnOk};
 ghost use Rattle.rewind.specs.Devices.{change};
 ghost use Rattle.rewind.specs.Replies.{answer_of, answer_text};
 ghost use Rattle.rewind.specs.Clients.{IsAnswered, LineEnds, StreamEnds};
@@ -14,7 +14,7 @@ use std::io::{Read, Write};
 
 /// A client of a session, which asks commands of it.
 pub(crate) trait Client {
-    ghost use Rattle.std.specs.Prelude.{◌≡◌};
+    ghost use Rattle.std.specs.Prelude.{◌≡◌, []};
     ghost use Rattle.rewind.specs.Stream.{Gets};
     ghost use Rattle.rewind.specs.Clients.{IsAnswered};
 
@@ -33,56 +33,63 @@ pub(crate) trait Client {
 
     ghost gets: { Fixed → Gets State };
 
-    /// Asks a command, and makes the text of what came of it.
-    fn ask(&mut self, alloc: Global, command: Command) -> Result<Vec<u8>, NoMemory>
-        requires { may_ask (fixed self.old) }
-        ensures answered { IsAnswered (gets (fixed self.old)) (Line.Command command) (state self.old) (state self.new) result }
+    /// Asks a command, and puts the text of what came of it into `text`, which is empty.
+    fn ask(&mut self, alloc: Global, command: Command, text: &mut Vec<u8>) -> Result<(), NoMemory>
+        requires may { may_ask (fixed self.old) }
+        requires empty { text.old.items ≡ [] }
+        ensures answered { IsAnswered (gets (fixed self.old)) (Line.Command command) (state self.old) (state self.new)
+            text.new.items result }
         ensures fixed { fixed self.new ≡ fixed self.old };
 }
 
-fn copied(alloc: Global, text: &[u8]) -> Result<Vec<u8>, NoMemory>
-    ensures { IfOk result (λ copy. copy.items ≡ text.now) }
+// Appends the bytes.
+fn put(text: &mut Vec<u8>, bytes: &[u8]) -> Result<(), NoMemory>
+    ensures { OnOk result (text.new.items ≡ text.old.items ++ bytes.now) }
 {
-    Ok(Vec::from_slice(alloc, text)?)
+    Ok(text.extend_from_slice(bytes)?)
 }
 
-// The text of what came of a command.
-pub(crate) fn text_of(
-    alloc: Global,
+// Appends the text of what came of a command.
+pub(crate) fn put_answer(
+    text: &mut Vec<u8>,
     asked: Result<&Receipt, AskRefused>,
-) -> Result<Vec<u8>, NoMemory>
-    ensures { IfOk result (λ text. text.items ≡ answer_text (answer_of asked.entry)) }
+) -> Result<(), NoMemory>
+    ensures { OnOk result (text.new.items ≡ text.old.items ++ answer_text (answer_of asked.entry)) }
 {
     match asked {
-        Ok(receipt) => {
-            let mut text = Vec::new(alloc);
-            write_reply(&mut text, &receipt.reply)?;
-            Ok(text)
-        }
-        Err(AskRefused::JournalFull) => copied(alloc, b"no Q1\n"),
-        Err(AskRefused::NoMemory) => copied(alloc, b"no Q2\n"),
+        Ok(receipt) => write_reply(text, &receipt.reply),
+        Err(AskRefused::JournalFull) => put(text, b"no Q1\n"),
+        Err(AskRefused::NoMemory) => put(text, b"no Q2\n"),
     }
 }
 
-// Answers one line, and makes the text of the answer.
-fn answer<C: Client>(alloc: Global, client: &mut C, line: Line) -> Result<Vec<u8>, NoMemory>
-    requires { C.may_ask (C.fixed client.old) }
-    ensures answered { IsAnswered (C.gets (C.fixed client.old)) line (C.state client.old) (C.state client.new) result }
+// Answers one line, and puts the text of the answer into `text`, which is empty.
+fn answer<C: Client>(
+    alloc: Global,
+    client: &mut C,
+    line: Line,
+    text: &mut Vec<u8>,
+) -> Result<(), NoMemory>
+    requires may { C.may_ask (C.fixed client.old) }
+    requires empty { text.old.items ≡ [] }
+    ensures answered { IsAnswered (C.gets (C.fixed client.old)) line (C.state client.old) (C.state client.new)
+        text.new.items result }
     ensures fixed { C.fixed client.new ≡ C.fixed client.old }
 {
     match line {
-        Line::Blank => Ok(Vec::new(alloc)),
-        Line::Rejected => copied(alloc, b"? bad command\n"),
-        Line::Quit => copied(alloc, b"ok\n"),
-        Line::Command(command) => client.ask(alloc, command),
+        Line::Blank => Ok(()),
+        Line::Rejected => put(text, b"? bad command\n"),
+        Line::Quit => put(text, b"ok\n"),
+        Line::Command(command) => client.ask(alloc, command, text),
     }
 }
 
-// Answers one line, and writes the answer. Whether it was `quit`.
+// Answers one line, and writes the answer. Its text replaces what `text` held. Whether the line was `quit`.
 fn serve_line<C: Client, W: Write>(
     alloc: Global,
     client: &mut C,
     line: &[u8],
+    text: &mut Vec<u8>,
     writer: &mut Counted<W>,
 ) -> Result<bool, ServeFault>
     requires { C.may_ask (C.fixed client.old) }
@@ -95,9 +102,10 @@ fn serve_line<C: Client, W: Write>(
         Err(NoMemory) => return Err(ServeFault::Memory),
     };
     let quit = matches!(said, Line::Quit);
-    match answer(alloc, client, said) {
+    text.clear();
+    match answer(alloc, client, said, text) {
         Err(NoMemory) => Err(ServeFault::Memory),
-        Ok(text) => match writer.put(text.as_slice()) {
+        Ok(()) => match writer.put(text.as_slice()) {
             Err(_) => Err(ServeFault::Write),
             Ok(()) => Ok(quit),
         },
@@ -117,6 +125,7 @@ pub(crate) fn serve_client<C: Client, R: Read, W: Write>(
     ensures fixed { C.fixed client.new ≡ C.fixed client.old }
 {
     let mut line = Vec::new(alloc);
+    let mut text = Vec::new(alloc);
     loop {
         line.clear();
         match read_line(reader, &mut line) {
@@ -126,12 +135,18 @@ pub(crate) fn serve_client<C: Client, R: Read, W: Write>(
                 if line.is_empty() {
                     return Ok(());
                 }
-                match serve_line(alloc, client, line.as_slice(), writer) {
+                match serve_line(alloc, client, line.as_slice(), &mut text, writer) {
                     Err(fault) => return Err(fault),
                     Ok(_) => return Ok(()),
                 }
             }
-            Ok(LineEnd::Newline) => match serve_line(alloc, client, line.as_slice(), writer) {
+            Ok(LineEnd::Newline) => match serve_line(
+                alloc,
+                client,
+                line.as_slice(),
+                &mut text,
+                writer,
+            ) {
                 Err(fault) => return Err(fault),
                 Ok(true) => return Ok(()),
                 Ok(false) => {}

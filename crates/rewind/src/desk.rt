@@ -4,7 +4,7 @@ ghost use Rattle.rewind.specs.Devices.{change, NeverFails};
 ghost use Rattle.rewind.specs.Fault.{Blames};
 ghost use Rattle.rewind.specs.DeskStreams.{Serves, Leaves};
 
-use crate::client::{Client, serve_client, text_of};
+use crate::client::{Client, put_answer, serve_client};
 use crate::counted::Counted;
 use crate::stream::ServeFault;
 use gr_base::NoMemory;
@@ -39,8 +39,8 @@ impl<'a, B: Room, T: Wait> Client for SharedDesk<'a, B, T> {
 
     ghost gets = { λ _. of_desk B.program };
 
-    fn ask(&mut self, alloc: Global, command: Command) -> Result<Vec<u8>, NoMemory> {
-        text_of(alloc, self.desk.ask(self.rt, alloc, self.shared, command))
+    fn ask(&mut self, alloc: Global, command: Command, text: &mut Vec<u8>) -> Result<(), NoMemory> {
+        put_answer(text, self.desk.ask(self.rt, alloc, self.shared, command))
     }
 }
 

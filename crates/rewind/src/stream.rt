@@ -4,7 +4,7 @@ ghost use Rattle.rewind.specs.Devices.{change, NeverFails};
 ghost use Rattle.rewind.specs.Fault.{Blames};
 ghost use Rattle.rewind.specs.Streams.{Serves, Leaves};
 
-use crate::client::{Client, serve_client, text_of};
+use crate::client::{Client, put_answer, serve_client};
 use crate::counted::Counted;
 use gr_base::NoMemory;
 use gr_share::{Command, DeskId, Session};
@@ -54,10 +54,10 @@ impl<'a> Client for SessionDesk<'a> {
 
     ghost gets = { λ f. of_session (program_of f.2) f.1.number };
 
-    fn ask(&mut self, alloc: Global, command: Command) -> Result<Vec<u8>, NoMemory> {
+    fn ask(&mut self, alloc: Global, command: Command, text: &mut Vec<u8>) -> Result<(), NoMemory> {
         match self.session.ask(alloc, self.desk, command) {
-            Ok(receipt) => text_of(alloc, Ok(&receipt)),
-            Err(why) => text_of(alloc, Err(why)),
+            Ok(receipt) => put_answer(text, Ok(&receipt)),
+            Err(why) => put_answer(text, Err(why)),
         }
     }
 }
