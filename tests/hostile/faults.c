@@ -1,6 +1,7 @@
 /* Lets one request of a program to its system fail, as variables of its environment say. Preloaded (LD_PRELOAD).
 
-   REFUSE_LINE n   growths count from when line n of standard input was read until line n + 1 is; line 0 is what comes before the first
+   REFUSE_LINE n   growths of the first thread count from when line n of standard input was read until line n + 1 is;
+                   line 0 is what comes before the first
    REFUSE_AT k     the k-th of these growths is refused
    REFUSE_REST     all after it are refused, too, until line n + 1 is read
    REFUSE_OTHERS   growths of all threads but the first count, in place of those of a line
@@ -37,7 +38,8 @@ static long setting(const char *device, const char *what) {
 static long line, growths;
 
 static int counts(void) {
-    return setting("REFUSE", "OTHERS") >= 0 ? gettid() != getpid() : line == setting("REFUSE", "LINE");
+    int is_first = gettid() == getpid();
+    return setting("REFUSE", "OTHERS") >= 0 ? !is_first : is_first && line == setting("REFUSE", "LINE");
 }
 
 static int is_refused(void) {
