@@ -26,7 +26,7 @@ async function takeBackAndDoAgain(hands) {
   equal("the receiver", await hands.goroutine("g0"), "g0 ready at line 13, 5 steps main numbers = g0/c1 Step");
   await hands.click("#redo");
   equal("another click does it again", await hands.lastReply(), ["> redo", "ok 3 g0#6 g0#7 g0.1#6"]);
-  equal("the channel is closed again", await hands.channel("g0/c1"), "g0/c1 closed, room for 0 items none senders none receivers none");
+  equal("the channel is closed again", await hands.channel("g0/c1"), "g0/c1 numbers, out closed, room for 0 items none senders none receivers none");
   await hands.key("u");
   equal("undo by a key", await hands.lastReply(), ["> undo", "ok g0.1#6"]);
 }
@@ -49,7 +49,7 @@ async function pickClauses(hands) {
   await hands.clickLabel("Step g0.1");
   await hands.clickLabel("Step g0.2");
   equal("both clauses are offered", await hands.goroutine("g0"), "g0 ready at line 11, 5 steps main left = g0/c1 right = g0/c2 Step 1: v := <-left 2: v := <-right");
-  equal("a sender waits", await hands.channel("g0/c2"), "g0/c2 open, room for 0 items none senders g0.2=2 receivers none");
+  equal("a sender waits", await hands.channel("g0/c2"), "g0/c2 right, out open, room for 0 items none senders g0.2=2 receivers none");
   await hands.clickLabel("Clause 2: v := <-right, of g0");
   equal("the second clause", await hands.lastReply(), ["> step g0 2", "ok g0#6 pick 2"]);
   await hands.key("u");
