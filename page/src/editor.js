@@ -129,9 +129,17 @@ export class Editor {
     }
   }
 
-  // Marks the statement of the step that is pointed at, or only its line.
+  // Marks the statement of the step that is pointed at, or only its line: one change for the editor, which lays out after each.
   /** @param {Note | undefined} note */
   markChosen(note, isFollowed = false) {
+    this.editor.operation(() => this.markNote(note, isFollowed));
+  }
+
+  /**
+   * @param {Note | undefined} note
+   * @param {boolean} isFollowed
+   */
+  markNote(note, isFollowed) {
     if (this.chosen) this.chosen.forEach((/** @type {() => void} */ undo) => undo());
     this.chosen = null;
     if (!note?.line || note.line > this.editor.lineCount()) return;

@@ -36,10 +36,14 @@ export class Overview {
     const { rows, layout } = picture;
     canvas.hidden = !rows || picture.host.scrollHeight <= picture.host.clientHeight + 4;
     if (canvas.hidden || !rows || !layout) return;
-    const [width, height] = [(canvas.width = canvas.clientWidth), (canvas.height = canvas.clientHeight)];
-    const context = /** @type {CanvasRenderingContext2D} */ (canvas.getContext("2d"));
-    const colour = (/** @type {string} */ name) => getComputedStyle(canvas).getPropertyValue(`--${name}`);
+    const { clientWidth: width, clientHeight: height } = canvas;
+    const { scrollTop, clientHeight, scrollHeight } = picture.host;
+    const style = getComputedStyle(canvas);
+    const colour = (/** @type {string} */ name) => style.getPropertyValue(`--${name}`);
     const colours = { "": colour("order"), cause: colour("cause"), consequence: colour("consequence"), end: colour("danger"), pointed: colour("chosen") };
+    const accent = colour("accent");
+    Object.assign(canvas, { width, height }); // which clears it
+    const context = /** @type {CanvasRenderingContext2D} */ (canvas.getContext("2d"));
     const columns = new Map(layout.names.map((name, at) => [name, at]));
     const each = width / Math.max(1, columns.size);
     const by = Math.max(1, Math.floor(rows.length / MOST));
@@ -50,8 +54,7 @@ export class Overview {
       const tall = Math.max(side ? 2 : 1, height / rows.length);
       context.fillRect((columns.get(step.goroutine) || 0) * each, (at / rows.length) * height, Math.max(2, each - 1), tall);
     }
-    const { scrollTop, clientHeight, scrollHeight } = picture.host;
-    context.strokeStyle = colour("accent");
+    context.strokeStyle = accent;
     context.lineWidth = 2;
     context.strokeRect(1, (scrollTop / scrollHeight) * height, width - 2, Math.max(6, (clientHeight / scrollHeight) * height));
   }

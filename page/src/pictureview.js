@@ -24,6 +24,15 @@ function svg(className, parent) {
   return made;
 }
 
+// An attribute that is set anew is laid out anew, with the value of before too.
+/**
+ * @param {Element} element
+ * @param {{[name: string]: number}} values
+ */
+function change(element, values) {
+  for (const [name, value] of Object.entries(values)) if (element.getAttribute(name) !== String(value)) element.setAttribute(name, String(value));
+}
+
 /**
  * @typedef {object} PictureEvents
  * @property {(id: string | null) => void} point
@@ -169,11 +178,9 @@ export class PictureView {
     this.layout = layOut({ ...this.shown, rows: this.rows, labels: this.labels }, how);
     const height = this.layout.y(this.rows.length) + 6 + cycleHeight(this.view.cycle);
     const width = Math.max(this.layout.width, room, cycleWidth(this.layout, this.view.cycle));
-    this.head.setAttribute("width", String(width));
-    this.head.setAttribute("height", String(this.headHeight));
+    change(this.head, { width, height: this.headHeight });
+    change(this.body, { width, height });
     this.body.style.marginTop = `${-this.headHeight - 1}px`;
-    this.body.setAttribute("width", String(width));
-    this.body.setAttribute("height", String(height));
   }
 
   // Shows the edges and notes that were found since.
@@ -186,11 +193,11 @@ export class PictureView {
   /** @param {PointedView} view */
   mark(view) {
     const isTaller = view.cycle.length > this.view.cycle.length;
-    const atEnd = this.isAtEnd;
+    const atEnd = isTaller && this.isAtEnd;
     const isOther = view.cycle.length !== this.view.cycle.length;
     this.view = view;
     if (isOther) this.measure();
-    if (isTaller && atEnd) this.host.scrollTop = this.host.scrollHeight;
+    if (atEnd) this.host.scrollTop = this.host.scrollHeight;
     this.drawSoon();
   }
 
@@ -218,15 +225,16 @@ export class PictureView {
     return [this.rows.at(from), this.rows.at(Math.min(to, this.rows.length - 1)) + 1];
   }
 
+  // Whatever the browser measures is read before anything is changed, so that it lays out the page once.
   draw() {
     if (!this.layout || !this.shown) return;
     if (this.version !== this.shown.log.version) this.measure();
     const [from, to] = this.inView();
-    const left = this.host.scrollLeft;
+    const { scrollLeft: left, clientWidth: wide } = this.host;
     this.head.innerHTML = drawNames(this.layout, left);
     const edges = this.hasOrder ? this.edges : this.edges.filter(({ kind }) => kind !== "order");
-    this.drawn.innerHTML = drawRows(this.layout, edges, { view: this.view, describe: this.describe, wide: this.host.clientWidth, left }, from, to);
-    this.above.innerHTML = this.drawTakeBack() + this.drawDrop();
+    this.drawn.innerHTML = drawRows(this.layout, edges, { view: this.view, describe: this.describe, wide, left }, from, to);
+    this.above.innerHTML = this.drawTakeBack(left + wide, left) + this.drawDrop();
     const row = this.row(this.view.pointed);
     const isDrawn = row !== null && row >= from && row <= to;
     if (isDrawn) this.host.setAttribute("aria-activedescendant", `row-${this.shown?.log.row(this.view.pointed)}`);
@@ -240,13 +248,17 @@ export class PictureView {
     return row < 0 || !this.rows?.has(row) ? null : this.rows.place(row);
   }
 
-  // The button beside the step that is pointed at.
-  drawTakeBack() {
+  // The button beside the step that is pointed at, between these sides of what is in view.
+  /**
+   * @param {number} right
+   * @param {number} left
+   */
+  drawTakeBack(right, left) {
     const row = this.row(this.view.pointed);
     if (row === null || this.drag || !this.view.count || !this.layout) return "";
     const text = `take back ${this.view.count}`;
     const width = text.length * (this.letter + 0.4) + 14;
-    const x = this.besideStep(row, width);
+    const x = this.besideStep(row, width, right, left);
     const y = this.layout.y(row) - BUTTON / 2;
     return `<g class="take-back"><rect x="${x}" y="${y}" width="${width}" height="${BUTTON}"/><text x="${x + width / 2}" y="${y + 16}">${text}</text></g>`;
   }
@@ -255,14 +267,15 @@ export class PictureView {
   /**
    * @param {number} row
    * @param {number} width
+   * @param {number} right
+   * @param {number} left
    */
-  besideStep(row, width) {
+  besideStep(row, width, right, left) {
     const layout = /** @type {import("./layout.js").Place} */ (this.layout);
     const step = layout.log.step(layout.rows.at(row));
-    const { scrollLeft, clientWidth } = this.host;
     const x = Number(layout.lefts.get(step.goroutine));
-    const right = x + 24 + labelWidth(step, layout.notes(step.id), layout);
-    return right + width + 8 <= scrollLeft + clientWidth ? right : Math.max(scrollLeft + 64, x - width - 20);
+    const after = x + 24 + labelWidth(step, layout.notes(step.id), layout);
+    return after + width + 8 <= right ? after : Math.max(left + 64, x - width - 20);
   }
 
   drawDrop() {

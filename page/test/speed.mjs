@@ -18,6 +18,7 @@ const LONG_PRINTS = PRINTS.replace("println(n)", `println("${"x".repeat(10000)}"
 const CLICK = 500;
 const POINTING = 250;
 const LOOKING = 900;
+const LAYOUTS = 6; // of the page, for each step that is pointed at
 
 // Runs in the page: the milliseconds of an act until the next frame is drawn.
 const untilShown = (act) => `(async () => { const began = performance.now(); await ${act}; await new Promise((go) => requestAnimationFrame(() => setTimeout(go, 0))); return performance.now() - began; })()`;
@@ -51,6 +52,17 @@ async function prints(hands, source, steps) {
   equal("each printed line stands at its step", found, printed);
 }
 
+// How often the browser lays the page out while so many steps are pointed at, on the mean.
+async function layoutsOf(browser, act, count = 20) {
+  const laidOut = async () => (await browser.call("Performance.getMetrics")).metrics.find(({ name }) => name === "LayoutCount").value;
+  await browser.call("Performance.enable");
+  const before = await laidOut();
+  for (let at = 0; at < count; at++) await browser.run(untilShown(act(at)));
+  const after = await laidOut();
+  await browser.call("Performance.disable");
+  return (after - before) / count;
+}
+
 async function clicksAtLength(hands) {
   await hands.source(LOOP);
   await hands.browser.run("rewind.page.perform('run 100000'), 0");
@@ -60,6 +72,7 @@ async function clicksAtLength(hands) {
   await hands.browser.run("rewind.page.annotating.work");
   const pointed = await timesOf(hands, (at) => pointing(99990 - at));
   const again = await timesOf(hands, (at) => pointing(99990 - at));
+  const layouts = await layoutsOf(hands.browser, (at) => pointing(99990 - at));
   const far = await timesOf(hands, (at) => pointing(50000 - at));
   console.log(`at 100,000 steps: a step shows in ${step.toFixed(0)} ms, an undo in ${undo.toFixed(0)} ms`);
   console.log(`causes and consequences of a step in view show in ${pointed.toFixed(0)} ms, again in ${again.toFixed(0)} ms, of one far away in ${far.toFixed(0)} ms`);
@@ -67,6 +80,7 @@ async function clicksAtLength(hands) {
   holds("an undo shows soon there", undo < CLICK);
   holds("causes and consequences get their colours soon there", pointed < POINTING && again < POINTING);
   holds("also those of a step that is far away", far < POINTING);
+  holds(`the page is laid out at most ${LAYOUTS} times for each, on the mean`, layouts <= LAYOUTS);
   await hands.idle();
   const past = await timesOf(hands, (at) => `rewind.page.past.lookAt(99900 - ${at})`, 3);
   holds("a past state near the end shows soon there", past < LOOKING);
