@@ -11,6 +11,8 @@ export const ALL_EDGES = 5000; // of a longer log only the edges into the steps 
 const NEAR = 10; // so many steps above and below it
 const EDGES_AT_ONCE = 60;
 const EDGES_OF_LONG = 4; // at once of a longer log, whose causes take their time
+const AHEAD = 150000; // steps: in a longer log, consequences are asked only when they are wanted
+const REST = 300; // milliseconds with nothing new, after which they are asked ahead
 
 export class Annotating {
   /** @param {import("./page.js").Page} page */
@@ -18,6 +20,7 @@ export class Annotating {
     this.page = page;
     this.done = -1; // the stamp up to which everything is found
     this.timer = 0;
+    this.rest = 0;
     this.work = Promise.resolve();
     this.turns = 0; // how often something was looked for
     /** @type {Map<string, string>} */
@@ -29,6 +32,7 @@ export class Annotating {
   /** @param {number} stamp */
   begin(stamp) {
     const turn = ++this.turns;
+    clearTimeout(this.rest);
     this.work = this.work.then(() => this.find(stamp, turn)).then(() => {}, (fault) => this.failed(fault));
   }
 
@@ -65,7 +69,10 @@ export class Annotating {
     this.done = stamp;
     this.show();
     page.tell();
-    await this.findCauses(session, () => isOld() || turn !== this.turns);
+    const isOver = () => isOld() || turn !== this.turns;
+    await this.findCauses(session, isOver);
+    const { length } = session.log;
+    if (length > ALL_EDGES && length <= AHEAD && !isOver()) this.rest = window.setTimeout(() => this.askAhead(session, isOver), REST);
   }
 
   // Shows what was found since.
@@ -139,6 +146,19 @@ export class Annotating {
     for (let row = from; row < to && !isOld(); row += EDGES_OF_LONG) {
       const ids = log.steps(row, Math.min(to, row + EDGES_OF_LONG)).map(({ id }) => id).filter((id) => follower.notes.get(id)?.causes === null);
       if (ids.length) await follower.inTurn(async () => (isOld() ? undefined : direct.askCauses(ids)));
+    }
+  }
+
+  // Asks the consequences of the steps in view too, one after another, so that a command waits for one answer at most.
+  /**
+   * @param {import("./session.js").Session} session
+   * @param {() => boolean} isOver
+   */
+  async askAhead({ log, known }, isOver) {
+    try {
+      for (const { id } of log.steps(...this.page.views.picture.stepsInView())) if (!isOver() && !known.has(id)) await known.of(id);
+    } catch (fault) {
+      if (!(fault instanceof SessionGone || fault instanceof Unanswered)) throw fault;
     }
   }
 

@@ -219,6 +219,7 @@ export class PictureView {
   }
 
   // The steps of the log that are in view.
+  /** @returns {[number, number]} */
   stepsInView() {
     if (!this.rows || !this.rows.length) return [0, 0];
     const [from, to] = this.inView();

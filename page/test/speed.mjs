@@ -80,6 +80,9 @@ async function clicksAtLength(hands) {
   holds("an undo shows soon there", undo < CLICK);
   holds("causes and consequences get their colours soon there", pointed < POINTING && again < POINTING);
   holds("also those of a step that is far away", far < POINTING);
+  await hands.browser.run("rewind.page.views.picture.reveal('g0#30000')");
+  await hands.until("rewind.page.session.known.has('g0#30000')");
+  holds("causes and consequences of a step that came into view are asked before they are wanted", true);
   holds(`the page is laid out at most ${LAYOUTS} times for each, on the mean`, layouts <= LAYOUTS);
   await hands.idle();
   const past = await timesOf(hands, (at) => `rewind.page.past.lookAt(99900 - ${at})`, 3);
