@@ -51,7 +51,7 @@ export const PICTURE_RULES = `
 
 /** @type {PointedView} */
 export const NOTHING_POINTED = {
-  pointed: "", causes: new Map(), consequences: new Map(), forbids: [], count: 0, cycle: [], fault: "", found: null, last: Infinity, direct: false,
+  pointed: "", causes: new Map(), consequences: new Map(), forbids: [], count: 0, cycle: [], fault: "", found: null, last: Infinity, direct: false, isKept: false,
 };
 
 const markers = ["message", "start", "close", "order", "cycle"].map(

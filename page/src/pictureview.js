@@ -72,6 +72,8 @@ export class PictureView {
     this.isToMeasure = false;
     this.version = -1; // of the log that is laid out
     this.length = 0;
+    this.room = 0; // its height when that was last seen
+    this.wasAtEnd = true;
     this.head = svg("picture names", host);
     this.head.setAttribute("aria-hidden", "true");
     this.body = svg("picture body", host);
@@ -84,14 +86,26 @@ export class PictureView {
   listen() {
     const { host } = this;
     host.addEventListener("scroll", () => {
+      this.wasAtEnd = this.isAtEnd;
       this.drawSoon();
       this.on.scrolled();
     });
-    new ResizeObserver(() => this.place()).observe(host);
+    new ResizeObserver(() => this.resized()).observe(host);
     host.addEventListener("pointermove", (event) => this.moved(event));
     host.addEventListener("pointerdown", (event) => this.pressed(event));
     host.addEventListener("pointerup", (event) => this.released(event));
     host.addEventListener("pointercancel", () => this.endDrag());
+  }
+
+  // Keeps in view what was there: the step that is kept chosen, or else the end.
+  resized() {
+    const { scrollTop, clientHeight } = this.host;
+    const row = this.view.isKept ? this.row(this.view.pointed) : null;
+    const wasInView = row !== null && row >= this.rowAt(scrollTop) && row < this.rowAt(scrollTop + this.room);
+    this.room = clientHeight;
+    this.place();
+    if (wasInView) this.reveal(this.view.pointed);
+    else if (this.wasAtEnd) this.host.scrollTop = this.host.scrollHeight;
   }
 
   get rowHeight() {

@@ -107,7 +107,7 @@ export class Pointing {
     const isDirect = this.isDirect && Boolean(about);
     const base = about ? { ...this.view, causes: isDirect ? this.directCauses(String(about?.id)) : this.view.causes } : NOTHING_POINTED;
     page.views.picture.mark({
-      ...base, pointed: about?.id || "", forbids: this.forbids, count: about && !page.past.isOn ? about.consequences + 1 : 0,
+      ...base, pointed: about?.id || "", isKept: Boolean(this.pinned), forbids: this.forbids, count: about && !page.past.isOn ? about.consequences + 1 : 0,
       cycle: page.past.isOn ? [] : page.cycle, found: this.found, last: page.past.isOn ? page.past.row : Infinity, direct: isDirect,
     });
     page.views.overview.draw();

@@ -51,7 +51,7 @@ interface FormFault { form: string; first: number; last: number; fields: Fields 
 
 interface PointedView {
   pointed: string; causes: Map<string, number[]>; consequences: Map<string, number[]>; forbids: string[]; count: number;
-  cycle: string[]; fault: string; found: Set<string> | null; last: number; direct: boolean;
+  cycle: string[]; fault: string; found: Set<string> | null; last: number; direct: boolean; isKept: boolean;
 }
 
 interface Machine { program: WebAssembly.Module; script: string; suspends: boolean }

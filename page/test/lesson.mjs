@@ -159,6 +159,21 @@ async function previews(hands) {
   holds("what goes from the console", (await hands.texts("#preview s"))[0] === "0");
   holds("and how variables and goroutines change", /Goroutines/.test(said) && /Variables/.test(said));
   equal("nothing is changed by it", (await hands.ids()).length, 13);
+  await hands.story("lost_update");
+  await hands.key("r");
+  const last = (await hands.ids()).at(-1);
+  await hands.browser.run(`rewind.page.pointing.show(${JSON.stringify(last)})`);
+  await hands.until("document.querySelector('#preview p')");
+  await hands.idle();
+  holds("the chosen step stays in view where a preview takes room", await isInPicture(hands, `[data-step="${last}"] .mark`));
+}
+
+// Whether an element of the picture is in view.
+function isInPicture({ browser }, selector) {
+  return browser.run(`(() => {
+    const [it, picture] = [${JSON.stringify(selector)}, "#picture"].map((it) => document.querySelector(it)?.getBoundingClientRect());
+    return Boolean(it) && it.top >= picture.top && it.bottom <= picture.bottom;
+  })()`);
 }
 
 async function exercises(hands) {
