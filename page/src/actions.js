@@ -81,7 +81,7 @@ async function savePng(page) {
   if (blob) download(blob, `${page.views.stories.name}.png`);
 }
 
-// Presentation: picture and source alone, in large letters.
+// Presentation: picture and source alone, in large letters. Its own button leads out of it, since the header is gone.
 /** @param {Page} page */
 function present(page) {
   const isOn = document.body.classList.toggle("presentation");
@@ -133,6 +133,7 @@ const ACTIONS = {
   "save-file": saveFile,
   "open-file": () => field("file").click(),
   present,
+  leave: present,
   now: (page) => page.past.back(),
   "bring-back": bringBack,
   compare: showCompared,

@@ -282,6 +282,13 @@ async function presentation(hands) {
   await hands.key("v");
   equal("presentation has letters of 20 pixels", await browser.run("getComputedStyle(document.querySelector('#editor .CodeMirror')).fontSize"), "20px");
   equal("and picture and source alone", await browser.run("['transcript-pane', 'goroutines', 'legend'].filter((id) => document.getElementById(id).getClientRects().length)"), []);
+  await hands.perform("run 100");
+  await hands.click("#leave");
+  holds("a button leads out of it", await browser.run("!document.body.classList.contains('presentation') && !document.getElementById('leave').getClientRects().length"));
+  await browser.size(853, 533);
+  await hands.key("v");
+  await hands.idle();
+  holds("the cycle of a deadlock is in view in a small presentation", await isInPicture(hands, ".cycle-word:last-of-type"));
   await hands.key("v");
   await browser.size(400, 800);
   const step = await browser.run("document.getElementById('step').getBoundingClientRect().bottom");
