@@ -248,9 +248,14 @@ function drawMargin(place, drawn, left) {
   return `<g class="margin" aria-hidden="true" transform="translate(${left})">${sheet}${drawn.map((it) => it.beside).join("")}${rule}</g>`;
 }
 
+// The distance of the lines below a cycle.
+/** @param {Place} place */
+const cycleLine = ({ rowHeight }) => Math.max(20, Math.round(0.7 * rowHeight));
+
 // The cycle of a deadlock, below the last row: each of these waits for the next one.
 /** @param {Place} place */
 function drawCycle(place, /** @type {string[]} */ cycle) {
+  const line = cycleLine(place);
   const y = place.y(place.rows.length - 1) + place.rowHeight;
   const right = Math.max(...cycle.map((name) => Number(place.lefts.get(name)))) + BESIDE;
   return cycle.map((name, at) => {
@@ -258,7 +263,7 @@ function drawCycle(place, /** @type {string[]} */ cycle) {
     const [from, to] = [name, next].map((it) => Number(place.lefts.get(it)));
     const deep = 16 + 24 * at;
     const bend = `M${from} ${y - 4}C${from} ${y + deep} ${to} ${y + deep} ${to} ${y - 2}`;
-    return `<path class="cycle" marker-end="url(#tip-cycle)" d="${bend}"/><text class="cycle-word halo" x="${right}" y="${y + 4 + 20 * at}">${name} waits for ${next}</text>`;
+    return `<path class="cycle" marker-end="url(#tip-cycle)" d="${bend}"/><text class="cycle-word halo" x="${right}" y="${y + 4 + line * at}">${name} waits for ${next}</text>`;
   }).join("");
 }
 
@@ -270,8 +275,8 @@ export function cycleWidth({ lefts, letter }, /** @type {string[]} */ cycle) {
   return Math.max(...cycle.map((name) => Number(lefts.get(name)))) + 2 * BESIDE + Math.ceil(words * (letter + 0.4));
 }
 
-/** @param {string[]} cycle */
-export const cycleHeight = (cycle) => (cycle.length ? 50 + 20 * cycle.length : 0);
+/** @param {Place} place */
+export const cycleHeight = (place, /** @type {string[]} */ cycle) => (cycle.length ? 50 + cycleLine(place) * cycle.length : 0);
 
 // The part of the picture between two rows of it.
 /**

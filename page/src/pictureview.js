@@ -190,7 +190,7 @@ export class PictureView {
     const { clientWidth: room } = this.host;
     const how = { rowHeight: this.rowHeight, letter: this.letter, room, first: from, last: this.rows.length > MEASURED ? to : Infinity, top: this.top };
     this.layout = layOut({ ...this.shown, rows: this.rows, labels: this.labels }, how);
-    const height = this.layout.y(this.rows.length) + 6 + cycleHeight(this.view.cycle);
+    const height = this.layout.y(this.rows.length) + 6 + cycleHeight(this.layout, this.view.cycle);
     const width = Math.max(this.layout.width, room, cycleWidth(this.layout, this.view.cycle));
     change(this.head, { width, height: this.headHeight });
     change(this.body, { width, height });

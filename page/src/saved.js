@@ -16,7 +16,7 @@ import { paletteRules } from "./palette.js";
 export function savedPicture(shown, edges, view, { title, rowHeight, from, to, part, hasLegend }) {
   const layout = layOut(shown, { rowHeight, first: from, last: to, top: from });
   const width = Math.max(layout.width, hasLegend ? 640 : 0, cycleWidth(layout, view.cycle));
-  const bottom = layout.height + (to >= shown.rows.length ? cycleHeight(view.cycle) : 0);
+  const bottom = layout.height + (to >= shown.rows.length ? cycleHeight(layout, view.cycle) : 0);
   const said = part ? `<text x="8" y="${bottom + 14}">${escaped(part)}</text>` : "";
   const legendTop = bottom + (part ? 24 : 0);
   const legend = hasLegend ? `<g transform="translate(8 ${legendTop + 6})">${legendDrawing()}</g>` : "";
