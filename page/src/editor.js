@@ -146,7 +146,7 @@ export class Editor {
     const handle = this.editor.addLineClass(note.line - 1, "background", "of-chosen");
     this.chosen = [() => this.editor.removeLineClass(handle, "background", "of-chosen")];
     if (note.statement) {
-      const mark = this.mark(note.statement.start, note.statement.end, "chosen-statement");
+      const mark = this.mark(note.statement.start, note.statement.end, "chosen-statement", { startStyle: "chosen-start", endStyle: "chosen-end" });
       this.chosen.push(() => mark.clear());
     }
     if (isFollowed) this.reveal(note.line);
@@ -156,9 +156,10 @@ export class Editor {
    * @param {number} from
    * @param {number} to
    * @param {string} className
+   * @param {{startStyle?: string, endStyle?: string}} ends
    */
-  mark(from, to, className) {
-    return this.editor.markText(this.editor.posFromIndex(from), this.editor.posFromIndex(to), { className });
+  mark(from, to, className, ends = {}) {
+    return this.editor.markText(this.editor.posFromIndex(from), this.editor.posFromIndex(to), { className, ...ends });
   }
 
   /** @param {number} line */

@@ -83,7 +83,7 @@ function goroutineCard(goroutine, { clauses, isChosen, isOver, canStep, wait }, 
   const { name, state } = goroutine;
   const choose = button({ "aria-pressed": String(isChosen), onclick: () => on.choose(name) }, name);
   const shown = make("span", { class: state === "waiting" ? "state waiting" : "state" }, stateText(goroutine, isOver));
-  const start = name === "g0" ? [] : [asked(`Find the step that started ${name}`, "started by", () => on.findStep({ go: name }))];
+  const start = name === "g0" ? [] : [asked(`Find the step that started ${name}`, `started by ${name.slice(0, name.lastIndexOf("."))}`, () => on.findStep({ go: name }))];
   const card = make("div", { class: isChosen ? "card chosen" : "card", "data-goroutine": name }, make("div", { class: "top" }, choose, shown, ...start));
   if (wait) card.append(make("p", { class: "wait-text" }, wait));
   card.append(...framesOf(goroutine, on));
@@ -141,8 +141,8 @@ function holdersOf(goroutines) {
  * @param {PaneEvents} on
  */
 function channelCard({ name, capacity, isClosed, items, senders, receivers }, holders, on) {
-  const called = make("span", { class: "state", title: "the variables that hold it" }, holders.slice(0, HOLDERS).join(", "));
-  const top = make("div", { class: "top" }, make("strong", {}, name), called, make("span", { class: "state" }, `${isClosed ? "closed" : "open"}, room for ${capacity}`));
+  const called = holders.length ? [make("span", { class: "state", title: "the variables that hold it" }, holders.slice(0, HOLDERS).join(", "))] : [];
+  const top = make("div", { class: "top" }, make("strong", {}, name), ...called, make("span", { class: "state" }, `${isClosed ? "closed" : "open"}, room for ${capacity}`));
   const sending = senders.filter((it) => !parseWaiter(it).clause).length; // their sends come after those of the items
   const item = (/** @type {string} */ it, /** @type {number} */ at) => asked("Find the step that sent it", it, () => on.findStep({ item: [name, items.length - at + sending] }));
   const waiter = (/** @type {string} */ it) => asked("Find the step in which it began to wait", it, () => on.findStep({ waiter: parseWaiter(it).goroutine }));

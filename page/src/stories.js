@@ -82,6 +82,6 @@ export class Stories {
   show() {
     const told = this.commands[this.at]?.text || (this.at && this.at >= this.commands.length ? "That was the story. Go on by yourself: point at steps, take them back." : "");
     const shows = this.story?.shows || "";
-    this.about.replaceChildren(...(told && this.at ? [told] : [shows, ...(told ? [make("span", { class: "told" }, ` ${told}`)] : [])]));
+    this.about.replaceChildren(...(told && this.at ? [told] : [/\w$/.test(shows) && told ? `${shows}.` : shows, ...(told ? [make("span", { class: "told" }, ` ${told}`)] : [])]));
   }
 }

@@ -102,6 +102,7 @@ export class Words {
     return { tone: left.length ? "warn" : "good", text: `The program has ended.${left.length ? ` Left behind: ${listed(left, ", ")}.` : all}` };
   }
 
+  // Of the meaning, what else has this name is left out.
   /**
    * @param {Step} step
    * @param {Note | undefined} note
@@ -109,7 +110,7 @@ export class Words {
   faultText({ id, kind }, note) {
     const at = note?.line ? ` at line ${note.line}` : "";
     const cause = note?.edges?.length ? ` It depends on ${note.edges[0].from}.` : "";
-    return `Fault in ${id}${at}: ${this.fault(kind.slice("fault ".length))}.${cause}`;
+    return `Fault in ${id}${at}: ${this.fault(kind.slice("fault ".length)).replace(/, also [^(]*(?= \()/, "")}.${cause}`;
   }
 }
 

@@ -139,7 +139,7 @@ async function clicks(hands) {
   equal("a waiter finds its wait", await ask('[data-channel="g0/c1"] .asked-value', "g0=5"), "g0#14");
   await hands.story("lost_update");
   await hands.perform("run 100");
-  equal("a goroutine finds the step that started it", await ask('[data-goroutine="g0.1"] .asked-value', "started by"), "g0#5");
+  equal("a goroutine finds the step that started it", await ask('[data-goroutine="g0.1"] .asked-value', "started by g0"), "g0#5");
   equal("a printed line finds its step", await hands.browser.run(`rewind.page.session.log.kindOf(${JSON.stringify(await ask("#console .asked-value", "balance 20"))})`), "pure");
   const variable = await ask('[data-goroutine="g0.1"] .asked-value', "balance = 20");
   equal("a variable finds the step that gave it its value", variable.split("#")[0], "g0.1");

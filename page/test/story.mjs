@@ -39,7 +39,7 @@ async function messages(hands) {
   const starts = ["g0#4 start g0.1#1", "g0#5 start g0.2#1", "g0#12 start g0.3#1", "g0#13 start g0.4#1"];
   equal("starts and messages", edges.sort(), [...starts, "g0.1#1 message g0#6", "g0.3#1 message g0#14"].sort());
   equal("what is printed", await hands.texts("#console li"), ["100", "100"]);
-  equal("the one that leaks", await hands.goroutine("g0.2"), "g0.2 waiting at line 4, 1 step started by waits to send 200 to g0/c1 ask server = 2 answers = g0/c1");
+  equal("the one that leaks", await hands.goroutine("g0.2"), "g0.2 waiting at line 4, 1 step started by g0 waits to send 200 to g0/c1 ask server = 2 answers = g0/c1");
 }
 
 // A race in a select: the steps of goroutines and clauses by their buttons.

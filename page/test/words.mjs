@@ -13,7 +13,7 @@ async function states(hands) {
   equal("which is drawn", await hands.browser.run("[...document.querySelectorAll('#picture .cycle-word')].map((it) => it.textContent)"), ["g0.1 waits for g0.2", "g0.2 waits for g0.1"]);
   await hands.story("send_on_closed");
   await hands.key("r");
-  holds("a fault is told with its step, line, meaning and cause", /^Fault in g0\.1#6 at line 5: a send on a closed channel.* It depends on g0#6\.$/.test(await hands.text("#state")));
+  equal("a fault is told with its step, line, meaning and cause", await hands.text("#state"), "Fault in g0.1#6 at line 5: a send on a closed channel (SendOnClosed). It depends on g0#6.");
   equal("nobody is called ready after a fault", await hands.browser.run("/\\bready\\b/.test(document.getElementById('goroutines').innerText)"), false);
   await hands.story("leaked_goroutine");
   await hands.key("r");
@@ -58,6 +58,7 @@ async function places(hands) {
   await hands.point("g0#5");
   holds("and the line of the step that is pointed at", await hands.browser.run(isInView(".of-chosen")));
   equal("its whole statement is marked", (await hands.texts(".chosen-statement")).join("").replace(/\s/g, ""), "goaccount(read,write)");
+  equal("in one box", [await hands.texts(".chosen-start"), await hands.texts(".chosen-end")], [["go"], [")"]]);
   await hands.browser.run("rewind.page.views.editor.editor.replaceRange('// more\\n', { line: 2, ch: 0 })");
   holds("while the text is changed, the page says so", await hands.browser.run("!document.getElementById('stale').hidden"));
   const clipped = "[...document.querySelectorAll('.at-line b')].filter((it) => it.getBoundingClientRect().left < document.querySelector('.CodeMirror-gutters').getBoundingClientRect().left).length";
