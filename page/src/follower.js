@@ -85,11 +85,11 @@ export class Follower {
     }
   }
 
-  // Goes to where this many steps of the log are taken. The log may change meanwhile.
+  // Goes to where this many steps of the log are taken, while somebody wants it. The log may change meanwhile.
   /** @param {number} row */
-  async moveTo(row) {
+  async moveTo(row, isWanted = () => true) {
     const session = await this.session();
-    while (!this.lost) {
+    while (!this.lost && isWanted()) {
       if (this.at <= this.log.changedFrom) this.log.changedFrom = Infinity;
       const goal = Math.min(row, this.log.length, this.log.changedFrom);
       if (this.at > goal) await this.undoSome(session, Math.min(AT_ONCE, this.at - goal));
@@ -264,10 +264,14 @@ export class Follower {
     }
   }
 
-  // The panes after this many steps of the log.
-  /** @param {number} row */
-  async sceneAt(row) {
-    await this.moveTo(row);
+  // The panes after this many steps of the log, or nothing where nobody wants them any more.
+  /**
+   * @param {number} row
+   * @param {() => boolean} isWanted
+   */
+  async sceneAt(row, isWanted) {
+    await this.moveTo(row, isWanted);
+    if (!isWanted()) return null;
     const { names, channels } = namesAt(this.log, row);
     return readScene(await this.session(), names, channels, this.statements);
   }

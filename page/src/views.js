@@ -106,7 +106,9 @@ const past = {
     document.body.classList.toggle("is-past", it.isOn);
     if (it.isOn && session) {
       const after = it.row ? `after step ${it.row.toLocaleString("en")}, ${session.log.id(it.row - 1)},` : "before the first step";
-      find("then-text").textContent = `This is the state ${after} of ${inSteps(session.log.length)}. Nothing is changed.`;
+      const of = `the state ${after} of ${inSteps(session.log.length)}`;
+      const isThere = it.found === it.row;
+      find("then-text").textContent = isThere ? `This is ${of}. Nothing is changed.` : `On the way to ${of}: now at step ${session.follower.at.toLocaleString("en")}.`;
     }
     if (it.isOn) field("moment").value = String(it.row);
     controls.past(page);

@@ -117,6 +117,25 @@ async function pasts(hands) {
   equal("a command comes back to now, and is done", [await hands.browser.run("rewind.page.past.isOn"), (await hands.ids()).length], [false, 15]);
 }
 
+// A past state that takes seconds to find: the page says how far it is, and the way there can be left.
+async function farPast(hands) {
+  const { browser } = hands;
+  await hands.source(LOOP);
+  await hands.perform("run 400000");
+  const at = () => browser.run("rewind.page.session.follower.at");
+  await browser.run("void rewind.page.past.lookAt(390000)");
+  await hands.until("/^On the way to the state after step 390,000, .*: now at step \\d+,000\\.$/.test(document.getElementById('then-text').textContent)");
+  holds("while a past state is looked for, the panes are not said to show it", (await at()) < 390000);
+  await hands.act("now");
+  await browser.run("rewind.page.session.follower.inTurn(async () => 0)");
+  const stopped = await at();
+  holds("the way there ends where one comes back to now", stopped < 390000);
+  await browser.run(`rewind.page.past.lookAt(${stopped + 1})`);
+  holds("a state that is near is shown then", /^This is the state after step/.test(await hands.text("#then-text")));
+  await hands.act("now");
+  await hands.source("package main\nfunc main() {}\n");
+}
+
 async function clicks(hands) {
   const pinned = "rewind.page.pointing.pinned";
   const ask = async (selector, text) => {
@@ -298,7 +317,7 @@ async function presentation(hands) {
   await browser.size(1280, 800);
 }
 
-const LESSONS = [links, files, moves, usualKeys, pasts, clicks, previews, stories, pictures, oneChannel, messages, comparisons, presentation, exercises];
+const LESSONS = [links, files, moves, usualKeys, pasts, farPast, clicks, previews, stories, pictures, oneChannel, messages, comparisons, presentation, exercises];
 
 export async function lessons(browser) {
   for (const lesson of LESSONS) await lesson(new Hands(browser));
