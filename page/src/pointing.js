@@ -4,14 +4,12 @@ import { NOTHING_POINTED } from "./picture.js";
 import { SessionGone, Unanswered } from "./remote.js";
 import { goroutineOf, numberOf } from "./protocol.js";
 
-const DELAY = 25; // milliseconds that the pointer rests before it is asked what is not known of a step
-
 export class Pointing {
   /** @param {import("./page.js").Page} page */
   constructor(page) {
     this.page = page;
-    this.timer = 0;
     this.asked = 0;
+    this.isFollowing = false; // whether the pointer is followed just now
     this.isDirect = false; // whether only the direct causes get a colour
     this.pinned = "";
     this.pointed = "";
@@ -52,9 +50,21 @@ export class Pointing {
   point(id) {
     if (!id || this.pointed === id) return;
     this.pointed = id;
-    if (this.pinned) return;
-    clearTimeout(this.timer);
-    this.timer = window.setTimeout(() => this.color(), this.page.session?.known.has(id) ? 0 : DELAY);
+    if (!this.pinned && !this.isFollowing) void this.follow();
+  }
+
+  // Colours what is pointed at. While a step is asked for, those that the pointer passes over meanwhile are left out, but for the last.
+  async follow() {
+    this.isFollowing = true;
+    try {
+      let id;
+      do {
+        id = this.pointed;
+        await this.color();
+      } while (!this.pinned && this.pointed !== id);
+    } finally {
+      this.isFollowing = false;
+    }
   }
 
   // Keeps a step chosen, or lets it go.

@@ -23,8 +23,11 @@ const LAYOUTS = 6; // of the page, for each step that is pointed at
 // Runs in the page: the milliseconds of an act until the next frame is drawn.
 const untilShown = (act) => `(async () => { const began = performance.now(); await ${act}; await new Promise((go) => requestAnimationFrame(() => setTimeout(go, 0))); return performance.now() - began; })()`;
 
-// Runs in the page: points at the step of a row.
-const pointing = (row) => `(rewind.page.pointing.pointed = rewind.page.session.log.id(${row}), rewind.page.pointing.color())`;
+// Runs in the page: points at the step of a row, as the pointer does, until the page tells of it.
+const pointing = (row) => `(async ({ page } = rewind, id = page.session.log.id(${row})) => {
+  page.pointing.point(id);
+  while (page.pointing.about?.id !== id) await new Promise((go) => setTimeout(go, 0));
+})()`;
 
 const median = (times) => [...times].sort((one, other) => one - other)[times.length >> 1];
 
@@ -90,6 +93,17 @@ async function clicksAtLength(hands) {
   await hands.act("now");
 }
 
+// The pointer passes over many steps: only some are asked for, and the last one is shown.
+async function passing(hands) {
+  const { browser } = hands;
+  await hands.source(LOOP);
+  await hands.perform("run 100000");
+  const asked = "rewind.page.session.mirror.session.last";
+  const before = await browser.run(asked);
+  await browser.run(pointing(40001).replace("page.pointing.point(id);", "for (let row = 40100; row > 40000; row--) page.pointing.point(page.session.log.id(row));"));
+  holds("the pointer passes over a hundred steps, and few of them are asked for", (await browser.run(asked)) - before <= 4);
+}
+
 // The page draws while a long run goes on.
 async function drawingMeanwhile(hands) {
   await hands.source(LOOP);
@@ -107,5 +121,6 @@ export async function speed(browser) {
   await prints(hands, PRINTS, 20000);
   await prints(hands, LONG_PRINTS, 2000);
   await clicksAtLength(hands);
+  await passing(hands);
   await drawingMeanwhile(hands);
 }
