@@ -155,7 +155,8 @@ function drawEdge(place, { from, to, kind }, view, near) {
     return step.id === view.pointed || sideOf(step, view) !== "";
   };
   const light = view.pointed ? (isIn(source) && isIn(target) ? " lit" : " dim") : "";
-  return `<path class="edge ${kind}${light}" marker-end="url(#tip-${kind})" d="${edgePath(ends[0], ends[1], near, place.rowHeight)}"/>`;
+  const later = target >= view.last ? " later" : "";
+  return `<path class="edge ${kind}${light}${later}" marker-end="url(#tip-${kind})" d="${edgePath(ends[0], ends[1], near, place.rowHeight)}"/>`;
 }
 
 // The form of a mark says the kind of the step: a square waits, a diamond starts or makes, a disc does the rest, a ring ends.

@@ -106,7 +106,8 @@ async function pasts(hands) {
   await hands.until("rewind.page.past.scene");
   equal("the slider shows a past state", [await hands.goroutine("g0"), await hands.text("#then-text")], ["g0 ready at line 15, 5 steps main a = g0/c1 b = g0/c2", "This is the state after step 5, g0#5, of 16 steps. Nothing is changed."]);
   equal("no step can be taken there", await hands.browser.run("document.querySelectorAll('.buttons').length"), 0);
-  equal("later steps are dim", await hands.browser.run("[...document.querySelectorAll('#picture .step.later[data-step]')].length > 0"), true);
+  const dim = "['.step.later[data-step]', '.edge.later', '.edge:not(.later)'].map((it) => document.querySelectorAll(`#picture ${it}`).length > 0)";
+  equal("later steps are dim, and the arrows to them", await hands.browser.run(dim), [true, true, false]);
   equal("the session is as it was", await hands.ids(), before);
   await hands.act("now");
   holds("and one comes back to now", (await hands.goroutine("g0.2")).includes("waiting at line 5"));

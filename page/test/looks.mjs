@@ -5,6 +5,8 @@ import { Hands } from "./hands.mjs";
 import { equal, holds } from "./checks.mjs";
 
 const ENOUGH = 4.5;
+// Of each width the height that goes with it. The third is the second at a zoom of 150 percent.
+const HEIGHTS = { 1920: 1080, 1280: 800, 853: 533, 400: 800 };
 
 // Runs in the page: texts whose colour is too close to what is behind them.
 function faintTexts(enough) {
@@ -108,7 +110,7 @@ const SCENES = {
 
 async function lookAtScenes(browser, folder, width, scheme) {
   const hands = new Hands(browser);
-  await browser.size(width, width > 1500 ? 1080 : 800, scheme);
+  await browser.size(width, HEIGHTS[width], scheme);
   for (const [name, show] of Object.entries(SCENES)) {
     await show(hands);
     await hands.idle();
@@ -121,5 +123,5 @@ async function lookAtScenes(browser, folder, width, scheme) {
 
 export async function looks(browser, folder) {
   for (const width of [1280, 400]) for (const scheme of ["light", "dark"]) await look(browser, folder, width, scheme);
-  for (const width of [1920, 1280, 400]) for (const scheme of ["light", "dark"]) await lookAtScenes(browser, folder, width, scheme);
+  for (const width of Object.keys(HEIGHTS).map(Number)) for (const scheme of ["light", "dark"]) await lookAtScenes(browser, folder, width, scheme);
 }
