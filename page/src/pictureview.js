@@ -97,14 +97,21 @@ export class PictureView {
     host.addEventListener("pointercancel", () => this.endDrag());
   }
 
-  // Keeps in view what was there: the step that is kept chosen, or else the end.
+  // The step that stays in view: the one that is kept chosen, or the last one of a past state.
+  get staying() {
+    const { isKept, pointed, last } = this.view;
+    return isKept ? pointed : last < Infinity && this.shown ? this.shown.log.id(Math.max(0, last - 1)) : "";
+  }
+
+  // Keeps in view what was there: the step that stays, or else the end.
   resized() {
     const { scrollTop, clientHeight } = this.host;
-    const row = this.view.isKept ? this.row(this.view.pointed) : null;
+    const { staying } = this;
+    const row = this.row(staying);
     const wasInView = row !== null && row >= this.rowAt(scrollTop) && row < this.rowAt(scrollTop + this.room);
     this.room = clientHeight;
     this.place();
-    if (wasInView) this.reveal(this.view.pointed);
+    if (wasInView) this.reveal(staying);
     else if (this.wasAtEnd) this.host.scrollTop = this.host.scrollHeight;
   }
 

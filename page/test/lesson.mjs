@@ -102,6 +102,14 @@ async function pasts(hands) {
   await hands.story("deadlock");
   await hands.key("r");
   const before = await hands.ids();
+  await hands.act("fit");
+  await hands.browser.run("rewind.page.past.lookAt(1)");
+  await hands.idle();
+  await hands.browser.size(1280, 600);
+  await hands.idle();
+  holds("the last step of a past state stays in view in a smaller window", await isInPicture(hands, '[data-step="g0#1"] .mark'));
+  await hands.browser.size(1280, 800);
+  await hands.act("now");
   await hands.browser.run("{ const it = document.getElementById('moment'); it.value = '5'; it.oninput(); }");
   await hands.until("rewind.page.past.scene");
   equal("the slider shows a past state", [await hands.goroutine("g0"), await hands.text("#then-text")], ["g0 ready at line 15, 5 steps main a = g0/c1 b = g0/c2", "This is the state after step 5, g0#5, of 16 steps. Nothing is changed."]);
