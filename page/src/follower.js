@@ -264,14 +264,14 @@ export class Follower {
     }
   }
 
-  // The panes after this many steps of the log, or nothing where nobody wants them any more.
+  // The panes after this many steps of the log, or nothing where nobody wants them any more or they cannot be found.
   /**
    * @param {number} row
    * @param {() => boolean} isWanted
    */
   async sceneAt(row, isWanted) {
     await this.moveTo(row, isWanted);
-    if (!isWanted()) return null;
+    if (!isWanted() || this.at !== row) return null;
     const { names, channels } = namesAt(this.log, row);
     return readScene(await this.session(), names, channels, this.statements);
   }

@@ -4,12 +4,23 @@ import { SessionGone, Unanswered } from "./remote.js";
 
 const TELLING = 200; // milliseconds between two words on how far the way to a state is done
 
+// A session that is gone shows no state.
+/**
+ * @param {unknown} fault
+ * @returns {null}
+ */
+function noScene(fault) {
+  if (!(fault instanceof SessionGone || fault instanceof Unanswered)) throw fault;
+  return null;
+}
+
 export class Past {
   /** @param {import("./page.js").Page} page */
   constructor(page) {
     this.page = page;
     this.row = -1; // how many steps were taken, or -1 for the present
     this.found = -1; // the same of the state that the panes show
+    this.isMissed = false; // whether it cannot be found
     /** @type {Scene | null} */
     this.scene = null;
     this.asked = 0;
@@ -26,24 +37,33 @@ export class Past {
     if (!session || session.isRunning || session.gone) return;
     if (row >= session.log.length) return this.back();
     this.row = row;
+    this.isMissed = false;
     const asked = ++this.asked;
     const isAsked = () => asked === this.asked && session === this.page.session;
     this.page.views.past.show(this.page);
     const telling = window.setInterval(() => isAsked() && this.page.views.past.show(this.page), TELLING);
-    try {
-      const scene = await session.follower.inTurn(async () => session.follower.sceneAt(row, isAsked)).finally(() => clearInterval(telling));
-      if (!scene || !isAsked()) return;
-      this.scene = scene;
-      this.found = row;
-      this.page.views.past.show(this.page);
-      this.page.showScene(scene, true);
-      this.page.pointing.draw();
-      if (row) this.page.views.picture.reveal(session.log.id(row - 1));
-      const stands = row < session.log.length ? scene.goroutines.find(({ name }) => name === session.log.columns[row].name) : null;
-      if (stands?.line) this.page.views.editor.reveal(stands.line);
-    } catch (fault) {
-      if (!(fault instanceof SessionGone || fault instanceof Unanswered)) throw fault;
-    }
+    const scene = await session.follower.inTurn(async () => session.follower.sceneAt(row, isAsked)).catch(noScene).finally(() => clearInterval(telling));
+    if (!isAsked()) return;
+    this.isMissed = !scene;
+    if (scene) this.show(session, scene);
+    else this.page.views.past.show(this.page);
+  }
+
+  // Shows the state that was looked for.
+  /**
+   * @param {import("./session.js").Session} session
+   * @param {Scene} scene
+   */
+  show({ log }, scene) {
+    const { page, row } = this;
+    this.scene = scene;
+    this.found = row;
+    page.views.past.show(page);
+    page.showScene(scene, true);
+    page.pointing.draw();
+    if (row) page.views.picture.reveal(log.id(row - 1));
+    const stands = row < log.length ? scene.goroutines.find(({ name }) => name === log.columns[row].name) : null;
+    if (stands?.line) page.views.editor.reveal(stands.line);
   }
 
   leave() {

@@ -107,8 +107,8 @@ const past = {
     if (it.isOn && session) {
       const after = it.row ? `after step ${it.row.toLocaleString("en")}, ${session.log.id(it.row - 1)},` : "before the first step";
       const of = `the state ${after} of ${inSteps(session.log.length)}`;
-      const isThere = it.found === it.row;
-      find("then-text").textContent = isThere ? `This is ${of}. Nothing is changed.` : `On the way to ${of}: now at step ${session.follower.at.toLocaleString("en")}.`;
+      const onTheWay = it.isMissed ? `This page cannot find ${of}.` : `On the way to ${of}: now at step ${session.follower.at.toLocaleString("en")}.`;
+      find("then-text").textContent = it.found === it.row ? `This is ${of}. Nothing is changed.` : onTheWay;
     }
     if (it.isOn) field("moment").value = String(it.row);
     controls.past(page);

@@ -124,6 +124,8 @@ async function pasts(hands) {
   equal("a key looks a step back", await hands.browser.run("rewind.page.past.row"), 15);
   await hands.key("u");
   equal("a command comes back to now, and is done", [await hands.browser.run("rewind.page.past.isOn"), (await hands.ids()).length], [false, 15]);
+  await hands.browser.run("rewind.page.session.follower.lost = 'g0#3', rewind.page.past.lookAt(5)");
+  equal("a state that cannot be found is not said to be shown", await hands.text("#then-text"), "This page cannot find the state after step 5, g0#5, of 15 steps.");
 }
 
 // A past state that takes seconds to find: the page says how far it is, and the way there can be left.
