@@ -97,10 +97,11 @@ export class PictureView {
     host.addEventListener("pointercancel", () => this.endDrag());
   }
 
-  // The step that stays in view: the one that is kept chosen, or the last one of a past state.
+  // The step that stays in view: the one that is kept chosen, or the last one of a past state. The log may have become shorter since.
   get staying() {
     const { isKept, pointed, last } = this.view;
-    return isKept ? pointed : last < Infinity && this.shown ? this.shown.log.id(Math.max(0, last - 1)) : "";
+    const row = Math.max(0, last - 1);
+    return isKept ? pointed : this.shown && row < this.shown.log.length ? this.shown.log.id(row) : "";
   }
 
   // Keeps in view what was there: the step that stays, or else the end.

@@ -124,6 +124,8 @@ async function pasts(hands) {
   equal("a key looks a step back", await hands.browser.run("rewind.page.past.row"), 15);
   await hands.key("u");
   equal("a command comes back to now, and is done", [await hands.browser.run("rewind.page.past.isOn"), (await hands.ids()).length], [false, 15]);
+  const shorter = "(({ picture } = rewind.page.views) => { picture.mark({ ...picture.view, last: 100 }); picture.resized(); return picture.staying; })()";
+  equal("a log that is shorter than a past state can be shown in another size", await hands.browser.run(shorter), "");
   await hands.browser.run("rewind.page.session.follower.lost = 'g0#3', rewind.page.past.lookAt(5)");
   equal("a state that cannot be found is not said to be shown", await hands.text("#then-text"), "This page cannot find the state after step 5, g0#5, of 15 steps.");
 }
