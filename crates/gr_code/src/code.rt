@@ -9,11 +9,11 @@ use gr_tree::{BinaryOp, UnaryOp};
 pub enum Operand {
     Literal(Literal),
     /// A variable or temporary, by its place in the frame.
-    Variable(usize),
+    Variable(u32),
     Unary(UnaryOp, Box<Operand>),
     Binary(BinaryOp, Box<Operand>, Box<Operand>),
     /// `&&` or `||` whose left operand is decided and stands in a temporary.
-    Decided(BinaryOp, usize, Box<Operand>),
+    Decided(BinaryOp, u32, Box<Operand>),
 }
 
 /// A part of a statement: what it asks for.
@@ -21,7 +21,7 @@ pub enum Operand {
 pub enum Ask {
     /// A call of the function with a number.
     Call {
-        function: usize,
+        function: u32,
         arguments: Vec<Operand>,
     },
     /// A receive, and the zero value that a closed channel gives.
@@ -55,58 +55,58 @@ pub enum Piece {
 pub enum Action {
     /// Assigns the values; a target that is `None` is the blank identifier.
     Assign {
-        targets: Vec<Option<usize>>,
-        on: usize,
+        targets: Vec<Option<u32>>,
+        on: u32,
     },
     /// A receive whose value, and whether it was sent, go to temporaries.
     AssignReceived {
         zero: Literal,
-        value: usize,
-        ok: usize,
-        on: usize,
+        value: u32,
+        ok: u32,
+        on: u32,
     },
     /// An assignment with an operator.
     Update {
-        variable: usize,
+        variable: u32,
         op: BinaryOp,
-        on: usize,
+        on: u32,
     },
     /// `close` of a channel.
     Close {
-        on: usize,
+        on: u32,
     },
     Print {
         pieces: Vec<Piece>,
-        on: usize,
+        on: u32,
     },
     Send {
-        on: usize,
+        on: u32,
     },
     /// A call of the function with a number, in a new goroutine.
     Start {
-        function: usize,
-        on: usize,
+        function: u32,
+        on: u32,
     },
     Return,
     GoOn {
-        on: usize,
+        on: u32,
     },
     /// What no checked program comes to.
     Fail,
     Test {
-        holds: usize,
-        fails: usize,
+        holds: u32,
+        fails: u32,
     },
     /// The start of a loop over a channel, which a temporary keeps.
     Range {
-        slot: usize,
-        on: usize,
+        slot: u32,
+        on: u32,
     },
     /// A turn of a loop over a channel: a value that was sent goes to a temporary, and on to the body.
     Turn {
-        slot: usize,
-        body: usize,
-        after: usize,
+        slot: u32,
+        body: u32,
+        after: u32,
     },
 }
 
@@ -114,19 +114,19 @@ pub enum Action {
 #[derive(Debug, Drop)]
 pub enum Arm {
     Default {
-        on: usize,
+        on: u32,
     },
     Send {
         channel: Operand,
         value: Operand,
-        on: usize,
+        on: u32,
     },
     /// A receive; where it assigns, the temporaries for the value and for whether it was sent.
     Receive {
         channel: Operand,
         zero: Literal,
-        into: Option<(usize, usize)>,
-        on: usize,
+        into: Option<(u32, u32)>,
+        on: u32,
     },
 }
 
@@ -136,16 +136,16 @@ pub enum Instruction {
     /// A part of a statement. Its value goes to a temporary, unless the part is the whole statement.
     Part {
         ask: Ask,
-        slot: Option<usize>,
-        on: usize,
+        slot: Option<u32>,
+        on: u32,
     },
     /// The left operand of `&&` or `||`. It goes to a temporary. Where it settles, the right one is skipped.
     Decide {
         op: BinaryOp,
         left: Operand,
-        slot: usize,
-        settled: usize,
-        right: usize,
+        slot: u32,
+        settled: u32,
+        right: u32,
     },
     Perform {
         action: Action,
@@ -160,7 +160,7 @@ pub enum Instruction {
 #[derive(Debug, Drop)]
 pub struct FunctionCode {
     /// The variables of the parameters; `None` for the blank identifier.
-    pub parameters: Vec<Option<usize>>,
+    pub parameters: Vec<Option<u32>>,
     /// How many variables there are.
     pub variables: usize,
     /// How many cells a frame has.
@@ -168,7 +168,7 @@ pub struct FunctionCode {
     /// The instructions by their numbers; a call begins with the first.
     pub instructions: Vec<Instruction>,
     /// The line on which the statement of each instruction begins.
-    pub lines: Vec<usize>,
+    pub lines: Vec<u32>,
 }
 
 /// The code of a program.
@@ -177,5 +177,5 @@ pub struct Code {
     /// The functions by their numbers.
     pub functions: Vec<FunctionCode>,
     /// The number of `main`.
-    pub main: usize,
+    pub main: u32,
 }
