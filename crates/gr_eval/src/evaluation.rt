@@ -18,11 +18,11 @@ use gr_tree::BinaryOp;
 use std::alloc::Global;
 
 /// The value in a cell that has one.
-pub(crate) fn held<'a>(cells: &'a [Option<Value>], number: usize) -> Seen<'a>
+pub(crate) fn held<'a>(cells: &'a [Option<Value>], number: u32) -> Seen<'a>
     requires { rules.held (slice_get cells.now number) ≢ wrong }
     ensures { rules.held (slice_get cells.now number) ≡ gives (value_of result) }
 {
-    match cells.get(number) {
+    match cells.get(number as usize) {
         Some(Some(value)) => Seen::of(value),
         _ => unreachable!(),
     }
@@ -59,10 +59,10 @@ fn of_leaves<'a>(cells: &'a [Option<Value>], operand: &Operand) -> Option<Result
 }
 
 /// The number in a cell that has one.
-pub fn number_in(cells: &[Option<Value>], cell: usize) -> Option<i64>
+pub fn number_in(cells: &[Option<Value>], cell: u32) -> Option<i64>
     ensures { IfSome result (λ n. rules.held (slice_get cells.now cell) ≡ gives (values.Int n)) }
 {
-    match cells.get(cell) {
+    match cells.get(cell as usize) {
         Some(Some(Value::Int(n))) => Some(*n),
         _ => None,
     }

@@ -36,7 +36,7 @@ pub fn any_faults(cells: &[Option<Value>], operands: &[Operand]) -> bool
 }
 
 /// Whether an operator on what a cell has, and on the value of the operand, stops the program. It takes no memory.
-pub fn update_faults(cells: &[Option<Value>], cell: usize, op: BinaryOp, operand: &Operand) -> bool
+pub fn update_faults(cells: &[Option<Value>], cell: u32, op: BinaryOp, operand: &Operand) -> bool
     requires { updated op (rules.evaluate cells.now (operand_of operand.now)) (rules.held (slice_get cells.now cell)) ≢ wrong }
     ensures { result ≡ is_fault (updated op (rules.evaluate cells.now (operand_of operand.now))
         (rules.held (slice_get cells.now cell))) }
