@@ -39,11 +39,12 @@ two_emits e f x y xs d o d' o' a pre out1 out2 out3 e1 e2 ed eo ex ey exs e3 =
     ∙ ap (λ l. pre ++ (code e d o ++ l)) (sym (alone (code f (d + parts e) (o + parts e)))))
     (exs ∙ ap (λ t. two t y) ex ∙ ap (two (left e d)) (ey ∙ ap (left f) ed)) e3
 
-pub whole_call_emits : (f : ℕ) (whole : Operand) (es xs : Operands) (d o on : ℕ) (pre out1 out2 : List Instruction)
-    → whole ≡ Call f es → xs ≡ left_in es d → out1 ≡ pre ++ code_in es d o → out2 ≡ out1 ++ Part (Calls f xs) None on ∷ []
+pub whole_call_emits : (f g : ℕ) (whole : Operand) (es xs : Operands) (d o on : ℕ) (pre out1 out2 : List Instruction)
+    → whole ≡ Call f es → xs ≡ left_in es d → out1 ≡ pre ++ code_in es d o → g ≡ f → out2 ≡ out1 ++ Part (Calls g xs) None on ∷ []
     → out2 ≡ pre ++ whole_code whole d o on
-whole_call_emits f whole es xs d o on pre out1 out2 ew ex e1 e2 =
-    e2 ∙ ap (λ l. l ++ Part (Calls f xs) None on ∷ []) e1 ∙ append_assoc pre (code_in es d o) (Part (Calls f xs) None on ∷ [])
+whole_call_emits f g whole es xs d o on pre out1 out2 ew ex e1 eg e2 =
+    e2 ∙ ap (λ k. out1 ++ Part (Calls k xs) None on ∷ []) eg ∙ ap (λ l. l ++ Part (Calls f xs) None on ∷ []) e1
+    ∙ append_assoc pre (code_in es d o) (Part (Calls f xs) None on ∷ [])
     ∙ ap (λ x. pre ++ (code_in es d o ++ Part (Calls f x) None on ∷ [])) ex ∙ ap (λ w. pre ++ whole_code w d o on) (sym ew)
 
 pub whole_receive_emits : (whole c x : Operand) (initial : Value) (d o on : ℕ) (pre out1 out2 : List Instruction)

@@ -67,11 +67,11 @@ binary_emits op whole a b d o d' o' a' pre out1 out2 ew ea ed eo e1 e2 =
     ∙ ap (λ t. pre ++ code t d o) (sym ew)
 
 -- a call after its arguments
-pub call_emits : (f : ℕ) (whole : Operand) (es xs : Operands) (d o slot on : ℕ) (pre out1 out2 : List Instruction)
+pub call_emits : (f g : ℕ) (whole : Operand) (es xs : Operands) (d o slot on : ℕ) (pre out1 out2 : List Instruction)
     → whole ≡ Call f es → xs ≡ left_in es d → out1 ≡ pre ++ code_in es d o → slot ≡ d + parts_in es → on ≡ o + parts_in es + 1
-    → out2 ≡ out1 ++ Part (Calls f xs) (Some slot) on ∷ [] → out2 ≡ pre ++ code whole d o
-call_emits f whole es xs d o slot on pre out1 out2 ew ex e1 es' eo e2 =
-    e2 ∙ ap (λ l. l ++ Part (Calls f xs) (Some slot) on ∷ []) e1
+    → g ≡ f → out2 ≡ out1 ++ Part (Calls g xs) (Some slot) on ∷ [] → out2 ≡ pre ++ code whole d o
+call_emits f g whole es xs d o slot on pre out1 out2 ew ex e1 es' eo eg e2 =
+    e2 ∙ ap (λ k. out1 ++ Part (Calls k xs) (Some slot) on ∷ []) eg ∙ ap (λ l. l ++ Part (Calls f xs) (Some slot) on ∷ []) e1
     ∙ append_assoc pre (code_in es d o) (Part (Calls f xs) (Some slot) on ∷ [])
     ∙ ap (λ x. pre ++ (code_in es d o ++ Part (Calls f x) (Some slot) on ∷ [])) ex
     ∙ ap (λ n. pre ++ (code_in es d o ++ Part (Calls f (left_in es d)) (Some n) on ∷ [])) es'

@@ -15,7 +15,7 @@ ghost use Rattle.gr_lower.specs.Headings.{ways_of};
 
 use crate::expressions::{lower_expr, lower_exprs, put};
 use crate::nesting::{Ways, leaving, turning};
-use crate::parts::{count, sum};
+use crate::parts::{count, kept, kept_target, sum};
 use gr_base::NoMemory;
 use gr_code::code::{Action, Ask, Instruction, Operand, Piece};
 use gr_program::program::{Opening, Printed};
@@ -53,11 +53,15 @@ fn pair(alloc: Global, first: Operand, second: Operand) -> Result<Vec<Operand>, 
     Ok(operands)
 }
 
-/// A copy of the targets.
-pub fn copies(alloc: Global, targets: &[Option<usize>]) -> Result<Vec<Option<usize>>, NoMemory>
+/// A copy of the targets, as code keeps them.
+pub fn copies(alloc: Global, targets: &[Option<usize>]) -> Result<Vec<Option<u32>>, NoMemory>
     ensures { IfOk result (λ xs. xs.items ≡ targets.now) }
 {
-    Ok(targets.iter().copied().collect(alloc)?)
+    let mut found = Vec::new(alloc);
+    for target in targets {
+        found.push(kept_target(*target)?)?;
+    }
+    Ok(found)
 }
 
 /// Writes the parts of expressions, and then what is done with what is left of them.
@@ -156,7 +160,7 @@ fn whole(
     out: &mut Vec<Instruction>,
     value: &Expr,
     first: usize,
-    on: usize,
+    on: u32,
 ) -> Result<(), NoMemory>
     ensures code { OnOk result (instructions_of out.new.items
         ≡ instructions_of out.old.items ++ whole_code (rules.operand_of (expr_of value.now)) first (vec_len out.old) on) }
@@ -165,8 +169,8 @@ fn whole(
     let slot = None;
     match value {
         Expr::Call(function, arguments) => {
+            let function = kept(*function)?;
             let arguments = lower_exprs(alloc, out, arguments, first)?;
-            let function = *function;
             let ask = Ask::Call {
                 function,
                 arguments,
@@ -187,16 +191,20 @@ fn whole(
 pub fn assign_pair(
     alloc: Global,
     out: &mut Vec<Instruction>,
-    targets: Vec<Option<usize>>,
+    targets: Vec<Option<u32>>,
     first: usize,
-    on: usize,
+    on: u32,
 ) -> Result<(), NoMemory>
     ensures code { OnOk result (instructions_of out.new.items ≡ instructions_of out.old.items
         ++ spec.Perform (spec.Assigns targets.items on) (rules.two (rules.Variable first) (rules.Variable (first + 1))) ∷ []) }
     ensures grown { OnOk result (vec_len out.new ≡ vec_len out.old + 1) }
 {
-    let second = sum(first, 1)?;
-    let operands = pair(alloc, Operand::Variable(first), Operand::Variable(second))?;
+    let second = kept(sum(first, 1)?)?;
+    let operands = pair(
+        alloc,
+        Operand::Variable(kept(first)?),
+        Operand::Variable(second),
+    )?;
     perform(out, Action::Assign { targets, on }, operands)
 }
 
@@ -204,12 +212,12 @@ fn two_targets(
     alloc: Global,
     value: Option<usize>,
     ok: Option<usize>,
-) -> Result<Vec<Option<usize>>, NoMemory>
+) -> Result<Vec<Option<u32>>, NoMemory>
     ensures { IfOk result (λ xs. xs.items ≡ value ∷ ok ∷ []) }
 {
     let mut targets = Vec::new(alloc);
-    targets.push(value)?;
-    targets.push(ok)?;
+    targets.push(kept_target(value)?)?;
+    targets.push(kept_target(ok)?)?;
     Ok(targets)
 }
 
@@ -217,11 +225,11 @@ fn two_targets(
 fn receive_two(
     alloc: Global,
     out: &mut Vec<Instruction>,
-    targets: Vec<Option<usize>>,
+    targets: Vec<Option<u32>>,
     channel: &Expr,
     zero: Literal,
     first: usize,
-    on: usize,
+    on: u32,
 ) -> Result<(), NoMemory>
     ensures code { OnOk result (instructions_of out.new.items ≡ instructions_of out.old.items
         ++ (performed (rules.one (rules.operand_of (expr_of channel.now))) first (vec_len out.old)
@@ -231,9 +239,9 @@ fn receive_two(
     ensures grown { OnOk result (vec_len out.new
         ≡ vec_len out.old + (parts_in (rules.one (rules.operand_of (expr_of channel.now))) + 2)) }
 {
-    let value = first;
-    let ok = sum(first, 1)?;
-    let next = sum(sum(out.len(), count(channel)?)?, 1)?;
+    let value = kept(first)?;
+    let ok = kept(sum(first, 1)?)?;
+    let next = kept(sum(sum(out.len(), count(channel)?)?, 1)?)?;
     let action = Action::AssignReceived {
         zero,
         value,
@@ -294,7 +302,7 @@ fn print(
     out: &mut Vec<Instruction>,
     values: &[Printed],
     first: usize,
-    on: usize,
+    on: u32,
 ) -> Result<(), NoMemory>
     ensures code { OnOk result (instructions_of out.new.items ≡ instructions_of out.old.items
         ++ performed (points.printed_operands (prints_of values.now)) first (vec_len out.old)
@@ -313,7 +321,7 @@ fn go_on(alloc: Global, out: &mut Vec<Instruction>, to: Option<usize>) -> Result
     ensures grown { OnOk result (vec_len out.new ≡ vec_len out.old + 1) }
 {
     match to {
-        Some(on) => perform_none(alloc, out, Action::GoOn { on }),
+        Some(on) => perform_none(alloc, out, Action::GoOn { on: kept(on)? }),
         None => perform_none(alloc, out, Action::Fail),
     }
 }
@@ -331,6 +339,7 @@ pub fn lower_act(
         ≡ instructions_of out.old.items ++ act_code (act_of act.now) first (vec_len out.old) on (ways_of ways.now)) }
     ensures grown { OnOk result (vec_len out.new ≡ vec_len out.old + act_size (act_of act.now)) }
 {
+    let on = kept(on)?;
     match act {
         Act::Assign { targets, values } => {
             let targets = copies(alloc, targets)?;
@@ -350,7 +359,7 @@ pub fn lower_act(
             op,
             value,
         } => {
-            let (variable, op) = (*variable, *op);
+            let (variable, op) = (kept(*variable)?, *op);
             perform_one(
                 alloc,
                 out,
@@ -369,7 +378,7 @@ pub fn lower_act(
             function,
             arguments,
         } => {
-            let function = *function;
+            let function = kept(*function)?;
             perform_all(alloc, out, arguments, first, Action::Start { function, on })
         }
         Act::Return(value) => give_back(alloc, out, value, first),

@@ -11,7 +11,7 @@ ghost use Rattle.gr_lower.specs.StatementCode.{entry as spec_entry, into as spec
 ghost use Rattle.gr_lower.specs.TurnHeadings.{select_heading};
 
 use crate::expressions::{lower_expr, put};
-use crate::parts::sum;
+use crate::parts::{kept, sum};
 use crate::sizes::Sizes;
 use crate::sizing::count_cases;
 use gr_base::NoMemory;
@@ -27,13 +27,13 @@ pub fn entry(many: usize, first: usize, on: usize) -> usize
 }
 
 /// Where a clause lays what it receives, if it assigns it.
-fn into(targets: &[Option<usize>], first: usize) -> Result<Option<(usize, usize)>, NoMemory>
+fn into(targets: &[Option<usize>], first: usize) -> Result<Option<(u32, u32)>, NoMemory>
     ensures { IfOk result (λ x. x ≡ spec_into targets.now first) }
 {
     if targets.is_empty() {
         return Ok(None);
     }
-    Ok(Some((first, sum(first, 1)?)))
+    Ok(Some((kept(first)?, kept(sum(first, 1)?)?)))
 }
 
 /// The parts of the operands of a clause, the first with the temporary `next`, and the arm of the clause, which leads to `to`.
@@ -43,7 +43,7 @@ fn lower_arm(
     case: &Case,
     next: usize,
     first: usize,
-    to: usize,
+    to: u32,
 ) -> Result<Arm, NoMemory>
     ensures code { OnOk result ((others : Cases)
         → instructions_of out.new.items
@@ -112,7 +112,7 @@ pub fn lower_arms(
     for case in cases {
         let next = sum(first, out.len() - start)?;
         let many = sizes.ask();
-        let to = entry(many, place, on);
+        let to = kept(entry(many, place, on))?;
         let arm = lower_arm(alloc, out, case, next, first, to)?;
         found.push(arm)?;
         let after = sum(place, many)?;

@@ -7,7 +7,7 @@ ghost use Rattle.gr_code.specs.CodeViews.{operand_of, operands_of, ask_of, instr
 ghost use Rattle.gr_code.specs.Passing.{parts, parts_in, with_decision};
 ghost use Rattle.gr_lower.specs.PartCode.{left as spec_left, left_in, code, code_in, left_binary, right_code};
 
-use crate::parts::{count, is_logic, sum};
+use crate::parts::{count, is_logic, kept, sum};
 use gr_base::NoMemory;
 use gr_code::code::{Ask, Instruction, Operand};
 use gr_program::{Expr, Literal};
@@ -38,7 +38,7 @@ fn binary(alloc: Global, op: BinaryOp, left: Operand, right: Operand) -> Result<
 fn decided(alloc: Global, op: BinaryOp, slot: usize, right: Operand) -> Result<Operand, NoMemory>
     ensures { IfOk result (λ x. operand_of x ≡ rules.Decided op slot (operand_of right)) }
 {
-    Ok(Operand::Decided(op, slot, Box::new(alloc, right)?))
+    Ok(Operand::Decided(op, kept(slot)?, Box::new(alloc, right)?))
 }
 
 /// A part after those of its operands, which begin at an instruction, the first with the temporary `first`.
@@ -55,8 +55,8 @@ fn part(
     ensures grown { OnOk result (vec_len out.new ≡ vec_len out.old + 1) }
     ensures value { IfOk result (λ x. operand_of x ≡ rules.Variable (first + (vec_len out.old - begins))) }
 {
-    let slot = sum(first, out.len() - begins)?;
-    let on = sum(out.len(), 1)?;
+    let slot = kept(sum(first, out.len() - begins)?)?;
+    let on = kept(sum(out.len(), 1)?)?;
     put(
         out,
         Instruction::Part {
@@ -81,7 +81,8 @@ fn decide(
     ensures grown { OnOk result (vec_len out.new ≡ vec_len out.old + 1) }
 {
     let right = sum(out.len(), 1)?;
-    let settled = sum(right, passed)?;
+    let settled = kept(sum(right, passed)?)?;
+    let (slot, right) = (kept(slot)?, kept(right)?);
     put(
         out,
         Instruction::Decide {
@@ -111,7 +112,7 @@ pub fn lower_expr(
     let begins = out.len();
     match expr {
         Expr::Literal(value) => Ok(Operand::Literal(*value)),
-        Expr::Variable(number) => Ok(Operand::Variable(*number)),
+        Expr::Variable(number) => Ok(Operand::Variable(kept(*number)?)),
         Expr::Unary(op, operand) => {
             let operand = lower_expr(alloc, out, operand, first)?;
             unary(alloc, *op, operand)
@@ -127,8 +128,8 @@ pub fn lower_expr(
             part(out, Ask::Receive { channel, zero }, first, begins)
         }
         Expr::Call(function, arguments) => {
+            let function = kept(*function)?;
             let arguments = lower_exprs(alloc, out, arguments, first)?;
-            let function = *function;
             part(
                 out,
                 Ask::Call {

@@ -1,5 +1,5 @@
 //! How many cells the frames of a function have.
-ghost use Rattle.std.specs.Prelude.{◌≡◌, max, IfOk};
+ghost use Rattle.std.specs.Prelude.{◌≡◌, ◌+◌, max, IfOk};
 ghost use Rattle.gr_code.specs.CodeViews.{action_of, arm_of, arms_of, instruction_of, instructions_of};
 ghost use Rattle.gr_lower.specs.Lowered as spec;
 
@@ -13,13 +13,20 @@ fn larger(a: usize, b: usize) -> usize
     if a < b { b } else { a }
 }
 
+/// The cells up to this one, with it.
+fn cells_to(slot: u32) -> Result<usize, NoMemory>
+    ensures { IfOk result (λ n. n ≡ slot + 1) }
+{
+    sum(slot as usize, 1)
+}
+
 fn action_cells(action: &Action) -> Result<usize, NoMemory>
     ensures { IfOk result (λ n. n ≡ spec.action_cells (action_of action.now)) }
 {
     match action {
-        Action::AssignReceived { value, ok, .. } => Ok(larger(sum(*value, 1)?, sum(*ok, 1)?)),
-        Action::Range { slot, .. } => sum(*slot, 1),
-        Action::Turn { slot, .. } => sum(*slot, 1),
+        Action::AssignReceived { value, ok, .. } => Ok(larger(cells_to(*value)?, cells_to(*ok)?)),
+        Action::Range { slot, .. } => cells_to(*slot),
+        Action::Turn { slot, .. } => cells_to(*slot),
         _ => Ok(0),
     }
 }
@@ -31,7 +38,7 @@ fn arm_cells(arm: &Arm) -> Result<usize, NoMemory>
         Arm::Receive {
             into: Some((value, ok)),
             ..
-        } => Ok(larger(sum(*value, 1)?, sum(*ok, 1)?)),
+        } => Ok(larger(cells_to(*value)?, cells_to(*ok)?)),
         _ => Ok(0),
     }
 }
@@ -53,9 +60,9 @@ fn cells_for(instruction: &Instruction) -> Result<usize, NoMemory>
         Instruction::Part {
             slot: Some(slot),
             ..
-        } => sum(*slot, 1),
+        } => cells_to(*slot),
         Instruction::Part { slot: None, .. } => Ok(0),
-        Instruction::Decide { slot, .. } => sum(*slot, 1),
+        Instruction::Decide { slot, .. } => cells_to(*slot),
         Instruction::Perform { action, .. } => action_cells(action),
         Instruction::Choose { arms } => arms_cells(arms),
     }

@@ -13,7 +13,7 @@ ghost use Rattle.gr_lower.specs.TurnHeadings.{turn_heading, range_heading};
 use crate::acts::{assign_pair, copies, lower_opening, perform, perform_none, perform_one, single};
 use crate::choices::entry;
 use crate::nesting::Ways;
-use crate::parts::{count, sum};
+use crate::parts::{count, kept, kept_target, sum};
 use crate::sizing::{count_tested, size_of_opening};
 use gr_base::NoMemory;
 use gr_code::code::{Action, Instruction, Operand};
@@ -63,8 +63,8 @@ pub fn head_if(
 {
     let test = sum(out.len(), size_of_opening(init)?)?;
     let body = sum(sum(test, count(condition)?)?, 1)?;
-    let holds = entry(sides.0, body, on);
-    let fails = entry(sides.1, sum(body, sides.0)?, on);
+    let holds = kept(entry(sides.0, body, on))?;
+    let fails = kept(entry(sides.1, sum(body, sides.0)?, on))?;
     lower_opening(alloc, out, init, first, test, ways)?;
     perform_one(alloc, out, condition, first, Action::Test { holds, fails })
 }
@@ -92,8 +92,9 @@ pub fn head_for(
     let test = sum(out.len(), size_of_opening(init)?)?;
     let body = sum(sum(test, count_tested(condition)?)?, 1)?;
     let turn = entry(sizes.1, sum(body, sizes.0)?, test);
-    let holds = entry(sizes.0, body, turn);
-    let action = Action::Test { holds, fails: on };
+    let holds = kept(entry(sizes.0, body, turn))?;
+    let fails = kept(on)?;
+    let action = Action::Test { holds, fails };
     lower_opening(alloc, out, init, first, test, ways)?;
     perform_tested(alloc, out, condition, first, action)?;
     Ok(turn)
@@ -113,13 +114,13 @@ fn take_turn(
     ensures grown { OnOk result (vec_len out.new ≡ vec_len out.old + 3) }
 {
     let turn = out.len();
-    let slot = sum(first, 1)?;
-    let body = sum(turn, 1)?;
-    let after = sum(turn, 2)?;
-    let begins = entry(many, sum(turn, 3)?, turn);
+    let slot = kept(sum(first, 1)?)?;
+    let body = kept(sum(turn, 1)?)?;
+    let after = kept(sum(turn, 2)?)?;
+    let begins = kept(entry(many, sum(turn, 3)?, turn))?;
     let mut targets = Vec::new(alloc);
-    targets.push(target)?;
-    let channel = single(alloc, Operand::Variable(first))?;
+    targets.push(kept_target(target)?)?;
+    let channel = single(alloc, Operand::Variable(kept(first)?))?;
     perform(out, Action::Turn { slot, body, after }, channel)?;
     let value = single(alloc, Operand::Variable(slot))?;
     let on_body = Action::Assign {
@@ -127,7 +128,7 @@ fn take_turn(
         on: begins,
     };
     perform(out, on_body, value)?;
-    perform_none(alloc, out, Action::GoOn { on })
+    perform_none(alloc, out, Action::GoOn { on: kept(on)? })
 }
 
 /// A loop over a channel before its body, which has this many instructions.
@@ -145,9 +146,9 @@ pub fn head_range(
     ensures grown { OnOk result (vec_len out.new
         ≡ vec_len out.old + (parts_in (rules.one (rules.operand_of (expr_of channel.now))) + 1 + 3)) }
 {
-    let turn = sum(sum(out.len(), count(channel)?)?, 1)?;
+    let turn = kept(sum(sum(out.len(), count(channel)?)?, 1)?)?;
     let action = Action::Range {
-        slot: first,
+        slot: kept(first)?,
         on: turn,
     };
     perform_one(alloc, out, channel, first, action)?;
@@ -170,5 +171,5 @@ pub fn take_received(
         return Ok(());
     }
     let targets = copies(alloc, targets)?;
-    assign_pair(alloc, out, targets, first, on)
+    assign_pair(alloc, out, targets, first, kept(on)?)
 }

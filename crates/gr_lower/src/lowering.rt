@@ -9,6 +9,7 @@ ghost use Rattle.gr_lower.specs.Lowered.{body_code, lowered_function, lowered};
 use crate::acts::perform_none;
 use crate::frames::cells_of;
 use crate::nesting::Ways;
+use crate::parts::{kept, kept_target};
 use crate::placing::lines_of;
 use crate::sizes::Sizes;
 use crate::sizing::size_of_all;
@@ -18,12 +19,12 @@ use gr_code::code::{Action, Code, FunctionCode, Instruction};
 use gr_program::{Function, Parameter, Program, Stmt, Variable};
 use std::alloc::Global;
 
-fn variables_of(alloc: Global, parameters: &[Parameter]) -> Result<Vec<Option<usize>>, NoMemory>
+fn variables_of(alloc: Global, parameters: &[Parameter]) -> Result<Vec<Option<u32>>, NoMemory>
     ensures { IfOk result (λ xs. xs.items ≡ map variable_of (parameters_of parameters.now)) }
 {
     let mut found = Vec::new(alloc);
     for parameter in parameters {
-        found.push(parameter.variable)?;
+        found.push(kept_target(parameter.variable)?)?;
     }
     Ok(found)
 }
@@ -71,17 +72,16 @@ fn lower_function(alloc: Global, function: &Function) -> Result<FunctionCode, No
     })
 }
 
-/// The code of a program: one instruction for each step. Its only error is that memory ran out.
+/// The code of a program: one instruction for each step. Its only error is that memory ran out. A function of 2^32
+/// instructions or more is out of memory too, and so is a program with a number of more than 32 bits.
 pub fn lower(alloc: Global, program: &Program) -> Result<Code, NoMemory>
     ensures { IfOk result (λ code. program_code_of code ≡ lowered (program_of program.now)) }
 {
+    let main = kept(program.main)?;
     let mut functions = Vec::new(alloc);
     for function in &program.functions {
         let code = lower_function(alloc, function)?;
         functions.push(code)?;
     }
-    Ok(Code {
-        functions,
-        main: program.main,
-    })
+    Ok(Code { functions, main })
 }

@@ -16,6 +16,23 @@ pub fn sum(a: usize, b: usize) -> Result<usize, NoMemory>
     a.checked_add(b).ok_or(NoMemory)
 }
 
+/// The number as code keeps it. One of more than 32 bits is out of memory.
+pub fn kept(number: usize) -> Result<u32, NoMemory>
+    ensures { IfOk result (λ n. n ≡ number) }
+{
+    u32::try_from(number).map_err(|_| NoMemory)
+}
+
+/// The number of a variable as code keeps it, if there is one.
+pub fn kept_target(target: Option<usize>) -> Result<Option<u32>, NoMemory>
+    ensures { IfOk result (λ kept. kept ≡ target) }
+{
+    match target {
+        Some(number) => Ok(Some(kept(number)?)),
+        None => Ok(None),
+    }
+}
+
 /// Whether the operator is `&&` or `||`.
 pub fn is_logic(op: BinaryOp) -> bool
     ensures { result ≡ is_logical op }

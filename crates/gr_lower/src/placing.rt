@@ -6,7 +6,7 @@ ghost use Rattle.gr_program.specs.Views.{opening_of, stmt_of, stmts_of, case_on,
 ghost use Rattle.gr_lower.specs.Lines.{opening_lines, stmt_lines, stmts_lines, cases_lines};
 ghost use Rattle.gr_lower.specs.Lowered.{body_lines};
 
-use crate::parts::{count, sum};
+use crate::parts::{count, kept, sum};
 use crate::sizing::{count_cases, count_tested, size_of_act, size_of_targets};
 use gr_base::NoMemory;
 use gr_program::Stmt;
@@ -14,16 +14,17 @@ use gr_program::program::{Case, Opening};
 use gr_scan::token::Place;
 use std::alloc::Global;
 
-fn mark(lines: &mut Vec<usize>, many: usize, line: usize) -> Result<(), NoMemory>
+fn mark(lines: &mut Vec<u32>, many: usize, line: usize) -> Result<(), NoMemory>
     ensures { OnOk result (lines.new.items ≡ lines.old.items ++ replicate many line) }
 {
+    let line = kept(line)?;
     for _ in 0..many {
         lines.push(line)?;
     }
     Ok(())
 }
 
-fn mark_opening(lines: &mut Vec<usize>, opening: &Option<Box<Opening>>) -> Result<(), NoMemory>
+fn mark_opening(lines: &mut Vec<u32>, opening: &Option<Box<Opening>>) -> Result<(), NoMemory>
     ensures { OnOk result (lines.new.items ≡ lines.old.items ++ opening_lines (optional opening_of opening.now)) }
 {
     match opening {
@@ -33,7 +34,7 @@ fn mark_opening(lines: &mut Vec<usize>, opening: &Option<Box<Opening>>) -> Resul
 }
 
 #[cycle(marking)]
-fn mark_stmt(lines: &mut Vec<usize>, stmt: &Stmt) -> Result<(), NoMemory>
+fn mark_stmt(lines: &mut Vec<u32>, stmt: &Stmt) -> Result<(), NoMemory>
     ensures { OnOk result (lines.new.items ≡ lines.old.items ++ stmt_lines (stmt_of stmt.now)) }
 {
     match stmt {
@@ -81,7 +82,7 @@ fn mark_stmt(lines: &mut Vec<usize>, stmt: &Stmt) -> Result<(), NoMemory>
 }
 
 #[cycle(marking)]
-fn mark_stmts(lines: &mut Vec<usize>, stmts: &[Stmt]) -> Result<(), NoMemory>
+fn mark_stmts(lines: &mut Vec<u32>, stmts: &[Stmt]) -> Result<(), NoMemory>
     ensures { OnOk result (lines.new.items ≡ lines.old.items ++ stmts_lines (stmts_of stmts.now)) }
 {
     for stmt in stmts {
@@ -91,7 +92,7 @@ fn mark_stmts(lines: &mut Vec<usize>, stmts: &[Stmt]) -> Result<(), NoMemory>
 }
 
 #[cycle(marking)]
-fn mark_case(lines: &mut Vec<usize>, case: &Case, line: usize) -> Result<(), NoMemory>
+fn mark_case(lines: &mut Vec<u32>, case: &Case, line: usize) -> Result<(), NoMemory>
     ensures { OnOk result ((others : Cases)
         → lines.new.items ++ cases_lines line others ≡ lines.old.items ++ cases_lines line (case_on case.now others)) }
 {
@@ -106,7 +107,7 @@ fn mark_case(lines: &mut Vec<usize>, case: &Case, line: usize) -> Result<(), NoM
 }
 
 #[cycle(marking)]
-fn mark_cases(lines: &mut Vec<usize>, cases: &[Case], line: usize) -> Result<(), NoMemory>
+fn mark_cases(lines: &mut Vec<u32>, cases: &[Case], line: usize) -> Result<(), NoMemory>
     ensures { OnOk result (lines.new.items ≡ lines.old.items ++ cases_lines line (cases_of cases.now)) }
 {
     for case in cases {
@@ -116,11 +117,11 @@ fn mark_cases(lines: &mut Vec<usize>, cases: &[Case], line: usize) -> Result<(),
 }
 
 /// The lines of the instructions of a function's body.
-pub fn lines_of(alloc: Global, body: &[Stmt], closing: Place) -> Result<Vec<usize>, NoMemory>
+pub fn lines_of(alloc: Global, body: &[Stmt], closing: Place) -> Result<Vec<u32>, NoMemory>
     ensures { IfOk result (λ lines. lines.items ≡ body_lines (stmts_of body.now) closing) }
 {
     let mut lines = Vec::new(alloc);
     mark_stmts(&mut lines, body)?;
-    lines.push(closing.line)?;
+    lines.push(kept(closing.line)?)?;
     Ok(lines)
 }

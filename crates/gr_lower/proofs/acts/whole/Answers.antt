@@ -15,9 +15,11 @@ returns-in_ok-arguments-in-Call-clause-code c =
     let e = ap (λ x. operand.operand_of (expr_of x)) c.in-Call.is ∙ ap operand.operand_of (call_is f c.in-Call.arguments)
     ∙ ap (λ l. operand.Call f (operand.operands_of (exprs_of l))) (sym c.deref.ensures.value) in
     let a = c.in_ok-arguments-in-Call in
+    let g = c.in_ok-function-in-Call in
     on_ok c.put.result c.put.ensures.code
-    (whole_call_emits f (operand.operand_of (expr_of c.args.value.now)) es (operands_of a.arguments.items) c.args.first (vec_len c.args.out.now) c.args.on
-    (instructions_of c.args.out.now.items) (instructions_of c.lower_exprs.new.out.items) _ e a.ensures.value a.ensures.code)
+    (whole_call_emits f g.function (operand.operand_of (expr_of c.args.value.now)) es (operands_of a.arguments.items)
+    c.args.first (vec_len c.args.out.now) c.args.on
+    (instructions_of c.args.out.now.items) (instructions_of c.lower_exprs.new.out.items) _ e a.ensures.value a.ensures.code g.ensures)
 
 pub returns-in_ok-arguments-in-Call-clause-grown : goal.returns-in_ok-arguments-in-Call-clause-grown
 returns-in_ok-arguments-in-Call-clause-grown c =

@@ -15,12 +15,15 @@ lower_expr-returns-in_ok-arguments-in-Call-clause-code t c =
     let es = operand.operands_of (exprs_of c.deref-in-Call.result.now) in
     let e = ap (λ x. operand.operand_of (expr_of x)) c.in-Call.is ∙ ap operand.operand_of (call_is f c.in-Call.arguments)
     ∙ ap (λ l. operand.Call f (operand.operands_of (exprs_of l))) (sym c.deref-in-Call.ensures.value) in
+    let g = c.in_ok-function-in-Call in
     on_ok c.part-in-Call.result c.part-in-Call.ensures.code
-    (call_emits f (operand.operand_of (expr_of c.args.expr.now)) es (operands_of c.in_ok-arguments-in-Call.arguments.items) c.args.first
+    (call_emits f g.function (operand.operand_of (expr_of c.args.expr.now)) es
+    (operands_of c.in_ok-arguments-in-Call.arguments.items) c.args.first
     (vec_len c.args.out.now) _ _
     (instructions_of c.args.out.now.items)
     (instructions_of c.lower_exprs.new.out.items) _ e c.in_ok-arguments-in-Call.ensures.value c.in_ok-arguments-in-Call.ensures.code
-    (omega (arith, c.len-begins.ensures, c.in_ok-arguments-in-Call.ensures.grown)) (omega (arith, c.in_ok-arguments-in-Call.ensures.grown)))
+    (omega (arith, c.len-begins.ensures, c.in_ok-arguments-in-Call.ensures.grown)) (omega (arith, c.in_ok-arguments-in-Call.ensures.grown))
+    g.ensures)
 
 pub lower_expr-returns-in_ok-arguments-in-Call-clause-grown : goal.lower_expr-returns-in_ok-arguments-in-Call-clause-grown
 lower_expr-returns-in_ok-arguments-in-Call-clause-grown t c =

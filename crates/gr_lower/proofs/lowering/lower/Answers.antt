@@ -28,6 +28,7 @@ returns c =
     let fs = c.deref-function-items.result.now in
     let z = drop_no_functions fs c.loop-function.function-index (omega arith) in
     let found = function_codes_of c.loop-function.functions.items in
-    ap (λ l. make l c.args.program.now.main)
+    ap (make found) c.in_ok-main.ensures
+    ∙ ap (λ l. make l c.args.program.now.main)
     (sym (alone found) ∙ ap (λ l. found ++ map lowered_function l) (sym z) ∙ c.loop-function.invariant
     ∙ ap (λ l. map lowered_function (functions_of l)) c.deref-function-items.ensures.value)
