@@ -27,8 +27,8 @@ restored (former.Int k n) cells = slice_set cells k (Some (values.Int n))
 restored (former.Bool k b) cells = slice_set cells k (Some (values.Bool b))
 restored (former.Unit k) cells = slice_set cells k (Some values.Unit)
 restored (former.Nil k) cells = slice_set cells k (Some (values.Chan None))
-restored (former.Channel n k go) cells = slice_set cells k (Some (values.Chan (Some (record { go = go; n = n }))))
-restored (former.IntAndBool b k n j) cells = slice_set (slice_set cells j (Some (values.Bool b))) k (Some (values.Int n))
+restored (former.Channel k name) cells = slice_set cells k (Some (values.Chan (Some name.value)))
+restored (former.IntAndBool b k n) cells = slice_set (slice_set cells (k + 1) (Some (values.Bool b))) k (Some (values.Int n))
 restored (former.Each ws) cells = each_restored ws.value.items cells
 
 -- where a frame stands
@@ -70,7 +70,7 @@ undone (undos.Made f u) g = record (before_step g (on_innermost (frame_in f u) g
 undone (undos.Began s) g = record (before_step g (on_innermost (at_spot s) g.frames)) { children = g.children - 1 }
 undone (undos.Met m) g = record g { status = status_of m.value.status; frames = on_innermost (frame_in m.value.function m.value.frame) g.frames }
 undone (undos.Parked s) g = record (before_step g (on_innermost (at_spot s) g.frames)) { status = ready }
-undone (undos.Finished f n cells) g = record g { status = ready; frames = record { function = f; number = n; cells = cells.items } ∷ []; steps = g.steps - 1 }
+undone (undos.Finished f) g = record g { status = ready; frames = f.value ∷ []; steps = g.steps - 1 }
 undone (undos.Faulted s) g = before_step g (on_innermost (at_spot s) g.frames)
 undone (undos.Retried s) g = record g { status = status_of s }
 
@@ -88,7 +88,7 @@ Fits (undos.Made f u) g = IsLive g × (0 < g.steps) × (0 < g.channels)
 Fits (undos.Began s) g = IsLive g × (0 < g.steps) × (0 < g.children)
 Fits (undos.Met m) g = IsLive g × (is_finished (status_of m.value.status) ≡ false)
 Fits (undos.Parked s) g = IsLive g × (0 < g.steps)
-Fits (undos.Finished f n cells) g = (g.status ≡ finished) × (0 < g.steps)
+Fits (undos.Finished f) g = (g.status ≡ finished) × (0 < g.steps)
 Fits (undos.Faulted s) g = 0 < g.steps
 Fits (undos.Retried s) g = IsLive g × (is_finished (status_of s) ≡ false)
 

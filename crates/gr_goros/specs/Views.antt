@@ -37,7 +37,7 @@ abbrev pub status_of : Status → rules.Status
 status_of statuses.Ready = ready
 status_of (statuses.Sending c) = waiting (ToSend c None ∷ [])
 status_of (statuses.Receiving c) = waiting (ToReceive c None ∷ [])
-status_of (statuses.Waiting ws) = waiting (waits_of ws.items)
+status_of (statuses.Waiting ws) = waiting (waits_of ws.value.items)
 status_of statuses.Finished = finished
 
 abbrev pub is_finished : rules.Status → Bool

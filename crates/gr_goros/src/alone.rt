@@ -61,10 +61,10 @@ impl Frame {
     #[tactic(auto, using(crate::proofs::AloneLemmas::update_right, crate::proofs::AloneLemmas::update_stays, crate::proofs::AloneLemmas::update_none, crate::proofs::AloneLemmas::update_many))]
     fn updates(
         &self,
-        variable: usize,
+        variable: u32,
         op: BinaryOp,
         operands: &[Operand],
-        on: usize,
+        on: u32,
         depth: Depth,
     ) -> bool
         requires { ¬ (updated self.now variable op on (operands_of operands.now) ≡ wrong) }

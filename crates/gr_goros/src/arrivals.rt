@@ -68,12 +68,12 @@ impl Goroutine {
         let instruction = self.top.instruction(code);
         match arrival {
             Arrival::Value(value) => {
-                let undo = self.top.resume(instruction, value);
+                let undo = self.top.resume(alloc, instruction, value)?;
                 self.steps += 1;
                 Ok(GoUndo::Went(self.top.kept_function(), undo))
             }
             Arrival::Channel(value) => {
-                let undo = self.top.resume(instruction, value);
+                let undo = self.top.resume(alloc, instruction, value)?;
                 self.steps += 1;
                 self.channels += 1;
                 Ok(GoUndo::Made(self.top.kept_function(), undo))
@@ -124,7 +124,7 @@ impl Goroutine {
                 status: Status::Ready,
                 function: self.top.kept_function(),
                 frame: FrameUndo {
-                    number: self.top.pc(),
+                    number: self.top.kept_pc(),
                     cells: Former::Same,
                 },
             },
@@ -135,10 +135,10 @@ impl Goroutine {
     }
 
     /// Begins to wait, for one of these.
-    pub fn park(&mut self, waits: Vec<Wait>) -> GoUndo
+    pub fn park(&mut self, waits: Box<Vec<Wait>>) -> GoUndo
         requires waiting { self.old.content.status ≡ ready }
         requires counted { self.old.content.steps + 1 < 2 ^ 64 }
-        ensures after { self.new.content ≡ parked (waits_of waits.items) self.old.content }
+        ensures after { self.new.content ≡ parked (waits_of waits.value.items) self.old.content }
         ensures undone { Undoes result self.old self.new }
     {
         self.status = Status::Waiting(waits);
@@ -170,22 +170,26 @@ impl Goroutine {
         self.top.spot()
     }
 
-    /// Comes to an end: from its outermost frame, or by a fault.
-    pub fn halt(&mut self, alloc: Global, how: Halt) -> GoUndo
+    /// Comes to an end: from its outermost frame, or by a fault. Refused, nothing has changed.
+    pub fn halt(&mut self, alloc: Global, how: Halt) -> Result<GoUndo, NoMemory>
         requires at_the_end { CanHalt how self.old.content }
         requires counted { self.old.content.steps + 1 < 2 ^ 64 }
-        ensures after { self.new.content ≡ halted how self.old.content }
-        ensures undone { Undoes result self.old self.new }
+        ensures after { IfOk result (λ _. self.new.content ≡ halted how self.old.content) }
+        ensures undone { IfOk result (λ undo. Undoes undo self.old self.new) }
+        ensures err { OnErr result (self.new ≡ self.old) }
     {
-        self.steps += 1;
         match how {
             Halt::Finished => {
+                let mut kept = Box::new(alloc, Frame::unseen(alloc))?;
+                *kept = mem::replace(&mut self.top, Frame::unseen(alloc));
                 self.status = Status::Finished;
-                let frame = mem::replace(&mut self.top, Frame::unseen(alloc));
-                let (function, number, cells) = frame.into_parts();
-                GoUndo::Finished(function, number, cells)
+                self.steps += 1;
+                Ok(GoUndo::Finished(kept))
             }
-            Halt::Faulted => GoUndo::Faulted(self.top.spot()),
+            Halt::Faulted => {
+                self.steps += 1;
+                Ok(GoUndo::Faulted(self.top.spot()))
+            }
         }
     }
 

@@ -25,7 +25,7 @@ use std::mem;
 pub(crate) const MOST_FRAMES: usize = 1000;
 
 /// The number of the function that an instruction calls, and the arguments, if it is a call.
-pub(crate) fn call_in(instruction: &Instruction) -> Option<(usize, &[Operand])>
+pub(crate) fn call_in(instruction: &Instruction) -> Option<(u32, &[Operand])>
     ensures { MatchOption result (is_calling (instruction_of instruction.now) ≡ false)
         (λ c. CallsWith (instruction_of instruction.now) c.0 (operands_of c.1.now)) }
 {
@@ -42,11 +42,11 @@ pub(crate) fn call_in(instruction: &Instruction) -> Option<(usize, &[Operand])>
 }
 
 /// Gives a value to the parameter with a number, if there is one that keeps it.
-fn give(cells: &mut Vec<Option<Value>>, parameters: &[Option<usize>], number: usize, value: Value)
+fn give(cells: &mut Vec<Option<Value>>, parameters: &[Option<u32>], number: usize, value: Value)
     ensures { cells.new.items ≡ given (slice_get parameters.now number) value cells.old.items }
 {
     if let Some(Some(slot)) = parameters.get(number) {
-        put(cells, *slot, Some(value));
+        put(cells, *slot as usize, Some(value));
     }
 }
 
@@ -57,7 +57,7 @@ fn pass(
     alloc: Global,
     own: &[Option<Value>],
     operands: &[Operand],
-    parameters: &[Option<usize>],
+    parameters: &[Option<u32>],
     cells: &mut Vec<Option<Value>>,
 ) -> Result<(), Stop>
     requires { ¬ (passed own.now (operands_of operands.now) parameters.now cells.old.items ≡ wrong) }
@@ -80,7 +80,7 @@ impl Frame {
         &self,
         alloc: Global,
         code: &Code,
-        function: usize,
+        function: u32,
         operands: &[Operand],
     ) -> Result<Frame, Stop>
         requires { ¬ (called (program_code_of code.now) function self.now.cells (operands_of operands.now) ≡ wrong) }
@@ -88,9 +88,6 @@ impl Frame {
             ≡ gives f) }
         ensures stop { IfErr result (λ e. Stops e (rules.evaluate_all self.now.cells (operands_of operands.now))) }
     {
-        let Ok(number) = u32::try_from(function) else {
-            return Err(Stop::NoMemory);
-        };
         let Some(function_code) = function_at(code, function) else {
             return match evaluate_all(alloc, self.cells(), operands) {
                 Ok(_) => unreachable!(),
@@ -105,7 +102,7 @@ impl Frame {
             &function_code.parameters,
             &mut cells,
         )?;
-        Ok(Frame::begin(number, cells))
+        Ok(Frame::begin(function, cells))
     }
 }
 
@@ -124,7 +121,7 @@ impl Goroutine {
         &mut self,
         alloc: Global,
         code: &Code,
-        function: usize,
+        function: u32,
         operands: &[Operand],
     ) -> Result<(Kind, GoUndo), NoMemory>
         requires right { ¬ (calls (program_code_of code.now) self.old.content function
@@ -153,7 +150,7 @@ impl Goroutine {
         &mut self,
         alloc: Global,
         code: &Code,
-        function: usize,
+        function: u32,
         operands: &[Operand],
     ) -> Result<(Kind, GoUndo), NoMemory>
         requires right { ¬ (calls (program_code_of code.now) self.old.content function

@@ -13,36 +13,48 @@ use gr_base::{ChName, NoMemory, Value};
 use std::alloc::Global;
 use std::mem;
 
-/// What a cell held, from which it is put back.
-fn kept(slot: usize, held: Option<Value>) -> Former
-    ensures { (cells : Variables) → restored result cells ≡ slice_set cells slot held }
+/// What a cell holds, from which it is put back. A channel is kept in a box of its own, whose place is taken here.
+fn kept(alloc: Global, slot: u32, held: &Option<Value>) -> Result<Former, NoMemory>
+    ensures { IfOk result (λ former. (cells : Variables) → restored former cells ≡ slice_set cells slot held.now) }
 {
     match held {
-        None => Former::Nothing(slot),
-        Some(Value::Int(n)) => Former::Int(slot, n),
-        Some(Value::Bool(b)) => Former::Bool(slot, b),
-        Some(Value::Unit) => Former::Unit(slot),
-        Some(Value::Chan(None)) => Former::Nil(slot),
-        Some(Value::Chan(Some(name))) => Former::Channel(name.n, slot, name.go),
+        None => Ok(Former::Nothing(slot)),
+        Some(Value::Int(n)) => Ok(Former::Int(slot, *n)),
+        Some(Value::Bool(b)) => Ok(Former::Bool(slot, *b)),
+        Some(Value::Unit) => Ok(Former::Unit(slot)),
+        Some(Value::Chan(None)) => Ok(Former::Nil(slot)),
+        Some(Value::Chan(Some(name))) => Ok(Former::Channel(
+            slot,
+            Box::new(alloc, name.copy(alloc)?)?,
+        )),
     }
 }
 
-/// Writes to a cell, if there is one with the number, and answers what it held.
-pub(crate) fn write(cells: &mut Vec<Option<Value>>, slot: usize, value: Value) -> Former
-    ensures after { cells.new.items ≡ slice_set cells.old.items slot (Some value) }
-    ensures back { restored result cells.new.items ≡ cells.old.items }
+/// Writes to a cell, if there is one with the number, and answers what it held. Refused, nothing has changed.
+pub(crate) fn write(
+    alloc: Global,
+    cells: &mut Vec<Option<Value>>,
+    slot: u32,
+    value: Value,
+) -> Result<Former, NoMemory>
+    ensures after { IfOk result (λ _. cells.new.items ≡ slice_set cells.old.items slot (Some value)) }
+    ensures back { IfOk result (λ former. restored former cells.new.items ≡ cells.old.items) }
+    ensures err { OnErr result (cells.new ≡ cells.old) }
 {
-    if slot < cells.len() {
-        return kept(slot, mem::replace(&mut cells[slot], Some(value)));
+    let place = slot as usize;
+    if place < cells.len() {
+        let former = kept(alloc, slot, &cells[place])?;
+        cells[place] = Some(value);
+        return Ok(former);
     }
-    Former::Same
+    Ok(Former::Same)
 }
 
 /// Writes to a cell, if there is one with the number, and notes what it held.
 fn note(
     cells: &mut Vec<Option<Value>>,
-    written: &mut Vec<(usize, Option<Value>)>,
-    slot: usize,
+    written: &mut Vec<(u32, Option<Value>)>,
+    slot: u32,
     value: Value,
 )
     requires { vec_len written.old < vec_capacity written.old }
@@ -51,8 +63,9 @@ fn note(
     ensures len { vec_len written.new ≤ vec_len written.old + 1 }
     ensures capacity { vec_capacity written.new ≡ vec_capacity written.old }
 {
-    if slot < cells.len() {
-        let held = mem::replace(&mut cells[slot], Some(value));
+    let place = slot as usize;
+    if place < cells.len() {
+        let held = mem::replace(&mut cells[place], Some(value));
         written.push_reserved((slot, held));
     }
 }
@@ -70,20 +83,20 @@ pub(crate) fn put(cells: &mut Vec<Option<Value>>, slot: usize, held: Option<Valu
 /// Puts a number into a cell that holds another.
 #[inline(always)]
 #[tactic(auto, using(crate::proofs::CellLemmas::number_back))]
-pub(crate) fn put_number(cells: &mut Vec<Option<Value>>, slot: usize, former: i64, n: i64)
+pub(crate) fn put_number(cells: &mut Vec<Option<Value>>, slot: u32, former: i64, n: i64)
     requires { held (slice_get cells.old.items slot) ≡ gives (Int former) }
     ensures after { cells.new.items ≡ slice_set cells.old.items slot (Some (Int n)) }
     ensures back { slice_set cells.new.items slot (Some (Int former)) ≡ cells.old.items }
 {
-    put(cells, slot, Some(Value::Int(n)));
+    put(cells, slot as usize, Some(Value::Int(n)));
 }
 
 /// Puts back what each of these cells held, the last first.
-fn put_each(cells: &mut Vec<Option<Value>>, mut written: Vec<(usize, Option<Value>)>)
+fn put_each(cells: &mut Vec<Option<Value>>, mut written: Vec<(u32, Option<Value>)>)
     ensures { cells.new.items ≡ each_restored written.items cells.old.items }
 {
     while let Some((slot, held)) = written.pop() {
-        put(cells, slot, held);
+        put(cells, slot as usize, held);
     }
 }
 
@@ -93,15 +106,19 @@ pub(crate) fn put_back(cells: &mut Vec<Option<Value>>, former: Former)
 {
     match former {
         Former::Same => {}
-        Former::Nothing(slot) => put(cells, slot, None),
-        Former::Int(slot, n) => put(cells, slot, Some(Value::Int(n))),
-        Former::Bool(slot, b) => put(cells, slot, Some(Value::Bool(b))),
-        Former::Unit(slot) => put(cells, slot, Some(Value::Unit)),
-        Former::Nil(slot) => put(cells, slot, Some(Value::Chan(None))),
-        Former::Channel(n, slot, go) => put(cells, slot, Some(Value::Chan(Some(ChName { go, n })))),
-        Former::IntAndBool(b, slot, n, other) => {
-            put(cells, other, Some(Value::Bool(b)));
-            put(cells, slot as usize, Some(Value::Int(n)));
+        Former::Nothing(slot) => put(cells, slot as usize, None),
+        Former::Int(slot, n) => put(cells, slot as usize, Some(Value::Int(n))),
+        Former::Bool(slot, b) => put(cells, slot as usize, Some(Value::Bool(b))),
+        Former::Unit(slot) => put(cells, slot as usize, Some(Value::Unit)),
+        Former::Nil(slot) => put(cells, slot as usize, Some(Value::Chan(None))),
+        Former::Channel(slot, name) => {
+            let name = Box::into_inner(name);
+            put(cells, slot as usize, Some(Value::Chan(Some(name))));
+        }
+        Former::IntAndBool(b, slot, n) => {
+            let slot = slot as usize;
+            put(cells, slot + 1, Some(Value::Bool(b)));
+            put(cells, slot, Some(Value::Int(n)));
         }
         Former::Each(written) => put_each(cells, Box::into_inner(written)),
     }
@@ -111,9 +128,9 @@ pub(crate) fn put_back(cells: &mut Vec<Option<Value>>, former: Former)
 pub(crate) fn assign(
     alloc: Global,
     cells: &mut Vec<Option<Value>>,
-    targets: &[Option<usize>],
+    targets: &[Option<u32>],
     values: Vec<Value>,
-) -> Result<Vec<(usize, Option<Value>)>, NoMemory>
+) -> Result<Vec<(u32, Option<Value>)>, NoMemory>
     requires { ¬ (assigned targets.now values.items cells.old.items ≡ wrong) }
     ensures after { IfOk result (λ _. assigned targets.now values.items cells.old.items ≡ gives cells.new.items) }
     ensures back { IfOk result (λ written. each_restored written.items cells.new.items ≡ cells.old.items) }
@@ -133,23 +150,21 @@ pub(crate) fn assign(
     Ok(written)
 }
 
-/// The number and the truth value that two cells hold, if they do, behind the number of the first cell.
-fn number_and_truth(
-    cells: &[Option<Value>],
-    first: usize,
-    second: usize,
-) -> Option<(u32, i64, bool)>
-    ensures slot { IfSome result (λ r. r.0 ≡ first) }
-    ensures number { IfSome result (λ r. held (slice_get cells.now first) ≡ gives (Int r.1)) }
-    ensures truth { IfSome result (λ r. held (slice_get cells.now second) ≡ gives (Bool r.2)) }
+/// The number and the truth value that two cells hold, if they do, and the second follows the first.
+fn number_and_truth(cells: &[Option<Value>], first: u32, second: u32) -> Option<(i64, bool)>
+    ensures next { IfSome result (λ _. second ≡ first + 1) }
+    ensures number { IfSome result (λ r. held (slice_get cells.now first) ≡ gives (Int r.0)) }
+    ensures truth { IfSome result (λ r. held (slice_get cells.now second) ≡ gives (Bool r.1)) }
 {
-    let slot = u32::try_from(first).ok()?;
-    let n = match cells.get(first) {
+    if first.checked_add(1)? != second {
+        return None;
+    }
+    let n = match cells.get(first as usize) {
         Some(Some(Value::Int(n))) => *n,
         _ => return None,
     };
-    match cells.get(second) {
-        Some(Some(Value::Bool(b))) => Some((slot, n, *b)),
+    match cells.get(second as usize) {
+        Some(Some(Value::Bool(b))) => Some((n, *b)),
         _ => None,
     }
 }
@@ -159,18 +174,18 @@ fn number_and_truth(
 pub(crate) fn write_two(
     alloc: Global,
     cells: &mut Vec<Option<Value>>,
-    first: (usize, Value),
-    second: (usize, Value),
+    first: (u32, Value),
+    second: (u32, Value),
 ) -> Result<Former, NoMemory>
     ensures after { IfOk result (λ _. cells.new.items
         ≡ slice_set (slice_set cells.old.items first.0 (Some first.1)) second.0 (Some second.1)) }
     ensures back { IfOk result (λ former. restored former cells.new.items ≡ cells.old.items) }
     ensures err { OnErr result (cells.new.items ≡ cells.old.items) }
 {
-    if let Some((slot, n, truth)) = number_and_truth(cells, first.0, second.0) {
-        put(cells, first.0, Some(first.1));
-        put(cells, second.0, Some(second.1));
-        return Ok(Former::IntAndBool(truth, slot, n, second.0));
+    if let Some((n, truth)) = number_and_truth(cells, first.0, second.0) {
+        put(cells, first.0 as usize, Some(first.1));
+        put(cells, second.0 as usize, Some(second.1));
+        return Ok(Former::IntAndBool(truth, first.0, n));
     }
     let mut kept = Box::new(alloc, Vec::new(alloc))?;
     let mut written = Vec::with_capacity(alloc, 2)?;
@@ -192,7 +207,7 @@ pub(crate) fn empty(alloc: Global, count: usize) -> Result<Vec<Option<Value>>, N
 }
 
 /// Gives values to parameters.
-pub(crate) fn fill(cells: &mut Vec<Option<Value>>, targets: &[Option<usize>], values: Vec<Value>)
+pub(crate) fn fill(cells: &mut Vec<Option<Value>>, targets: &[Option<u32>], values: Vec<Value>)
     requires { ¬ (assigned targets.now values.items cells.old.items ≡ wrong) }
     ensures { assigned targets.now values.items cells.old.items ≡ gives cells.new.items }
 {
@@ -204,6 +219,6 @@ pub(crate) fn fill(cells: &mut Vec<Option<Value>>, targets: &[Option<usize>], va
         let Some(slot) = *target else {
             continue;
         };
-        put(cells, slot, Some(value));
+        put(cells, slot as usize, Some(value));
     }
 }

@@ -70,7 +70,10 @@ fn copy_status(alloc: Global, status: &Status) -> Result<Status, NoMemory>
         Status::Ready => Ok(Status::Ready),
         Status::Sending(channel) => Ok(Status::Sending(channel.copy(alloc)?)),
         Status::Receiving(channel) => Ok(Status::Receiving(channel.copy(alloc)?)),
-        Status::Waiting(waits) => Ok(Status::Waiting(copy_all(alloc, waits)?)),
+        Status::Waiting(waits) => {
+            let waits = copy_all(alloc, waits)?;
+            Ok(Status::Waiting(Box::new(alloc, waits)?))
+        }
         Status::Finished => Ok(Status::Finished),
     }
 }

@@ -31,9 +31,9 @@ use std::mem;
 /// one.
 #[derive(Clone, Copy)]
 pub(crate) struct IntChange {
-    pub(crate) pc: usize,
+    pub(crate) pc: u32,
     pub(crate) writes: bool,
-    pub(crate) slot: usize,
+    pub(crate) slot: u32,
     pub(crate) former: i64,
 }
 
@@ -44,7 +44,7 @@ fn truth_of(cells: &[Option<Value>], operand: &Operand) -> Option<bool>
     let Operand::Variable(cell) = operand else {
         return None;
     };
-    match cells.get(*cell) {
+    match cells.get(*cell as usize) {
         Some(Some(Value::Bool(b))) => Some(*b),
         _ => None,
     }
@@ -95,7 +95,7 @@ impl Goroutine {
 
 impl Frame {
     /// Goes on at another instruction.
-    fn jump_to(&mut self, on: usize) -> IntChange
+    fn jump_to(&mut self, on: u32) -> IntChange
         ensures after { self.new ≡ at_number self.old on }
         ensures back { frame_before (kept_of result) self.new ≡ self.old }
     {
@@ -110,7 +110,7 @@ impl Frame {
 
     /// Goes on with a number in a cell that holds another.
     #[inline(always)]
-    fn put_int(&mut self, slot: usize, former: i64, n: i64, on: usize) -> IntChange
+    fn put_int(&mut self, slot: u32, former: i64, n: i64, on: u32) -> IntChange
         requires { held (slice_get self.old.cells slot) ≡ gives (Int former) }
         ensures after { self.new ≡ with_cell self.old slot (Int n) on }
         ensures back { frame_before (kept_of result) self.new ≡ self.old }
@@ -196,7 +196,7 @@ impl Frame {
 
     /// Goes on where a condition on numbers holds, or where it does not.
     #[inline(always)]
-    fn compare(&mut self, operand: &Operand, holds: usize, fails: usize) -> Option<IntChange>
+    fn compare(&mut self, operand: &Operand, holds: u32, fails: u32) -> Option<IntChange>
         requires { ¬ (tested self.old holds fails (also (operand_of operand.now) nothing) ≡ wrong) }
         ensures { ChangesInts result (tested self.old holds fails (also (operand_of operand.now) nothing)) self.old self.new }
     {
@@ -213,10 +213,10 @@ impl Frame {
     #[inline(always)]
     fn update_int(
         &mut self,
-        variable: usize,
+        variable: u32,
         op: BinaryOp,
         operand: &Operand,
-        on: usize,
+        on: u32,
     ) -> Option<IntChange>
         requires { ¬ (updated self.old variable op on (also (operand_of operand.now) nothing) ≡ wrong) }
         ensures { ChangesInts result (updated self.old variable op on (also (operand_of operand.now) nothing)) self.old self.new }
@@ -231,12 +231,7 @@ impl Frame {
 
     /// Assigns a number to one variable.
     #[inline(always)]
-    fn set_one(
-        &mut self,
-        targets: &[Option<usize>],
-        operand: &Operand,
-        on: usize,
-    ) -> Option<IntChange>
+    fn set_one(&mut self, targets: &[Option<u32>], operand: &Operand, on: u32) -> Option<IntChange>
         requires { ¬ (performed self.old (Assigns targets.now on) (also (operand_of operand.now) nothing) ≡ wrong) }
         ensures { ChangesInts result (performed self.old (Assigns targets.now on)
             (also (operand_of operand.now) nothing)) self.old self.new }
@@ -254,10 +249,10 @@ impl Frame {
     /// Assigns the first of a number and a truth value to one variable, as a clause of a select does that receives a number.
     fn set_first(
         &mut self,
-        targets: &[Option<usize>],
+        targets: &[Option<u32>],
         first: &Operand,
         second: &Operand,
-        on: usize,
+        on: u32,
     ) -> Option<IntChange>
         requires { ¬ (performed self.old (Assigns targets.now on)
             (also (operand_of first.now) (also (operand_of second.now) nothing)) ≡ wrong) }

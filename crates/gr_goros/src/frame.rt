@@ -26,7 +26,7 @@ use std::mem;
 pub struct Frame {
     function: u32,
     /// The number of the next instruction.
-    pub(crate) pc: usize,
+    pub(crate) pc: u32,
     pub(crate) cells: Vec<Option<Value>>,
 }
 
@@ -63,37 +63,16 @@ impl Frame {
     pub(crate) fn enter(
         alloc: Global,
         code: &Code,
-        function: usize,
+        function: u32,
         values: Vec<Value>,
     ) -> Result<Frame, NoMemory>
         requires { ¬ (entered (program_code_of code.now) function values.items ≡ wrong) }
         ensures { IfOk result (λ f. entered (program_code_of code.now) function values.items ≡ gives f) }
     {
-        let Ok(counted) = u32::try_from(function) else {
-            return Err(NoMemory);
-        };
         let function_code = code_of(code, function);
         let mut cells = cells::empty(alloc, function_code.cells)?;
         cells::fill(&mut cells, &function_code.parameters, values);
-        Ok(Frame::begin(counted, cells))
-    }
-
-    /// The numbers of the function and of the next instruction, and the cells.
-    pub(crate) fn into_parts(self) -> (u32, usize, Vec<Option<Value>>)
-        ensures { self ≡ record { function = result.0; number = result.1; cells = result.2.items } }
-    {
-        (self.function, self.pc, self.cells)
-    }
-
-    /// The frame that has these.
-    pub(crate) fn of_parts(function: u32, pc: usize, cells: Vec<Option<Value>>) -> Frame
-        ensures { result ≡ record { function = function; number = pc; cells = cells.items } }
-    {
-        Frame {
-            function,
-            pc,
-            cells,
-        }
+        Ok(Frame::begin(function, cells))
     }
 
     /// A copy of the frame.
@@ -126,6 +105,13 @@ impl Frame {
     pub fn pc(&self) -> usize
         ensures { result ≡ self.now.number }
     {
+        self.pc as usize
+    }
+
+    /// The number of the next instruction, as it is kept.
+    pub(crate) fn kept_pc(&self) -> u32
+        ensures { result ≡ self.now.number }
+    {
         self.pc
     }
 
@@ -152,7 +138,7 @@ impl Frame {
         requires { ¬ (instruction_in (program_code_of code.now) self.now ≡ wrong) }
         ensures { instruction_in (program_code_of code.now) self.now ≡ gives (instruction_of result.now) }
     {
-        match function_at(code, self.function()) {
+        match function_at(code, self.function) {
             Some(function_code) => match instruction_at(function_code, self.pc) {
                 Some(instruction) => instruction,
                 None => unreachable!(),
@@ -167,9 +153,9 @@ impl Frame {
         requires { ¬ (line_of (program_code_of code.now) self.now ≡ None) }
         ensures { line_of (program_code_of code.now) self.now ≡ Some result }
     {
-        match function_at(code, self.function()) {
+        match function_at(code, self.function) {
             Some(function_code) => match line_at(function_code, self.pc) {
-                Some(line) => *line,
+                Some(line) => *line as usize,
                 None => unreachable!(),
             },
             None => unreachable!(),
@@ -177,7 +163,7 @@ impl Frame {
     }
 
     /// Goes on at another instruction.
-    pub(crate) fn go_on(&mut self, on: usize) -> FrameUndo
+    pub(crate) fn go_on(&mut self, on: u32) -> FrameUndo
         ensures after { self.new ≡ at_number self.old on }
         ensures back { frame_before result self.new ≡ self.old }
     {
@@ -188,25 +174,40 @@ impl Frame {
         }
     }
 
-    /// Goes on with a value in a cell.
+    /// Goes on with a value in a cell. Refused, nothing has changed.
     #[inline]
-    pub(crate) fn keep(&mut self, slot: usize, value: Value, on: usize) -> FrameUndo
-        ensures after { self.new ≡ with_cell self.old slot value on }
-        ensures back { frame_before result self.new ≡ self.old }
+    pub(crate) fn keep(
+        &mut self,
+        alloc: Global,
+        slot: u32,
+        value: Value,
+        on: u32,
+    ) -> Result<FrameUndo, NoMemory>
+        ensures after { IfOk result (λ _. self.new ≡ with_cell self.old slot value on) }
+        ensures back { IfOk result (λ u. frame_before u self.new ≡ self.old) }
+        ensures err { OnErr result (self.new ≡ self.old) }
     {
+        let cells = cells::write(alloc, &mut self.cells, slot, value)?;
         let number = mem::replace(&mut self.pc, on);
-        let cells = cells::write(&mut self.cells, slot, value);
-        FrameUndo { number, cells }
+        Ok(FrameUndo { number, cells })
     }
 
-    /// Goes on with the value of its part, which is kept nowhere where the part is the whole statement.
-    pub(crate) fn keep_part(&mut self, slot: Option<usize>, value: Value, on: usize) -> FrameUndo
-        ensures after { self.new ≡ with_part self.old slot value on }
-        ensures back { frame_before result self.new ≡ self.old }
+    /// Goes on with the value of its part, which is kept nowhere where the part is the whole statement. Refused, nothing has
+    /// changed.
+    pub(crate) fn keep_part(
+        &mut self,
+        alloc: Global,
+        slot: Option<u32>,
+        value: Value,
+        on: u32,
+    ) -> Result<FrameUndo, NoMemory>
+        ensures after { IfOk result (λ _. self.new ≡ with_part self.old slot value on) }
+        ensures back { IfOk result (λ u. frame_before u self.new ≡ self.old) }
+        ensures err { OnErr result (self.new ≡ self.old) }
     {
         match slot {
-            Some(slot) => self.keep(slot, value, on),
-            None => self.go_on(on),
+            Some(slot) => self.keep(alloc, slot, value, on),
+            None => Ok(self.go_on(on)),
         }
     }
 
@@ -214,9 +215,9 @@ impl Frame {
     pub(crate) fn assign(
         &mut self,
         alloc: Global,
-        targets: &[Option<usize>],
+        targets: &[Option<u32>],
         values: Vec<Value>,
-        on: usize,
+        on: u32,
     ) -> Result<FrameUndo, NoMemory>
         requires { ¬ (assigned targets.now values.items self.old.cells ≡ wrong) }
         ensures after { IfOk result (λ _. acted self.old (Assigns targets.now on) values.items ≡ gives (Steps self.new)) }
@@ -236,9 +237,9 @@ impl Frame {
     pub(crate) fn keep_received(
         &mut self,
         alloc: Global,
-        into: Option<(usize, usize)>,
+        into: Option<(u32, u32)>,
         got: (Value, bool),
-        on: usize,
+        on: u32,
     ) -> Result<FrameUndo, NoMemory>
         ensures after { IfOk result (λ _. self.new ≡ with_received self.old into got on) }
         ensures back { IfOk result (λ u. frame_before u self.new ≡ self.old) }
@@ -275,14 +276,20 @@ impl Frame {
         spot
     }
 
-    /// Goes on with the value of its part.
-    pub(crate) fn resume(&mut self, instruction: &Instruction, value: Value) -> FrameUndo
+    /// Goes on with the value of its part. Refused, nothing has changed.
+    pub(crate) fn resume(
+        &mut self,
+        alloc: Global,
+        instruction: &Instruction,
+        value: Value,
+    ) -> Result<FrameUndo, NoMemory>
         requires { ¬ (resumed_in self.old (instruction_of instruction.now) value ≡ wrong) }
-        ensures after { resumed_in self.old (instruction_of instruction.now) value ≡ gives self.new }
-        ensures back { frame_before result self.new ≡ self.old }
+        ensures after { IfOk result (λ _. resumed_in self.old (instruction_of instruction.now) value ≡ gives self.new) }
+        ensures back { IfOk result (λ u. frame_before u self.new ≡ self.old) }
+        ensures err { OnErr result (self.new ≡ self.old) }
     {
         match instruction {
-            Instruction::Part { slot, on, .. } => self.keep_part(*slot, value, *on),
+            Instruction::Part { slot, on, .. } => self.keep_part(alloc, *slot, value, *on),
             Instruction::Decide {
                 op,
                 slot,
@@ -295,7 +302,7 @@ impl Frame {
                 } else {
                     *right
                 };
-                self.keep(*slot, value, on)
+                self.keep(alloc, *slot, value, on)
             }
             _ => unreachable!(),
         }

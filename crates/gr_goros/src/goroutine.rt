@@ -54,7 +54,7 @@ impl Goroutine {
     pub fn start(
         alloc: Global,
         code: &Code,
-        function: usize,
+        function: u32,
         arguments: Vec<Value>,
     ) -> Result<Goroutine, NoMemory>
         requires { ¬ (entered (program_code_of code.now) function arguments.items ≡ wrong) }

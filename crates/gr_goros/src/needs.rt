@@ -48,7 +48,7 @@ pub enum Need {
     /// To return from the outermost frame.
     Exit,
     Start {
-        function: usize,
+        function: u32,
         arguments: Vec<Value>,
     },
     Make {
@@ -228,12 +228,7 @@ fn need_of_part(alloc: Global, cells: &[Option<Value>], ask: &Ask) -> Result<Nee
 }
 
 /// What a send asks for, by all its operands at once.
-fn need_of_values(
-    alloc: Global,
-    frame: &Frame,
-    operands: &[Operand],
-    on: usize,
-) -> Result<Need, Stop>
+fn need_of_values(alloc: Global, frame: &Frame, operands: &[Operand], on: u32) -> Result<Need, Stop>
     requires { ¬ (performed frame.now (instructions.Sends on) (operands_of operands.now) ≡ wrong) }
     ensures ok { IfOk result (λ n. Wanted n (performed frame.now (instructions.Sends on) (operands_of operands.now))) }
     ensures stop { IfErr result (λ e. Stops e (performed frame.now (instructions.Sends on) (operands_of operands.now))) }
@@ -249,7 +244,7 @@ fn need_of_values(
 }
 
 /// What a send asks for.
-fn need_of_send(alloc: Global, frame: &Frame, operands: &[Operand], on: usize) -> Result<Need, Stop>
+fn need_of_send(alloc: Global, frame: &Frame, operands: &[Operand], on: u32) -> Result<Need, Stop>
     requires { ¬ (performed frame.now (instructions.Sends on) (operands_of operands.now) ≡ wrong) }
     ensures ok { IfOk result (λ n. Wanted n (performed frame.now (instructions.Sends on) (operands_of operands.now))) }
     ensures stop { IfErr result (λ e. Stops e (performed frame.now (instructions.Sends on) (operands_of operands.now))) }

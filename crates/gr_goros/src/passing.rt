@@ -29,7 +29,9 @@ impl Frame {
         ensures err { OnErr result (self.new ≡ self.old) }
     {
         match (instruction, clause) {
-            (Instruction::Part { ask, slot, on }, None) => Ok(self.pass_part(ask, *slot, *on, got)),
+            (Instruction::Part { ask, slot, on }, None) => self.pass_part(
+                alloc, ask, *slot, *on, got,
+            ),
             (Instruction::Perform { action, .. }, None) => self.pass_action(alloc, action, got),
             (Instruction::Choose { arms }, Some(number)) => {
                 match arm_at(arms, number) {
@@ -41,20 +43,22 @@ impl Frame {
         }
     }
 
-    /// Goes on past a receive that is a part.
+    /// Goes on past a receive that is a part. Refused, nothing has changed.
     fn pass_part(
         &mut self,
+        alloc: Global,
         ask: &Ask,
-        slot: Option<usize>,
-        on: usize,
+        slot: Option<u32>,
+        on: u32,
         got: Option<(Value, bool)>,
-    ) -> FrameUndo
+    ) -> Result<FrameUndo, NoMemory>
         requires { ¬ (past_part_in self.old (ask_of ask.now) slot on got ≡ wrong) }
-        ensures after { past_part_in self.old (ask_of ask.now) slot on got ≡ gives self.new }
-        ensures back { frame_before result self.new ≡ self.old }
+        ensures after { IfOk result (λ _. past_part_in self.old (ask_of ask.now) slot on got ≡ gives self.new) }
+        ensures back { IfOk result (λ u. frame_before u self.new ≡ self.old) }
+        ensures err { OnErr result (self.new ≡ self.old) }
     {
         match (ask, got) {
-            (Ask::Receive { .. }, Some((value, _))) => self.keep_part(slot, value, on),
+            (Ask::Receive { .. }, Some((value, _))) => self.keep_part(alloc, slot, value, on),
             _ => unreachable!(),
         }
     }
@@ -77,7 +81,7 @@ impl Frame {
                 self.keep_received(alloc, Some((*value, *ok)), got, *on)
             }
             (Action::Turn { slot, body, .. }, Some((value, true))) => {
-                Ok(self.keep(*slot, value, *body))
+                self.keep(alloc, *slot, value, *body)
             }
             (Action::Turn { after, .. }, Some((_, false))) => Ok(self.go_on(*after)),
             _ => unreachable!(),

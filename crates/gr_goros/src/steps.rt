@@ -123,7 +123,7 @@ impl Goroutine {
             Left {
                 frame: Frame::unseen(alloc),
                 caller: FrameUndo {
-                    number: self.top.pc(),
+                    number: self.top.kept_pc(),
                     cells: Former::Same,
                 },
             },
@@ -131,7 +131,13 @@ impl Goroutine {
         let Some(mut caller) = self.below.pop() else {
             unreachable!();
         };
-        left.caller = caller.resume(caller.instruction(code), value);
+        match caller.resume(alloc, caller.instruction(code), value) {
+            Ok(undo) => left.caller = undo,
+            Err(error) => {
+                self.below.push_reserved(caller);
+                return Err(error);
+            }
+        }
         left.frame = mem::replace(&mut self.top, caller);
         self.steps += 1;
         Ok((Kind::Return, GoUndo::Left(left)))

@@ -1,6 +1,6 @@
 //! Steps of a frame that ask for nothing beyond its goroutine.
 
-ghost use Rattle.std.specs.Prelude.{◌≡◌, true, false, IfOk, IfErr, slice_get};
+ghost use Rattle.std.specs.Prelude.{◌≡◌, true, false, IfOk, IfErr, OnErr, slice_get};
 ghost use Rattle.gr_rules.specs.Outcomes.{gives, wrong};
 ghost use Rattle.gr_rules.specs.Evaluation as rules;
 ghost use Rattle.gr_rules.specs.Deeds as deeds;
@@ -87,7 +87,8 @@ impl Frame {
                 right,
             } => {
                 let value = evaluate(alloc, self.cells(), left)?;
-                Ok(Task::Steps(self.decide(*op, value, *slot, *settled, *right)))
+                let undo = self.decide(alloc, *op, value, *slot, *settled, *right)?;
+                Ok(Task::Steps(undo))
             }
             Instruction::Perform { action, operands } => {
                 self.perform(alloc, action, operands, has_caller)
@@ -96,20 +97,22 @@ impl Frame {
         }
     }
 
-    /// Goes on with the value of the left operand of `&&` or `||`, where that leads.
+    /// Goes on with the value of the left operand of `&&` or `||`, where that leads. Refused, nothing has changed.
     fn decide(
         &mut self,
+        alloc: Global,
         op: BinaryOp,
         value: Value,
-        slot: usize,
-        settled: usize,
-        right: usize,
-    ) -> FrameUndo
-        ensures after { self.new ≡ frames.past_decision self.old op slot settled right value }
-        ensures back { frame_before result self.new ≡ self.old }
+        slot: u32,
+        settled: u32,
+        right: u32,
+    ) -> Result<FrameUndo, NoMemory>
+        ensures after { IfOk result (λ _. self.new ≡ frames.past_decision self.old op slot settled right value) }
+        ensures back { IfOk result (λ u. frame_before u self.new ≡ self.old) }
+        ensures err { OnErr result (self.new ≡ self.old) }
     {
         let on = if settles(op, &value) { settled } else { right };
-        self.keep(slot, value, on)
+        self.keep(alloc, slot, value, on)
     }
 
     /// What a statement comes to, as `task` does.
@@ -144,7 +147,7 @@ impl Frame {
     }
 
     /// Goes on.
-    fn move_on(&mut self, alloc: Global, operands: &[Operand], on: usize) -> Result<Task, Stop>
+    fn move_on(&mut self, alloc: Global, operands: &[Operand], on: u32) -> Result<Task, Stop>
         requires { ¬ (performed self.old (GoesOn on) (operands_of operands.now) ≡ wrong) }
         ensures { Does result (performed self.old (GoesOn on) (operands_of operands.now)) self.old self.new }
     {
@@ -162,8 +165,8 @@ impl Frame {
         &mut self,
         alloc: Global,
         operands: &[Operand],
-        holds: usize,
-        fails: usize,
+        holds: u32,
+        fails: u32,
     ) -> Result<Task, Stop>
         requires { ¬ (tested self.old holds fails (operands_of operands.now) ≡ wrong) }
         ensures { Does result (tested self.old holds fails (operands_of operands.now)) self.old self.new }
@@ -184,34 +187,33 @@ impl Frame {
         &mut self,
         alloc: Global,
         operands: &[Operand],
-        slot: usize,
-        on: usize,
+        slot: u32,
+        on: u32,
     ) -> Result<Task, Stop>
         requires { ¬ (ranged self.old slot on (operands_of operands.now) ≡ wrong) }
         ensures { Does result (ranged self.old slot on (operands_of operands.now)) self.old self.new }
     {
         let channel = only(alloc, self.cells(), operands)?;
-        Ok(Task::Steps(self.keep(slot, channel, on)))
+        Ok(Task::Steps(self.keep(alloc, slot, channel, on)?))
     }
 
     /// Assigns a value to a variable.
     #[inline]
-    fn store(&mut self, variable: usize, value: Value, on: usize) -> FrameUndo
+    fn store(&mut self, alloc: Global, variable: u32, value: Value, on: u32) -> Result<Task, Stop>
         requires { ¬ (stored self.old variable on value ≡ wrong) }
-        ensures after { stored self.old variable on value ≡ gives (frames.Steps self.new) }
-        ensures back { frame_before result self.new ≡ self.old }
+        ensures { Does result (stored self.old variable on value) self.old self.new }
     {
-        self.keep(variable, value, on)
+        Ok(Task::Steps(self.keep(alloc, variable, value, on)?))
     }
 
     /// Assigns with an operator.
     fn update(
         &mut self,
         alloc: Global,
-        variable: usize,
+        variable: u32,
         op: BinaryOp,
         operands: &[Operand],
-        on: usize,
+        on: u32,
     ) -> Result<Task, Stop>
         requires { ¬ (updated self.old variable op on (operands_of operands.now) ≡ wrong) }
         ensures { Does result (updated self.old variable op on (operands_of operands.now)) self.old self.new }
@@ -220,22 +222,22 @@ impl Frame {
             if let Some(y) = number_of(self.cells(), operand) {
                 if let Some(x) = number_in(self.cells(), variable) {
                     let value = on_ints(op, x, y)?.to_value();
-                    return Ok(Task::Steps(self.store(variable, value, on)));
+                    return self.store(alloc, variable, value, on);
                 }
             }
         }
         let right = only(alloc, self.cells(), operands)?;
         let left = self.held(alloc, variable)?;
         let value = operate(op, left, right)?;
-        Ok(Task::Steps(self.store(variable, value, on)))
+        self.store(alloc, variable, value, on)
     }
 
     /// The value of a variable.
-    fn held(&self, alloc: Global, variable: usize) -> Result<Value, NoMemory>
+    fn held(&self, alloc: Global, variable: u32) -> Result<Value, NoMemory>
         requires { ¬ (rules.held (slice_get self.now.cells variable) ≡ wrong) }
         ensures { IfOk result (λ v. rules.held (slice_get self.now.cells variable) ≡ gives v) }
     {
-        match self.cells().get(variable) {
+        match self.cells().get(variable as usize) {
             Some(Some(value)) => value.copy(alloc),
             _ => unreachable!(),
         }
@@ -245,9 +247,9 @@ impl Frame {
     fn assign_all(
         &mut self,
         alloc: Global,
-        targets: &[Option<usize>],
+        targets: &[Option<u32>],
         operands: &[Operand],
-        on: usize,
+        on: u32,
     ) -> Result<Task, Stop>
         requires { ¬ (performed self.old (Assigns targets.now on) (operands_of operands.now) ≡ wrong) }
         ensures { Does result (performed self.old (Assigns targets.now on) (operands_of operands.now)) self.old self.new }
@@ -255,7 +257,7 @@ impl Frame {
         match (targets, operands) {
             ([Some(variable)], [operand]) => {
                 let value = evaluate(alloc, self.cells(), operand)?;
-                Ok(Task::Steps(self.store(*variable, value, on)))
+                self.store(alloc, *variable, value, on)
             }
             _ => {
                 let values = evaluate_all(alloc, self.cells(), operands)?;

@@ -7,7 +7,7 @@ ghost use Rattle.gr_goros.specs.Views.{lines_of};
 use crate::frame::Frame;
 use crate::goroutine::Goroutine;
 use crate::wait::Status;
-use gr_base::{GoName, NoMemory, Value};
+use gr_base::{ChName, NoMemory, Value};
 use std::mem;
 
 /// What was in the cells of a frame to which a change wrote.
@@ -16,33 +16,32 @@ pub enum Former {
     /// It wrote to none.
     Same,
     /// The cell with this number had no value.
-    Nothing(usize),
-    Int(usize, i64),
-    Bool(usize, bool),
-    Unit(usize),
+    Nothing(u32),
+    Int(u32, i64),
+    Bool(u32, bool),
+    Unit(u32),
     /// A channel that is nil.
-    Nil(usize),
-    /// A channel, by its number, the number of the cell, and the goroutine that made it. The first number stands before the rest,
-    /// where it takes no room.
-    Channel(u32, usize, GoName),
-    /// Two cells, the first of which held a number and the second a truth value, as an earlier receive leaves them. The truth
-    /// value and the number of the first cell stand before the rest, where they take no room.
-    IntAndBool(bool, u32, i64, usize),
+    Nil(u32),
+    /// A channel that is not nil.
+    Channel(u32, Box<ChName>),
+    /// The cell with this number held a number and the next a truth value, as an earlier receive leaves them. The truth value
+    /// and the number of the cell stand before the rest, where they take no room.
+    IntAndBool(bool, u32, i64),
     /// Each cell that was written to, in the order of the writes, with what was in it before.
-    Each(Box<Vec<(usize, Option<Value>)>>),
+    Each(Box<Vec<(u32, Option<Value>)>>),
 }
 
 /// Where a frame stands: the number of its function, and that of the next instruction there.
 #[derive(Clone, Copy, Debug)]
 pub struct Spot {
     pub function: u32,
-    pub number: usize,
+    pub number: u32,
 }
 
 /// A frame before it went on in its function: the number of its next instruction, and what was in its cells.
 #[derive(Debug, Drop)]
 pub struct FrameUndo {
-    pub number: usize,
+    pub number: u32,
     pub cells: Former,
 }
 
@@ -82,9 +81,8 @@ pub enum GoUndo {
     Met(Box<Met>),
     /// It began to wait.
     Parked(Spot),
-    /// It returned from its outermost frame, or ended the program: the numbers of the function and of the instruction, and the
-    /// cells.
-    Finished(u32, usize, Vec<Option<Value>>),
+    /// It returned from its outermost frame, or ended the program.
+    Finished(Box<Frame>),
     /// It stopped the program.
     Faulted(Spot),
     /// It was made ready again.
@@ -165,9 +163,9 @@ impl Goroutine {
                 self.status = Status::Ready;
                 self.steps -= 1;
             }
-            GoUndo::Finished(function, number, cells) => {
+            GoUndo::Finished(frame) => {
                 self.status = Status::Ready;
-                self.top = Frame::of_parts(function, number, cells);
+                self.top = Box::into_inner(frame);
                 self.steps -= 1;
             }
             GoUndo::Faulted(spot) => {

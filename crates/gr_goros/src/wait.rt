@@ -19,7 +19,7 @@ pub enum Status {
     /// It waits to receive from this channel, and for nothing else, outside a select.
     Receiving(ChName),
     /// It waits for one of these; forever, where there is none.
-    Waiting(Vec<Wait>),
+    Waiting(Box<Vec<Wait>>),
     /// It has returned from its outermost frame, or ended the program.
     Finished,
 }

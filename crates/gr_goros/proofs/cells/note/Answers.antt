@@ -3,8 +3,8 @@ use Rattle.gr_goros.specs.Undoing.{each_restored}
 use Rattle.gr_goros.proofs.CellLemmas.{set_back, restored_last}
 use Rattle.gr_goros.proofs.cells.note.Goals as goal
 
-pub returns-then-slot-len-clause-back : goal.returns-then-slot-len-clause-back
-returns-then-slot-len-clause-back c =
+pub returns-then-place-len-clause-back : goal.returns-then-place-len-clause-back
+returns-then-place-len-clause-back c =
     let ws = c.args.written.now.items in
     let held = c.replace-held.result in
     let now = slice_set c.args.cells.now.items c.args.slot c.replace-held.new.dest in

@@ -1,7 +1,6 @@
 use Rattle.std.proofs.Common.{◌≡◌, replicate, None, sym, ap, ◌∙◌}
 use Rattle.std.specs.Prelude.{option_copied}
 use Rattle.gr_rules.specs.Outcomes.{gives}
-use Rattle.gr_code.specs.CodeFrames.{CodeFrame}
 use Rattle.gr_code.specs.CodeViews.{function_code_of, operands_of, program_code_of}
 use Rattle.gr_goros.proofs.CallLemmas.{called_gives, passed_alike, passed_right}
 use Rattle.gr_goros.proofs.CodeLemmas.{found_function}
@@ -23,6 +22,5 @@ returns-clause-ok c =
     let f = function_code_of c.in-Some.function_code.now in
     let found = found_function c.args.code.now.functions.items c.args.function c.in-Some.function_code.now (sym (ap option_copied c.in-Some.is) ∙ c.function_at.ensures) in
     let alike = passed_alike own _ es f.parameters _ (replicate f.cells None) _ c.cells-2.ensures c.deref.ensures.value c.in_ok-cells.ensures in
-    let number : c.in-Ok.number ≡ c.args.function = c.in-Ok.ensures.1 in
-    let begun : CodeFrame = record { function = c.args.function; number = 0; cells = c.pass.new.cells.items } in
-    called_gives (program_code_of c.args.code.now) c.args.function own es f _ found (sym alike ∙ c.in_ok-pass.ensures.ok) ∙ ap gives (ap (λ k. record begun { function = k }) (sym number) ∙ sym c.begin.ensures)
+    called_gives (program_code_of c.args.code.now) c.args.function own es f _ found (sym alike ∙ c.in_ok-pass.ensures.ok)
+    ∙ ap gives (sym c.begin.ensures)
