@@ -84,9 +84,9 @@ impl Goroutines {
     }
 
     /// The goroutine with a number begins to wait, for one of these.
-    pub fn park(&mut self, number: usize, waits: Vec<Wait>) -> GoUndo
+    pub fn park(&mut self, number: usize, waits: Box<Vec<Wait>>) -> GoUndo
         requires { At CanPark (seen_at self.old number) }
-        ensures { ChangesBy number (ComesTo (parked (waits_of waits.items)) result) self.old self.new }
+        ensures { ChangesBy number (ComesTo (parked (waits_of waits.value.items)) result) self.old self.new }
     {
         let slot = self.map.get_index_mut(number).unwrap();
         let Some(goroutine) = slot else {
@@ -121,10 +121,11 @@ impl Goroutines {
         goroutine.park_to_receive(channel)
     }
 
-    /// The goroutine with a number comes to an end: from its outermost frame, or by a fault.
-    pub fn halt(&mut self, number: usize, how: Halt) -> GoUndo
+    /// The goroutine with a number comes to an end: from its outermost frame, or by a fault. Refused, no content has changed.
+    pub fn halt(&mut self, number: usize, how: Halt) -> Result<GoUndo, NoMemory>
         requires { At (CanEnd how) (seen_at self.old number) }
-        ensures { ChangesBy number (ComesTo (halted how) result) self.old self.new }
+        ensures ok { IfOk result (λ undo. ChangesBy number (ComesTo (halted how) undo) self.old self.new) }
+        ensures err { OnErr result (KeepsContents self.old self.new) }
     {
         let slot = self.map.get_index_mut(number).unwrap();
         let Some(goroutine) = slot else {
