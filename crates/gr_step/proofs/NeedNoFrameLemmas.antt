@@ -25,7 +25,7 @@ module _ (a b : CodeGoroutine) where
   need_none (undos.Began n) back frames = refl
   need_none (undos.Met m) back frames = refl
   need_none (undos.Parked x) back frames = refl
-  need_none (undos.Finished f n cells) back frames = refl
+  need_none (undos.Finished f) back frames = refl
   need_none (undos.Faulted x) back frames = refl
   need_none (undos.Retried s) back frames = refl
 
@@ -39,6 +39,6 @@ module _ (a b : CodeGoroutine) where
   need_none_done (undos.Began n) fits status = refl
   need_none_done (undos.Met m) fits status = refl
   need_none_done (undos.Parked x) fits status = refl
-  need_none_done (undos.Finished f n cells) fits status = refl
+  need_none_done (undos.Finished f) fits status = refl
   need_none_done (undos.Faulted x) fits status = refl
   need_none_done (undos.Retried s) fits status = refl

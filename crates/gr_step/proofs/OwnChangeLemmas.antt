@@ -48,7 +48,7 @@ no_frame (undos.Made f u) a b back same = refl
 no_frame (undos.Began n) a b back same = refl
 no_frame (undos.Met m) a b back same = refl
 no_frame (undos.Parked x) a b back same = refl
-no_frame (undos.Finished f n cells) a b back same = refl
+no_frame (undos.Finished f) a b back same = refl
 no_frame (undos.Faulted x) a b back same = refl
 no_frame (undos.Retried s) a b back same = refl
 

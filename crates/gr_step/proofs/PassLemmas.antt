@@ -76,7 +76,7 @@ needs_none (undos.Made f u) g after back count = refl
 needs_none (undos.Began n) g after back count = refl
 needs_none (undos.Met m) g after back count = refl
 needs_none (undos.Parked x) g after back count = refl
-needs_none (undos.Finished f n cells) g after back count = refl
+needs_none (undos.Finished f) g after back count = refl
 needs_none (undos.Faulted x) g after back count = refl
 needs_none (undos.Retried s) g after back count = refl
 

@@ -23,7 +23,7 @@ module _ (a b : CodeGoroutine) where
   not_printed (undos.Began n) back fits text = refl
   not_printed (undos.Met m) back fits text = refl
   not_printed (undos.Parked x) back fits text = refl
-  not_printed (undos.Finished f n cells) back fits text = refl
+  not_printed (undos.Finished f) back fits text = refl
   not_printed (undos.Faulted x) back fits text = refl
   not_printed (undos.Retried s) back fits text = refl
 
@@ -40,6 +40,6 @@ module _ (a b : CodeGoroutine) where
   printed (undos.Began n) line back text = absurd (same line text (ap (λ g. g.text) back))
   printed (undos.Met m) line back text = absurd (same line text (ap (λ g. g.text) back))
   printed (undos.Parked x) line back text = absurd (same line text (ap (λ g. g.text) back))
-  printed (undos.Finished f n cells) line back text = absurd (same line text (ap (λ g. g.text) back))
+  printed (undos.Finished f) line back text = absurd (same line text (ap (λ g. g.text) back))
   printed (undos.Faulted x) line back text = absurd (same line text (ap (λ g. g.text) back))
   printed (undos.Retried s) line back text = absurd (same line text (ap (λ g. g.text) back))

@@ -35,8 +35,8 @@ fn is_channel(cells: &[Option<Value>], operand: &Operand) -> bool
 {
     match operand {
         Operand::Literal(literal) => matches!(literal, Literal::Nil),
-        Operand::Variable(cell) => matches!(cells.get(*cell), Some(Some(Value::Chan(_)))),
-        Operand::Decided(op, cell, right) => match cells.get(*cell) {
+        Operand::Variable(cell) => matches!(cells.get(*cell as usize), Some(Some(Value::Chan(_)))),
+        Operand::Decided(op, cell, right) => match cells.get(*cell as usize) {
             Some(Some(value)) => !settles(*op, value) && is_channel(cells, right),
             _ => false,
         },
@@ -49,11 +49,11 @@ pub(crate) fn channel_at<'a>(cells: &'a [Option<Value>], operand: &Operand) -> O
     ensures { option_copied result ≡ channel_given (one_channel cells.now (operand_of operand.now)) }
 {
     match operand {
-        Operand::Variable(cell) => match cells.get(*cell) {
+        Operand::Variable(cell) => match cells.get(*cell as usize) {
             Some(Some(Value::Chan(Some(name)))) => Some(name),
             _ => None,
         },
-        Operand::Decided(op, cell, right) => match cells.get(*cell) {
+        Operand::Decided(op, cell, right) => match cells.get(*cell as usize) {
             Some(Some(value)) if !settles(*op, value) => channel_at(cells, right),
             _ => None,
         },

@@ -37,7 +37,7 @@ impl Objects {
         if turn.event.go.is_main() {
             return self.end(turn.number);
         }
-        let own = self.goroutines.halt(turn.number, Halt::Finished);
+        let own = self.goroutines.halt(turn.number, Halt::Finished)?;
         Ok(Change {
             form: Form::Alone(Kind::Return, own),
         })
@@ -47,11 +47,11 @@ impl Objects {
     fn end(&mut self, number: usize) -> Result<Change, NoMemory>
         requires { At (CanEnd Halt.Finished) (seen_at self.old.goroutines number) }
         ensures ok { IfOk result (λ change. HasEnded number change self.old self.new) }
-        ensures err { OnErr result (self.new ≡ self.old) }
+        ensures err { OnErr result (contents_in self.new ≡ contents_in self.old) }
     {
         let nothing = Vec::new(self.alloc);
         let beyond = stopping(self.alloc, None, nothing)?;
-        let own = self.goroutines.halt(number, Halt::Finished);
+        let own = self.goroutines.halt(number, Halt::Finished)?;
         self.run = Run::Ended;
         Ok(Change {
             form: Form::Further(Kind::Exit, own, beyond),

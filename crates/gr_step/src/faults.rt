@@ -47,7 +47,7 @@ impl Objects {
         ensures err { OnErr result (contents_in self.new ≡ contents_in self.old) }
     {
         let beyond = stopping(self.alloc, operation, reads)?;
-        let own = self.goroutines.halt(number, Halt::Faulted);
+        let own = self.goroutines.halt(number, Halt::Faulted)?;
         self.run = Run::Faulted(fault);
         Ok(Change {
             form: Form::Further(Kind::Fault(fault), own, beyond),

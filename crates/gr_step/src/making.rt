@@ -166,7 +166,7 @@ impl Objects {
     pub(crate) fn start(
         &mut self,
         turn: &Turn<'_>,
-        function: usize,
+        function: u32,
         arguments: Vec<Value>,
     ) -> Result<Change, NoMemory>
         requires may { MayAct turn.now self.old }
@@ -191,7 +191,7 @@ impl Objects {
         &mut self,
         turn: &Turn<'_>,
         count: u32,
-        function: usize,
+        function: u32,
         arguments: Vec<Value>,
     ) -> Result<Change, NoMemory>
         requires may { MayAct turn.now self.old }

@@ -120,12 +120,12 @@ impl Objects {
         turn: &Turn<'_>,
         kind: Kind,
         beyond: Box<Beyond>,
-        waits: Vec<Wait>,
+        waits: Box<Vec<Wait>>,
         pending: &[(Option<u32>, Clause)],
     ) -> Result<Change, NoMemory>
         requires parks { At CanPark (seen_at self.old.goroutines turn.now.number) }
         requires made { AreMade (pending_of pending.now) (contents_of self.old.channels) }
-        requires waits { waits_of waits.items ≡ rules.all_waits (pending_of pending.now) }
+        requires waits { waits_of waits.value.items ≡ rules.all_waits (pending_of pending.now) }
         ensures ok { (operation : Option Operation) (sides : List Object)
             → Reaches operation (each_read (gates_of (pending_of pending.now)) sides)
             (gates_of (pending_of pending.now)) false beyond.value
@@ -161,6 +161,7 @@ impl Objects {
         let writes = gates(alloc, &waits)?;
         let reads = each_once(alloc, &writes, sides)?;
         let beyond = reached(alloc, operation, reads, writes, false)?;
+        let waits = Box::new(alloc, waits)?;
         self.begin_to_wait(turn, kind, beyond, waits, pending)
     }
 
@@ -179,7 +180,7 @@ impl Objects {
         ensures err { OnErr result (contents_in self.new ≡ contents_in self.old) }
     {
         let beyond = waited(self.alloc, None, untouched())?;
-        let waits = Vec::new(self.alloc);
+        let waits = Box::new(self.alloc, Vec::new(self.alloc))?;
         self.begin_to_wait(turn, kind, beyond, waits, &[(None, communication)])
     }
 

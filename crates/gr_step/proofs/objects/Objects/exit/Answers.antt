@@ -28,8 +28,8 @@ returns-then-is_main-clause-room c =
     c.requires.plain change c.end.new.self ends)
     c.end.ensures.ok
 
-pub halt-own-requires : goal.halt-own-requires
-halt-own-requires c =
+pub halt-requires : goal.halt-requires
+halt-requires c =
     let acting = c.requires.may.acting in
     can_finish (program_in c.args.turn.now.listing.now) c.args.turn.now.event.now c.args.turn.now.number c.args.self.now acting (c.requires.task acting.goroutine acting.there)
 
@@ -37,9 +37,9 @@ pub returns-clause-ok : goal.returns-clause-ok
 returns-clause-ok c =
     let acting = c.requires.may.acting in
     let o = c.args.self.now in
-    let own = placed c.args.turn.now.number c.args.turn.now.event.now.go o.goroutines c.halt-own.new.self acting.named acting.goroutine acting.there finished
-    c.halt-own.result
-    c.halt-own.ensures in
+    let own = placed c.args.turn.now.number c.args.turn.now.event.now.go o.goroutines c.halt.new.self acting.named acting.goroutine acting.there finished
+    c.in_ok-own.own
+    c.in_ok-own.ensures.ok in
     return_takes (program_in c.args.turn.now.listing.now) c.args.turn.now.event.now c.args.turn.now.number o acting (c.requires.task acting.goroutine acting.there)
     c.requires.plain
-    c.halt-own.result c.halt-own.new.self own (λ main. false≢true (sym c.if-is_main.false ∙ c.is_main.ensures.1 main))
+    c.in_ok-own.own c.halt.new.self own (λ main. false≢true (sym c.if-is_main.false ∙ c.is_main.ensures.1 main))

@@ -10,8 +10,8 @@ use Rattle.gr_step.proofs.objects.Objects.fault.Goals as goal
 
 pub returns-clause-ok : goal.returns-clause-ok
 returns-clause-ok c = λ n g named there.
-    let own = placed c.args.number n c.args.self.now.goroutines c.halt-own.new.self named g there (halted Faulted) c.halt-own.result
-    c.halt-own.ensures in
+    let own = placed c.args.number n c.args.self.now.goroutines c.halt.new.self named g there (halted Faulted) c.in_ok-own.own
+    c.in_ok-own.ensures.ok in
     record {
       after = λ j. record { run = faulted c.args.fault; goroutines = own.is j; channels = contents_of c.args.self.now.channels };
       kind = refl;
@@ -22,8 +22,8 @@ returns-clause-ok c = λ n g named there.
 
 pub returns-clause-room : goal.returns-clause-room
 returns-clause-room c = λ n.
-    let h = c.halt-own.ensures in
-    let none = need_none h.0.content h.1.content c.halt-own.result h.3.1.back (ap (λ g. length g.frames) h.3.0) in
+    let h = c.in_ok-own.ensures.ok in
+    let none = need_none h.0.content h.1.content c.in_ok-own.own h.3.1.back (ap (λ g. length g.frames) h.3.0) in
     record {
       frames = rw none (omega arith);
       places = no_rooms (members c.in_ok-beyond.beyond.value.channels) (rooms_of c.args.self.now.channels) c.in_ok-beyond.ensures.channels;

@@ -12,7 +12,7 @@ pub begin_to_wait-requires-clause-made : goal.begin_to_wait-requires-clause-made
 begin_to_wait-requires-clause-made c = nil_made (contents_of c.args.self.now.channels) (communication_of c.args.communication) c.requires.nil
 
 pub begin_to_wait-requires-clause-waits : goal.begin_to_wait-requires-clause-waits
-begin_to_wait-requires-clause-waits c = ap waits_of c.new-waits.ensures.items ∙ nil_waits (communication_of c.args.communication) c.requires.nil
+begin_to_wait-requires-clause-waits c = ap (λ w. waits_of w.items) c.in_ok-waits.ensures.ok ∙ ap waits_of c.new.ensures.items ∙ nil_waits (communication_of c.args.communication) c.requires.nil
 
 pub returns-clause-ok : goal.returns-clause-ok
 returns-clause-ok c = λ frame.
