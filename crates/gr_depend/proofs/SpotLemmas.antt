@@ -43,7 +43,7 @@ module _ (f : CodeFrame) (below : List CodeFrame) where
   told (undos.Began s) h e = at_innermost s (at_spot s) h.frames (λ k. (refl, refl)) e
   told (undos.Met m) h e = at_innermost _ (frame_in m.value.function m.value.frame) h.frames (λ k. (refl, refl)) e
   told (undos.Parked s) h e = at_innermost s (at_spot s) h.frames (λ k. (refl, refl)) e
-  told (undos.Finished f n cells) h e = at_head _ (record { function = f; number = n; cells = cells.items }) [] (refl, refl) e
+  told (undos.Finished k) h e = at_head _ k.value [] (refl, refl) e
   told (undos.Faulted s) h e = at_innermost s (at_spot s) h.frames (λ k. (refl, refl)) e
   told (undos.Retried s) h e = (refl, refl)
 

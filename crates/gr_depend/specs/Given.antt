@@ -59,7 +59,7 @@ spot_in (undos.Made f u) = Some (record { function = f; number = u.number })
 spot_in (undos.Began s) = Some s
 spot_in (undos.Met m) = Some (record { function = m.value.function; number = m.value.frame.number })
 spot_in (undos.Parked s) = Some s
-spot_in (undos.Finished f n cells) = Some (record { function = f; number = n })
+spot_in (undos.Finished f) = Some (record { function = f.value.function; number = f.value.number })
 spot_in (undos.Faulted s) = Some s
 spot_in (undos.Retried s) = None
 

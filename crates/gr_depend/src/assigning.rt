@@ -46,10 +46,7 @@ fn kept_spot(undo: &GoUndo) -> Option<Spot>
         | GoUndo::Parked(spot)
         | GoUndo::Faulted(spot) => Some(*spot),
         GoUndo::Left(left) => Some(left.frame.spot()),
-        GoUndo::Finished(function, number, _) => Some(Spot {
-            function: *function,
-            number: *number,
-        }),
+        GoUndo::Finished(frame) => Some(frame.spot()),
         GoUndo::Met(met) => Some(Spot {
             function: met.function,
             number: met.frame.number,
@@ -89,17 +86,17 @@ fn function_at(program: &Program, number: usize) -> Option<&Function>
 }
 
 /// The code of the function with a number.
-fn code_at(code: &Code, number: usize) -> Option<&FunctionCode>
+fn code_at(code: &Code, number: u32) -> Option<&FunctionCode>
     ensures { option_copied result ≡ slice_get code.now.functions.items number }
 {
-    code.functions.get(number)
+    code.functions.get(number as usize)
 }
 
 /// The instruction of a function with a number.
-fn instruction_at(function: &FunctionCode, number: usize) -> Option<&Instruction>
+fn instruction_at(function: &FunctionCode, number: u32) -> Option<&Instruction>
     ensures { option_copied result ≡ slice_get function.now.instructions.items number }
 {
-    function.instructions.get(number)
+    function.instructions.get(number as usize)
 }
 
 /// Whether a variable of a function has this name. No variable is called `_`.
@@ -116,13 +113,23 @@ fn is_named(function: &Function, variable: Option<usize>, name: &[u8]) -> bool
     name == variable.name.as_slice()
 }
 
-/// Whether one of these variables of a function is called so.
-fn names_one(function: &Function, variables: &[Option<usize>], name: &[u8]) -> bool
-    ensures { result ≡ list_any (is_called name.now (declared_of function.now.variables.items)) variables.now }
+/// Whether a target in a function is called so.
+fn names_target(function: &Function, target: Option<u32>, name: &[u8]) -> bool
+    ensures { result ≡ is_called name.now (declared_of function.now.variables.items) target }
 {
-    variables
+    let Some(number) = target else {
+        return false;
+    };
+    is_named(function, Some(number as usize), name)
+}
+
+/// Whether one of these targets in a function is called so.
+fn names_one(function: &Function, targets: &[Option<u32>], name: &[u8]) -> bool
+    ensures { result ≡ list_any (is_called name.now (declared_of function.now.variables.items)) targets.now }
+{
+    targets
         .iter()
-        .any(|variable| is_named(function, *variable, name))
+        .any(|target| names_target(function, *target, name))
 }
 
 /// Whether a parameter of a function is called so.
@@ -136,20 +143,20 @@ fn names_parameter(function: &Function, name: &[u8]) -> bool
         .any(|parameter| is_named(function, parameter.variable, name))
 }
 
-/// Whether one of these variables of the function with a number is called so.
+/// Whether one of these targets in the function with a number is called so.
 #[tactic(auto, using(crate::proofs::CalledLemmas::named_found, crate::proofs::CalledLemmas::none_named))]
 fn names_in_function(
     program: &Program,
     function: usize,
-    variables: &[Option<usize>],
+    targets: &[Option<u32>],
     name: &[u8],
 ) -> bool
-    ensures { result ≡ any_called name.now (names_in (function_of (program_of program.now) function) variables.now) }
+    ensures { result ≡ any_called name.now (names_in (function_of (program_of program.now) function) targets.now) }
 {
     let Some(function) = function_at(program, function) else {
         return false;
     };
-    names_one(function, variables, name)
+    names_one(function, targets, name)
 }
 
 /// Whether a parameter of the function with a number is called so.
@@ -190,7 +197,7 @@ fn gives_at(program: &Program, function: usize, instruction: &Instruction, name:
                 ..
             },
             ..
-        } => takes(program, *callee, name),
+        } => takes(program, *callee as usize, name),
         Instruction::Perform { action, .. } => assigns_to(program, function, action, name),
         _ => false,
     }
@@ -201,7 +208,7 @@ fn gives_at(program: &Program, function: usize, instruction: &Instruction, name:
 fn gives_there(program: &Program, code: &Code, spot: Spot, name: &[u8]) -> bool
     ensures { result ≡ any_called name.now (given_there (program_of program.now) (program_code_of code.now) spot) }
 {
-    let Some(function) = code_at(code, spot.function as usize) else {
+    let Some(function) = code_at(code, spot.function) else {
         return false;
     };
     let Some(instruction) = instruction_at(function, spot.number) else {
