@@ -48,7 +48,7 @@ pub(crate) fn prior_to(undo: &GoUndo) -> Prior
         | GoUndo::Made(_, _)
         | GoUndo::Began(_)
         | GoUndo::Faulted(_) => Prior::Same,
-        GoUndo::Parked(_) | GoUndo::Finished(_, _, _) => Prior::Ready,
+        GoUndo::Parked(_) | GoUndo::Finished(_) => Prior::Ready,
         GoUndo::Met(met) => prior_in(&met.status),
         GoUndo::Retried(status) => prior_in(status),
     }
