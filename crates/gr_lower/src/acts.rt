@@ -15,7 +15,7 @@ ghost use Rattle.gr_lower.specs.Headings.{ways_of};
 
 use crate::expressions::{lower_expr, lower_exprs, put};
 use crate::nesting::{Ways, leaving, turning};
-use crate::parts::{count, kept, kept_target, sum};
+use crate::parts::{count, kept, kept_target, kept_targets, sum};
 use gr_base::NoMemory;
 use gr_code::code::{Action, Ask, Instruction, Operand, Piece};
 use gr_program::program::{Opening, Printed};
@@ -51,17 +51,6 @@ fn pair(alloc: Global, first: Operand, second: Operand) -> Result<Vec<Operand>, 
     operands.push(first)?;
     operands.push(second)?;
     Ok(operands)
-}
-
-/// A copy of the targets, as code keeps them.
-pub fn copies(alloc: Global, targets: &[Option<usize>]) -> Result<Vec<Option<u32>>, NoMemory>
-    ensures { IfOk result (λ xs. xs.items ≡ targets.now) }
-{
-    let mut found = Vec::new(alloc);
-    for target in targets {
-        found.push(kept_target(*target)?)?;
-    }
-    Ok(found)
 }
 
 /// Writes the parts of expressions, and then what is done with what is left of them.
@@ -200,11 +189,8 @@ pub fn assign_pair(
     ensures grown { OnOk result (vec_len out.new ≡ vec_len out.old + 1) }
 {
     let second = kept(sum(first, 1)?)?;
-    let operands = pair(
-        alloc,
-        Operand::Variable(kept(first)?),
-        Operand::Variable(second),
-    )?;
+    let first = kept(first)?;
+    let operands = pair(alloc, Operand::Variable(first), Operand::Variable(second))?;
     perform(out, Action::Assign { targets, on }, operands)
 }
 
@@ -342,7 +328,7 @@ pub fn lower_act(
     let on = kept(on)?;
     match act {
         Act::Assign { targets, values } => {
-            let targets = copies(alloc, targets)?;
+            let targets = kept_targets(alloc, targets)?;
             perform_all(alloc, out, values, first, Action::Assign { targets, on })
         }
         Act::AssignReceive {

@@ -10,10 +10,10 @@ ghost use Rattle.gr_lower.specs.StatementCode.{performed, targets_code};
 ghost use Rattle.gr_lower.specs.Headings.{ways_of, if_heading, turn_of, for_heading};
 ghost use Rattle.gr_lower.specs.TurnHeadings.{turn_heading, range_heading};
 
-use crate::acts::{assign_pair, copies, lower_opening, perform, perform_none, perform_one, single};
+use crate::acts::{assign_pair, lower_opening, perform, perform_none, perform_one, single};
 use crate::choices::entry;
 use crate::nesting::Ways;
-use crate::parts::{count, kept, kept_target, sum};
+use crate::parts::{count, kept, kept_target, kept_targets, sum};
 use crate::sizing::{count_tested, size_of_opening};
 use gr_base::NoMemory;
 use gr_code::code::{Action, Instruction, Operand};
@@ -170,6 +170,6 @@ pub fn take_received(
     if targets.is_empty() {
         return Ok(());
     }
-    let targets = copies(alloc, targets)?;
+    let targets = kept_targets(alloc, targets)?;
     assign_pair(alloc, out, targets, first, kept(on)?)
 }

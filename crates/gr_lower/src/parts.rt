@@ -1,4 +1,4 @@
-//! How many parts expressions have.
+//! How many parts expressions have, and numbers as code keeps them.
 ghost use Rattle.std.specs.Prelude.{◌≡◌, ◌+◌, IfOk};
 ghost use Rattle.gr_program.specs.Views.{expr_of, exprs_of};
 ghost use Rattle.gr_rules.specs.Operands.{operand_of, operands_of};
@@ -8,6 +8,7 @@ ghost use Rattle.gr_code.specs.Passing.{parts, parts_in, with_decision};
 use gr_base::NoMemory;
 use gr_program::Expr;
 use gr_tree::BinaryOp;
+use std::alloc::Global;
 
 /// The sum, where there is such a number: no memory holds more instructions.
 pub fn sum(a: usize, b: usize) -> Result<usize, NoMemory>
@@ -31,6 +32,17 @@ pub fn kept_target(target: Option<usize>) -> Result<Option<u32>, NoMemory>
         Some(number) => Ok(Some(kept(number)?)),
         None => Ok(None),
     }
+}
+
+/// A copy of the targets, as code keeps them.
+pub fn kept_targets(alloc: Global, targets: &[Option<usize>]) -> Result<Vec<Option<u32>>, NoMemory>
+    ensures { IfOk result (λ kept. kept.items ≡ targets.now) }
+{
+    let mut found = Vec::new(alloc);
+    for target in targets {
+        found.push(kept_target(*target)?)?;
+    }
+    Ok(found)
 }
 
 /// Whether the operator is `&&` or `||`.
