@@ -112,8 +112,8 @@ in_order_too log old new rest empty d order can = record {
   places =
       let same = length_is old new swaps in
       let a = length-append old rest in let b = length-append new rest in
-      let c : length (old ++ rest) ≤ 2 ^ 32 = subst (λ l. length (l ++ (old ++ rest)) ≤ 2 ^ 32) empty can.places in
-      subst (λ l. length (l ++ (new ++ rest)) ≤ 2 ^ 32) (sym empty) (omega (arith, same, a, b, c));
+      let c : length (old ++ rest) ≤ 2 ^ 31 = subst (λ l. length (l ++ (old ++ rest)) ≤ 2 ^ 31) empty can.places in
+      subst (λ l. length (l ++ (new ++ rest)) ≤ 2 ^ 31) (sym empty) (omega (arith, same, a, b, c));
   touches =
       subst (λ l. Fits log.lanes (λ o. touches_in o 0 (l ++ (new ++ rest)))) (sym empty)
       (moved (subst (λ l. Fits log.lanes (λ o. touches_in o 0 (l ++ (old ++ rest)))) empty can.touches));

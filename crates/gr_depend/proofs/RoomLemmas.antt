@@ -11,6 +11,6 @@ pub takes_on : (old new : Log) (steps left : List Record) → new.records.items 
     → vec_capacity old.records ≤ vec_capacity new.records → KeepsRoom old.lanes new.lanes → CanTake old steps → CanTake new left
 takes_on old new steps left is more room can = record {
   records = let same : length (new.records.items ++ left) ≡ length (old.records.items ++ steps) = ap length is in let a = can.records in omega (arith, same, a, more);
-  places = subst (λ l. length l ≤ 2 ^ 32) (sym is) can.places;
+  places = subst (λ l. length l ≤ 2 ^ 31) (sym is) can.places;
   touches = room (λ o. touches_in o 0 (new.records.items ++ left)) (subst (λ l. Fits old.lanes (λ o. touches_in o 0 l)) (sym is) can.touches);
 }

@@ -16,8 +16,8 @@ use gr_record::Record;
 use gr_touches::{Lanes, ObjectRef, Touch};
 use std::alloc::Global;
 
-/// The most steps of a log: a touch keeps the place of its step in 32 bits.
-const MOST_STEPS: usize = 4_294_967_296;
+/// The most steps of a log: a touch keeps the place of its step in 31 bits.
+const MOST_STEPS: usize = 2_147_483_648;
 
 /// The steps that were taken and are kept, in their order, with the touches of each object.
 #[derive(Drop)]
@@ -26,7 +26,7 @@ pub struct Log {
     pub(crate) lanes: Lanes,
     ghost touches: { (o : Object) → list_of lanes o ≡ touches_in o 0 records.items } by { Prim.hlevel props },
     ghost once: { list_all (λ r. none_twice (touched_by r)) records.items ≡ true },
-    ghost few: { length records.items ≤ 2 ^ 32 },
+    ghost few: { length records.items ≤ 2 ^ 31 },
 }
 
 impl Log {
@@ -79,7 +79,7 @@ impl Log {
     }
 
     /// Adds a step at the end. Refused, the log is as before, and the record is handed back. It is not refused where there is
-    /// room, which a log of 2^32 steps never has.
+    /// room, which a log of 2^31 steps never has.
     #[inline(always)]
     pub fn push(&mut self, step: Record) -> Result<(), (Record, NoMemory)>
         requires { Distinct (touched_by step) }
@@ -106,7 +106,7 @@ impl Log {
     }
 
     /// Adds steps at the end that a goroutine took by itself and that reached no further. Refused, the log is as before. It is
-    /// not refused where there is room, which a log of 2^32 steps never has.
+    /// not refused where there is room, which a log of 2^31 steps never has.
     pub fn append(&mut self, go: &GoName, steps: Vec<Record>) -> Result<(), NoMemory>
         requires { All (IsAlone go.now) steps.items }
         ensures ok { OnOk result (records_of self.new ≡ records_of self.old ++ steps.items) }

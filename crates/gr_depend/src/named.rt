@@ -31,7 +31,7 @@ impl Log {
     {
         let mut at = id.n.saturating_sub(1);
         for _ in 0..touches.len() {
-            let place = touches.get(at as usize)?.place as usize;
+            let place = touches.get(at as usize)?.place() as usize;
             if self.is_named(place, id) {
                 return Some(place);
             }
@@ -56,7 +56,7 @@ impl Log {
             → IsNamed (records_of self.now) place id.now → ⊥) }
     {
         for i in 0..touches.len() {
-            let place = touches[i].place as usize;
+            let place = touches[i].place() as usize;
             if self.is_named(place, id) {
                 return Some(place);
             }
@@ -83,7 +83,7 @@ impl Log {
         let mut left = touches.len();
         while left > 0 {
             left -= 1;
-            if let Some(id) = self.own_step(touches[left].place as usize, go) {
+            if let Some(id) = self.own_step(touches[left].place() as usize, go) {
                 return Some(id);
             }
         }

@@ -19,7 +19,8 @@ impl Latest {
     fn in_conflict(self, touch: Touch) -> usize
         ensures { result ≡ (if touch.writes then self.touch else self.write) }
     {
-        if touch.writes { self.touch } else { self.write }
+        let wrote = touch.writes();
+        if wrote { self.touch } else { self.write }
     }
 
     /// The last places with one more touch.
@@ -29,7 +30,7 @@ impl Latest {
           write = (if touch.writes then max self.write place else self.write);
         } }
     {
-        let write = if touch.writes {
+        let write = if touch.writes() {
             self.write.max(place)
         } else {
             self.write
@@ -69,7 +70,7 @@ pub(crate) fn first_turned(touches: &[Touch], to: &[usize], bound: usize) -> usi
     let mut latest = Latest { touch: 0, write: 0 };
     for i in 0..touches.len() {
         let touch = touches[i];
-        let place = target_of(to, touch.place);
+        let place = target_of(to, touch.place());
         first = if_before(first, place, latest.in_conflict(touch));
         latest = latest.with(touch, place);
     }

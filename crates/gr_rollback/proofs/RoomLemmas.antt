@@ -74,7 +74,7 @@ no_more a b n h k = omega arith
 pub less_room : (log : Log) (r : Record) (rest : List Record) → CanTake log (r ∷ rest) → CanTake log rest
 less_room log r rest can = record {
   records = shorter (records_of log) rest r (vec_capacity log.records) can.records;
-  places = shorter (records_of log) rest r (2 ^ 32) can.places;
+  places = shorter (records_of log) rest r (2 ^ 31) can.places;
   touches = record {
     each = λ o.
         let less = subst (λ ts. length ts ≤ length (wanted which_are.All (touches_in o 0 (records_of log ++ r ∷ rest)))) (all_are_wanted (touches_in o 0 (records_of log ++ rest)))

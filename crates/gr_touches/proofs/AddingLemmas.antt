@@ -148,6 +148,10 @@ then_room a b c first second lists fits = second lists (first lists fits)
 pub noted_as : {A E : Type 0} {r : Result A E} (a b : Lanes) (t : Touch) (os ps : List Object) → os ≡ ps → NotesFor r os t a b → NotesFor r ps t a b
 noted_as {r = r} a b t os ps is = subst (λ (l : List Object). NotesFor r l t a b) is
 
+-- a touch, and an equal one
+pub noted_with : {A E : Type 0} {r : Result A E} (a b : Lanes) (os : List Object) {t u : Touch} → t ≡ u → NotesFor r os t a b → NotesFor r os u a b
+noted_with {r = r} a b os is = subst (λ v. NotesFor r os v a b) is
+
 -- a touch for the first objects, and then for the others: refused for the first, refused for the others, or noted for all
 pub first_refused : {A B E F : Type 0} {q : Result A E} {e : E} {r : Result B F} {f : F} (a b : Lanes) (t : Touch) (xs ys : List Object)
     → q ≡ Err e → r ≡ Err f → NotesFor q xs t a b → NotesFor r (xs ++ ys) t a b

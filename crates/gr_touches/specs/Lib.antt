@@ -1,4 +1,5 @@
 -- The touches of each object, and the marks that are set by them.
+pub mod Kept
 pub mod ObjectRefs
 pub mod Hashes
 pub mod Touches

@@ -13,14 +13,11 @@ use std::marker::Model;
 /// Adds the touches of `count` consecutive steps, the first of them at `place`. There is room for them.
 pub(crate) fn extend(touches: &mut Vec<Touch>, place: u32, count: usize, writes: bool)
     requires room { vec_len touches.old + count ≤ vec_capacity touches.old }
-    requires places { place + count ≤ 2 ^ 32 }
+    requires places { place + count ≤ 2 ^ 31 }
     ensures { touches.new.items ≡ touches.old.items ++ stretch writes place count }
 {
     for i in 0..count {
-        touches.push_reserved(Touch {
-            place: place + i as u32,
-            writes,
-        });
+        touches.push_reserved(Touch::new(place + i as u32, writes));
     }
 }
 
@@ -74,7 +71,7 @@ impl Lane {
     /// Adds the touches of `count` consecutive steps that wrote the object, the first of them at `place`. Refused, the
     /// touches are as before. It takes no memory where there is room.
     pub(crate) fn extend(&mut self, place: u32, count: usize) -> Result<(), NoMemory>
-        requires { place + count ≤ 2 ^ 32 }
+        requires { place + count ≤ 2 ^ 31 }
         ensures ok { OnOk result (self.new.0 ≡ self.old.0 ++ stretch true place count) }
         ensures err { OnErr result (self.new.0 ≡ self.old.0) }
         ensures succeeds { count ≤ self.old.1 → IsOk result }

@@ -192,7 +192,7 @@ impl Lanes {
         ensures { NotesFor result (objects.Run ∷ []) touch self.old self.new }
     {
         self.run.reserve(1)?;
-        if touch.writes {
+        if touch.writes() {
             self.stops.push(touch)?;
         }
         self.run.push_reserved(touch);
@@ -226,7 +226,7 @@ impl Lanes {
     /// Adds the touches of `count` consecutive steps of a goroutine that reached no further, the first of them at `place`.
     /// Refused, all lists are as before. It takes no memory where there is room.
     pub fn note_own(&mut self, go: &GoName, place: u32, count: usize) -> Result<(), NoMemory>
-        requires places { place + count ≤ 2 ^ 32 }
+        requires places { place + count ≤ 2 ^ 31 }
         requires some { 0 < count }
         ensures ok { OnOk result ((q : Object) → list_of self.new q ≡ list_of self.old q ++ own_touches go.now place count q) }
         ensures err { OnErr result (KeepsLists self.old self.new) }
@@ -240,7 +240,7 @@ impl Lanes {
 
     /// Adds the touches of `count` consecutive steps to the list of their goroutine.
     fn note_writes(&mut self, go: &GoName, place: u32, count: usize) -> Result<(), NoMemory>
-        requires places { place + count ≤ 2 ^ 32 }
+        requires places { place + count ≤ 2 ^ 31 }
         requires some { 0 < count }
         ensures ok { OnOk result ((q : Object)
             → list_of self.new q ≡ (if same (objects.Go go.now) q then list_of self.old q
@@ -259,7 +259,7 @@ impl Lanes {
     /// Makes a lane for a goroutine that has none, with the touches of `count` consecutive steps.
     #[inline(never)]
     fn note_first_writes(&mut self, go: &GoName, place: u32, count: usize) -> Result<(), NoMemory>
-        requires places { place + count ≤ 2 ^ 32 }
+        requires places { place + count ≤ 2 ^ 31 }
         requires absent { get same self.old.map (objects.Go go.now) ≡ None }
         ensures ok { OnOk result ((q : Object)
             → list_of self.new q ≡ (if same (objects.Go go.now) q then list_of self.old q
@@ -303,7 +303,7 @@ impl Lanes {
         ensures room { KeepsRoom self.old self.new }
     {
         if let Some(touch) = self.run.pop() {
-            if touch.writes {
+            if touch.writes() {
                 let _ = self.stops.pop();
             }
         }

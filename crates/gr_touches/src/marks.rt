@@ -36,7 +36,7 @@ impl Wanted {
     {
         match self {
             Wanted::All => true,
-            Wanted::Writes => touch.writes,
+            Wanted::Writes => touch.writes(),
         }
     }
 }
@@ -50,7 +50,7 @@ fn mark(marks: &mut [bool], base: usize, touch: Touch, wanted: Wanted)
         ≡ (slice_index_or marks.old j false || (takes wanted touch.writes && (touch.place == base + j))) }
 {
     if wanted.takes(touch) {
-        marks[touch.place as usize - base] = true;
+        marks[touch.place() as usize - base] = true;
     }
 }
 
@@ -65,7 +65,8 @@ fn mark_later(marks: &mut [bool], origin: Origin, touches: &[Touch], wanted: Wan
     while left > 0 {
         left -= 1;
         let touch = touches[left];
-        if touch.place as usize <= origin.place {
+        let place = touch.place() as usize;
+        if place <= origin.place {
             return;
         }
         mark(marks, origin.base, touch, wanted);
@@ -81,7 +82,8 @@ fn mark_earlier(marks: &mut [bool], origin: Origin, touches: &[Touch], wanted: W
 {
     for i in 0..touches.len() {
         let touch = touches[i];
-        if touch.place as usize >= origin.place {
+        let place = touch.place() as usize;
+        if place >= origin.place {
             return;
         }
         mark(marks, origin.base, touch, wanted);

@@ -1,6 +1,6 @@
 //! The touches of a step, added to the lists of its objects.
 
-ghost use Rattle.std.specs.Prelude.{◌≡◌, ◌∷◌, [], None, Some, option_map};
+ghost use Rattle.std.specs.Prelude.{◌≡◌, ◌<◌, ◌^◌, ◌∷◌, [], None, Some, option_map};
 ghost use Rattle.gr_base.specs.declared.objects.Object.TheVariants as objects;
 ghost use Rattle.gr_record.specs.Conflicts.{read_by, written_by};
 ghost use Rattle.gr_record.specs.Parts.{channel_in, parts_before, reads_in, writes_in};
@@ -20,6 +20,7 @@ impl Lanes {
     /// Adds the touches of a step at a place. Refused, all lists are as before.
     #[inline(always)]
     pub fn note(&mut self, place: u32, step: &Record) -> Result<(), NoMemory>
+        requires { place < 2 ^ 31 }
         ensures { NotesStep result place step.now self.old self.new }
     {
         match step.change.form() {
@@ -33,17 +34,12 @@ impl Lanes {
     /// Adds the touches of a step that reached no further than its goroutine. Refused, all lists are as before.
     #[inline(always)]
     fn note_alone(&mut self, place: u32, step: &Record) -> Result<(), NoMemory>
-        requires { step.now.change.beyond ≡ None }
+        requires place { place < 2 ^ 31 }
+        requires alone { step.now.change.beyond ≡ None }
         ensures { NotesStep result place step.now self.old self.new }
     {
-        let read = Touch {
-            place,
-            writes: false,
-        };
-        let written = Touch {
-            place,
-            writes: true,
-        };
+        let read = Touch::new(place, false);
+        let written = Touch::new(place, true);
         self.add_to_run(read)?;
         let noted = self.add_to_lane(&step.id.go, written);
         if let Err(error) = noted {
@@ -61,18 +57,13 @@ impl Lanes {
         step: &Record,
         reached: &R,
     ) -> Result<(), NoMemory>
+        requires place { place < 2 ^ 31 }
         requires read { read_by step.now ≡ R.read reached.now }
         requires written { written_by step.now ≡ objects.Go step.now.id.go ∷ R.written reached.now }
         ensures { NotesStep result place step.now self.old self.new }
     {
-        let read = Touch {
-            place,
-            writes: false,
-        };
-        let written = Touch {
-            place,
-            writes: true,
-        };
+        let read = Touch::new(place, false);
+        let written = Touch::new(place, true);
         reached.note_read(self, read)?;
         let noted = self.note_written(&step.id.go, reached, written);
         if let Err(error) = noted {
@@ -85,7 +76,8 @@ impl Lanes {
     /// Adds the touches of a step that reached further than one channel. Refused, all lists are as before.
     #[inline(never)]
     fn note_beyond(&mut self, place: u32, step: &Record, beyond: &Beyond) -> Result<(), NoMemory>
-        requires { step.now.change.beyond ≡ Some beyond.now }
+        requires place { place < 2 ^ 31 }
+        requires beyond { step.now.change.beyond ≡ Some beyond.now }
         ensures { NotesStep result place step.now self.old self.new }
     {
         self.note_reached(place, step, beyond)

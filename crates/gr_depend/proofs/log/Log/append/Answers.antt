@@ -21,7 +21,7 @@ invariant_of-self-in-Break-branch-2 c =
     record {
       touches = λ o. c.in_err-note_own.ensures.err o ∙ log.touches o ∙ ap (touches_in o 0) (sym c.reserve.ensures.items);
       once = subst (λ l. list_all (λ r. none_twice (touched_by r)) l ≡ true) (sym c.reserve.ensures.items) log.once;
-      few = subst (λ l. length l ≤ 2 ^ 32) (sym c.reserve.ensures.items) log.few;
+      few = subst (λ l. length l ≤ 2 ^ 31) (sym c.reserve.ensures.items) log.few;
     }
 
 pub invariant_of-self-2 : goal.invariant_of-self-2

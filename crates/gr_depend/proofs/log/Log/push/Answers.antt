@@ -48,7 +48,7 @@ invariant_of-self-in-Err-note c =
     record {
       touches = λ o. c.in-Err-note.ensures.err o ∙ log.touches o ∙ ap (touches_in o 0) (sym back);
       once = subst (λ l. list_all (λ r. none_twice (touched_by r)) l ≡ true) (sym back) log.once;
-      few = subst (λ l. length l ≤ 2 ^ 32) (sym back) log.few;
+      few = subst (λ l. length l ≤ 2 ^ 31) (sym back) log.few;
     }
 
 pub returns-in-Ok-clause-room : goal.returns-in-Ok-clause-room
