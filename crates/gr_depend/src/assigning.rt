@@ -223,13 +223,13 @@ fn stood_at(step: &Record) -> Option<Spot>
 {
     match step.change.form() {
         Form::Alone(_, own) => kept_spot(own),
-        Form::Passes(_, own, _) => kept_spot(own),
+        Form::Passes(own, _) => kept_spot(own),
         Form::Waits(waiting) => Some(waiting.spot),
-        Form::Further(_, own, beyond) => {
+        Form::Further(own, further) => {
             if let Some(spot) = kept_spot(own) {
                 return Some(spot);
             }
-            first_spot(&step.id.go, beyond.met.as_slice())
+            first_spot(&step.id.go, further.beyond.met.as_slice())
         }
     }
 }

@@ -40,8 +40,8 @@ fn operation_of(step: &Record) -> Option<&Operation>
     match step.change.form() {
         Form::Alone(_, _) => None,
         Form::Waits(waiting) => Some(&waiting.contact.operation),
-        Form::Passes(_, _, passage) => Some(&passage.contact.operation),
-        Form::Further(_, _, beyond) => beyond.operation.as_ref(),
+        Form::Passes(_, passage) => Some(&passage.contact.operation),
+        Form::Further(_, further) => further.beyond.operation.as_ref(),
     }
 }
 

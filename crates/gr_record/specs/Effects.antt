@@ -66,5 +66,5 @@ reached_by_passage p = reached_on p.contact p.undo
 abbrev pub effect_in : Form → Effect
 effect_in (Alone kind own) = record { kind = kind; own = own; beyond = None }
 effect_in (Waits w) = record { kind = kind_of_wait w.contact.operation; own = Parked w.spot; beyond = Some (reached_by_wait w) }
-effect_in (Passes kind own p) = record { kind = kind; own = own; beyond = Some (reached_by_passage p.value) }
-effect_in (Further kind own b) = record { kind = kind; own = own; beyond = Some b.value }
+effect_in (Passes own p) = record { kind = p.value.kind; own = own; beyond = Some (reached_by_passage p.value) }
+effect_in (Further own f) = record { kind = f.value.kind; own = own; beyond = Some f.value.beyond }

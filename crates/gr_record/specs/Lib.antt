@@ -1,6 +1,7 @@
 -- What a step leaves in its record, when records are those of steps, and records with the steps of a log.
 pub mod Listings
 pub mod Fews
+pub mod Places
 pub mod Parts
 pub mod Effects
 pub mod Records

@@ -5,6 +5,7 @@ pub mod few;
 pub mod laws;
 pub mod listing;
 pub mod record;
+pub mod slot;
 
 pub use few::Few;
 pub use listing::Listing;

@@ -1,11 +1,12 @@
 //! Records of steps.
 
-ghost use Rattle.std.specs.Prelude.{◌≡◌, option_copied, IfOk};
+ghost use Rattle.std.specs.Prelude.{◌≡◌, Some, option_copied, IfOk};
 ghost use Rattle.gr_record.specs.Effects.{effect_in, kind_of_wait, queue_left_by};
 ghost use Rattle.gr_record.specs.Parts.{begun_in, channel_in};
 ghost use Rattle.gr_record.specs.Records.{event_of, is_printed};
 
 use crate::few::Few;
+use crate::slot::SlotPlace;
 use gr_base::{ChName, Choice, Event, GoName, Kind, NoMemory, Object, StepId};
 use gr_channels::ChanUndo;
 use gr_tables::{GoUndo, Spot};
@@ -59,7 +60,7 @@ pub struct Touched {
     pub read: Parts,
     pub written: Parts,
     /// The place of the slot, counted from 0; none at capacity 0.
-    pub slot: Option<u32>,
+    pub slot: SlotPlace,
 }
 
 /// What few steps reach.
@@ -120,12 +121,30 @@ pub struct Waiting {
     pub spot: Spot,
 }
 
-/// What a step reached that communicated over one channel and met nobody.
+/// What a step reached that communicated over one channel and met nobody, and its kind.
 #[derive(Debug, Drop)]
 pub struct Passage {
+    pub kind: Kind,
     pub contact: Contact,
     /// What it replaced in the channel, if it changed that.
     pub undo: Option<ChanUndo>,
+}
+
+/// What a step reached that reached further, and its kind.
+#[derive(Debug, Drop)]
+pub struct Further {
+    pub kind: Kind,
+    pub beyond: Beyond,
+}
+
+impl Further {
+    /// What a step reached, before its kind is told.
+    pub fn new(alloc: Global, beyond: Beyond) -> Result<Box<Further>, NoMemory>
+        ensures { IfOk result (λ further. further.value.beyond ≡ beyond) }
+    {
+        let kind = Kind::Pure;
+        Ok(Box::new(alloc, Further { kind, beyond })?)
+    }
 }
 
 /// How what a step did is kept, in as little memory as there is need for.
@@ -135,11 +154,11 @@ pub enum Form {
     Alone(Kind, GoUndo),
     /// Its goroutine came to wait.
     Waits(Waiting),
-    /// It communicated over a channel, and met nobody: its kind, what it replaced in its goroutine, and what it did with the
+    /// It communicated over a channel, and met nobody: what it replaced in its goroutine, its kind, and what it did with the
     /// channel.
-    Passes(Kind, GoUndo, Box<Passage>),
-    /// It reached further: its kind, what it replaced in its goroutine, and what it reached.
-    Further(Kind, GoUndo, Box<Beyond>),
+    Passes(GoUndo, Box<Passage>),
+    /// It reached further: what it replaced in its goroutine, its kind, and what it reached.
+    Further(GoUndo, Box<Further>),
 }
 
 /// What a step did, and what it replaced.
@@ -157,6 +176,31 @@ impl Model for Change {
 }
 
 impl Change {
+    ghost use Rattle.gr_record.specs.Effects.{reached_on};
+
+    /// What a step did of this kind that communicated over a channel, met nobody, and replaced this in the channel.
+    pub fn passed(kind: Kind, own: GoUndo, passage: Box<Passage>, undo: Option<ChanUndo>) -> Change
+        ensures { result ≡ record { kind = kind; own = own; beyond = Some (reached_on passage.value.contact undo) } }
+    {
+        let mut passage = passage;
+        passage.kind = kind;
+        passage.undo = undo;
+        Change {
+            form: Form::Passes(own, passage),
+        }
+    }
+
+    /// What a step did of this kind that reached further.
+    pub fn further(kind: Kind, own: GoUndo, further: Box<Further>) -> Change
+        ensures { result ≡ record { kind = kind; own = own; beyond = Some further.value.beyond } }
+    {
+        let mut further = further;
+        further.kind = kind;
+        Change {
+            form: Form::Further(own, further),
+        }
+    }
+
     /// How it is kept.
     pub fn form(&self) -> &Form
         ensures { effect_in result.now ≡ self.now }
@@ -171,8 +215,8 @@ impl Change {
         match &self.form {
             Form::Alone(kind, _) => *kind,
             Form::Waits(waiting) => waiting.kind(),
-            Form::Passes(kind, _, _) => *kind,
-            Form::Further(kind, _, _) => *kind,
+            Form::Passes(_, passage) => passage.kind,
+            Form::Further(_, further) => further.kind,
         }
     }
 
@@ -183,8 +227,8 @@ impl Change {
         match &self.form {
             Form::Alone(_, own) => wrote_line(own),
             Form::Waits(_) => false,
-            Form::Passes(_, own, _) => wrote_line(own),
-            Form::Further(_, own, _) => wrote_line(own),
+            Form::Passes(own, _) => wrote_line(own),
+            Form::Further(own, _) => wrote_line(own),
         }
     }
 }

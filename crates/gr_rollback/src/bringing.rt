@@ -110,7 +110,7 @@ pub(crate) fn bring_step_back(pool: &mut Pool, step: &Record)
     match step.change.form() {
         Form::Alone(_, own) => bring_back(pool, go, own),
         Form::Waits(_) => pool.insert(go),
-        Form::Passes(_, own, _) => bring_back(pool, go, own),
-        Form::Further(_, own, beyond) => bring_beyond_back(pool, go, own, beyond),
+        Form::Passes(own, _) => bring_back(pool, go, own),
+        Form::Further(own, further) => bring_beyond_back(pool, go, own, &further.beyond),
     }
 }

@@ -91,10 +91,10 @@ pub(crate) fn know_child(pool: &mut Pool, change: &Change) -> Result<(), NoMemor
     ensures more { KnowsMore pool.old pool.new }
     ensures ready { pool.new.ready ≡ pool.old.ready }
 {
-    let Form::Further(_, _, beyond) = change.form() else {
+    let Form::Further(_, further) = change.form() else {
         return Ok(());
     };
-    let Some(go) = beyond.begins() else {
+    let Some(go) = further.beyond.begins() else {
         return Ok(());
     };
     pool.know(go)
@@ -106,9 +106,10 @@ fn settle_others(pool: &mut Pool, store: &Store, step: &Record)
     requires child { KnowsReady (option_to_list (begun_by step.now.change)) (contents_at store.now) pool.old }
     ensures { Settles (others_of step.now.change) (contents_at store.now) pool.old pool.new }
 {
-    let Form::Further(_, _, beyond) = step.change.form() else {
+    let Form::Further(_, further) = step.change.form() else {
         return;
     };
+    let beyond = &further.beyond;
     settle_met(pool, store, beyond.met.as_slice());
     settle_child(pool, store, beyond.begins());
 }
@@ -146,7 +147,7 @@ pub(crate) fn settle_taken(pool: &mut Pool, store: &Store, step: &Record)
 {
     match step.change.form() {
         Form::Alone(_, own) => settle_alone(pool, store, &step.id.go, own),
-        Form::Waits(_) | Form::Passes(_, _, _) => settle_own(pool, store, &step.id.go),
-        Form::Further(_, _, _) => settle_further(pool, store, step),
+        Form::Waits(_) | Form::Passes(_, _) => settle_own(pool, store, &step.id.go),
+        Form::Further(_, _) => settle_further(pool, store, step),
     }
 }

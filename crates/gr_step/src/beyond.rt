@@ -9,9 +9,9 @@ ghost use Rattle.gr_step.specs.Preparing.{IsReached};
 ghost use Rattle.gr_record.specs.Records.{operation_of};
 
 use crate::touching::{push_gates, untouched};
-use gr_base::{ChName, GoName, NoMemory, Object};
+use gr_base::{ChName, GoName, Kind, NoMemory, Object};
 use gr_record::Few;
-use gr_record::record::{Beyond, Contact, More, Operation, Passage, Touched};
+use gr_record::record::{Beyond, Contact, Further, More, Operation, Passage, Touched};
 use std::alloc::Global;
 
 /// What a step reached that met nobody and changed no channel, by what it did with a channel, and whether it ended or stopped
@@ -21,8 +21,8 @@ pub(crate) fn with_more(
     operation: Option<Operation>,
     more: More,
     stops: bool,
-) -> Result<Box<Beyond>, NoMemory>
-    ensures { IfOk result (λ beyond. ReachesAll operation more.reads.items more.writes.items more.begins more.makes stops beyond.value) }
+) -> Result<Box<Further>, NoMemory>
+    ensures { IfOk result (λ beyond. ReachesAll operation more.reads.items more.writes.items more.begins more.makes stops beyond.value.beyond) }
 {
     let more = Box::new(alloc, more)?;
     let beyond = Beyond {
@@ -34,7 +34,7 @@ pub(crate) fn with_more(
         more: Some(more),
         stops,
     };
-    Ok(Box::new(alloc, beyond)?)
+    Further::new(alloc, beyond)
 }
 
 /// What a step reached that did this with a channel, touched these parts of it, and reached nothing else.
@@ -42,9 +42,9 @@ pub(crate) fn waited(
     alloc: Global,
     operation: Option<Operation>,
     touched: Touched,
-) -> Result<Box<Beyond>, NoMemory>
+) -> Result<Box<Further>, NoMemory>
     ensures { (reads writes : List Object) → AreTouched touched (option_map channel_in operation) reads writes
-        → IfOk result (λ beyond. Reaches operation reads writes false beyond.value) }
+        → IfOk result (λ beyond. Reaches operation reads writes false beyond.value.beyond) }
 {
     let beyond = Beyond {
         operation,
@@ -55,7 +55,7 @@ pub(crate) fn waited(
         more: None,
         stops: false,
     };
-    Ok(Box::new(alloc, beyond)?)
+    Further::new(alloc, beyond)
 }
 
 /// What a step reached that met nobody, by what it did with a channel and touched of it, before it changes anything.
@@ -65,6 +65,7 @@ pub(crate) fn passage(alloc: Global, contact: Contact) -> Result<Box<Passage>, N
     ensures channel { IfOk result (λ passage. channel_in passage.value.contact.operation ≡ channel_in contact.operation) }
 {
     let passage = Passage {
+        kind: Kind::Pure,
         contact,
         undo: None,
     };
@@ -100,10 +101,10 @@ pub(crate) fn reached_with(
     touched: Touched,
     partner: &GoName,
     others: &[ChName],
-) -> Result<Box<Beyond>, NoMemory>
+) -> Result<Box<Further>, NoMemory>
     ensures { (reads writes : List Object) → AreTouched touched (Some (channel_in operation)) reads writes
         → IfOk result (λ beyond. IsReached (operation_of operation) reads (writes ++ objects.Go partner.now
-        ∷ map objects.Gate others.now) beyond.value) }
+        ∷ map objects.Gate others.now) beyond.value.beyond) }
 {
     let more = gates_too(alloc, others)?;
     let beyond = Beyond {
@@ -115,7 +116,7 @@ pub(crate) fn reached_with(
         more,
         stops: false,
     };
-    Ok(Box::new(alloc, beyond)?)
+    Further::new(alloc, beyond)
 }
 
 /// What a step reached, by what it did with a channel, the objects that it read and wrote, and whether it ended or stopped the
@@ -126,8 +127,8 @@ pub(crate) fn reached(
     reads: Vec<Object>,
     writes: Vec<Object>,
     stops: bool,
-) -> Result<Box<Beyond>, NoMemory>
-    ensures { IfOk result (λ beyond. Reaches operation reads.items writes.items stops beyond.value) }
+) -> Result<Box<Further>, NoMemory>
+    ensures { IfOk result (λ beyond. Reaches operation reads.items writes.items stops beyond.value.beyond) }
 {
     let more = More {
         reads,

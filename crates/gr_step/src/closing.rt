@@ -41,7 +41,7 @@ use crate::waking::{all_channels, shut, wake_each};
 use gr_base::{ChName, Event, Fault, GoName, Kind, NoMemory, Object};
 use gr_channels::ChanUndo;
 use gr_goros::{Arrival, GoUndo};
-use gr_record::record::{Beyond, Change, Form, Operation};
+use gr_record::record::{Change, Further, Operation};
 use gr_record::{Few, Listing};
 use gr_tables::goroutines::Goroutines;
 use std::alloc::Global;
@@ -81,9 +81,9 @@ fn beyond_close(
     goroutines: &Goroutines,
     channel: &ChName,
     names: &[GoName],
-) -> Result<Box<Beyond>, NoMemory>
+) -> Result<Box<Further>, NoMemory>
     ensures { IfOk result (λ beyond. Reaches (Some (Operation.Closes channel.now)) []
-        (written_by_close channel.now (goroutines_of goroutines.now) names.now) false beyond.value) }
+        (written_by_close channel.now (goroutines_of goroutines.now) names.now) false beyond.value.beyond) }
 {
     let channels = all_channels(alloc, goroutines, channel, names)?;
     let writes = written(alloc, names, &channels)?;
@@ -94,21 +94,19 @@ fn beyond_close(
 /// The change of a close, from what it reaches, with its changes of goroutines and of channels.
 fn closed(
     own: GoUndo,
-    beyond: Box<Beyond>,
+    further: Box<Further>,
     met: Vec<(GoName, GoUndo)>,
     channels: Vec<(ChName, ChanUndo)>,
 ) -> Change
     ensures own { result.own ≡ own }
     ensures told { (c : ChName) (writes : List objects_touched.Object)
-        → Reaches (Some (Operation.Closes c)) [] writes false beyond.value
+        → Reaches (Some (Operation.Closes c)) [] writes false further.value.beyond
         → Tells result kinds.Close (Some (closes c)) [] writes own met.items channels.items }
 {
-    let mut beyond = beyond;
-    beyond.met = Few::of_many(met);
-    beyond.channels = Few::of_many(channels);
-    Change {
-        form: Form::Further(Kind::Close, own, beyond),
-    }
+    let mut further = further;
+    further.beyond.met = Few::of_many(met);
+    further.beyond.channels = Few::of_many(channels);
+    Change::further(Kind::Close, own, further)
 }
 
 impl Objects {

@@ -53,8 +53,6 @@ impl Objects {
         let beyond = stopping(self.alloc, None, nothing)?;
         let own = self.goroutines.halt(number, Halt::Finished)?;
         self.run = Run::Ended;
-        Ok(Change {
-            form: Form::Further(Kind::Exit, own, beyond),
-        })
+        Ok(Change::further(Kind::Exit, own, beyond))
     }
 }

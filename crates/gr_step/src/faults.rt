@@ -13,7 +13,7 @@ use crate::beyond::reached;
 use crate::objects::{Objects, Run};
 use gr_base::{Fault, Kind, NoMemory, Object};
 use gr_goros::{GoUndo, Halt};
-use gr_record::record::{Beyond, Change, Form, Operation};
+use gr_record::record::{Change, Further, Operation};
 use std::alloc::Global;
 
 /// What a step that ends or stops the program reaches beyond its goroutine.
@@ -21,8 +21,8 @@ pub(crate) fn stopping(
     alloc: Global,
     operation: Option<Operation>,
     reads: Vec<Object>,
-) -> Result<Box<Beyond>, NoMemory>
-    ensures { IfOk result (λ beyond. Reaches operation reads.items (objects.Run ∷ []) true beyond.value) }
+) -> Result<Box<Further>, NoMemory>
+    ensures { IfOk result (λ beyond. Reaches operation reads.items (objects.Run ∷ []) true beyond.value.beyond) }
 {
     let mut writes = Vec::new(alloc);
     writes.push(Object::Run)?;
@@ -49,9 +49,7 @@ impl Objects {
         let beyond = stopping(self.alloc, operation, reads)?;
         let own = self.goroutines.halt(number, Halt::Faulted)?;
         self.run = Run::Faulted(fault);
-        Ok(Change {
-            form: Form::Further(Kind::Fault(fault), own, beyond),
-        })
+        Ok(Change::further(Kind::Fault(fault), own, beyond))
     }
 
     /// The goroutine with a number stops the program with a fault, which did nothing with a channel. Refused, nothing has
@@ -89,8 +87,6 @@ impl Objects {
             }
         };
         self.run = Run::Faulted(fault);
-        Ok(Change {
-            form: Form::Further(Kind::Fault(fault), own, beyond),
-        })
+        Ok(Change::further(Kind::Fault(fault), own, beyond))
     }
 }

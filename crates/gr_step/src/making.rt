@@ -32,7 +32,7 @@ use gr_base::{ChName, Event, Fault, GoName, Kind, NoMemory, Object, Value};
 use gr_channels::Channel;
 use gr_goros::{Arrival, Goroutine};
 use gr_record::Listing;
-use gr_record::record::{Beyond, Change, Form, More, Operation};
+use gr_record::record::{Change, Form, Further, More, Operation};
 use std::alloc::Global;
 
 /// How many places a channel may have.
@@ -53,8 +53,8 @@ fn places_of(size: i64) -> Option<u32>
 }
 
 /// What a step reaches beyond its goroutine that makes a channel of this name.
-fn making(alloc: Global, name: &ChName) -> Result<Box<Beyond>, NoMemory>
-    ensures { IfOk result (λ beyond. ReachesChannel name.now beyond.value) }
+fn making(alloc: Global, name: &ChName) -> Result<Box<Further>, NoMemory>
+    ensures { IfOk result (λ beyond. ReachesChannel name.now beyond.value.beyond) }
 {
     let more = More {
         reads: Vec::new(alloc),
@@ -66,8 +66,8 @@ fn making(alloc: Global, name: &ChName) -> Result<Box<Beyond>, NoMemory>
 }
 
 /// What a step reaches beyond its goroutine that starts a goroutine of this name.
-fn starting(alloc: Global, child: GoName) -> Result<Box<Beyond>, NoMemory>
-    ensures { IfOk result (λ beyond. ReachesChild child beyond.value) }
+fn starting(alloc: Global, child: GoName) -> Result<Box<Further>, NoMemory>
+    ensures { IfOk result (λ beyond. ReachesChild child beyond.value.beyond) }
 {
     let mut writes = Vec::with_capacity(alloc, 1)?;
     writes.push(Object::Go(child.copy(alloc)?))?;
@@ -108,8 +108,12 @@ fn read_for_len(alloc: Global, channel: &ChName) -> Result<Vec<Object>, NoMemory
 }
 
 /// What a step reaches beyond its goroutine that did this with a channel and read these.
-fn reading(alloc: Global, operation: Operation, reads: Vec<Object>) -> Result<Box<Beyond>, NoMemory>
-    ensures { IfOk result (λ beyond. Reaches (Some operation) reads.items [] false beyond.value) }
+fn reading(
+    alloc: Global,
+    operation: Operation,
+    reads: Vec<Object>,
+) -> Result<Box<Further>, NoMemory>
+    ensures { IfOk result (λ beyond. Reaches (Some operation) reads.items [] false beyond.value.beyond) }
 {
     reached(alloc, Some(operation), reads, Vec::new(alloc), false)
 }
@@ -157,9 +161,7 @@ impl Objects {
             self.goroutines.undo(turn.number, own).unwrap();
             return Err(error);
         }
-        Ok(Change {
-            form: Form::Further(Kind::Make, own, beyond),
-        })
+        Ok(Change::further(Kind::Make, own, beyond))
     }
 
     /// Starts a goroutine; it may be a fault. Refused, nothing has changed.
@@ -212,9 +214,7 @@ impl Objects {
             .goroutines
             .deliver(turn.number, &turn.listing.code, Arrival::Child)?;
         self.goroutines.put(place, goroutine);
-        Ok(Change {
-            form: Form::Further(Kind::Go, own, beyond),
-        })
+        Ok(Change::further(Kind::Go, own, beyond))
     }
 
     /// Counts the items of a channel. Refused, nothing has changed.
@@ -267,11 +267,11 @@ impl Objects {
         listing: &Listing,
         number: usize,
         count: u32,
-        beyond: Option<Box<Beyond>>,
+        beyond: Option<Box<Further>>,
     ) -> Result<Change, NoMemory>
         requires { At (CanArrive (program_code_of listing.now.code.value) (arrivals.Value (Int (pos count))))
             (seen_at self.old.goroutines number) }
-        ensures ok { IfOk result (λ change. (change.kind ≡ kinds.Length) × (change.beyond ≡ option_map (λ b. b.value) beyond)
+        ensures ok { IfOk result (λ change. (change.kind ≡ kinds.Length) × (change.beyond ≡ option_map (λ b. b.value.beyond) beyond)
             × ChangesObjects (ChangesBy number
             (Arrives (program_code_of listing.now.code.value)
             (arrivals.Value (Int (pos count))) change.own)) self.old.run self.old self.new) }
@@ -279,10 +279,11 @@ impl Objects {
     {
         let arrival = Arrival::Value(whole(count));
         let own = self.goroutines.deliver(number, &listing.code, arrival)?;
-        let form = match beyond {
-            Some(beyond) => Form::Further(Kind::Length, own, beyond),
-            None => Form::Alone(Kind::Length, own),
-        };
-        Ok(Change { form })
+        match beyond {
+            Some(beyond) => Ok(Change::further(Kind::Length, own, beyond)),
+            None => Ok(Change {
+                form: Form::Alone(Kind::Length, own),
+            }),
+        }
     }
 }

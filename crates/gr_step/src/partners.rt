@@ -29,7 +29,7 @@ use gr_base::{ChName, GoName, Kind, NoMemory, Object};
 use gr_channels::ChanUndo;
 use gr_goros::{Arrival, GoUndo};
 use gr_record::Few;
-use gr_record::record::{Beyond, Change, Form, Operation, Passage, Touched};
+use gr_record::record::{Change, Further, Operation, Passage, Touched};
 use gr_tables::channels::Channels;
 use std::alloc::Global;
 
@@ -39,29 +39,24 @@ fn told(kind: Kind, own: GoUndo, passage: Box<Passage>, undo: Option<ChanUndo>) 
         → IsReached operation reads writes (reached_by_passage passage.value)
         → Tells result kind (Some operation) reads writes own [] (listed (channel_in passage.value.contact.operation) undo) }
 {
-    let mut passage = passage;
-    passage.undo = undo;
-    let form = Form::Passes(kind, own, passage);
-    Change { form }
+    Change::passed(kind, own, passage, undo)
 }
 
 /// The change of a step that met one goroutine, and changed these channels.
 fn told_with(
     kind: Kind,
     own: GoUndo,
-    beyond: Box<Beyond>,
+    further: Box<Further>,
     met: (GoName, GoUndo),
     channels: Few<(ChName, ChanUndo)>,
 ) -> Change
-    ensures { (operation : attempts.Operation) (reads writes : List Object) → IsReached operation reads writes beyond.value
+    ensures { (operation : attempts.Operation) (reads writes : List Object) → IsReached operation reads writes further.value.beyond
         → Tells result kind (Some operation) reads writes own (met ∷ []) (members channels) }
 {
-    let mut beyond = beyond;
-    beyond.met = Few::One(met);
-    beyond.channels = channels;
-    Change {
-        form: Form::Further(kind, own, beyond),
-    }
+    let mut further = further;
+    further.beyond.met = Few::One(met);
+    further.beyond.channels = channels;
+    Change::further(kind, own, further)
 }
 
 /// A goroutine leaves the queues of the channels of these names, after a change of a channel in the same step. Refused, that
@@ -101,7 +96,7 @@ pub(crate) struct Prepared {
     pub(crate) names: Vec<ChName>,
     /// The channel of the communication.
     pub(crate) channel: ChName,
-    pub(crate) beyond: Box<Beyond>,
+    pub(crate) beyond: Box<Further>,
 }
 
 /// How two goroutines go past their communication: the kind of the step, what arrives at the one that takes it, and what
@@ -226,7 +221,7 @@ impl Objects {
         requires { CanExchange (code_for turn.now) (event_for turn.now) turn.now.number prepared undo
             (arrival_of crossing.passes) (arrival_of crossing.meets) self.old }
         ensures ok { (operation : attempts.Operation) (reads writes : List Object)
-            → IsReached operation reads writes prepared.beyond.value
+            → IsReached operation reads writes prepared.beyond.value.beyond
             → IfOk result (λ change. IsExchange (code_for turn.now) (event_for turn.now).go prepared.go
             (arrival_of crossing.passes) (arrival_of crossing.meets)
             prepared.names.items crossing.kind operation reads writes ((prepared.channel, undo) ∷ []) change self.old self.new) }

@@ -42,12 +42,12 @@ use crate::turn::{Meeting, Turn};
 use gr_base::{Choice, Event, Fault, Kind, NoMemory, Object};
 use gr_goros::{Arrival, Clause};
 use gr_record::Listing;
-use gr_record::record::{Beyond, Change, Form};
+use gr_record::record::{Change, Further};
 use std::alloc::Global;
 
 /// What a step reaches beyond its goroutine that read these and wrote nothing.
-fn reading(alloc: Global, reads: Vec<Object>) -> Result<Box<Beyond>, NoMemory>
-    ensures { IfOk result (λ beyond. Reaches None reads.items [] false beyond.value) }
+fn reading(alloc: Global, reads: Vec<Object>) -> Result<Box<Further>, NoMemory>
+    ensures { IfOk result (λ beyond. Reaches None reads.items [] false beyond.value.beyond) }
 {
     reached(alloc, None, reads, Vec::new(alloc), false)
 }
@@ -267,8 +267,6 @@ impl Objects {
             got: None,
         };
         let own = self.goroutines.deliver(number, &listing.code, arrival)?;
-        Ok(Change {
-            form: Form::Further(Kind::Default, own, beyond),
-        })
+        Ok(Change::further(Kind::Default, own, beyond))
     }
 }

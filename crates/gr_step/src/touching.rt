@@ -9,6 +9,7 @@ ghost use Rattle.gr_record.specs.Parts.{slot_before, AreTouched};
 use gr_base::{ChName, NoMemory, Object};
 use gr_channels::Channel;
 use gr_record::record::{Parts, Touched};
+use gr_record::slot::SlotPlace;
 use std::alloc::Global;
 
 /// Adds the slot of a number, if the channel has any.
@@ -97,18 +98,18 @@ pub(crate) fn push_gates(
 }
 
 /// The place of the slot of a number, if the channel has any.
-fn slot(capacity: u32, number: u64) -> Option<u32>
+fn slot(capacity: u32, number: u64) -> SlotPlace
     ensures alone { (c : ChName) → slot_before c result [] ≡ slot_numbered c capacity number }
     ensures before { (c : ChName) (os : List Object) → slot_before c result os ≡ slot_numbered c capacity number ++ os }
 {
     if capacity == 0 {
-        return None;
+        return SlotPlace::none();
     }
-    Some((number % capacity as u64) as u32)
+    SlotPlace::at((number % capacity as u64) as u32)
 }
 
 /// The place of the slot that the next value enters.
-fn slot_at_tail(channel: &Channel) -> Option<u32>
+fn slot_at_tail(channel: &Channel) -> SlotPlace
     ensures alone { (c : ChName) → slot_before c result []
         ≡ slot_numbered c channel.now.content.capacity (tail_of channel.now.content) }
     ensures before { (c : ChName) (os : List Object)
@@ -118,7 +119,7 @@ fn slot_at_tail(channel: &Channel) -> Option<u32>
 }
 
 /// The place of the slot of the front item.
-fn slot_at_head(channel: &Channel) -> Option<u32>
+fn slot_at_head(channel: &Channel) -> SlotPlace
     ensures alone { (c : ChName) → slot_before c result []
         ≡ slot_numbered c channel.now.content.capacity channel.now.content.head }
     ensures before { (c : ChName) (os : List Object)
@@ -134,7 +135,7 @@ pub(crate) fn untouched() -> Touched
     Touched {
         read: Parts::Nothing,
         written: Parts::Nothing,
-        slot: None,
+        slot: SlotPlace::none(),
     }
 }
 
@@ -145,7 +146,7 @@ pub(crate) fn gate_written() -> Touched
     Touched {
         read: Parts::Nothing,
         written: Parts::Gate,
-        slot: None,
+        slot: SlotPlace::none(),
     }
 }
 

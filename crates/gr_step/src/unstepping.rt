@@ -8,17 +8,17 @@ ghost use Rattle.gr_record.specs.Fews.{members};
 ghost use Rattle.gr_record.specs.Parts.{begun_in, made_in, begun_by_more, made_by_more};
 ghost use Rattle.gr_step.specs.Objects.{contents_in};
 ghost use Rattle.gr_record.specs.Effects.{effect_in};
-ghost use Rattle.gr_record.specs.declared.record.Form.TheVariants.{Waits, Passes};
+ghost use Rattle.gr_record.specs.declared.record.Form.TheVariants as forms;
 ghost use Rattle.gr_record.specs.Records.{GoesFit, NeedNoFrame, CanGoBack};
 ghost use Rattle.gr_step.specs.Room.{HasRoom};
 ghost use Rattle.gr_step.specs.Unstepping.{GoBack, after_back, IsForgotten, IsUnmade, AreUndone, IsTakenBack};
 
 use crate::objects::{Objects, Run};
-use gr_base::{ChName, GoName, Kind, NoMemory};
+use gr_base::{ChName, GoName, NoMemory};
 use gr_channels::ChanUndo;
 use gr_goros::GoUndo;
 use gr_record::Few;
-use gr_record::record::{Beyond, Change, Form, More, Passage, Waiting};
+use gr_record::record::{Beyond, Change, Form, Further, More, Passage, Waiting};
 use gr_tables::channels::Channels;
 use gr_tables::goroutines::Goroutines;
 
@@ -153,8 +153,8 @@ impl Objects {
                 self.take_wait_back(go, waiting);
                 Ok(())
             }
-            Form::Passes(kind, own, passage) => self.take_passage_back(go, kind, own, passage),
-            Form::Further(kind, own, beyond) => self.take_beyond_back(go, kind, own, beyond),
+            Form::Passes(own, passage) => self.take_passage_back(go, own, passage),
+            Form::Further(own, further) => self.take_beyond_back(go, own, further),
         }
     }
 
@@ -163,22 +163,21 @@ impl Objects {
     fn take_passage_back(
         &mut self,
         go: &GoName,
-        kind: Kind,
         own: GoUndo,
         passage: Box<Passage>,
     ) -> Result<(), (Change, NoMemory)>
-        requires { CanGoBack go.now (effect_in (Passes kind own passage)) (contents_in self.old) }
-        ensures back { OnOk result (IsTakenBack go.now (effect_in (Passes kind own passage)) self.old self.new) }
+        requires { CanGoBack go.now (effect_in (forms.Passes own passage)) (contents_in self.old) }
+        ensures back { OnOk result (IsTakenBack go.now (effect_in (forms.Passes own passage)) self.old self.new) }
         ensures err { OnErr result (contents_in self.new ≡ contents_in self.old) }
-        ensures returned { IfErr result (λ e. e.0 ≡ effect_in (Passes kind own passage)) }
-        ensures succeeds { HasRoom go.now (effect_in (Passes kind own passage)) self.old → IsOk result }
+        ensures returned { IfErr result (λ e. e.0 ≡ effect_in (forms.Passes own passage)) }
+        ensures succeeds { HasRoom go.now (effect_in (forms.Passes own passage)) self.old → IsOk result }
     {
         let channel = passage.contact.operation.channel();
         if let Err(error) = make_room(&mut self.channels, channel, &passage.undo) {
-            let form = Form::Passes(kind, own, passage);
+            let form = Form::Passes(own, passage);
             return Err((Change { form }, error));
         }
-        let Passage { contact, undo } = Box::into_inner(passage);
+        let Passage { contact, undo, .. } = Box::into_inner(passage);
         put_one_back(&mut self.channels, contact.operation.channel(), undo);
         undo_at(&mut self.goroutines, go, own).unwrap();
         Ok(())
@@ -187,8 +186,8 @@ impl Objects {
     /// Takes back what a step did whose goroutine came to wait, which needs no room.
     #[inline(never)]
     fn take_wait_back(&mut self, go: &GoName, waiting: Waiting)
-        requires { CanGoBack go.now (effect_in (Waits waiting)) (contents_in self.old) }
-        ensures { IsTakenBack go.now (effect_in (Waits waiting)) self.old self.new }
+        requires { CanGoBack go.now (effect_in (forms.Waits waiting)) (contents_in self.old) }
+        ensures { IsTakenBack go.now (effect_in (forms.Waits waiting)) self.old self.new }
     {
         let undo = waiting.undo();
         self.channels
@@ -201,25 +200,20 @@ impl Objects {
     fn take_beyond_back(
         &mut self,
         go: &GoName,
-        kind: Kind,
         own: GoUndo,
-        beyond: Box<Beyond>,
+        further: Box<Further>,
     ) -> Result<(), (Change, NoMemory)>
-        requires { CanGoBack go.now (record { kind = kind; own = own; beyond = Some beyond.value }) (contents_in self.old) }
-        ensures back { OnOk result (IsTakenBack go.now (record {
-          kind = kind;
-          own = own;
-          beyond = Some beyond.value;
-        }) self.old self.new) }
+        requires { CanGoBack go.now (effect_in (forms.Further own further)) (contents_in self.old) }
+        ensures back { OnOk result (IsTakenBack go.now (effect_in (forms.Further own further)) self.old self.new) }
         ensures err { OnErr result (contents_in self.new ≡ contents_in self.old) }
-        ensures returned { IfErr result (λ e. e.0 ≡ record { kind = kind; own = own; beyond = Some beyond.value }) }
-        ensures succeeds { HasRoom go.now (record { kind = kind; own = own; beyond = Some beyond.value }) self.old → IsOk result }
+        ensures returned { IfErr result (λ e. e.0 ≡ effect_in (forms.Further own further)) }
+        ensures succeeds { HasRoom go.now (effect_in (forms.Further own further)) self.old → IsOk result }
     {
-        if let Err(error) = self.channels.make_room(beyond.channels.as_slice()) {
-            let form = Form::Further(kind, own, beyond);
+        if let Err(error) = self.channels.make_room(further.beyond.channels.as_slice()) {
+            let form = Form::Further(own, further);
             return Err((Change { form }, error));
         }
-        self.take_rest_back(go, own, Box::into_inner(beyond));
+        self.take_rest_back(go, own, Box::into_inner(further).beyond);
         Ok(())
     }
 

@@ -51,7 +51,7 @@ use crate::turn::Turn;
 use gr_base::{ChName, Event, Kind, NoMemory, Object, Value};
 use gr_goros::{Clause, Wait};
 use gr_record::Listing;
-use gr_record::record::{Beyond, Change, Contact, Form, Operation, Touched, Waiting};
+use gr_record::record::{Change, Contact, Form, Further, Operation, Touched, Waiting};
 use gr_tables::channels::Channels;
 use std::alloc::Global;
 
@@ -119,7 +119,7 @@ impl Objects {
         &mut self,
         turn: &Turn<'_>,
         kind: Kind,
-        beyond: Box<Beyond>,
+        further: Box<Further>,
         waits: Box<Vec<Wait>>,
         pending: &[(Option<u32>, Clause)],
     ) -> Result<Change, NoMemory>
@@ -128,16 +128,20 @@ impl Objects {
         requires waits { waits_of waits.value.items ≡ rules.all_waits (pending_of pending.now) }
         ensures ok { (operation : Option Operation) (sides : List Object)
             → Reaches operation (each_read (gates_of (pending_of pending.now)) sides)
-            (gates_of (pending_of pending.now)) false beyond.value
+            (gates_of (pending_of pending.now)) false further.value.beyond
             → IfOk result (λ change. Parks (event_for turn.now) turn.now.number kind operation sides
             (pending_of pending.now) change self.old self.new) }
         ensures err { OnErr result (contents_in self.new ≡ contents_in self.old) }
     {
-        let mut beyond = beyond;
-        beyond.channels = park_for_few(&mut self.channels, self.alloc, &turn.event.go, pending)?;
+        let mut further = further;
+        further.beyond.channels = park_for_few(
+            &mut self.channels,
+            self.alloc,
+            &turn.event.go,
+            pending,
+        )?;
         let own = self.goroutines.park(turn.number, waits);
-        let form = Form::Further(kind, own, beyond);
-        Ok(Change { form })
+        Ok(Change::further(kind, own, further))
     }
 
     /// Begins to wait for any of these, each with the number of its clause, after a look at the sides. Refused, nothing has

@@ -12,6 +12,7 @@ use crate::objects::parts_of;
 use crate::touch::Touch;
 use gr_base::{ChName, NoMemory};
 use gr_record::record::Parts;
+use gr_record::slot::SlotPlace;
 
 impl Lanes {
     ghost use Rattle.gr_touches.specs.Room.{NotesFor};
@@ -21,7 +22,7 @@ impl Lanes {
         &mut self,
         channel: &ChName,
         parts: Parts,
-        slot: Option<u32>,
+        slot: SlotPlace,
         touch: Touch,
     ) -> Result<(), NoMemory>
         ensures { NotesFor result (parts_before parts slot (Some channel.now) []) touch self.old self.new }
@@ -43,14 +44,14 @@ impl Lanes {
         &mut self,
         end: &ObjectRef<'_>,
         channel: &ChName,
-        slot: Option<u32>,
+        slot: SlotPlace,
         touch: Touch,
     ) -> Result<(), NoMemory>
         requires { same objects.Run (seen end.now) ≡ false }
         ensures { NotesFor result (seen end.now ∷ slot_before channel.now slot []) touch self.old self.new }
     {
         self.add_to_lane(end, touch)?;
-        let Some(place) = slot else {
+        let Some(place) = slot.get() else {
             return Ok(());
         };
         let added = self.add_to_lane(&ObjectRef::Slot(channel, place), touch);
@@ -66,7 +67,7 @@ impl Lanes {
     fn note_gate_and_exit(
         &mut self,
         channel: &ChName,
-        slot: Option<u32>,
+        slot: SlotPlace,
         touch: Touch,
     ) -> Result<(), NoMemory>
         ensures { NotesFor result (objects.Gate channel.now ∷ objects.Head channel.now
@@ -87,7 +88,7 @@ impl Lanes {
     fn note_whole(
         &mut self,
         channel: &ChName,
-        slot: Option<u32>,
+        slot: SlotPlace,
         touch: Touch,
     ) -> Result<(), NoMemory>
         ensures { NotesFor result (parts_before Parts.All slot (Some channel.now) []) touch self.old self.new }

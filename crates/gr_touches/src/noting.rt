@@ -26,8 +26,8 @@ impl Lanes {
         match step.change.form() {
             Form::Alone(_, _) => self.note_alone(place, step),
             Form::Waits(waiting) => self.note_reached(place, step, &waiting.contact),
-            Form::Passes(_, _, passage) => self.note_reached(place, step, &passage.contact),
-            Form::Further(_, _, beyond) => self.note_beyond(place, step, beyond),
+            Form::Passes(_, passage) => self.note_reached(place, step, &passage.contact),
+            Form::Further(_, further) => self.note_beyond(place, step, &further.beyond),
         }
     }
 

@@ -14,6 +14,7 @@ use crate::object_ref::ObjectRef;
 use gr_base::{ChName, GoName, Object};
 use gr_record::Record;
 use gr_record::record::{Beyond, Contact, Form, Parts};
+use gr_record::slot::SlotPlace;
 
 /// Objects that a step read or wrote, by borrowed names. They are `Run` or its goroutine, parts of one channel, a goroutine
 /// that it met, and others, in this order.
@@ -29,10 +30,10 @@ pub struct TouchedObjects<'a> {
 }
 
 /// The slot of a channel at a place, if there is one.
-fn slot_at(channel: &ChName, place: Option<u32>) -> Option<(&ChName, u32)>
+fn slot_at(channel: &ChName, place: SlotPlace) -> Option<(&ChName, u32)>
     ensures { (os : List Object) → named (λ s. variants.Slot s.0.now s.1) result os ≡ slot_before channel.now place os }
 {
-    match place {
+    match place.get() {
         Some(place) => Some((channel, place)),
         None => None,
     }
@@ -63,7 +64,7 @@ impl<'a> TouchedObjects<'a> {
         front: Option<ObjectRef<'a>>,
         parts: Parts,
         channel: &'a ChName,
-        place: Option<u32>,
+        place: SlotPlace,
         partner: Option<&'a GoName>,
         others: &'a [Object],
     ) -> TouchedObjects<'a>
@@ -205,7 +206,7 @@ fn told<'a>(
 }
 
 /// Parts of a channel.
-pub(crate) fn parts_of(channel: &ChName, parts: Parts, slot: Option<u32>) -> TouchedObjects<'_>
+pub(crate) fn parts_of(channel: &ChName, parts: Parts, slot: SlotPlace) -> TouchedObjects<'_>
     ensures { seen_in result ≡ parts_before parts slot (Some channel.now) [] }
 {
     TouchedObjects::with_channel(None, parts, channel, slot, None, &[])
@@ -259,8 +260,8 @@ pub fn reads(step: &Record) -> TouchedObjects<'_>
     match step.change.form() {
         Form::Alone(_, _) => TouchedObjects::without_channel(Some(ObjectRef::Run), None, &[]),
         Form::Waits(waiting) => read_in(&waiting.contact),
-        Form::Passes(_, _, passage) => read_in(&passage.contact),
-        Form::Further(_, _, beyond) => read_beyond(beyond),
+        Form::Passes(_, passage) => read_in(&passage.contact),
+        Form::Further(_, further) => read_beyond(&further.beyond),
     }
 }
 
@@ -272,8 +273,9 @@ pub fn writes(step: &Record) -> TouchedObjects<'_>
     match step.change.form() {
         Form::Alone(_, _) => TouchedObjects::without_channel(Some(own), None, &[]),
         Form::Waits(waiting) => written_in(own, &waiting.contact),
-        Form::Passes(_, _, passage) => written_in(own, &passage.contact),
-        Form::Further(_, _, beyond) => {
+        Form::Passes(_, passage) => written_in(own, &passage.contact),
+        Form::Further(_, further) => {
+            let beyond = &further.beyond;
             let partner = beyond.partner.as_ref();
             let parts = beyond.touched.written;
             told(Some(own), beyond, parts, partner, others_written(beyond))

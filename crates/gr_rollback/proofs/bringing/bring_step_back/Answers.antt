@@ -19,6 +19,6 @@ returns-in-Waits c =
 pub returns-in-Passes : goal.returns-in-Passes
 returns-in-Passes c =
     let step = c.args.step.now in
-    brings_in step.id.go c.form.result.now (Passes c.in-Passes.field-0 c.in-Passes.own c.in-Passes.field-2) step.change c.args.pool.now c.bring_back-in-Passes.new.pool
+    brings_in step.id.go c.form.result.now (Passes c.in-Passes.own c.in-Passes.field-1) step.change c.args.pool.now c.bring_back-in-Passes.new.pool
     c.form.ensures c.in-Passes.is
     (brings_own step.id.go c.in-Passes.own c.args.pool.now c.bring_back-in-Passes.new.pool c.bring_back-in-Passes.ensures)

@@ -1,6 +1,5 @@
 use Rattle.std.proofs.Common.{ap, sym, subst, ◌∙◌}
 use Rattle.std.specs.Option.{option_to_list}
-use Rattle.gr_step.specs.Beyond.{Beyond}
 use Rattle.gr_step.specs.Effects.{Effect, effect_in}
 use Rattle.gr_step.specs.Fews.{members}
 use Rattle.gr_step.specs.Parts.{begun_in}
@@ -11,11 +10,11 @@ use Rattle.gr_rollback.proofs.readiness.settle_others.Goals as goal
 
 pub returns : goal.returns
 returns c =
-    let b = c.in-Further.beyond.value in
+    let b = c.in-Further.further.value.beyond in
     let s = contents_at c.args.store.now in
     let first : Settles (names_met (members b.met)) s c.args.pool.now c.settle_met.new.pool =
-    subst (λ met. Settles (names_met met) s c.args.pool.now c.settle_met.new.pool) (c.as_slice.ensures ∙ ap (λ (d : Beyond). members d.met) c.deref.ensures) c.settle_met.ensures in
+    rw (c.as_slice.ensures, c.deref.ensures) at c.settle_met.ensures in
     let second : Settles (option_to_list (begun_in b)) s c.settle_met.new.pool c.settle_child.new.pool =
-    subst (λ o. Settles (option_to_list o) s c.settle_met.new.pool c.settle_child.new.pool) (c.begins.ensures ∙ ap begun_in c.deref-2.ensures) c.settle_child.ensures in
+    rw (c.begins.ensures, c.deref.ensures) at c.settle_child.ensures in
     subst (λ (e : Effect). Settles (others_of e) s c.args.pool.now c.settle_child.new.pool) (ap effect_in (sym c.in-Further.is) ∙ c.form.ensures)
     (settles_join (names_met (members b.met)) (option_to_list (begun_in b)) s c.args.pool.now c.settle_met.new.pool c.settle_child.new.pool first second)

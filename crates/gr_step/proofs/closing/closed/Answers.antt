@@ -4,6 +4,8 @@ use Rattle.gr_base.specs.declared.kinds.Kind.TheVariants as kinds
 use Rattle.gr_base.specs.declared.objects.Object.TheVariants as objects
 use Rattle.gr_rules.specs.Attempts.{closes}
 use Rattle.gr_record.specs.declared.record.Beyond.{Beyond}
+use Rattle.gr_record.specs.declared.record.Further.{Further}
+use Rattle.gr_record.specs.Effects.{Effect}
 use Rattle.gr_record.specs.Parts.{reads_in}
 use Rattle.gr_step.specs.Passing.{Tells}
 use Rattle.gr_record.specs.Records.{operation_of, NeedNoFrame}
@@ -12,10 +14,11 @@ use Rattle.gr_step.proofs.closing.closed.Goals as goal
 pub returns-clause-told : goal.returns-clause-told
 returns-clause-told c = λ k writes h.
     let own = c.args.own in
-    let value = c.args.beyond.value in
-    let put : c.deref_mut-2.result.now ≡ record value { met = c.of_many.result } =
-    c.deref_mut-2.ensures.value ∙ ap (λ (b : Beyond). record b { met = c.of_many.result }) c.deref_mut.ensures.value in
-    subst {_, _} (λ (b : Beyond). Tells
+    let value = c.args.further.value.beyond in
+    let put : c.deref_mut-2.result.now.beyond ≡ record value { met = c.of_many.result } =
+    ap (λ (f : Further). f.beyond) c.deref_mut-2.ensures.value ∙ ap (λ (f : Further). record (f.beyond) { met = c.of_many.result }) c.deref_mut.ensures.value in
+    subst {_, _} (λ (e : Effect). Tells e kinds.Close (Some (closes k)) [] writes own c.args.met.items c.args.channels.items) (sym c.further.ensures)
+    (subst {_, _} (λ (b : Beyond). Tells
     (record {
       kind = kinds.Close;
       own = own;
@@ -35,4 +38,4 @@ returns-clause-told c = λ k writes h.
       makes_none = h.makes;
       runs_on = h.stops;
       frames = λ n none. subst {_, _} (λ us. NeedNoFrame ((n, own) ∷ us)) (sym c.of_many.ensures) none;
-    })
+    }))

@@ -12,19 +12,19 @@ pub returns-clause-ok : goal.returns-clause-ok
 returns-clause-ok c = λ n g named there.
     let own = placed c.args.number n c.args.self.now.goroutines c.halt.new.self named g there (halted Faulted) c.in_ok-own.own
     c.in_ok-own.ensures.ok in
-    record {
+    rw c.further.ensures (record {
       after = λ j. record { run = faulted c.args.fault; goroutines = own.is j; channels = contents_of c.args.self.now.channels };
       kind = refl;
       beyond = c.in_ok-beyond.ensures;
       back = own.back;
       fits = own.fits;
-    }
+    })
 
 pub returns-clause-room : goal.returns-clause-room
 returns-clause-room c = λ n.
     let h = c.in_ok-own.ensures.ok in
     let none = need_none h.0.content h.1.content c.in_ok-own.own h.3.1.back (ap (λ g. length g.frames) h.3.0) in
-    record {
+    rw c.further.ensures (record {
       frames = rw none (omega arith);
-      places = no_rooms (members c.in_ok-beyond.beyond.value.channels) (rooms_of c.args.self.now.channels) c.in_ok-beyond.ensures.channels;
-    }
+      places = no_rooms (members c.in_ok-beyond.beyond.value.beyond.channels) (rooms_of c.args.self.now.channels) c.in_ok-beyond.ensures.channels;
+    })

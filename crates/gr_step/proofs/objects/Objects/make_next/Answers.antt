@@ -70,6 +70,6 @@ returns-clause-ok c =
     let name : c.in_ok-copy.field-0 ≡ next = c.in_ok-copy.ensures ∙ is in
     let on = arrived_here p c.args.turn.now.event.now c.args.turn.now.number c.args.self.now acting (Channel (Chan (Some next))) c.in_ok-own.own c.deliver.new.self
     (rw (code, name) at c.in_ok-own.ensures.after) in
-    make_takes p c.args.turn.now.event.now c.args.turn.now.number c.args.self.now acting c.requires.plain c.args.places (c.requires.task acting.goroutine acting.there)
-    c.requires.small few.1 c.in_ok-own.own c.in_ok-beyond.beyond.value (rw is at c.in_ok-beyond.ensures) c.deliver.new.self on c.add.new.self
-    (rw is at c.in_default.ensures.contents)
+    rw c.further.ensures (make_takes p c.args.turn.now.event.now c.args.turn.now.number c.args.self.now acting c.requires.plain c.args.places (c.requires.task acting.goroutine acting.there)
+    c.requires.small few.1 c.in_ok-own.own c.in_ok-beyond.beyond.value.beyond (rw is at c.in_ok-beyond.ensures) c.deliver.new.self on c.add.new.self
+    (rw is at c.in_default.ensures.contents))

@@ -83,8 +83,8 @@ returns-clause-ok c =
     let begins = subst {_, _}
     (λ (code : ProgramCode). IsStarted (entered code c.args.function c.args.arguments.items) c.in_ok-goroutine.goroutine.content)
     code c.in_ok-goroutine.ensures in
-    start_takes (program_in c.args.turn.now.listing.now) c.args.turn.now.event.now c.args.turn.now.number c.args.self.now acting c.requires.plain c.args.function
+    rw c.further.ensures (start_takes (program_in c.args.turn.now.listing.now) c.args.turn.now.event.now c.args.turn.now.number c.args.self.now acting c.requires.plain c.args.function
     c.args.arguments.items (c.requires.task acting.goroutine acting.there) c.requires.short few.1 c.know.new.self
     (rw child at c.in_ok-place.ensures.names) c.know.ensures.goroutines c.in_ok-own.own c.deliver.new.self (rw again at c.in_ok-own.ensures.after)
     c.in_ok-place.place c.in_ok-goroutine.goroutine c.put.new.self (rw child at c.in_ok-place.ensures.number) begins
-    c.in_ok-beyond.beyond.value (rw child at c.in_ok-beyond.ensures) c.put.ensures
+    c.in_ok-beyond.beyond.value.beyond (rw child at c.in_ok-beyond.ensures) c.put.ensures)
