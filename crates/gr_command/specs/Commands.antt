@@ -39,8 +39,8 @@ by_table (entry ∷ table) word words = if bytes_eq word entry.0 then entry.1 wo
 abbrev pub targets_asked : List (List ℕ × (List (List ℕ) → Option Target))
 targets_asked =
     (codes "go", λ words. option_map targets.Start (one_named go_named words))
-    ∷ (codes "send", λ words. option_map (λ c. targets.Send c.0 c.1) (both_named ch_named ordinal_named words))
-    ∷ (codes "recv", λ words. option_map (λ c. targets.Receive c.0 c.1) (both_named ch_named ordinal_named words))
+    ∷ (codes "send", λ words. option_map (λ c. targets.Send c.1 c.0) (both_named ch_named ordinal_named words))
+    ∷ (codes "recv", λ words. option_map (λ c. targets.Receive c.1 c.0) (both_named ch_named ordinal_named words))
     ∷ (codes "var", λ words. option_map (λ v. targets.Variable v.0 v.1) (both_named go_named identifier_named words))
     ∷ []
 

@@ -35,8 +35,8 @@ abbrev pub WaysBackAreRead : Type 0
 WaysBackAreRead =
     map meaning (codes "back g0.1#12" ∷ codes "back go g0.2" ∷ codes "back send g0/c1 3" ∷ codes " back recv  g0.1/c2 4294967295" ∷ codes "back var g0 x_1"
     ∷ codes "back var g0.1 _" ∷ codes "redo" ∷ [])
-    ≡ Command (Back (targets.Step (step_of (1 ∷ []) 12))) ∷ Command (Back (targets.Start (2 ∷ []))) ∷ Command (Back (targets.Send (channel_of [] 1) 3))
-    ∷ Command (Back (targets.Receive (channel_of (1 ∷ []) 2) 4294967295)) ∷ Command (Back (targets.Variable [] (codes "x_1")))
+    ≡ Command (Back (targets.Step (step_of (1 ∷ []) 12))) ∷ Command (Back (targets.Start (2 ∷ []))) ∷ Command (Back (targets.Send 3 (channel_of [] 1)))
+    ∷ Command (Back (targets.Receive 4294967295 (channel_of (1 ∷ []) 2))) ∷ Command (Back (targets.Variable [] (codes "x_1")))
     ∷ Command (Back (targets.Variable (1 ∷ []) (codes "_"))) ∷ Command Redo ∷ []
 
 -- an order, what depends on what, breakpoints, and what workers may do

@@ -9,7 +9,7 @@ ghost use Rattle.gr_command.specs.Commands.{by_table, targets_asked, target_aske
 use crate::arguments::{only_go, read_ordinal};
 use crate::identifier::Identifier;
 use crate::target::Target;
-use crate::words::next_word;
+use crate::words::{next_word, spells};
 use gr_base::{ChName, GoName, NoMemory, read_ch, read_go, read_step};
 use std::alloc::Global;
 
@@ -55,18 +55,18 @@ fn variable(alloc: Global, text: &[u8]) -> Result<Option<(GoName, Identifier)>, 
 fn by_way(alloc: Global, word: &[u8], rest: &[u8]) -> Result<Option<Target>, NoMemory>
     ensures { IfOk result (λ target. target ≡ by_table targets_asked word.now (words_of rest.now)) }
 {
-    if word == b"go".as_slice() {
+    if spells(word, b"go") {
         return Ok(only_go(alloc, rest)?.map(|go| Target::Start(go)));
     }
-    if word == b"send".as_slice() {
+    if spells(word, b"send") {
         let named = communication(alloc, rest)?;
         return Ok(named.map(|(channel, number)| Target::Send { channel, number }));
     }
-    if word == b"recv".as_slice() {
+    if spells(word, b"recv") {
         let named = communication(alloc, rest)?;
         return Ok(named.map(|(channel, number)| Target::Receive { channel, number }));
     }
-    if word == b"var".as_slice() {
+    if spells(word, b"var") {
         return Ok(variable(alloc, rest)?.map(|(go, name)| Target::Variable { go, name }));
     }
     Ok(None)

@@ -10,6 +10,7 @@ ghost use Rattle.gr_command.specs.Arguments.{identifier_named};
 use gr_base::NoMemory;
 use std::alloc::Global;
 use std::marker::Model;
+use std::sync::ArcSlice;
 
 const KEYWORDS: [&[u8]; 25] = [
     b"break",
@@ -42,18 +43,19 @@ const KEYWORDS: [&[u8]; 25] = [
 /// An identifier of the language: letters, digits and `_`, with no digit first, and no keyword.
 #[derive(Debug, Drop)]
 pub struct Identifier {
-    bytes: Vec<u8>,
+    bytes: ArcSlice<u8>,
 }
 
 impl Model for Identifier {
     ghost use Rattle.std.specs.Prelude.{List, ℕ, IsTrue};
+    ghost use Rattle.std.specs.Arc.{arc_slice_items};
     ghost use Rattle.gr_command.specs.Arguments.{is_identifier};
 
     ghost Value = { List ℕ };
 
-    ghost view = { λ name. name.bytes.items };
+    ghost view = { λ name. arc_slice_items name.bytes };
 
-    ghost invariant = { λ name. IsTrue (is_identifier name.bytes.items) };
+    ghost invariant = { λ name. IsTrue (is_identifier (arc_slice_items name.bytes)) };
 }
 
 impl Identifier {
@@ -64,7 +66,7 @@ impl Identifier {
         if !is_identifier(word) {
             return Ok(None);
         }
-        let bytes = copied(alloc, word)?;
+        let bytes = ArcSlice::from_slice(alloc, word)?;
         Ok(Some(Identifier { bytes }))
     }
 
@@ -76,21 +78,13 @@ impl Identifier {
         self.bytes.as_slice()
     }
 
-    /// A copy of the identifier.
-    pub fn copy(&self, alloc: Global) -> Result<Identifier, NoMemory>
+    /// A copy of the identifier, which shares its bytes.
+    pub fn copy(&self, _alloc: Global) -> Result<Identifier, NoMemory>
         ensures { IfOk result (λ name. name ≡ self.now) }
     {
-        let bytes = copied(alloc, self.as_slice())?;
+        let bytes = self.bytes.clone()?;
         Ok(Identifier { bytes })
     }
-}
-
-fn copied(alloc: Global, bytes: &[u8]) -> Result<Vec<u8>, NoMemory>
-    ensures { IfOk result (λ copy. copy.items ≡ bytes.now) }
-{
-    let mut copy = Vec::with_capacity(alloc, bytes.len())?;
-    copy.extend_from_slice(bytes)?;
-    Ok(copy)
 }
 
 fn is_among(mut spellings: &[&[u8]], word: &[u8]) -> bool

@@ -14,7 +14,7 @@ use crate::arguments::{
 };
 use crate::back::read_target;
 use crate::command::{Command, Line};
-use crate::words::next_word;
+use crate::words::{next_word, spells};
 use gr_base::{NoMemory, read_go};
 use std::alloc::Global;
 
@@ -106,25 +106,25 @@ fn question(alloc: Global, word: &[u8], rest: &[u8]) -> Result<Option<Line>, NoM
     ensures ok { IfOk result (λ line. line ≡ by_table questions word.now (words_of rest.now)) }
     ensures needed { OnErr result (MayName (word.now ∷ words_of rest.now)) }
 {
-    if word == b"deps".as_slice() {
+    if spells(word, b"deps") {
         return Ok(only_step(alloc, rest)?.map(|id| Line::Command(Command::Dependents(id))));
     }
-    if word == b"causes".as_slice() {
+    if spells(word, b"causes") {
         return Ok(only_step(alloc, rest)?.map(|id| Line::Command(Command::Causes(id))));
     }
-    if word == b"show".as_slice() {
+    if spells(word, b"show") {
         return Ok(only_go(alloc, rest)?.map(|go| Line::Command(Command::Show(go))));
     }
-    if word == b"chan".as_slice() {
+    if spells(word, b"chan") {
         return Ok(only_ch(alloc, rest)?.map(|channel| Line::Command(Command::Chan(channel))));
     }
-    if word == b"text".as_slice() {
+    if spells(word, b"text") {
         return Ok(only_go(alloc, rest)?.map(|go| Line::Command(Command::Text(go))));
     }
-    if word == b"console".as_slice() {
+    if spells(word, b"console") {
         return Ok(alone(Line::Command(Command::Console), rest));
     }
-    if word == b"log".as_slice() {
+    if spells(word, b"log") {
         return Ok(alone(Line::Command(Command::Log), rest));
     }
     Ok(None)
@@ -135,34 +135,34 @@ fn asked(alloc: Global, word: &[u8], rest: &[u8]) -> Result<Option<Line>, NoMemo
     ensures ok { IfOk result (λ line. line ≡ by_table commands word.now (words_of rest.now)) }
     ensures needed { OnErr result (MayName (word.now ∷ words_of rest.now)) }
 {
-    if word == b"step".as_slice() {
+    if spells(word, b"step") {
         return step(alloc, rest);
     }
-    if word == b"run".as_slice() {
+    if spells(word, b"run") {
         return Ok(run(rest));
     }
-    if word == b"undo".as_slice() {
+    if spells(word, b"undo") {
         return Ok(alone(Line::Command(Command::Undo), rest));
     }
-    if word == b"back".as_slice() {
+    if spells(word, b"back") {
         return back(alloc, rest);
     }
-    if word == b"redo".as_slice() {
+    if spells(word, b"redo") {
         return Ok(alone(Line::Command(Command::Redo), rest));
     }
-    if word == b"order".as_slice() {
+    if spells(word, b"order") {
         return order(alloc, rest);
     }
-    if word == b"break".as_slice() {
+    if spells(word, b"break") {
         return Ok(only_ordinal(rest).map(|line| Line::Command(Command::Break(line))));
     }
-    if word == b"clear".as_slice() {
+    if spells(word, b"clear") {
         return Ok(only_ordinal(rest).map(|line| Line::Command(Command::Clear(line))));
     }
-    if word == b"free".as_slice() {
+    if spells(word, b"free") {
         return Ok(free(rest));
     }
-    if word == b"quit".as_slice() {
+    if spells(word, b"quit") {
         return Ok(alone(Line::Quit, rest));
     }
     question(alloc, word, rest)

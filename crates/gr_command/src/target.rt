@@ -13,9 +13,9 @@ pub enum Target {
     /// The step that started the goroutine.
     Start(GoName),
     /// The send with a number on a channel, counted from 1.
-    Send { channel: ChName, number: u32 },
+    Send { number: u32, channel: ChName },
     /// The receive with a number from a channel, counted from 1.
-    Receive { channel: ChName, number: u32 },
+    Receive { number: u32, channel: ChName },
     /// The last step of the goroutine that gave a variable of this name a value.
     Variable { go: GoName, name: Identifier },
 }
@@ -31,15 +31,15 @@ impl Target {
             Target::Send { channel, number } => {
                 let channel = channel.copy(alloc)?;
                 Ok(Target::Send {
-                    channel,
                     number: *number,
+                    channel,
                 })
             }
             Target::Receive { channel, number } => {
                 let channel = channel.copy(alloc)?;
                 Ok(Target::Receive {
-                    channel,
                     number: *number,
+                    channel,
                 })
             }
             Target::Variable { go, name } => {

@@ -1,6 +1,7 @@
 //! Texts as words.
 
 ghost use Rattle.std.specs.Prelude.{◌≡◌, ◌++◌, ◌∷◌, [], MatchOption};
+ghost use Rattle.std.specs.Str.{bytes_eq};
 ghost use Rattle.gr_command.specs.Words.{is_gap as gap, words_of, NoGap, BeginsWord, BeginsGap};
 
 fn is_gap(byte: u8) -> bool
@@ -36,6 +37,23 @@ fn split_word(text: &[u8]) -> (&[u8], &[u8])
         }
     }
     (text, b"")
+}
+
+/// Whether a word is this one. Where it is written as a text, its bytes are compared with those of the text one by one.
+#[inline(always)]
+pub(crate) fn spells(word: &[u8], known: &[u8]) -> bool
+    ensures { result ≡ bytes_eq word.now known.now }
+{
+    let mut left = word;
+    let mut expected = known;
+    while let Some((first, others)) = expected.split_first() {
+        match left.split_first() {
+            Some((byte, rest)) if *byte == *first => left = rest,
+            _ => return false,
+        }
+        expected = others;
+    }
+    left.is_empty()
 }
 
 /// The first word of a text and what follows it, if there is a word.

@@ -19,6 +19,6 @@ assigner p log go name =
 abbrev pub step_asked : (p : Program) → List (Logged p) → Target → Option StepId
 step_asked p log (Step id) = Some id
 step_asked p log (Start go) = option_map (id_of p) (start_of p go log)
-step_asked p log (Send channel k) = option_map (id_of p) (sent p channel k log)
-step_asked p log (Receive channel k) = option_map (id_of p) (received p channel k log)
+step_asked p log (Send k channel) = option_map (id_of p) (sent p channel k log)
+step_asked p log (Receive k channel) = option_map (id_of p) (received p channel k log)
 step_asked p log (Variable go name) = assigner p log go name
