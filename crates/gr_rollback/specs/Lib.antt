@@ -21,6 +21,7 @@ pub use Rattle.gr_step.specs.declared.leasing.LentCopy
 pub use Rattle.gr_step.specs.ListingContracts
 pub use Rattle.gr_step.specs.Listings
 pub use Rattle.gr_step.specs.declared.leasing.LocalRun
+pub use Rattle.gr_step.specs.contracts.leasing.Lent as LentContracts
 pub use Rattle.gr_step.specs.contracts.leasing.LocalRun as LocalRunContracts
 pub use Rattle.gr_depend.specs.declared.log.Log
 pub use Rattle.gr_depend.specs.Logs

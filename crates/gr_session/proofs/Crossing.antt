@@ -36,6 +36,7 @@ use Rattle.gr_code.specs.contracts.code.FunctionCode as FunctionCode
 use Rattle.gr_code.specs.contracts.code.Code as Code
 use Rattle.gr_rollback.specs.ListingContracts as Listing
 use Rattle.gr_rollback.specs.StoreContracts as Store
+use Rattle.gr_rollback.specs.LentContracts as Lent
 use Rattle.gr_rollback.specs.LocalRunContracts as LocalRun
 use Rattle.gr_rollback.specs.contracts.course.Course as Course
 use Rattle.gr_rollback.specs.contracts.machine.Machine as Machine
@@ -155,8 +156,11 @@ Machine-send = search (Course-send, event.the_field_send, sendable, crosses) dep
 pub Debuggee-send : IsSend Debuggee.the_field.row
 Debuggee-send = search (Machine-send, sendable, crosses) depth 20
 
+pub Lent-send : IsSend Lent.the_field.row
+Lent-send = search (Listing-send, goroutine.the_send, name.the_send, sendable, crosses) depth 20
+
 pub LocalRun-send : IsSend LocalRun.the_field.row
-LocalRun-send = search (Listing-send, goroutine.the_send, name.the_send, sendable, crosses) depth 20
+LocalRun-send = search (Lent-send, sendable, crosses) depth 20
 
 pub Asked-send : IsSend Asked.the_field.row
 Asked-send = search (LocalRun-send, command.the_field_send, sendable, crosses) depth 20

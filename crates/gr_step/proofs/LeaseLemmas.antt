@@ -120,7 +120,7 @@ lease_goes p n from g h records r walk can is =
 
 -- a copy of a goroutine that is ready is a lease with no step
 pub loan_is_lease : (s : Store) (l : LentCopy) (go : List ℕ) (g : CodeGoroutine) → IsRun s → AreChannels (contents_at s)
-    → l.batch.listing.program.value ≡ s.listing.program.value → l.batch.listing.code.value ≡ s.listing.code.value → name_lent l ≡ go
+    → l.batch.lent.value.listing.program.value ≡ s.listing.program.value → l.batch.lent.value.listing.code.value ≡ s.listing.code.value → name_lent l ≡ go
     → goroutine_lent l ≡ g → goroutine_led_to l ≡ g → records_led l ≡ []
     → (loan_of l).steps ≡ 0 → (contents_at s).run ≡ live → (contents_at s).goroutines go ≡ Some g → g.status ≡ ready → IsLease l × IsLoanOf s go l
 loan_is_lease s l go g run channels program code name lent reached records steps runs there is_ready =

@@ -74,7 +74,7 @@ pub record Loan : Type 0 where
   pub steps : ℕ
 
 abbrev pub loan_kept : LocalRun → Loan
-loan_kept b = record { program = program_in b.listing; name = b.go; goroutine = b.lent.content; steps = b.len }
+loan_kept b = record { program = program_in b.lent.value.listing; name = b.lent.value.go; goroutine = b.lent.value.goroutine.content; steps = b.len }
 
 abbrev pub loan_of : LentCopy → Loan
 loan_of l = loan_kept l.batch
@@ -98,7 +98,7 @@ records_led l = l.records.items
 
 -- a goroutine that some run has ready, and steps of its own from there
 pub record IsLease (l : LentCopy) : Type 0 where
-  pub coded : IsCoded l.batch.listing
+  pub coded : IsCoded l.batch.lent.value.listing
   pub walk : Walk (lowered (program_lent l)) (name_lent l) (goroutine_lent l) (records_led l) (goroutine_led_to l)
   pub can_be : CanBe (program_lent l) (name_lent l) (goroutine_led_to l)
   pub was_ready : (goroutine_lent l).status ≡ ready

@@ -29,10 +29,16 @@ use std::mem;
 /// lent, and the number of steps.
 #[derive(Drop)]
 pub struct LocalRun {
+    pub(crate) lent: Box<Lent>,
+    pub(crate) len: usize,
+}
+
+/// What was lent. It lies in a box, so that a list of entries takes no room for it where an entry is no batch.
+#[derive(Drop)]
+pub(crate) struct Lent {
     pub(crate) listing: Listing,
     pub(crate) go: GoName,
-    pub(crate) lent: Goroutine,
-    pub(crate) len: usize,
+    pub(crate) goroutine: Goroutine,
 }
 
 impl LocalRun {
@@ -40,7 +46,7 @@ impl LocalRun {
     pub fn go(&self) -> &GoName
         ensures { result.now ≡ (loan_kept self.now).name }
     {
-        &self.go
+        &self.lent.go
     }
 
     /// How many steps it took.
@@ -104,15 +110,19 @@ impl LentCopy {
         ensures stays { IfOk result (λ goes. IsFalse goes → Stays self.old self.new) }
         ensures err { OnErr result (Stays self.old self.new) }
     {
-        if self.reached.steps() == u64::MAX || !self.reached.is_local(&self.batch.listing.code) {
+        if self.reached.steps() == u64::MAX
+            || !self.reached.is_local(&self.batch.lent.listing.code)
+        {
             return Ok(false);
         }
         self.records.reserve(1)?;
         let id = StepId {
-            go: self.batch.go.copy(alloc)?,
+            go: self.batch.lent.go.copy(alloc)?,
             n: self.reached.steps() + 1,
         };
-        let (kind, own) = self.reached.local_step(alloc, &self.batch.listing.code)?;
+        let (kind, own) = self
+            .reached
+            .local_step(alloc, &self.batch.lent.listing.code)?;
         if let Kind::Fault(_) = kind {
             let _ = self.reached.undo(own);
             return Ok(false);
@@ -171,14 +181,14 @@ impl Store {
             program: self.listing.program.clone()?,
             code: self.listing.code.clone()?,
         };
-        let batch = LocalRun {
+        let lent = Lent {
             listing,
             go: own_name(alloc, go)?,
-            lent: ready.goroutine.copy(alloc)?,
-            len: 0,
+            goroutine: ready.goroutine.copy(alloc)?,
         };
+        let lent = Box::new(alloc, lent)?;
         Ok(Some(LentCopy {
-            batch,
+            batch: LocalRun { lent, len: 0 },
             reached: ready.goroutine.copy(alloc)?,
             records: Vec::new(alloc),
         }))
@@ -188,7 +198,7 @@ impl Store {
     pub fn has_program_of(&self, lease: &LentCopy) -> bool
         ensures { IsTrue result ↔ (program_lent lease.now ≡ program_at self.now) }
     {
-        *self.listing.program == *lease.batch.listing.program
+        *self.listing.program == *lease.batch.lent.listing.program
     }
 
     /// Whether the goroutine of a lease of the same program is as it was lent, in a run that goes on.
@@ -196,11 +206,11 @@ impl Store {
         requires { program_lent lease.now ≡ program_at self.now }
         ensures { IsTrue result ↔ IsAsLent lease.now self.now }
     {
-        let Ok(number) = self.objects.number_of(&lease.batch.go) else {
+        let Ok(number) = self.objects.number_of(&lease.batch.lent.go) else {
             return false;
         };
         let goroutine = self.objects.goroutines.at(number);
-        goroutine.is_like(&lease.batch.lent)
+        goroutine.is_like(&lease.batch.lent.goroutine)
     }
 
     /// Gives a goroutine that is as it was lent the content after the steps of its lease, which gets the old one. It takes no
@@ -214,7 +224,7 @@ impl Store {
         ensures taken { taken_at self.new ≡ taken_at self.old }
         ensures listing { SameListing self.old self.new }
     {
-        let Some(number) = self.objects.goroutines.number(&lease.batch.go) else {
+        let Some(number) = self.objects.goroutines.number(&lease.batch.lent.go) else {
             unreachable!();
         };
         let Some(goroutine) = self.objects.goroutines.remove(number) else {

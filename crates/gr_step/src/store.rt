@@ -274,6 +274,14 @@ impl Store {
         self.objects.goroutines.get(number)
     }
 
+    /// The store's own name of a goroutine, which is equal to the one given, if there is such a goroutine.
+    pub fn name_of(&self, go: &GoName) -> Option<&GoName>
+        ensures { option_copied result ≡ option_map (λ _. go.now) ((contents_at self.now).goroutines go.now) }
+    {
+        let number = self.objects.goroutines.number(go)?;
+        self.objects.goroutines.name(number)
+    }
+
     /// The channel of a name, if there is one.
     pub fn channel(&self, channel: &ChName) -> Option<&Channel>
         ensures { option_map (λ c. c.content) (option_copied result) ≡ (contents_at self.now).channels channel.now }

@@ -8,6 +8,7 @@ use Rattle.gr_rules.specs.Outcomes.{wrong}
 use Rattle.gr_goros.specs.Tasks.{IsStep}
 use Rattle.gr_lower.specs.Lowered.{lowered}
 use Rattle.gr_record.specs.declared.record.Record.{Record}
+use Rattle.gr_step.specs.declared.leasing.Lent.{Lent}
 use Rattle.gr_step.specs.Leasing.{IsOwnRecord, Walk, name_lent, program_lent, goroutine_lent, goroutine_led_to, records_led}
 use Rattle.gr_step.proofs.LeaseLemmas.{has_task, has_step, lease_goes}
 use Rattle.gr_step.proofs.leasing.LentCopy.step.Goals as goal
@@ -16,7 +17,7 @@ pub is_local-requires : goal.is_local-requires
 is_local-requires c =
     let l = c.args.self.now in
     let can = c.requires.can_be in
-    let code = ap program_code_of c.deref.ensures ∙ c.requires.coded in
+    let code = ap program_code_of (c.deref-else-steps.ensures ∙ ap (λ (lent : Lent). lent.listing.code.value) c.deref.ensures) ∙ c.requires.coded in
     subst {_, _} (λ (code : ProgramCode). ¬ (task_of code (goroutine_led_to l) ≡ wrong)) (sym code)
     (has_task (program_lent l) can.contents can.running can.channels can.runs (name_lent l) (goroutine_led_to l) can.there can.is_ready)
 
@@ -24,8 +25,8 @@ pub local_step-requires-clause-right : goal.local_step-requires-clause-right
 local_step-requires-clause-right c =
     let l = c.args.self.now in
     let can = c.requires.can_be in
-    let code = ap program_code_of c.deref.ensures ∙ c.requires.coded in
-    let more = ap program_code_of c.deref-2.ensures ∙ c.requires.coded in
+    let code = ap program_code_of (c.deref-else-steps.ensures ∙ ap (λ (lent : Lent). lent.listing.code.value) c.deref.ensures) ∙ c.requires.coded in
+    let more = ap program_code_of (c.deref-4.ensures ∙ ap (λ (lent : Lent). lent.listing.code.value) c.deref-3.ensures) ∙ c.requires.coded in
     let here : is_local (lowered (program_lent l)) (goroutine_led_to l) ≡ true =
     subst {_, _} (λ (code : ProgramCode). is_local code (goroutine_led_to l) ≡ true) code (sym c.is_local.ensures ∙ c.if-not-is_local.false) in
     subst {_, _} (λ (code : ProgramCode). ¬ (local code (goroutine_led_to l) ≡ wrong)) (sym more)
@@ -36,20 +37,21 @@ returns c =
     let l = c.args.self.now in
     let p = program_lent l in
     let g = goroutine_led_to l in
-    let code = ap program_code_of c.deref.ensures ∙ c.requires.coded in
-    let more = ap program_code_of c.deref-2.ensures ∙ c.requires.coded in
+    let code = ap program_code_of (c.deref-else-steps.ensures ∙ ap (λ (lent : Lent). lent.listing.code.value) c.deref.ensures) ∙ c.requires.coded in
+    let more = ap program_code_of (c.deref-4.ensures ∙ ap (λ (lent : Lent). lent.listing.code.value) c.deref-3.ensures) ∙ c.requires.coded in
     let here : is_local (lowered p) g ≡ true =
     subst {_, _} (λ (code : ProgramCode). is_local code g ≡ true) code (sym c.is_local.ensures ∙ c.if-not-is_local.false) in
     let step : IsStep (c.in_ok-kind.kind, c.in_ok-kind.own) (local (lowered p) g) l.reached c.local_step.new.self =
     subst {_, _} (λ (code : ProgramCode). IsStep (c.in_ok-kind.kind, c.in_ok-kind.own) (local code g) l.reached c.local_step.new.self) more
     c.in_ok-kind.ensures.step in
+    let named = c.in_ok-copy.ensures ∙ ap (λ (lent : Lent). lent.go) c.deref-2.ensures in
     let r : Record = record {
       id = record { go = c.in_ok-copy.field-0; n = c.steps-2.result + 1 };
       choice = Plain;
       change = record { kind = c.in_ok-kind.kind; own = c.in_ok-kind.own; beyond = None };
     } in
     let own : IsOwnRecord (lowered p) (name_lent l) g r c.local_step.new.self.content = record {
-      name = λ i. record { go = c.in_ok-copy.ensures i; n = c.steps-2.ensures i + 1 };
+      name = λ i. record { go = named i; n = c.steps-2.ensures i + 1 };
       plain = refl;
       goes = record {
         here = here;
