@@ -10,6 +10,7 @@ mod granting;
 pub mod journal;
 pub mod laws;
 pub mod leasing;
+mod naming;
 pub mod open;
 mod refusing;
 mod rollback;

@@ -26,6 +26,7 @@ use crate::journal::{
     AskRefused, Asked, DeskId, EnrolRefused, Entry, Memory, Receipt, keep, make_room,
 };
 use crate::leasing::{Batch, Lease};
+use crate::naming::with_shared_name;
 use crate::{ASKER_LIMIT, JOURNAL_LIMIT};
 use gr_base::NoMemory;
 use gr_command::Command;
@@ -128,6 +129,7 @@ impl Session {
         if let Err(why) = make_room(&mut self.journal) {
             return Err(why);
         }
+        let command = with_shared_name(alloc, &self.debuggee, command);
         match carry_out(alloc, &mut self.debuggee, &command) {
             Err(NoMemory) => {
                 drop(command);

@@ -21,7 +21,7 @@ invariant_of-self-in-Ok c =
 pub returns-in-Ok-clause-entry : goal.returns-in-Ok-clause-entry
 returns-in-Ok-clause-entry c =
     let leads = c.in-Ok.ensures.leads _ c.self.invariant.world c.self.invariant.stands in
-    rw (← c.self.view_is, c.keep.ensures.reply, c.keep.ensures.number, c.keep.ensures.entry, c.make_room.ensures.items)
+    rw (← c.with_shared_name-command.ensures, ← c.self.view_is, c.keep.ensures.reply, c.keep.ensures.number, c.keep.ensures.entry, c.make_room.ensures.items)
     (record {
       memory = c.in-Ok.memory;
       entered = refl;
