@@ -1,7 +1,7 @@
 -- Bytes taken and bytes appended, one after another.
-use Rattle.std.proofs.Common.{ℕ, List, [], ◌++◌, refl, sym, ap, ◌∙◌, append_assoc, append-nil, None, Some}
+use Rattle.std.proofs.Common.{ℕ, List, [], ◌++◌, refl, sym, ap, ◌∙◌, append_assoc, append-nil, None, Some, OnSome}
 use Rattle.std.specs.declared.option.Option.{Option}
-use Rattle.std.specs.Io.KnownBytes.{Keeps, Consumes, Appends}
+use Rattle.std.specs.Io.KnownBytes.{Keeps, Consumes, Appends, IsAtEnd}
 
 pub Keeps-refl : (a : Option (List ℕ)) → Keeps a a
 Keeps-refl None = tt
@@ -23,6 +23,12 @@ Consumes-then None b c xs ys h k = tt
 Consumes-then (Some us) None c xs ys h k = absurd h
 Consumes-then (Some us) (Some vs) None xs ys h k = absurd k
 Consumes-then (Some us) (Some vs) (Some ws) xs ys h k = h ∙ ap (λ t. xs ++ t) k ∙ sym (append_assoc xs ys ws)
+
+-- a reader of which less is known is at its end as well
+pub known_end : (a b c : Option (List ℕ)) (text : List ℕ) → Consumes a b text → OnSome b (IsAtEnd c) → OnSome a (IsAtEnd c)
+known_end None b c text h k = tt
+known_end (Some xs) None c text h k = absurd h
+known_end (Some xs) (Some bs) c text h k = k
 
 pub Appends-nil : (a b : Option (List ℕ)) → Keeps a b → Appends a b []
 Appends-nil None b h = tt

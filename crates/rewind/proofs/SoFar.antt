@@ -1,5 +1,5 @@
 -- What a stream has come to between two lines, and where it can end.
-use Rattle.std.proofs.Common.{◌≡◌, ℕ, ◌+◌, ◌≤◌, ◌<◌, ◌==◌, zero, suc, nat_lt, Bool, true, false, List, [], ◌∷◌, ◌++◌, length, take, refl, sym, ap, subst, ◌∙◌, append-nil, append_assoc, arith, None, Some, IfSome, inl, inr, ◌⊎◌}
+use Rattle.std.proofs.Common.{◌≡◌, ℕ, ◌+◌, ◌≤◌, ◌<◌, ◌==◌, zero, suc, nat_lt, Bool, true, false, List, [], ◌∷◌, ◌++◌, length, take, refl, sym, ap, subst, ◌∙◌, append-nil, append_assoc, arith, None, Some, IfSome, OnSome, inl, inr, ◌⊎◌}
 use Rattle.std.proofs.lemmas.List.{take_all, length-take}
 use Rattle.std.proofs.lemmas.Bool.{ltb-true, lt-ltb, ltb-false}
 use Rattle.std.specs.declared.option.Option.{Option}
@@ -16,7 +16,7 @@ use Rattle.rewind.specs.Served.{Served, Begun, ServedAll, ServedWhole, ServedBef
 use Rattle.rewind.specs.Fault.{Untouched, LineLeft, Left, Blames, BlamesWriter}
 use Rattle.rewind.specs.declared.stream.ServeFault.{ServeFault}
 use Rattle.rewind.specs.declared.stream.ServeFault.TheVariants.{Read, Write, Memory}
-use Rattle.rewind.proofs.Known.{Keeps-refl, Consumes-nil, Consumes-then}
+use Rattle.rewind.proofs.Known.{Keeps-refl, Consumes-nil, Consumes-then, known_end}
 use Rattle.rewind.proofs.Cuts.{text_of, AllPlain, AllPlain-append, text_of-snoc, lines-line, lines-last, whole-last, lines-text, whole-text}
 use Rattle.rewind.proofs.Answers.{QuitLast-none, QuitLast-one, NoQuit-append, Served-none, Served-kept, Served-append, Served-quit, Served-same, Begun-same}
 
@@ -91,7 +91,7 @@ SoFar-broken {gets = gets} {had = had} {has = has} {rest = rest} {old = old} {ne
 }
 
 -- all the bytes that there were, where they are known
-all_read : (had has : Option (List ℕ)) (bytes : List ℕ) → Consumes had has bytes → IsAtEnd has → IfSome had (λ input. input ≡ bytes)
+all_read : (had has : Option (List ℕ)) (bytes : List ℕ) → Consumes had has bytes → OnSome had (IsAtEnd has) → IfSome had (λ input. input ≡ bytes)
 all_read None has bytes h e = tt
 all_read (Some xs) None bytes h e = absurd h
 all_read (Some xs) (Some ys) bytes h e = h ∙ ap (λ t. bytes ++ t) e ∙ append-nil bytes
@@ -107,7 +107,7 @@ had_more (Some xs) None bytes P h p = absurd h
 had_more (Some xs) (Some ys) bytes P h p = subst P (sym h) (p ys)
 
 ends : {S : Type 0} {gets : Gets S} {had has : Option (List ℕ)} {old new : S} {a b : Option (List ℕ)} (bytes : List ℕ)
-    → Consumes had has bytes → IsAtEnd has → QuitLast (lines_of bytes) → Served gets (lines_of bytes) old new a b → ServedAll gets had has old new a b
+    → Consumes had has bytes → OnSome had (IsAtEnd has) → QuitLast (lines_of bytes) → Served gets (lines_of bytes) old new a b → ServedAll gets had has old new a b
 ends {gets = gets} {had = had} {has = has} {old = old} {new = new} {a = a} {b = b} bytes t e l s = record {
   bytes = bytes;
   taken = t;
@@ -123,7 +123,7 @@ SoFar-end {gets = gets} {had = had} {has = has} {rest = rest} {old = old} {new =
     let p = r.0 in
     let none : p.text ≡ [] = nothing_kept LINE_LIMIT p.text kept p.kept_is z in
     let lines : lines_of (text_of s.done ++ []) ≡ s.done = lines-text s.done [] s.plain ∙ append-nil s.done in
-    ends (text_of s.done ++ []) (Consumes-then had has rest (text_of s.done) [] s.taken (rw none at p.taken)) r.1 (rw lines (QuitLast-none s.done s.going)) (rw lines s.served)
+    ends (text_of s.done ++ []) (Consumes-then had has rest (text_of s.done) [] s.taken (rw none at p.taken)) (known_end had has rest (text_of s.done) s.taken r.1) (rw lines (QuitLast-none s.done s.going)) (rw lines s.served)
 
 -- the bytes end in a line with no newline
 pub SoFar-last : {S : Type 0} {gets : Gets S} {had has rest : Option (List ℕ)} {old mid new : S} {a b c : Option (List ℕ)} {kept : List ℕ}
@@ -132,7 +132,8 @@ SoFar-last {gets = gets} {had = had} {has = has} {rest = rest} {kept = kept} s r
     let p = r.0 in
     let lines : lines_of (text_of s.done ++ p.text) ≡ s.done ++ p.text ∷ [] =
     lines-text s.done p.text s.plain ∙ ap (λ ls. s.done ++ ls) (lines-last p.text p.plain (something_kept LINE_LIMIT p.text kept p.kept_is z)) in
-    ends (text_of s.done ++ p.text) (Consumes-then had has rest (text_of s.done) p.text s.taken p.taken) r.1 (rw lines (QuitLast-one s.done p.text s.going))
+    ends (text_of s.done ++ p.text) (Consumes-then had has rest (text_of s.done) p.text s.taken p.taken) (known_end had has rest (text_of s.done) s.taken r.1)
+    (rw lines (QuitLast-one s.done p.text s.going))
     (rw lines (Served-append s.going s.served (Served-same (meaning-kept p.text kept p.kept_is) t)))
 
 -- a line was `quit`

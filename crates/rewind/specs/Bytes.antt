@@ -1,5 +1,5 @@
 -- What was read of a line, and what of a reply was written.
-use Rattle.std.specs.Prelude.{◌≡◌, ℕ, ◌+◌, ◌≢◌, List, [], ◌∷◌, take, Option, None, Some}
+use Rattle.std.specs.Prelude.{◌≡◌, ℕ, ◌+◌, ◌≢◌, List, [], ◌∷◌, ◌++◌, take, Option, None, Some, OnSome}
 use Rattle.std.specs.Io.KnownBytes.{Consumes, Appends, Keeps, IsAtEnd}
 use Rattle.gr_command.specs.declared.read.TheConstants.{LINE_LIMIT}
 use Rattle.rewind.specs.declared.counted.LineEnd.{LineEnd}
@@ -31,7 +31,26 @@ pub record Taken (had has : Option (List ℕ)) : Type 0 where
 -- a line was read up to its newline, or to the end of the bytes
 abbrev pub LineRead : Option (List ℕ) → Option (List ℕ) → List ℕ → LineEnd → Type 0
 LineRead had has kept Newline = (mid : Option (List ℕ)) × Part had mid kept × Consumes mid has (10 ∷ [])
-LineRead had has kept End = Part had has kept × IsAtEnd has
+LineRead had has kept End = Part had has kept × OnSome had (IsAtEnd has)
+
+-- nothing, or a newline and what follows it
+abbrev pub BeginsNewline : List ℕ → Type 0
+BeginsNewline [] = Unit {0}
+BeginsNewline (b ∷ bs) = b ≡ 10
+
+-- bytes of a line, and the newline after them, if that ended it
+abbrev pub with_end : List ℕ → Option LineEnd → List ℕ
+with_end text None = text
+with_end text (Some Newline) = text ++ 10 ∷ []
+with_end text (Some End) = text
+
+-- bytes of a line came at once, or its end; what is kept of it has grown by them
+pub record Comes (had has : Option (List ℕ)) (old new : List ℕ) (end : Option LineEnd) : Type 0 where
+  pub text : List ℕ
+  pub plain : Plain text
+  pub kept_is : new ≡ take (LINE_LIMIT + 1) (old ++ text)
+  pub taken : Consumes had has (with_end text end)
+  pub ends : end ≡ Some End → OnSome had (IsAtEnd has)
 
 -- the first bytes of these were written
 abbrev pub Begins : Option (List ℕ) → Option (List ℕ) → List ℕ → Type 0

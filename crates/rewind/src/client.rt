@@ -10,7 +10,7 @@ use gr_base::NoMemory;
 use gr_command::{Command, Line, read_command, write_reply};
 use gr_share::{AskRefused, Receipt};
 use std::alloc::Global;
-use std::io::{Read, Write};
+use std::io::{BufRead, Write};
 
 /// A client of a session, which asks commands of it.
 pub(crate) trait Client {
@@ -113,7 +113,7 @@ fn serve_line<C: Client, W: Write>(
 }
 
 /// Answers the lines that the reader gives, in order, up to `quit` or the end.
-pub(crate) fn serve_client<C: Client, R: Read, W: Write>(
+pub(crate) fn serve_client<C: Client, R: BufRead, W: Write>(
     alloc: Global,
     client: &mut C,
     reader: &mut Counted<R>,

@@ -1,13 +1,16 @@
 //! Readers and writers with a count of their failures, and lines of bytes.
-ghost use Rattle.std.specs.Prelude.{◌≡◌, ◌≢◌, ◌↔◌, ◌+◌, ◌≤◌, ◌<◌, [], length, take, IfOk, IfErr, OnOk, OnErr, IsErrOf};
+ghost use Rattle.std.specs.Prelude.{◌≡◌, ◌≢◌, ◌↔◌, ◌+◌, ◌++◌, ◌≤◌, ◌<◌, [], length, take, Some};
+ghost use Rattle.std.specs.Prelude.{IfOk, IfErr, OnOk, OnErr, IsErrOf};
 ghost use Rattle.std.specs.IoError.{error_kind};
 ghost use Rattle.std.specs.Io.KnownBytes.{Appends, Consumes, Keeps};
-ghost use Rattle.rewind.specs.Bytes.{Next, Taken, LineRead, Begins};
+ghost use Rattle.rewind.specs.Bytes.{Next, Plain, BeginsNewline, with_end, Comes, Taken, LineRead, Begins};
+ghost use Rattle.rewind.specs.declared.counted.LineEnd.TheVariants.{End};
 ghost use Rattle.rewind.specs.Devices.{one_more, device_of, failures_of, left_of};
 
+use gr_base::NoMemory;
 use gr_command::read::LINE_LIMIT;
 use std::io;
-use std::io::{ErrorKind, Read, Write};
+use std::io::{BufRead, ErrorKind, Read, Write};
 
 /// A reader or a writer, with how often it failed. It may be read 18,446,744,073,709,551,615 times, and fails from
 /// then on.
@@ -189,8 +192,102 @@ pub(crate) enum LineError {
     Memory,
 }
 
+// The bytes before the first newline, and the rest.
+fn split_line(bytes: &[u8]) -> (&[u8], &[u8])
+    ensures cut { bytes.now ≡ result.0.now ++ result.1.now }
+    ensures plain { Plain result.0.now }
+    ensures rest { BeginsNewline result.1.now }
+{
+    for (i, byte) in bytes.iter().enumerate() {
+        if *byte == b'\n' {
+            return bytes.split_at(i);
+        }
+    }
+    (bytes, b"")
+}
+
+// Appends bytes of a line. Of a line over the limit one byte more than that is kept.
+fn keep(line: &mut Vec<u8>, bytes: &[u8]) -> Result<(), NoMemory>
+    requires { length line.old.items ≤ LINE_LIMIT + 1 }
+    ensures { OnOk result (line.new.items ≡ take (LINE_LIMIT + 1) (line.old.items ++ bytes.now)) }
+{
+    let room = LINE_LIMIT + 1 - line.len();
+    let count = bytes.len().min(room);
+    Ok(line.extend_from_slice(&bytes[..count])?)
+}
+
+// What ended the line of these bytes, which the rest followed at once, and how many bytes are read with that.
+fn end_after(bytes: &[u8], rest: &[u8]) -> (Option<LineEnd>, usize)
+    requires { BeginsNewline rest.now }
+    ensures bound { result.1 ≤ length (bytes.now ++ rest.now) }
+    ensures read { take result.1 (bytes.now ++ rest.now) ≡ with_end bytes.now result.0 }
+    ensures end { result.0 ≡ Some End → length (bytes.now ++ rest.now) ≡ 0 }
+{
+    if let Some(_) = rest.first() {
+        return (Some(LineEnd::Newline), bytes.len() + 1);
+    }
+    if bytes.is_empty() {
+        return (Some(LineEnd::End), 0);
+    }
+    (None, bytes.len())
+}
+
+// Reads the bytes of a line that the reader gives at once. Tells what ended the line, if it has ended. An interrupted read gives
+// no byte.
+fn read_part<R: BufRead>(reader: &mut R, line: &mut Vec<u8>) -> Result<Option<LineEnd>, LineError>
+    requires { length line.old.items ≤ LINE_LIMIT + 1 }
+    ensures ok { IfOk result (λ end. Comes (R.remaining reader.old) (R.remaining reader.new) line.old.items line.new.items end) }
+    ensures err { OnErr result (Keeps (R.remaining reader.old) (R.remaining reader.new)) }
+{
+    let ahead = match reader.fill_buf() {
+        Ok(ahead) => ahead,
+        Err(e) => {
+            return if e.kind() == ErrorKind::Interrupted {
+                Ok(None)
+            } else {
+                Err(LineError::Read)
+            };
+        }
+    };
+    let (bytes, rest) = split_line(ahead);
+    let Ok(()) = keep(line, bytes) else {
+        return Err(LineError::Memory);
+    };
+    let (end, used) = end_after(bytes, rest);
+    reader.consume(used);
+    Ok(end)
+}
+
+impl<R: BufRead> Counted<R> {
+    // Reads on in a line. Tells what ended it, if it has ended.
+    fn read_on(&mut self, line: &mut Vec<u8>) -> Result<Option<LineEnd>, LineError>
+        requires { length line.old.items ≤ LINE_LIMIT + 1 }
+        ensures ok { IfOk result (λ end. Comes (R.remaining (device_of self.old)) (R.remaining (device_of self.new))
+            line.old.items line.new.items end) }
+        ensures err { OnErr result (Keeps (R.remaining (device_of self.old)) (R.remaining (device_of self.new))) }
+        ensures read { IsErrOf result LineError.Read → failures_of self.new ≡ one_more (failures_of self.old) }
+        ensures same { OnOk result (failures_of self.new ≡ failures_of self.old) }
+        ensures memory { IsErrOf result LineError.Memory → failures_of self.new ≡ failures_of self.old }
+        ensures left { OnOk result (left_of self.new + 1 ≡ left_of self.old) }
+    {
+        if self.left == 0 {
+            self.fail();
+            return Err(LineError::Read);
+        }
+        self.left -= 1;
+        match read_part(&mut self.inner, line) {
+            Ok(end) => Ok(end),
+            Err(LineError::Memory) => Err(LineError::Memory),
+            Err(LineError::Read) => {
+                self.fail();
+                Err(LineError::Read)
+            }
+        }
+    }
+}
+
 /// Reads a line, without its newline. Of a line over the limit one byte more than that is kept.
-pub(crate) fn read_line<R: Read>(
+pub(crate) fn read_line<R: BufRead>(
     reader: &mut Counted<R>,
     line: &mut Vec<u8>,
 ) -> Result<LineEnd, LineError>
@@ -204,18 +301,10 @@ pub(crate) fn read_line<R: Read>(
     ensures left { OnOk result (left_of reader.new < left_of reader.old) }
 {
     loop {
-        match reader.next_byte() {
-            Err(_) => return Err(LineError::Read),
-            Ok(None) => return Ok(LineEnd::End),
-            Ok(Some(b'\n')) => return Ok(LineEnd::Newline),
-            Ok(Some(byte)) => {
-                if line.len() > LINE_LIMIT {
-                    continue;
-                }
-                if line.push(byte).is_err() {
-                    return Err(LineError::Memory);
-                }
-            }
+        match reader.read_on(line) {
+            Err(error) => return Err(error),
+            Ok(Some(end)) => return Ok(end),
+            Ok(None) => {}
         }
     }
 }

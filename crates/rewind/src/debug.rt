@@ -9,7 +9,7 @@ use crate::stream::{ServeFault, serve};
 use gr_scan::scan::TEXT_LIMIT;
 use gr_share::{OpenError, Session};
 use std::alloc::Global;
-use std::io::{Read, Write};
+use std::io::{BufRead, Read, Write};
 use std::mem;
 use thiserror::Error;
 
@@ -102,7 +102,7 @@ pub fn check<S: Read>(alloc: Global, source: &mut Counted<S>) -> Result<(), Debu
 ///
 /// After `Source` and `Open` no command was read and nothing was written; a source of more than 1,048,576 bytes is
 /// not opened. After `Serve` the session stands as `serve` says. The fault names the device that failed, if one did.
-pub fn debug<S: Read, R: Read, W: Write>(
+pub fn debug<S: Read, R: BufRead, W: Write>(
     alloc: Global,
     source: &mut Counted<S>,
     reader: &mut Counted<R>,

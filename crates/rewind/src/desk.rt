@@ -10,7 +10,7 @@ use crate::stream::ServeFault;
 use gr_base::NoMemory;
 use gr_share::{Command, Desk, Room, Shared};
 use std::alloc::Global;
-use std::io::{Read, Write};
+use std::io::{BufRead, Write};
 use std::sync::Wait;
 
 // A client of a shared session.
@@ -49,7 +49,7 @@ impl<'a, B: Room, T: Wait> Client for SharedDesk<'a, B, T> {
 /// their order, and the writer gets the output for their receipts. Each command waits for the session's lock.
 ///
 /// The faults are those of `stream::serve`, and leave the desk as they leave the session there.
-pub fn serve_desk<B: Room, T: Wait, R: Read, W: Write>(
+pub fn serve_desk<B: Room, T: Wait, R: BufRead, W: Write>(
     rt: &T,
     alloc: Global,
     shared: &Shared<B>,

@@ -9,7 +9,7 @@ use crate::counted::Counted;
 use gr_base::NoMemory;
 use gr_share::{Command, DeskId, Session};
 use std::alloc::Global;
-use std::io::{Read, Write};
+use std::io::{BufRead, Write};
 use thiserror::Error;
 
 /// Why a stream was left before `quit` and before its end.
@@ -72,7 +72,7 @@ impl<'a> Client for SessionDesk<'a> {
 /// The fault names the device that failed. After `Read` the session stands after the last whole line. After `Write`
 /// the last command was asked, and a beginning of its answer may have gone out. After `Memory` no device failed, and
 /// the session stands as after one of these, or after the line before the last.
-pub fn serve<R: Read, W: Write>(
+pub fn serve<R: BufRead, W: Write>(
     alloc: Global,
     session: &mut Session,
     desk: DeskId,

@@ -7,7 +7,8 @@ use crate::words::{BANNER, NO_COMMAND, PROMPT};
 use std::io;
 use std::io::{Read, Write};
 
-/// A reader of lines that shows a prompt on a screen before each of them, and a banner before the first.
+/// A reader that shows a prompt on a screen before each read that begins a line, and a banner before the first read. A terminal
+/// gives one line to a read.
 #[derive(Drop)]
 pub struct Prompted<R, S> {
     reader: R,

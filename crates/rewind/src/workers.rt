@@ -14,7 +14,7 @@ use crate::stream::ServeFault;
 use gr_base::NoMemory;
 use gr_share::{Desk, Open, Opened, Room, Shared, Worker, finish, worker};
 use std::alloc::Global;
-use std::io::{Read, Write};
+use std::io::{BufRead, Read, Write};
 use std::marker::Brand;
 use std::sync::Wait;
 use std::thread::Threads;
@@ -45,7 +45,7 @@ struct Stream<'a, 'r, 'w, B: Room, T, R, W> {
     writer: &'w mut Counted<W>,
 }
 
-impl<'a, 'r, 'w, B: Room, T: Wait, R: Read, W: Write> Task for Stream<'a, 'r, 'w, B, T, R, W> {
+impl<'a, 'r, 'w, B: Room, T: Wait, R: BufRead, W: Write> Task for Stream<'a, 'r, 'w, B, T, R, W> {
     ghost use Rattle.std.specs.Prelude.{◌≡◌};
     ghost use Rattle.rewind.specs.Devices.{change};
     ghost use Rattle.rewind.specs.Beside.{StreamedIf};
@@ -84,7 +84,7 @@ impl<'a, 'r, 'w, B: Room, T: Wait, R: Read, W: Write> Task for Stream<'a, 'r, 'w
 }
 
 // Serves a desk, if the workers have started.
-fn serve_if<B: Room, T: Wait, R: Read, W: Write>(
+fn serve_if<B: Room, T: Wait, R: BufRead, W: Write>(
     rt: &T,
     alloc: Global,
     shared: &Shared<B>,
@@ -104,7 +104,7 @@ fn serve_if<B: Room, T: Wait, R: Read, W: Write>(
 }
 
 // Serves a desk, in one clause.
-fn serve<B: Room, T: Wait, R: Read, W: Write>(
+fn serve<B: Room, T: Wait, R: BufRead, W: Write>(
     rt: &T,
     alloc: Global,
     shared: &Shared<B>,
@@ -185,7 +185,7 @@ fn beside<B: Room + Send + Sync, T: Threads + Wait + Sync, J: Task + Drop>(
 }
 
 // Serves a desk beside the workers. Where a thread could not be started, nothing was read or written.
-fn serve_among<B: Room + Send + Sync, T: Threads + Wait + Sync, R: Read, W: Write>(
+fn serve_among<B: Room + Send + Sync, T: Threads + Wait + Sync, R: BufRead, W: Write>(
     rt: &T,
     alloc: Global,
     shared: &Shared<B>,
@@ -271,7 +271,7 @@ fn ended<B: Room>(
 
 // Serves one desk of the session, beside this many workers. In the end the workers are told to end and waited for, and the
 // session is shared no more.
-fn serve_beside<B: Room + Send + Sync, T: Threads + Wait + Sync, R: Read, W: Write>(
+fn serve_beside<B: Room + Send + Sync, T: Threads + Wait + Sync, R: BufRead, W: Write>(
     rt: &T,
     alloc: Global,
     opened: Opened,
@@ -314,7 +314,7 @@ fn serve_beside<B: Room + Send + Sync, T: Threads + Wait + Sync, R: Read, W: Wri
 ///
 /// `Threads` means one of two things. Either a thread could not be started, and no command was read; or seats were missing in
 /// the end, and all lines were served. The other faults mean what they mean in `debug`.
-pub fn debug_beside<S: Read, R: Read, W: Write, T: Threads + Wait + Sync>(
+pub fn debug_beside<S: Read, R: BufRead, W: Write, T: Threads + Wait + Sync>(
     rt: &T,
     alloc: Global,
     workers: u32,

@@ -20,7 +20,7 @@ use rewind::terminal::{Explained, Prompted};
 use rewind::words::{NOT_TEXT, STRANGE_CODE};
 use rewind::workers::debug_beside;
 use std::fs::File;
-use std::io::{BufReader, ErrorKind as IoErrorKind, IsTerminal, Read, Write};
+use std::io::{BufRead, BufReader, ErrorKind as IoErrorKind, IsTerminal, Read, Write};
 use std::process::ExitCode;
 use std::sync::Wait;
 use std::thread::Threads;
@@ -61,7 +61,7 @@ fn refuse_with(rt: &HostRuntime, words: &str) -> ExitCode {
 }
 
 // Serves a session over a source, beside this many workers.
-fn debug_with<T: Threads + Wait + Sync, S: Read, R: Read, W: Write>(
+fn debug_with<T: Threads + Wait + Sync, S: Read, R: BufRead, W: Write>(
     rt: &HostRuntime,
     threads: &T,
     workers: u32,
@@ -87,13 +87,13 @@ fn debug_file<T: Threads + Wait + Sync>(
         return Ok(fail(rt, &DebugFault::Source, file));
     };
     let mut source = Counted::new(BufReader::new(rt.alloc(), opened)?);
-    let reader = BufReader::new(rt.alloc(), rt.stdin())?;
     let debugged = if is_at_terminal(rt) {
-        let mut reader = Counted::new(Prompted::new(reader, rt.stderr()));
+        let prompted = Prompted::new(rt.stdin(), rt.stderr());
+        let mut reader = Counted::new(BufReader::new(rt.alloc(), prompted)?);
         let mut writer = Counted::new(Explained::new(rt.stdout(), rt.stderr()));
         debug_with(rt, threads, workers, &mut source, &mut reader, &mut writer)
     } else {
-        let mut reader = Counted::new(reader);
+        let mut reader = Counted::new(BufReader::new(rt.alloc(), rt.stdin())?);
         let mut writer = Counted::new(rt.stdout());
         debug_with(rt, threads, workers, &mut source, &mut reader, &mut writer)
     };

@@ -12,7 +12,7 @@ use rewind::stream::{ServeFault, serve};
 use rewind::{OpenError, Position, Session};
 use std::alloc::Global;
 use std::io;
-use std::io::{ErrorKind, Read, Write};
+use std::io::{BufRead, ErrorKind, Read, Write};
 use std::test::Fail;
 
 /// When a device fails.
@@ -33,21 +33,43 @@ struct Lines<'a> {
     failed: bool,
 }
 
-impl Read for Lines<'_> {
-    fn read(&mut self, buf: &mut [u8]) -> io::Result<usize> {
+impl Lines<'_> {
+    /// The error of this call, if it fails.
+    fn failure(&mut self) -> Option<io::Error> {
         match self.failing {
-            Failing::AtTheEnd if self.bytes.is_empty() => {
-                return Err(io::Error::from(ErrorKind::Other));
-            }
+            Failing::AtTheEnd if self.bytes.is_empty() => Some(io::Error::from(ErrorKind::Other)),
             Failing::EveryOther(kind) => {
                 self.failed = !self.failed;
                 if self.failed {
-                    return Err(io::Error::from(kind));
+                    Some(io::Error::from(kind))
+                } else {
+                    None
                 }
             }
-            _ => {}
+            _ => None,
+        }
+    }
+}
+
+impl Read for Lines<'_> {
+    fn read(&mut self, buf: &mut [u8]) -> io::Result<usize> {
+        if let Some(error) = self.failure() {
+            return Err(error);
         }
         self.bytes.read(buf)
+    }
+}
+
+impl BufRead for Lines<'_> {
+    fn fill_buf(&mut self) -> io::Result<&[u8]> {
+        if let Some(error) = self.failure() {
+            return Err(error);
+        }
+        Ok(self.bytes)
+    }
+
+    fn consume(&mut self, amount: usize) {
+        self.bytes.consume(amount);
     }
 }
 
@@ -180,7 +202,7 @@ fn ends_so(served: &Result<(), ServeFault>, end: End) -> bool {
 }
 
 /// Serves a session that was just opened. Answers what came of it, and how many entries the journal has.
-fn serve_new<R: Read, W: Write>(
+fn serve_new<R: BufRead, W: Write>(
     alloc: Global,
     reader: &mut Counted<R>,
     writer: &mut Counted<W>,

@@ -1,31 +1,22 @@
-use Rattle.std.proofs.Common.{◌≡◌, ◌<◌, ◌≤◌, ◌∷◌, [], ◌++◌, rules, length, arith}
+use Rattle.std.proofs.Common.{arith, ◌+◌, ◌++◌, None, Some}
 use Rattle.gr_command.specs.declared.read.TheConstants.{LINE_LIMIT}
-use Rattle.std.specs.Io.KnownBytes.{Consumes}
-use Rattle.rewind.proofs.Reading.{Part-kept, Part-dropped, Taken-more}
+use Rattle.rewind.specs.Bytes.{Comes}
+use Rattle.rewind.proofs.Reading.{Part-more, Part-ended, kept-short}
 use Rattle.rewind.proofs.counted.read_line.Goals as goal
 
-pub returns-then-is_err-clause-err : goal.returns-then-is_err-clause-err
-returns-then-is_err-clause-err g c =
-    let t : Consumes (g.R.Read.remaining c.loop-byte.reader.inner) (g.R.Read.remaining c.next_byte.new.self.inner) (c.in-Ok-Some.byte ∷ []) = rw c.in-Ok-Some.field-0-is at c.in-Ok-Some.ensures.ok in
-    Taken-more c.loop-byte.invariant.part t c.in-Ok-Some.byte-test.1
+pub returns-in-Ok-Some-clause-ok : goal.returns-in-Ok-Some-clause-ok
+returns-in-Ok-Some-clause-ok g c =
+    let comes : Comes (g.R.Read.remaining c.loop-error.reader.inner) (g.R.Read.remaining c.read_on.new.self.inner) c.loop-error.line.items c.read_on.new.line.items (Some c.in-Ok-Some.end) =
+    rw c.in-Ok-Some.field-0-is at c.in-Ok-Some.ensures.ok in
+    Part-ended c.in-Ok-Some.end c.loop-error.invariant.part comes
 
-pub loop-byte-preserved-then-len-gt-LINE_LIMIT : goal.loop-byte-preserved-then-len-gt-LINE_LIMIT
-loop-byte-preserved-then-len-gt-LINE_LIMIT g c =
-    let t : Consumes (g.R.Read.remaining c.loop-byte.reader.inner) (g.R.Read.remaining c.next_byte.new.self.inner) (c.in-Ok-Some.byte ∷ []) = rw c.in-Ok-Some.field-0-is at c.in-Ok-Some.ensures.ok in
-    let long : LINE_LIMIT < length c.loop-byte.line.items = search rules in
+pub loop-error-preserved : goal.loop-error-preserved
+loop-error-preserved g c =
+    let comes : Comes (g.R.Read.remaining c.loop-error.reader.inner) (g.R.Read.remaining c.read_on.new.self.inner) c.loop-error.line.items c.read_on.new.line.items None =
+    rw c.in-Ok-None.field-0-is at c.in-Ok-None.ensures.ok in
     record {
-      part = Part-dropped c.loop-byte.invariant.part t c.in-Ok-Some.byte-test.1 long;
-      same = omega (arith, c.in-Ok-Some.ensures.same);
-      left = omega (arith, c.in-Ok-Some.ensures.left);
-    }
-
-pub loop-byte-preserved : goal.loop-byte-preserved
-loop-byte-preserved g c =
-    let t : Consumes (g.R.Read.remaining c.loop-byte.reader.inner) (g.R.Read.remaining c.next_byte.new.self.inner) (c.in-Ok-Some.byte ∷ []) = rw c.in-Ok-Some.field-0-is at c.in-Ok-Some.ensures.ok in
-    let short : length c.loop-byte.line.items ≤ LINE_LIMIT = search rules in
-    let items : c.push.new.self.items ≡ c.loop-byte.line.items ++ c.in-Ok-Some.byte ∷ [] = search rules in
-    record {
-      part = rw items (Part-kept c.loop-byte.invariant.part t c.in-Ok-Some.byte-test.1 short);
-      same = omega (arith, c.in-Ok-Some.ensures.same);
-      left = omega (arith, c.in-Ok-Some.ensures.left);
+      part = Part-more c.loop-error.invariant.part comes;
+      short = kept-short (LINE_LIMIT + 1) (c.loop-error.line.items ++ comes.text) c.read_on.new.line.items comes.kept_is;
+      same = omega (arith, c.in-Ok-None.ensures.same);
+      left = omega (arith, c.in-Ok-None.ensures.left);
     }
