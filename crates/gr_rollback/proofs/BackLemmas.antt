@@ -428,3 +428,13 @@ pub aside_is_kept : (c : Course) (at : ℕ) (marks : List Bool) (mid : Course) (
 aside_is_kept c at marks mid r way q i =
     subst (In q) (sym way.records_are)
     (In-append_right q (records_of mid.log) way.tail (In-unmarked way.after way.tail q (subst (In q) way.aside i)))
+
+-- where no step is named, none is back
+all_there : (rs : List Record) (s : Contents) → map (λ (q : Record). q.id) rs ≡ [] → all_back rs s ≡ s
+all_there [] s none = refl
+all_there (r ∷ rs) s none = absurd (let no : r.id ∷ map (λ (q : Record). q.id) rs ≡ [] = none in cc)
+
+pub none_is_back : (c : Course) (at : ℕ) (marks : List Bool) (mid : Course) (r : Rollback) → IsOnTheWay c at marks mid r
+    → (ids : List StepId) → ids ≡ reverse r.ids.items → ids ≡ [] → contents_at mid.store ≡ contents_at c.store
+none_is_back c at marks mid r way ids told none =
+    way.contents ∙ all_there (marked way.after way.tail) (contents_at c.store) (sym way.names ∙ sym told ∙ none)

@@ -1,7 +1,7 @@
 -- A step that reached no further than its goroutine, which is ready still, joins the log, or is taken back.
 use Rattle.std.proofs.Common.{◌≡◌, ℕ, [], ◌∷◌, None, Result, Ok, Err, inr, refl, sym, ap, subst, ◌∙◌}
 use Rattle.std.specs.Option.{option_to_list}
-use Rattle.std.specs.Prelude.{IfErr}
+use Rattle.std.specs.Prelude.{IfErr, OnErr}
 use Rattle.gr_base.specs.declared.events.Event.{Event}
 use Rattle.gr_pool.specs.Goroutines as pools
 use Rattle.gr_pool.specs.Goroutines.{is_among}
@@ -11,7 +11,7 @@ use Rattle.gr_step.specs.Effects.{Effect}
 use Rattle.gr_step.specs.Record.{Record}
 use Rattle.gr_step.specs.declared.refusal.StepRefused.{StepRefused}
 use Rattle.gr_step.specs.declared.store.Store.{Store}
-use Rattle.gr_step.specs.Records.{begun_by, event_of}
+use Rattle.gr_step.specs.Records.{begun_by, event_of, taken_back}
 use Rattle.gr_step.specs.Stores as stores
 use Rattle.gr_step.specs.Stores.{program_at, contents_at, taken_at, SameListing}
 use Rattle.gr_step.specs.Taking.{IsRecord}
@@ -99,6 +99,13 @@ pub may_count : (old : Course) (r : Record) (result : Result Stepped StepRefused
     → taken_at new.store ≡ one_more n → IfErr result (λ why. MayCount why n (taken_at new.store))
 may_count old r (Ok told) new n joined at = tt
 may_count old r (Err why) new n joined at = inr (joined.0, at)
+
+-- a step that did not join leaves the contents from which it was taken
+pub same_contents : (old : Course) (q : Store) (r : Record) (result : Result Stepped StepRefused) (new : Course)
+    → taken_back r.id.go r.change (contents_at q) ≡ contents_at old.store → Joined (record old { store = q }) r result new
+    → OnErr result (contents_at new.store ≡ contents_at old.store)
+same_contents old q r (Ok told) new back joined = tt
+same_contents old q r (Err why) new back joined = joined.1.contents ∙ back
 
 -- where the store has not changed, nothing has
 pub nothing_taken : (p : Program) (w : Past p) (old : Course) (q : Store) → Holds p w old → SameListing old.store q → contents_at q ≡ contents_at old.store

@@ -43,6 +43,11 @@ pub record LosesSome (p : Program) (w : Past p) (place : ℕ) (gone : List (Logg
   pub others : AreTheOthers w.log gone u.log
   pub run : IsRun p u.log u.state
 
+-- the refusal names no step that was taken back or done again before it
+abbrev pub NamesNone : BackRefused → Type 0
+NamesNone (refusals.NoMemory ids) = ids.items ≡ []
+NamesNone why = Unit {0}
+
 -- what may be done again when these steps were taken back: these, in the order in which they were taken; as before where there
 -- were none
 abbrev pub again_after : List Event → List Event → List Event

@@ -1,11 +1,11 @@
 //! A step taken back with its consequences, and nothing else.
 
-ghost use Rattle.std.specs.Prelude.{◌≡◌, ◌<◌, ◌+◌, ◌++◌, [], length, vec_len, vec_capacity, reverse, IfOk, OnOk, OnErr};
+ghost use Rattle.std.specs.Prelude.{◌≡◌, ◌<◌, ◌+◌, ◌++◌, [], length, vec_len, vec_capacity, reverse, IfOk, IfErr, OnOk, OnErr};
 ghost use Rattle.gr_causal.specs.Sequences.{In, Distinct};
 ghost use Rattle.gr_program.specs.Programs.{Program};
 ghost use Rattle.gr_step.specs.Record.{Record as RecordSeen};
 ghost use Rattle.gr_step.specs.Conflicts.{touched_by};
-ghost use Rattle.gr_step.specs.Stores.{taken_at, SameListing};
+ghost use Rattle.gr_step.specs.Stores.{contents_at, taken_at, SameListing};
 ghost use Rattle.gr_depend.specs.Logs.{records_of};
 ghost use Rattle.gr_depend.specs.Room.{CanTake};
 ghost use Rattle.gr_rollback.specs.Walks.{count_set, count_unset, IsNew, IsRolling, GoesOn, Removes};
@@ -152,7 +152,7 @@ impl Course {
 impl Machine {
     ghost use Rattle.gr_rollback.specs.Pasts.{Timeline};
     ghost use Rattle.gr_rollback.specs.Machines.{store_of, steps_of, again_of, Stands, IsMachine};
-    ghost use Rattle.gr_rollback.specs.Backs.{again_after, TakenBack};
+    ghost use Rattle.gr_rollback.specs.Backs.{again_after, NamesNone, TakenBack};
 
     /// Puts in again the records that stay. Answers the names of the steps that are taken back, in the order of the log;
     /// these can be taken again.
@@ -182,6 +182,7 @@ impl Machine {
     pub fn back(&mut self, alloc: Global, id: &StepId) -> Result<Vec<StepId>, BackRefused>
         requires { IsMachine self.old }
         ensures back { (p : Program) (w : Timeline p) → Stands p w self.old → TakenBack p w id.now result self.new }
+        ensures err { IfErr result (λ why. NamesNone why → contents_at (store_of self.new) ≡ contents_at (store_of self.old)) }
         ensures listing { SameListing (store_of self.old) (store_of self.new) }
         ensures taken { taken_at (store_of self.new) ≡ taken_at (store_of self.old) }
     {

@@ -99,6 +99,7 @@ impl Course {
             → Kept p w (event_meant p w.state go choice) result self.new }
         ensures taken { OnOk result (taken_at self.new.store ≡ one_more (taken_at self.old.store)) }
         ensures not_taken { IfErr result (λ why. MayCount why (taken_at self.old.store) (taken_at self.new.store)) }
+        ensures err { OnErr result (contents_at self.new.store ≡ contents_at self.old.store) }
         ensures listing { SameListing self.old.store self.new.store }
     {
         let event = Event {
@@ -140,6 +141,7 @@ impl Course {
             → Kept p w (event_meant p w.state go choice) result self.new }
         ensures taken { OnOk result (taken_at self.new.store ≡ one_more (taken_at self.old.store)) }
         ensures not_taken { IfErr result (λ why. MayCount why (taken_at self.old.store) (taken_at self.new.store)) }
+        ensures err { OnErr result (contents_at self.new.store ≡ contents_at self.old.store) }
         ensures listing { SameListing self.old.store self.new.store }
     {
         let step = self.store.step_meant(go, choice)?;

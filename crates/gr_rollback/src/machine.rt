@@ -6,7 +6,7 @@ ghost use Rattle.gr_program.specs.Views.{program_of};
 ghost use Rattle.gr_rules.specs.Turns.{IsTurn, last_owner};
 ghost use Rattle.gr_step.specs.Running.{IsChecked};
 ghost use Rattle.gr_step.specs.Choices.{usual_event};
-ghost use Rattle.gr_step.specs.Stores.{taken_at, SameListing};
+ghost use Rattle.gr_step.specs.Stores.{contents_at, taken_at, SameListing};
 
 use crate::course::Course;
 use crate::refusal::BackRefused;
@@ -80,6 +80,7 @@ impl Machine {
         ensures taken { (p : ProgramSeen) (w : Timeline p) → Stands p w self.old → Taken p w event result self.new }
         ensures count { OnOk result (taken_at (store_of self.new) ≡ one_more (taken_at (store_of self.old))) }
         ensures refused { IfErr result (λ why. MayCount why (taken_at (store_of self.old)) (taken_at (store_of self.new))) }
+        ensures err { OnErr result (contents_at (store_of self.new) ≡ contents_at (store_of self.old)) }
         ensures listing { SameListing (store_of self.old) (store_of self.new) }
     {
         let told = self.course.keep(event.go, Some(event.choice))?;
@@ -96,6 +97,7 @@ impl Machine {
             → Taken p w (usual_event p w.past.state go) result self.new }
         ensures count { OnOk result (taken_at (store_of self.new) ≡ one_more (taken_at (store_of self.old))) }
         ensures refused { IfErr result (λ why. MayCount why (taken_at (store_of self.old)) (taken_at (store_of self.new))) }
+        ensures err { OnErr result (contents_at (store_of self.new) ≡ contents_at (store_of self.old)) }
         ensures listing { SameListing (store_of self.old) (store_of self.new) }
     {
         let told = self.course.keep(go, None)?;
@@ -107,6 +109,7 @@ impl Machine {
     pub fn undo(&mut self, alloc: Global) -> Result<StepId, BackRefused>
         requires { IsMachine self.old }
         ensures undone { (p : ProgramSeen) (w : Timeline p) → Stands p w self.old → Undone p w result self.new }
+        ensures err { OnErr result (contents_at (store_of self.new) ≡ contents_at (store_of self.old)) }
         ensures listing { SameListing (store_of self.old) (store_of self.new) }
         ensures taken { taken_at (store_of self.new) ≡ taken_at (store_of self.old) }
     {

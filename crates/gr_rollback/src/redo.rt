@@ -1,9 +1,9 @@
 //! The steps that were taken back last, done again.
 
-ghost use Rattle.std.specs.Prelude.{◌≡◌, ◌+◌, ◌<◌, ◌≤◌, [], vec_len, vec_capacity, OnOk, OnErr};
+ghost use Rattle.std.specs.Prelude.{◌≡◌, ◌+◌, ◌<◌, ◌≤◌, [], vec_len, vec_capacity, IfErr, OnOk, OnErr};
 ghost use Rattle.gr_program.specs.Programs.{Program};
 ghost use Rattle.gr_step.specs.declared.refusal.StepRefused.TheVariants as refusals;
-ghost use Rattle.gr_step.specs.Stores.{taken_at, SameListing};
+ghost use Rattle.gr_step.specs.Stores.{contents_at, taken_at, SameListing};
 
 use crate::machine::Machine;
 use crate::refusal::BackRefused;
@@ -25,7 +25,7 @@ impl Machine {
     ghost use Rattle.gr_rollback.specs.Pasts.{Timeline};
     ghost use Rattle.gr_rollback.specs.Machines.{store_of, again_of, Stands, IsMachine};
     ghost use Rattle.gr_rollback.specs.Redoing.{GoesOn};
-    ghost use Rattle.gr_rollback.specs.Backs.{CountsAgain, TakenAgain};
+    ghost use Rattle.gr_rollback.specs.Backs.{CountsAgain, NamesNone, TakenAgain};
     ghost use Rattle.gr_rollback.specs.Stepping.{counted, one_more, MayCountOne};
 
     /// Takes the next of the steps again, whose name joins the others. Refused, nothing has changed.
@@ -41,6 +41,7 @@ impl Machine {
         ensures ok_room { OnOk result (vec_capacity ids.new ≡ vec_capacity ids.old) }
         ensures err { OnErr result (vec_len self.new.again ≡ vec_len self.old.again) }
         ensures err_ids { OnErr result (vec_len ids.new ≡ vec_len ids.old) }
+        ensures err_contents { OnErr result (contents_at (store_of self.new) ≡ contents_at (store_of self.old)) }
         ensures listing { SameListing (store_of self.old) (store_of self.new) }
     {
         let event = self.again.last().unwrap().copy(alloc)?;
@@ -68,6 +69,8 @@ impl Machine {
             (MayCountOne (vec_len ids.new) (taken_at (store_of self.old)) (taken_at (store_of self.new))) }
         ensures all { OnOk result (vec_len self.new.again ≡ 0) }
         ensures left { OnErr result (0 < vec_len self.new.again) }
+        ensures stays { OnErr result
+            (vec_len ids.new ≡ 0 → contents_at (store_of self.new) ≡ contents_at (store_of self.old)) }
         ensures listing { SameListing (store_of self.old) (store_of self.new) }
     {
         while !self.again.is_empty() {
@@ -83,6 +86,7 @@ impl Machine {
         requires { IsMachine self.old }
         ensures again { (p : Program) (w : Timeline p) → Stands p w self.old → TakenAgain p w result self.new }
         ensures taken { CountsAgain result (taken_at (store_of self.old)) (taken_at (store_of self.new)) }
+        ensures err { IfErr result (λ why. NamesNone why → contents_at (store_of self.new) ≡ contents_at (store_of self.old)) }
         ensures listing { SameListing (store_of self.old) (store_of self.new) }
     {
         if self.again.is_empty() {

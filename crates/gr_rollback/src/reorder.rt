@@ -52,6 +52,7 @@ impl Machine {
     pub fn reorder(&mut self, alloc: Global, ids: &[StepId]) -> Result<(), BackRefused>
         requires { IsMachine self.old }
         ensures reordered { (p : Program) (w : Timeline p) → Stands p w self.old → Reordered p w ids.now result self.new }
+        ensures store { store_of self.new ≡ store_of self.old }
         ensures listing { SameListing (store_of self.old) (store_of self.new) }
         ensures taken { taken_at (store_of self.new) ≡ taken_at (store_of self.old) }
     {

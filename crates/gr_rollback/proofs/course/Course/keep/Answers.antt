@@ -1,5 +1,6 @@
 use Rattle.std.proofs.Common.{◌≡◌, None, ap, subst, ◌∙◌}
 use Rattle.std.specs.Option.{unwrap_or}
+use Rattle.std.specs.Prelude.{OnErr}
 use Rattle.gr_base.specs.declared.events.Choice.{Choice}
 use Rattle.gr_base.specs.declared.events.Choice.TheVariants.{Plain}
 use Rattle.gr_base.specs.declared.events.Event.{Event}
@@ -9,7 +10,7 @@ use Rattle.gr_step.specs.Stores.{program_at, contents_at, taken_at}
 use Rattle.gr_step.proofs.RecordLemmas.{no_object_twice}
 use Rattle.gr_rollback.specs.Stepping.{event_meant}
 use Rattle.gr_rollback.specs.Steps.{Kept}
-use Rattle.gr_rollback.proofs.JoinLemmas.{joined_or_not, may_count, nothing_taken}
+use Rattle.gr_rollback.proofs.JoinLemmas.{joined_or_not, may_count, nothing_taken, same_contents}
 use Rattle.gr_rollback.proofs.CourseLemmas.{can_count, is_course, logged, tells}
 use Rattle.gr_rollback.proofs.ChoiceLemmas.{plain_is_meant}
 use Rattle.gr_rollback.proofs.StepLemmas.{record_is_allowed}
@@ -41,6 +42,15 @@ pub returns-in-Ok-clause-not_taken : goal.returns-in-Ok-clause-not_taken
 returns-in-Ok-clause-not_taken c =
     may_count _ c.in-Ok.step c.join.result c.join.new.self (taken_at c.args.self.now.store) c.join.ensures.joined
     (c.join.ensures.taken ∙ c.in-Ok.ensures.taken)
+
+pub returns-in-Ok-clause-err : goal.returns-in-Ok-clause-err
+returns-in-Ok-clause-err c =
+    same_contents c.args.self.now c.step_ints.new.self c.in-Ok.step c.join.result c.join.new.self c.in-Ok.ensures.step.takes.back
+    c.join.ensures.joined
+
+pub returns-in-Err-clause-err : goal.returns-in-Err-clause-err
+returns-in-Err-clause-err c =
+    subst (λ s. OnErr c.keep_further.result (contents_at c.keep_further.new.self.store ≡ s)) c.in-Err.ensures.err c.keep_further.ensures.err
 
 pub keep_further-requires : goal.keep_further-requires
 keep_further-requires c =

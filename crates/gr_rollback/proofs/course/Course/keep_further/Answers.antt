@@ -37,6 +37,11 @@ returns-in_err-step-clause-not_taken c =
     let told = err_from_is_err_and c.from_residual.result c.from_residual.ensures.1 in
     rw told.1 (inl c.in_err-step.ensures.not_taken)
 
+pub returns-in_err-step-clause-err : goal.returns-in_err-step-clause-err
+returns-in_err-step-clause-err c =
+    let told = err_from_is_err_and c.from_residual.result c.from_residual.ensures.1 in
+    rw told.1 c.in_err-step.ensures.err
+
 pub enter-entered-requires : goal.enter-entered-requires
 enter-entered-requires c =
     let p = program_at c.args.self.now.store in
@@ -59,6 +64,12 @@ returns-in-Err-clause-kept c = λ p w s.
         first = refl;
       }),
     )
+
+pub returns-in-Err-clause-err : goal.returns-in-Err-clause-err
+returns-in-Err-clause-err c =
+    c.withdraw.ensures.back
+    ∙ ap (λ (r : Record). taken_back r.id.go r.change (contents_at c.step_meant.new.self)) c.in-Err.ensures.handed_back
+    ∙ c.in_ok-step.ensures.step.takes.back
 
 pub returns-in-Err-clause-not_taken : goal.returns-in-Err-clause-not_taken
 returns-in-Err-clause-not_taken c = inr (refl, c.withdraw.ensures.taken ∙ c.in_ok-step.ensures.taken)

@@ -1,9 +1,10 @@
 use Rattle.std.proofs.Common.{Bool, List, ap, sym, subst, ◌∙◌}
 use Rattle.std.specs.Prelude.{slice_get}
+use Rattle.gr_step.specs.Stores.{contents_at}
 use Rattle.gr_depend.specs.Logs.{records_of}
 use Rattle.gr_depend.specs.Room.{CanTake}
 use Rattle.gr_rollback.specs.Walks.{IsNew}
-use Rattle.gr_rollback.proofs.BackLemmas.{within_list, marks_count, marks_tell, rolls, takes_none, takes_all, takes_some, named_here, not_named, aside_is_kept}
+use Rattle.gr_rollback.proofs.BackLemmas.{none_is_back, within_list, marks_count, marks_tell, rolls, takes_none, takes_all, takes_some, named_here, not_named, aside_is_kept}
 use Rattle.gr_rollback.proofs.UnwindLemmas.{way_begins}
 use Rattle.gr_rollback.proofs.machine.Machine.back.Goals as goal
 
@@ -97,3 +98,18 @@ returns-clause-back c = λ p w s.
     (named_here p w.past c.args.self.now.course s.holds c.args.id.now c.in-Some.at c.in-Some.ensures.found)
     (ap (λ (ms : List Bool). slice_get ms 0) c.deref-2.ensures.value ∙ c.in-Ok.ensures.first) c.in-Err.ensures.left
     c.finish-ids.result.items c.finish-ids.ensures.ids
+
+pub returns-clause-err : goal.returns-clause-err
+returns-clause-err c = λ none.
+    let old = c.args.self.now.course in
+    let at = c.in-Some.at in
+    let marks = c.deref-2.result.now in
+    let count = marks_count old at marks c.in-Ok.marks.items c.deref-2.ensures.value c.in-Ok.ensures.count
+    (within_list (records_of old.log) at c.in-Some.ensures.found.step c.in-Some.ensures.found.there) in
+    let members = marks_tell old at marks c.in-Ok.marks.items c.deref-2.ensures.value c.in-Ok.ensures.members in
+    let goes = rolls _ c.requires.world.past old c.requires.stands.holds at marks count members in
+    let begins = way_begins old at marks c.in-Ok-with_room.rollback goes
+    (subst (λ ms. IsNew ms c.in-Ok-with_room.rollback) (c.deref.ensures.value ∙ sym c.deref-2.ensures.value) c.in-Ok-with_room.ensures) c.law_of_no_steps.ensures in
+    let way = c.unwind-done.ensures.way old goes begins in
+    ap contents_at c.finish-ids.ensures.store
+    ∙ none_is_back old at marks c.unwind-done.new.self c.unwind-done.new.rollback way c.finish-ids.result.items c.finish-ids.ensures.ids none

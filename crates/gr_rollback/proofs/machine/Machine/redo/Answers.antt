@@ -28,3 +28,6 @@ pub returns-in-Err-clause-taken : goal.returns-in-Err-clause-taken
 returns-in-Err-clause-taken c =
     subst (λ n. MayCountOne n (taken_at (store_of c.args.self.now)) (taken_at (store_of c.take_all.new.self))) c.take_all.new.ids.ok.0
     c.in-Err.ensures.not_taken
+
+pub returns-in-Err-clause-err : goal.returns-in-Err-clause-err
+returns-in-Err-clause-err c = λ none. c.in-Err.ensures.stays (c.take_all.new.ids.ok.0 ∙ ap length none)

@@ -35,3 +35,6 @@ returns-in-Err-clause-undone c = λ p w s.
       stands_still p w c.args.self.now c.retract_last.new.self s (stays p w.past c.args.self.now.course c.retract_last.new.self.course s.holds c.in-Err.ensures.err)
           (ap reverse c.in-Err.ensures.err_again),
     )
+
+pub returns-in-Err-clause-err : goal.returns-in-Err-clause-err
+returns-in-Err-clause-err c = c.in-Err.ensures.err.contents
