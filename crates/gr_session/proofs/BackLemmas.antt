@@ -1,5 +1,5 @@
 -- Steps that are taken back, taken again, and put in another order, as replies tell it.
-use Rattle.std.proofs.Common.{◌≡◌, ℕ, List, [], ◌∷◌, length, Some, None, Vec, refl, sym, subst, ◌∙◌}
+use Rattle.std.proofs.Common.{◌≡◌, ℕ, List, [], ◌∷◌, length, Some, None, Vec, refl, sym, ap, subst, ◌∙◌}
 use Rattle.std.specs.Prelude.{Result, Ok, Err}
 use Rattle.std.proofs.Common.{Global}
 use Rattle.std.proofs.lemmas.List.{length-map}
@@ -12,20 +12,22 @@ use Rattle.gr_command.specs.declared.command.Command.{Command}
 use Rattle.gr_command.specs.declared.command.Command.TheVariants as commands
 use Rattle.gr_command.specs.declared.target.Target.{Target}
 use Rattle.gr_command.specs.declared.refusal.Refusal.TheVariants.{NotKept}
-use Rattle.gr_command.specs.Replies.{Said}
+use Rattle.gr_command.specs.declared.reply.Reply.{Reply}
+use Rattle.gr_command.specs.Replies.{Said, said_of}
 use Rattle.gr_command.specs.Replies as said
 use Rattle.gr_rollback.specs.declared.refusal.BackRefused.{BackRefused}
 use Rattle.gr_rollback.specs.declared.refusal.BackRefused.TheVariants as refusals
 use Rattle.gr_rollback.specs.Pasts.{Past, id_of, ids_of, events_in}
 use Rattle.gr_rollback.specs.Machines as machines
-use Rattle.gr_rollback.specs.Backs.{IsNamed, again_after, Undone, TakenBack, TakenAgain, Reordered}
+use Rattle.gr_rollback.specs.Backs.{IsNamed, NamesNone, again_after, Undone, TakenBack, TakenAgain, Reordered}
 use Rattle.gr_session.specs.declared.debuggee.Debuggee.{Debuggee}
 use Rattle.gr_session.specs.declared.journal.Memory.{Memory}
 use Rattle.gr_session.specs.declared.journal.Memory.TheVariants.{Enough, EnoughFor}
 use Rattle.gr_session.specs.Journal.{World, course_of, moved, IsAsked, Leads, undoes, has_no_step, cannot_undo, takes_back, takes_some_back, asks_for_none, takes_again, takes_some_again, has_none_again, orders, has_other_steps, breaks_dependence, cannot_order}
 use Rattle.gr_session.specs.Targets.{step_asked}
 use Rattle.gr_session.specs.Debuggees.{Stands, HasLines}
-use Rattle.gr_session.specs.Carried.{LeadsTo, refusal_said}
+use Rattle.gr_session.specs.Carried.{LeadsTo, Tells, refusal_said}
+use Rattle.gr_session.specs.Wants.{TellsNoStep}
 use Rattle.gr_session.proofs.Basics.{some_inj}
 
 -- what is answered for what the machine answers
@@ -157,3 +159,15 @@ module _ (p : Program) (w : World p) (d : Debuggee) (lines : HasLines w.lines d.
 pub by_answer : (p : Program) (w : World p) (d : Debuggee) (command : Command) (answer said : Memory × Said) → answer ≡ said
     → LeadsBy p w command said d → LeadsBy p w command answer d
 by_answer p w d command answer said is leads = subst (λ a. LeadsBy p w command a d) (sym is) leads
+
+-- a reply that tells of no step is that of a refusal which names none
+pub names_none : (answer : Memory × Reply) (why : BackRefused) → Tells answer why → TellsNoStep (said_of answer.1) → NamesNone why
+names_none answer why tells none = by_reason why (subst TellsNoStep (ap (λ (x : Memory × Said). x.1) tells) none)
+  where
+    by_reason : (why : BackRefused) → TellsNoStep (refusal_said why).1 → NamesNone why
+    by_reason (refusals.NoMemory ids) none = none
+    by_reason refusals.NothingToUndo none = tt
+    by_reason refusals.NotKept none = tt
+    by_reason refusals.NotTheSteps none = tt
+    by_reason (refusals.BreaksDependence earlier later) none = tt
+    by_reason refusals.NothingToRedo none = tt

@@ -1,12 +1,13 @@
 //! Commands carried out on a program under the debugger.
 
-ghost use Rattle.std.specs.Prelude.{◌≡◌, OnOk, OnErr};
+ghost use Rattle.std.specs.Prelude.{◌≡◌, IfOk, OnOk, OnErr};
 ghost use Rattle.gr_program.specs.Programs.{Program};
+ghost use Rattle.gr_command.specs.Replies.{said_of};
 ghost use Rattle.gr_rollback.specs.Stores.{SameListing};
 ghost use Rattle.gr_session.specs.Journal.{World};
 ghost use Rattle.gr_session.specs.Debuggees.{Stands, IsDebuggee, store_in};
 ghost use Rattle.gr_session.specs.Carried.{Carries};
-ghost use Rattle.gr_session.specs.Wants.{LeavesStore, MayWantMemory};
+ghost use Rattle.gr_session.specs.Wants.{KeepsContents, LeavesStore, MayWantMemory};
 
 use crate::breakpoints;
 use crate::debuggee::Debuggee;
@@ -32,6 +33,7 @@ pub(crate) fn carry_out(
     ensures leads { (p : Program) → (w : World p) → Stands p w debuggee.old → Carries p w command.now result debuggee.new }
     ensures listing { SameListing (store_in debuggee.old) (store_in debuggee.new) }
     ensures still { OnOk result (LeavesStore command.now → store_in debuggee.new ≡ store_in debuggee.old) }
+    ensures contents { IfOk result (λ answer. KeepsContents (said_of answer.1) (store_in debuggee.old) (store_in debuggee.new)) }
     ensures err { OnErr result (store_in debuggee.new ≡ store_in debuggee.old) }
     ensures wants { OnErr result (MayWantMemory command.now) }
 {

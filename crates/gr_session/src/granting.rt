@@ -10,6 +10,7 @@ ghost use Rattle.gr_session.specs.Journal.{World};
 ghost use Rattle.gr_session.specs.Debuggees.{Stands, IsDebuggee, store_in};
 ghost use Rattle.gr_session.specs.Carried.{LeadsTo};
 ghost use Rattle.gr_rollback.specs.StepLeasing.{IsLease, IsAsLent};
+ghost use Rattle.gr_session.specs.Wants.{KeepsContents};
 ghost use Rattle.gr_session.specs.Granting.{MayStep, IsTurnDue, CanLend, IsLent};
 
 use crate::debuggee::Debuggee;
@@ -37,6 +38,7 @@ pub(crate) fn turn(alloc: Global, debuggee: &mut Debuggee) -> (Memory, Reply)
     requires { IsDebuggee debuggee.old }
     ensures leads { (p : Program) → (w : World p) → Stands p w debuggee.old
         → LeadsTo p w commands.Turn result.0 (said_of result.1) debuggee.new }
+    ensures contents { KeepsContents (said_of result.1) (store_in debuggee.old) (store_in debuggee.new) }
     ensures listing { SameListing (store_in debuggee.old) (store_in debuggee.new) }
 {
     let grant = debuggee.grant;

@@ -1,6 +1,6 @@
 //! Steps that are taken back, done again, and put in another order.
 
-ghost use Rattle.std.specs.Prelude.{◌≡◌, [], Ok, Err, OnErr};
+ghost use Rattle.std.specs.Prelude.{◌≡◌, [], Ok, Err, IfOk, OnErr};
 ghost use Rattle.gr_program.specs.Programs.{Program};
 ghost use Rattle.gr_command.specs.Replies.{said_of};
 ghost use Rattle.gr_command.specs.Replies as said;
@@ -9,6 +9,7 @@ ghost use Rattle.gr_rollback.specs.Stores.{SameListing};
 ghost use Rattle.gr_session.specs.Journal.{World};
 ghost use Rattle.gr_session.specs.Debuggees.{Stands, IsDebuggee, store_in};
 ghost use Rattle.gr_session.specs.Carried.{Carries, LeadsTo, Tells};
+ghost use Rattle.gr_session.specs.Wants.{KeepsContents};
 
 use crate::debuggee::Debuggee;
 use crate::journal::Memory;
@@ -47,6 +48,7 @@ pub(crate) fn undo(alloc: Global, debuggee: &mut Debuggee) -> (Memory, Reply)
     requires { IsDebuggee debuggee.old }
     ensures leads { (p : Program) → (w : World p) → Stands p w debuggee.old
         → LeadsTo p w commands.Undo result.0 (said_of result.1) debuggee.new }
+    ensures contents { KeepsContents (said_of result.1) (store_in debuggee.old) (store_in debuggee.new) }
     ensures listing { SameListing (store_in debuggee.old) (store_in debuggee.new) }
 {
     match debuggee.machine.undo(alloc) {
@@ -65,6 +67,7 @@ pub(crate) fn back(
     requires { IsDebuggee debuggee.old }
     ensures leads { (p : Program) → (w : World p) → Stands p w debuggee.old
         → Carries p w (commands.Back target.now) result debuggee.new }
+    ensures contents { IfOk result (λ answer. KeepsContents (said_of answer.1) (store_in debuggee.old) (store_in debuggee.new)) }
     ensures listing { SameListing (store_in debuggee.old) (store_in debuggee.new) }
     ensures err { OnErr result (store_in debuggee.new ≡ store_in debuggee.old) }
 {
@@ -82,6 +85,7 @@ pub(crate) fn redo(alloc: Global, debuggee: &mut Debuggee) -> (Memory, Reply)
     requires { IsDebuggee debuggee.old }
     ensures leads { (p : Program) → (w : World p) → Stands p w debuggee.old
         → LeadsTo p w commands.Redo result.0 (said_of result.1) debuggee.new }
+    ensures contents { KeepsContents (said_of result.1) (store_in debuggee.old) (store_in debuggee.new) }
     ensures listing { SameListing (store_in debuggee.old) (store_in debuggee.new) }
 {
     match debuggee.machine.redo(alloc) {
@@ -95,6 +99,7 @@ pub(crate) fn order(alloc: Global, debuggee: &mut Debuggee, ids: &[StepId]) -> (
     requires { IsDebuggee debuggee.old }
     ensures leads { (p : Program) → (w : World p) → Stands p w debuggee.old
         → LeadsTo p w (commands.Order ids.now) result.0 (said_of result.1) debuggee.new }
+    ensures contents { KeepsContents (said_of result.1) (store_in debuggee.old) (store_in debuggee.new) }
     ensures listing { SameListing (store_in debuggee.old) (store_in debuggee.new) }
 {
     match debuggee.machine.reorder(alloc, ids) {

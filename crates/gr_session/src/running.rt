@@ -1,14 +1,15 @@
 //! Steps of the ready goroutines, round robin.
 
-ghost use Rattle.std.specs.Prelude.{◌≡◌, ◌≤◌, IfOk, IfErr, OnOk};
+ghost use Rattle.std.specs.Prelude.{◌≡◌, ◌≤◌, IfOk, IfErr, OnOk, OnErr};
 ghost use Rattle.gr_program.specs.Programs.{Program};
 ghost use Rattle.gr_command.specs.Replies.{said_of};
 ghost use Rattle.gr_command.specs.declared.command.Command.TheVariants as commands;
-ghost use Rattle.gr_rollback.specs.Stores.{SameListing};
+ghost use Rattle.gr_rollback.specs.Stores.{SameListing, contents_at};
 ghost use Rattle.gr_session.specs.Journal.{World};
 ghost use Rattle.gr_session.specs.Debuggees.{Stands, IsDebuggee, store_in};
 ghost use Rattle.gr_session.specs.Turning.{HasTurn, Ends, Turns, GoesByTurns, memory_at};
 ghost use Rattle.gr_session.specs.Carried.{LeadsTo};
+ghost use Rattle.gr_session.specs.Wants.{KeepsContents};
 
 use crate::breakpoints::breakpoint_at;
 use crate::debuggee::Debuggee;
@@ -54,6 +55,7 @@ fn take_turn(alloc: Global, debuggee: &mut Debuggee, wanted: u64, taken: u64) ->
     requires { IsDebuggee debuggee.old }
     ensures more { OnOk result (¬ (taken ≡ wanted)) }
     ensures turns { (p : Program) → (w : World p) → Stands p w debuggee.old → Turns p w wanted taken result debuggee.new }
+    ensures err { OnErr result (contents_at (store_in debuggee.new) ≡ contents_at (store_in debuggee.old)) }
     ensures listing { SameListing (store_in debuggee.old) (store_in debuggee.new) }
 {
     let go = next_turn(debuggee, wanted, taken)?;
@@ -83,6 +85,7 @@ pub(crate) fn take_turns(alloc: Global, debuggee: &mut Debuggee, count: u32) -> 
     ensures few { result.0 ≤ count }
     ensures goes { (p : Program) → (w : World p) → Stands p w debuggee.old
         → GoesByTurns p w count result.0 result.1 debuggee.new }
+    ensures none { result.0 ≡ 0 → contents_at (store_in debuggee.new) ≡ contents_at (store_in debuggee.old) }
     ensures listing { SameListing (store_in debuggee.old) (store_in debuggee.new) }
 {
     let wanted = u64::from(count);
@@ -100,6 +103,7 @@ pub(crate) fn run(alloc: Global, debuggee: &mut Debuggee, count: u32) -> (Memory
     requires { IsDebuggee debuggee.old }
     ensures leads { (p : Program) → (w : World p) → Stands p w debuggee.old
         → LeadsTo p w (commands.Run count) result.0 (said_of result.1) debuggee.new }
+    ensures contents { KeepsContents (said_of result.1) (store_in debuggee.old) (store_in debuggee.new) }
     ensures listing { SameListing (store_in debuggee.old) (store_in debuggee.new) }
 {
     let (steps, end) = take_turns(alloc, debuggee, count);

@@ -16,7 +16,7 @@ ghost use Rattle.gr_session.specs.Entries.{EntersCommand, EntersBatch, IsLegal, 
 ghost use Rattle.gr_session.specs.Granting.{IsTurnDue, CanLend, IsLoan};
 ghost use Rattle.gr_session.specs.Committing.{Decides, MayJoin};
 ghost use Rattle.gr_session.specs.Growing.{Grows, HasRoom};
-ghost use Rattle.gr_session.specs.Wants.{LeavesStore, MayWantMemory};
+ghost use Rattle.gr_session.specs.Wants.{KeepsContents, LeavesStore, MayWantMemory};
 
 use crate::carry::carry_out;
 use crate::committing::{Origin, commit};
@@ -110,7 +110,8 @@ impl Session {
         self.askers
     }
 
-    /// Asks a command, which the journal keeps with its reply. The asker is one that `enrol` of this session gave.
+    /// Asks a command, which the journal keeps with its reply. The asker is one that `enrol` of this session gave. Where the
+    /// reply tells of no step, the store contains what it did before.
     pub fn ask(
         &mut self,
         alloc: Global,
@@ -123,6 +124,7 @@ impl Session {
         ensures full { IsErrOf result AskRefused.JournalFull ↔ (length self.old.journal ≡ JOURNAL_LIMIT) }
         ensures memory { IsErrOf result AskRefused.NoMemory → Grows (length self.old.journal) ⊎ MayWantMemory command }
         ensures still { OnOk result (LeavesStore command → self.new.store ≡ self.old.store) }
+        ensures contents { IfOk result (λ receipt. KeepsContents (said_of receipt.reply) self.old.store self.new.store) }
         ensures err { OnErr result (self.new ≡ self.old) }
         ensures others { (self.new.program ≡ self.old.program) × (self.new.askers ≡ self.old.askers) }
     {

@@ -1,13 +1,15 @@
 //! Steps of a goroutine that is named.
 
-ghost use Rattle.std.specs.Prelude.{◌≡◌, OnErr};
+ghost use Rattle.std.specs.Prelude.{◌≡◌, IfOk, OnErr};
 ghost use Rattle.gr_program.specs.Programs.{Program};
 ghost use Rattle.gr_command.specs.declared.command.Command.TheVariants as commands;
-ghost use Rattle.gr_rollback.specs.Stores.{SameListing};
+ghost use Rattle.gr_command.specs.Replies.{said_of};
+ghost use Rattle.gr_rollback.specs.Stores.{SameListing, contents_at};
 ghost use Rattle.gr_session.specs.Journal.{World, event_asked};
 ghost use Rattle.gr_session.specs.Debuggees.{Stands, IsDebuggee, store_in};
 ghost use Rattle.gr_session.specs.Refusing.{Takes};
 ghost use Rattle.gr_session.specs.Carried.{Carries};
+ghost use Rattle.gr_session.specs.Wants.{KeepsContents};
 
 use crate::debuggee::Debuggee;
 use crate::journal::Memory;
@@ -26,6 +28,7 @@ fn take_asked(
     requires { IsDebuggee debuggee.old }
     ensures takes { (p : Program) → (w : World p) → Stands p w debuggee.old
         → Takes p w (event_asked p w.state go case) result debuggee.new }
+    ensures err { OnErr result (contents_at (store_in debuggee.new) ≡ contents_at (store_in debuggee.old)) }
     ensures listing { SameListing (store_in debuggee.old) (store_in debuggee.new) }
 {
     match case {
@@ -48,6 +51,7 @@ pub(crate) fn step(
     requires { IsDebuggee debuggee.old }
     ensures leads { (p : Program) → (w : World p) → Stands p w debuggee.old
         → Carries p w (commands.Step go.now case) result debuggee.new }
+    ensures contents { IfOk result (λ answer. KeepsContents (said_of answer.1) (store_in debuggee.old) (store_in debuggee.new)) }
     ensures listing { SameListing (store_in debuggee.old) (store_in debuggee.new) }
     ensures err { OnErr result (store_in debuggee.new ≡ store_in debuggee.old) }
 {

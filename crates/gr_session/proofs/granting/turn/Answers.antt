@@ -15,3 +15,6 @@ returns-clause-leads c = λ p w s.
       leads = takes_turn (subst (λ n. ByTurns p w n (memory_at steps why) gone.after steps why) (least ∙ ap (λ g. min g 1) s.grant) gone.by_turns);
       stands = record { machine = gone.stands.machine; lines = gone.stands.lines; grant = ap (λ g. g - steps) s.grant };
     })
+
+pub returns-clause-contents : goal.returns-clause-contents
+returns-clause-contents c = rw c.ran.ensures c.take_turns-steps.ensures.none

@@ -1,7 +1,7 @@
 use Rattle.std.specs.Prelude.{Ok, Err}
 use Rattle.gr_command.specs.declared.command.Command.TheVariants as commands
 use Rattle.gr_session.specs.Journal.{course_of}
-use Rattle.gr_session.proofs.BackLemmas.{redo_leads, by_answer}
+use Rattle.gr_session.proofs.BackLemmas.{redo_leads, by_answer, names_none}
 use Rattle.gr_session.proofs.rollback.redo.Goals as goal
 
 pub returns-in-Ok-clause-leads : goal.returns-in-Ok-clause-leads
@@ -10,3 +10,6 @@ returns-in-Ok-clause-leads c = λ p w s. redo_leads p w _ s.lines s.grant (Ok c.
 pub returns-in-Err-clause-leads : goal.returns-in-Err-clause-leads
 returns-in-Err-clause-leads c = λ p w s.
     by_answer p w _ commands.Redo _ _ c.refusal_told.ensures (redo_leads p w _ s.lines s.grant (Err c.in-Err.why) (c.in-Err.ensures.again p (course_of p w) s.machine))
+
+pub returns-in-Err-clause-contents : goal.returns-in-Err-clause-contents
+returns-in-Err-clause-contents c = λ none. c.in-Err.ensures.err (names_none c.refusal_told.result c.in-Err.why c.refusal_told.ensures none)

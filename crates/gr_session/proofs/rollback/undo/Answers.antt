@@ -10,3 +10,6 @@ returns-in-Ok-clause-leads c = λ p w s. undo_leads p w _ s.lines s.grant (Ok c.
 pub returns-in-Err-clause-leads : goal.returns-in-Err-clause-leads
 returns-in-Err-clause-leads c = λ p w s.
     by_answer p w _ commands.Undo _ _ c.refusal_told.ensures (undo_leads p w _ s.lines s.grant (Err c.in-Err.why) (c.in-Err.ensures.undone p (course_of p w) s.machine))
+
+pub returns-in-Err-clause-contents : goal.returns-in-Err-clause-contents
+returns-in-Err-clause-contents c = λ none. c.in-Err.ensures.err

@@ -9,7 +9,7 @@ use Rattle.gr_session.proofs.RunLemmas.{HasGone, world_gone, gone_nowhere, one_i
 use Rattle.gr_session.proofs.running.take_turns.Goals as goal
 
 pub loop-taken-init : goal.loop-taken-init
-loop-taken-init c = record { few = omega arith; debuggee = c.requires; gone = λ p w s. gone_nowhere p w c.args.debuggee.now s; listing = refl }
+loop-taken-init c = record { few = omega arith; debuggee = c.requires; gone = λ p w s. gone_nowhere p w c.args.debuggee.now s; listing = refl; still = λ none. refl }
 
 pub loop-taken-preserved : goal.loop-taken-preserved
 loop-taken-preserved c =
@@ -24,6 +24,7 @@ loop-taken-preserved c =
       debuggee = is_debuggee _ (world_gone _ c.requires.world (c.loop-taken.taken + 1) c.take_turn.new.debuggee here) c.take_turn.new.debuggee here.stands;
       gone = gone;
       listing = c.in-Ok.ensures.listing ∙ c.loop-taken.invariant.listing;
+      still = λ none. absurd (omega (arith, none));
     }
 
 pub returns-in-Err-clause-goes : goal.returns-in-Err-clause-goes
@@ -32,3 +33,6 @@ returns-in-Err-clause-goes c = λ p w s.
     let told = c.in-Err.ensures.turns p (world_gone p w c.loop-taken.taken c.loop-taken.debuggee was) was.stands in
     gone_to_end p w c.args.count c.loop-taken.taken c.loop-taken.debuggee c.take_turn.new.debuggee was c.loop-taken.invariant.few c.in-Err.end
     (subst (λ n. Ends p (world_gone p w c.loop-taken.taken c.loop-taken.debuggee was) n c.loop-taken.taken c.in-Err.end) c.from-wanted.ensures told.0) told.1
+
+pub returns-in-Err-clause-none : goal.returns-in-Err-clause-none
+returns-in-Err-clause-none c = λ none. c.in-Err.ensures.err ∙ c.loop-taken.invariant.still none

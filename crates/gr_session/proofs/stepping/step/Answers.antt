@@ -18,3 +18,6 @@ returns-in-Err-clause-leads c = λ p w s.
     rw c.refused.ensures
     (refused_leads p w c.take_asked.new.debuggee none.1 c.args.go.now c.args.case c.told.result
     (c.told.ensures p w (event_asked p w.state c.args.go.now c.args.case) none.1 none.0))
+
+pub returns-in-Err-clause-contents : goal.returns-in-Err-clause-contents
+returns-in-Err-clause-contents c = λ none. c.in-Err.ensures.err

@@ -31,3 +31,6 @@ returns-in-Ok-clause-entry c =
       after = leads.world;
       meant = by_command leads.leads;
     })
+
+pub returns-in-Ok-clause-contents : goal.returns-in-Ok-clause-contents
+returns-in-Ok-clause-contents c = rw (← c.self.view_is, c.keep.ensures.reply) c.in-Ok.ensures.contents
