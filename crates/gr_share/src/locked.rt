@@ -4,6 +4,7 @@ ghost use Rattle.std.specs.Prelude.{IfOk, IfSome, OnErr, IsErrOf, IsTrue};
 ghost use mathlib.Core.List.{IsPrefix};
 ghost use Rattle.gr_program.specs.Views.{program_of};
 ghost use Rattle.gr_command.specs.Replies.{said_of};
+ghost use Rattle.gr_session.specs.declared.TheConstants.{ASKER_LIMIT};
 ghost use Rattle.gr_session.specs.Copies.{loan_of};
 ghost use Rattle.gr_session.specs.Entries.{InItsWorld};
 ghost use Rattle.gr_session.specs.Granting.{CanLend, IsTurnDue};
@@ -77,6 +78,8 @@ impl<B: Room> Locked<B> {
         ensures desk { IfOk result (λ d. (1 ≤ d.0.number) × (d.1.table_id ≡ B.table) × (d.1.me.0 ≡ asking d.0.number [])) }
         ensures after { IfOk result (λ d. B.first < d.0.number) }
         ensures number { IfOk result (λ d. (d.0.number ≡ self.old.session.askers + 1) × (self.new.session.askers ≡ d.0.number)) }
+        ensures full { IsErrOf result EnrolRefused.Full ↔ (self.old.session.askers ≡ ASKER_LIMIT) }
+        ensures memory { IsErrOf result EnrolRefused.NoMemory → ⊥ }
         ensures others { (self.new.session.journal ≡ self.old.session.journal)
             × (self.new.session.program ≡ self.old.session.program)
             × (self.new.workers ≡ self.old.workers) }
@@ -98,6 +101,8 @@ impl<B: Room> Locked<B> {
         ensures after { IfOk result (λ d. B.first < d.0.number) }
         ensures place { IfOk result (λ d. (d.2 ≡ min (self.old.workers + 1) (2 ^ 32 - 1)) × (self.new.workers ≡ d.2)) }
         ensures first { IfOk result (λ d. 1 ≤ d.2) }
+        ensures full { IsErrOf result EnrolRefused.Full ↔ (self.old.session.askers ≡ ASKER_LIMIT) }
+        ensures memory { IsErrOf result EnrolRefused.NoMemory → ⊥ }
         ensures others { (self.new.session.journal ≡ self.old.session.journal)
             × (self.new.session.program ≡ self.old.session.program) }
         ensures err { OnErr result (self.new ≡ self.old) }

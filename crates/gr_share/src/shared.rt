@@ -1,5 +1,5 @@
 //! A session that desks and workers share.
-ghost use Rattle.std.specs.Prelude.{◌≡◌, ◌<◌, ◌≤◌, [], IfOk};
+ghost use Rattle.std.specs.Prelude.{◌≡◌, ◌<◌, ◌≤◌, [], IfOk, IsErrOf};
 ghost use Rattle.gr_program.specs.Views.{program_of};
 
 use crate::desk::{Desk, Worker};
@@ -119,9 +119,10 @@ impl<B: Room> Shared<B> {
         self.lock.lock(rt)
     }
 
-    /// A further desk. It waits for the lock.
+    /// A further desk. It waits for the lock, and takes no memory.
     pub fn desk<R: Wait>(&self, rt: &R, alloc: Global) -> Result<Desk<B>, EnrolRefused>
-        ensures { IfOk result (λ d. (d.calls ≡ []) × (self.now.first < d.number)) }
+        ensures desk { IfOk result (λ d. (d.calls ≡ []) × (self.now.first < d.number)) }
+        ensures memory { IsErrOf result EnrolRefused.NoMemory → ⊥ }
     {
         let (desk, seat) = self.hold(rt).enrol(&self.tie)?;
         Ok(Desk {
@@ -132,9 +133,11 @@ impl<B: Room> Shared<B> {
         })
     }
 
-    /// A further worker's seat. Their places are numbered from 1, in the order in which they are given. It waits for the lock.
+    /// A further worker's seat. Their places are numbered from 1, in the order in which they are given. It waits for the lock,
+    /// and takes no memory.
     pub fn worker_seat<R: Wait>(&self, rt: &R, alloc: Global) -> Result<Worker<B>, EnrolRefused>
-        ensures { IfOk result (λ w. (w.seat.calls ≡ []) × (self.now.first < w.seat.number) × (1 ≤ w.place)) }
+        ensures worker { IfOk result (λ w. (w.seat.calls ≡ []) × (self.now.first < w.seat.number) × (1 ≤ w.place)) }
+        ensures memory { IsErrOf result EnrolRefused.NoMemory → ⊥ }
     {
         let (desk, seat, place) = self.hold(rt).enrol_worker(&self.tie)?;
         let seat = Desk {

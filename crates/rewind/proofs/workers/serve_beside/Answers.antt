@@ -15,5 +15,5 @@ returns-in-Some g c =
     let writer = change g.W.Write.contents c.args.writer.now c.serve_among.new.writer in
     let streamed : Streamed g.B.Room.program c.in-Ok.desk c.in-Some.desk c.in-Some.served reader writer = rw (c.in-Some.desk-is, c.in-Some.served-is) c.in-Some.ensures.served in
     let one : c.push_reserved.new.self.items ≡ c.in-Some.desk ∷ [] = c.push_reserved.ensures.items ∙ ap (λ ds. ds ++ c.in-Some.desk ∷ []) c.in-Ok-room_for_desk.ensures.empty.0 in
-    ends g.B.Room.program c.in-Some.served c.ended.result c.in-Ok.desk c.in-Some.desk reader writer c.in-Ok.ensures.0 streamed
+    ends g.B.Room.program c.in-Some.served c.ended.result c.in-Ok.desk c.in-Some.desk reader writer c.in-Ok.ensures.desk.0 streamed
     (subst (λ ds. EndedWith c.in-Some.served (Settled g.B.Room.program ds) c.ended.result) one c.ended.ensures)
