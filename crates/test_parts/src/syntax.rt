@@ -4,19 +4,39 @@ use gr_scan::scan::scan;
 use gr_syntax::parse::{ParseError, parse};
 use gr_tree::File;
 use std::alloc::Global;
-use std::test::Fail;
+use std::process::Abort;
 
-fn read(alloc: Global, text: &[u8]) -> Result<Result<File, ParseError>, Fail> {
-    let tokens = scan(alloc, text)?;
-    Ok(parse(alloc, tokens.as_slice()))
+fn read(rt: &impl Abort, alloc: Global, text: &[u8]) -> Result<File, ParseError> {
+    let tokens = scan(alloc, text).expect(rt, "tokens");
+    parse(alloc, tokens.as_slice())
 }
 
-/// What is said of a file of one function with this body.
-fn body_error(alloc: Global, body: &[u8]) -> Result<ParseError, Fail> {
-    let mut text = b"package m; func f() {".to_vec(alloc)?;
-    text.extend_from_slice(body)?;
-    text.push(b'}')?;
-    Ok(read(alloc, text.as_slice())?.err().ok_or("a tree")?)
+/// Whether the file is refused with this error.
+fn show_refused(rt: &impl Abort, alloc: Global, text: &[u8], error: ParseError) {
+    let said = read(rt, alloc, text).err();
+    assert_eq!(rt; said, Some(error));
+}
+
+/// The pieces, each so often.
+fn joined(rt: &impl Abort, alloc: Global, pieces: &[(&[u8], usize)]) -> Vec<u8> {
+    let mut text = Vec::new(alloc);
+    for (piece, count) in pieces {
+        for _ in 0..*count {
+            text.extend_from_slice(piece)
+                .expect(rt, "memory for a text");
+        }
+    }
+    text
+}
+
+/// Whether a file of one function with this body is refused with this error.
+fn show_body_refused(rt: &impl Abort, alloc: Global, body: &[u8], error: ParseError) {
+    let text = joined(
+        rt,
+        alloc,
+        &[(b"package m; func f() {", 1), (body, 1), (b"}", 1)],
+    );
+    show_refused(rt, alloc, text.as_slice(), error);
 }
 
 const FILE: &[u8] = b"package main
@@ -41,181 +61,179 @@ outer:
 ";
 
 #[test]
-fn reads_a_file(rt: HostRuntime) -> Result<(), Fail> {
+fn reads_a_file(rt: HostRuntime) {
     let alloc = rt.alloc();
-    let file = read(alloc, FILE)?.ok().ok_or("no tree")?;
-    assert_eq!(rt; file.funcs.len(), 2);
+    let file = read(&rt, alloc, FILE).expect(&rt, "a tree");
+    assert!(rt; file.funcs.len() == 2);
     let worker = &file.funcs[0];
-    assert_eq!(rt; (worker.place.line, worker.end.line), (3, 8));
-    assert_eq!(rt; worker.parameters.len(), 3);
-    let text = format!(in alloc; "{:?}", worker.parameters[1].type_tree)?;
+    assert!(rt; worker.place.line == 3 && worker.end.line == 8);
+    assert!(rt; worker.parameters.len() == 3);
+    let text = format!(in alloc; "{:?}", worker.parameters[1].type_tree);
     assert_eq!(rt;
-        text.as_str(),
+        text.expect(&rt, "memory for a text").as_str(),
         "Chan(Send, Chan(Both, Name([105, 110, 116])))"
     );
-    assert_eq!(rt; worker.body.len(), 6);
-    let text = format!(in alloc; "{:?}", worker.body[3])?;
+    assert!(rt; worker.body.len() == 6);
+    let text = format!(in alloc; "{:?}", worker.body[3]);
     assert!(rt;
-        text.as_str()
+        text.expect(&rt, "memory for a text")
+            .as_str()
             .ends_with("Simple(Update([120], ShiftLeft, Number(2))))")
     );
-    assert_eq!(rt; file.funcs[1].body.len(), 5);
-    Ok(())
+    assert!(rt; file.funcs[1].body.len() == 5);
 }
 
-/// A file of one statement, `x := ((..1..))`, with this many pairs of parentheses.
-fn parenthesized(alloc: Global, pairs: usize) -> Result<Option<ParseError>, Fail> {
-    let mut text = b"package m; func f() { x := ".to_vec(alloc)?;
-    for _ in 0..pairs {
-        text.push(b'(')?;
-    }
-    text.push(b'1')?;
-    for _ in 0..pairs {
-        text.push(b')')?;
-    }
-    text.push(b'}')?;
-    Ok(read(alloc, text.as_slice())?.err())
+/// What is said of a file of one statement, `x := ((..1..))`, with this many pairs of parentheses.
+fn parenthesized(rt: &impl Abort, alloc: Global, pairs: usize) -> Option<ParseError> {
+    let pieces: [(&[u8], usize); 5] = [
+        (b"package m; func f() { x := ", 1),
+        (b"(", pairs),
+        (b"1", 1),
+        (b")", pairs),
+        (b"}", 1),
+    ];
+    let text = joined(rt, alloc, &pieces);
+    read(rt, alloc, text.as_slice()).err()
 }
 
-#[test]
-fn refuses_a_tree_of_more_than_200_levels(rt: HostRuntime) -> Result<(), Fail> {
-    let alloc = rt.alloc();
-    assert_eq!(rt; parenthesized(alloc, 198)?, None);
-    assert_eq!(rt;
-        parenthesized(alloc, 199)?,
-        Some(ParseError::TooHigh { token: 10 })
-    );
-    assert_eq!(rt;
-        parenthesized(alloc, 100_000)?,
-        Some(ParseError::TooHigh { token: 210 })
-    );
-    Ok(())
-}
+/// Numbers of pairs, and what is said of each.
+const HEIGHTS: [(usize, Option<ParseError>); 3] = [
+    (198, None),
+    (199, Some(ParseError::TooHigh { token: 10 })),
+    (100_000, Some(ParseError::TooHigh { token: 210 })),
+];
 
 #[test]
-fn refuses_at_the_first_wrong_token(rt: HostRuntime) -> Result<(), Fail> {
-    let alloc = rt.alloc();
-    let files: [(&[u8], ParseError); 10] = [
-        (b"", ParseError::NoFile { token: 0 }),
-        (b"package m; import x", ParseError::LeftOut { token: 3 }),
-        (b"package m; func f(){};;", ParseError::NoFile { token: 10 }),
-        (b"package m; func f(a,){}", ParseError::NoFile { token: 8 }),
-        (
-            b"package m; func f(a int,,){}",
-            ParseError::NoFile { token: 9 },
-        ),
-        (
-            b"package m; func f() *a {}",
-            ParseError::LeftOut { token: 7 },
-        ),
-        (
-            b"package m; func f() int, int {}",
-            ParseError::NoFile { token: 8 },
-        ),
-        (
-            b"package m; func f(c chan <- <- int) {}",
-            ParseError::NoFile { token: 10 },
-        ),
-        (b"package m; func f() {", ParseError::NoFile { token: 8 }),
-        (
-            b"package m; func f() {} func g() {}",
-            ParseError::LeftOut { token: 9 },
-        ),
-    ];
-    for (text, error) in files {
-        let said = read(alloc, text)?.err().ok_or("a tree")?;
-        assert_eq!(rt; said, error);
+fn refuses_a_tree_of_more_than_200_levels(rt: HostRuntime) {
+    for (pairs, error) in HEIGHTS {
+        assert_eq!(rt; parenthesized(&rt, rt.alloc(), pairs), error);
     }
-    let wrong: [(&[u8], usize); 34] = [
-        (b"x y", 9),
-        (b"x, y", 11),
-        (b"x, 1 := 2", 10),
-        (b"x += 1, 2", 11),
-        (b"p(1,,)", 12),
-        (b"make(chan int, 1, 2)", 15),
-        (b"x = (1", 12),
-        (b"x = struct{}", 13),
-        (b"c <- 1 <- 2", 11),
-        (b"go make(c)", 9),
-        (b"go f() + 1", 12),
-        (b"return 1, 2", 10),
-        (b"break x y", 10),
-        (b"var x", 10),
-        (b"var x int y", 11),
-        (b"x: }}", 11),
-        (b"if {}", 9),
-        (b"if x := 1 {}", 12),
-        (b"if x {} else y", 13),
-        (b"if x {} ; else {}", 13),
-        (b"for x := range c {", 16),
-        (b"for x, y := range c {}", 13),
-        (b"for x; y {}", 12),
-        (b"for ;; x := 1 {}", 12),
-        (b"select { case x: }", 12),
-        (b"select { case x, y, z := <-c: }", 14),
-        (b"select { case x = 1: }", 13),
-        (b"select { case <-c + 1: }", 15),
-        (b"select { case (c): }", 14),
-        (b"select { x }", 10),
-        (b"select { default: x case c <- 1: }", 13),
-        (b"case x:", 8),
-        (b"else {}", 8),
-        (b"x = 1 2", 11),
-    ];
-    for (body, token) in wrong {
-        assert_eq!(rt; body_error(alloc, body)?, ParseError::NoFile { token });
-    }
-    let left_out: [(&[u8], usize); 6] = [
-        (b"x.y = 1", 9),
-        (b"x[1] = 2", 9),
-        (b"&x", 8),
-        (b"*x = 1", 8),
-        (b"defer f()", 8),
-        (b"x := func() {}", 10),
-    ];
-    for (body, token) in left_out {
-        assert_eq!(rt; body_error(alloc, body)?, ParseError::LeftOut { token });
-    }
-    Ok(())
 }
+
+/// Files, and what is said of each.
+const FILES: [(&[u8], ParseError); 10] = [
+    (b"", ParseError::NoFile { token: 0 }),
+    (b"package m; import x", ParseError::LeftOut { token: 3 }),
+    (b"package m; func f(){};;", ParseError::NoFile { token: 10 }),
+    (b"package m; func f(a,){}", ParseError::NoFile { token: 8 }),
+    (
+        b"package m; func f(a int,,){}",
+        ParseError::NoFile { token: 9 },
+    ),
+    (
+        b"package m; func f() *a {}",
+        ParseError::LeftOut { token: 7 },
+    ),
+    (
+        b"package m; func f() int, int {}",
+        ParseError::NoFile { token: 8 },
+    ),
+    (
+        b"package m; func f(c chan <- <- int) {}",
+        ParseError::NoFile { token: 10 },
+    ),
+    (b"package m; func f() {", ParseError::NoFile { token: 8 }),
+    (
+        b"package m; func f() {} func g() {}",
+        ParseError::LeftOut { token: 9 },
+    ),
+];
+
+/// Bodies in which no token begins what is left out, and the token at which each is refused.
+const WRONG: [(&[u8], usize); 34] = [
+    (b"x y", 9),
+    (b"x, y", 11),
+    (b"x, 1 := 2", 10),
+    (b"x += 1, 2", 11),
+    (b"p(1,,)", 12),
+    (b"make(chan int, 1, 2)", 15),
+    (b"x = (1", 12),
+    (b"x = struct{}", 13),
+    (b"c <- 1 <- 2", 11),
+    (b"go make(c)", 9),
+    (b"go f() + 1", 12),
+    (b"return 1, 2", 10),
+    (b"break x y", 10),
+    (b"var x", 10),
+    (b"var x int y", 11),
+    (b"x: }}", 11),
+    (b"if {}", 9),
+    (b"if x := 1 {}", 12),
+    (b"if x {} else y", 13),
+    (b"if x {} ; else {}", 13),
+    (b"for x := range c {", 16),
+    (b"for x, y := range c {}", 13),
+    (b"for x; y {}", 12),
+    (b"for ;; x := 1 {}", 12),
+    (b"select { case x: }", 12),
+    (b"select { case x, y, z := <-c: }", 14),
+    (b"select { case x = 1: }", 13),
+    (b"select { case <-c + 1: }", 15),
+    (b"select { case (c): }", 14),
+    (b"select { x }", 10),
+    (b"select { default: x case c <- 1: }", 13),
+    (b"case x:", 8),
+    (b"else {}", 8),
+    (b"x = 1 2", 11),
+];
+
+/// Bodies with something that is left out, and the token that begins it.
+const LEFT_OUT: [(&[u8], usize); 6] = [
+    (b"x.y = 1", 9),
+    (b"x[1] = 2", 9),
+    (b"&x", 8),
+    (b"*x = 1", 8),
+    (b"defer f()", 8),
+    (b"x := func() {}", 10),
+];
+
+#[test]
+fn refuses_at_the_first_wrong_token(rt: HostRuntime) {
+    for (text, error) in FILES {
+        show_refused(&rt, rt.alloc(), text, error);
+    }
+    for (body, token) in WRONG {
+        show_body_refused(&rt, rt.alloc(), body, ParseError::NoFile { token });
+    }
+    for (body, token) in LEFT_OUT {
+        show_body_refused(&rt, rt.alloc(), body, ParseError::LeftOut { token });
+    }
+}
+
+/// The pieces of bodies, and the token at which each is refused.
+const LONG: [(&[(&[u8], usize)], usize); 2] = [
+    (&[(b"x = 1;", 100), (b"x y", 1)], 409),
+    (&[(b"x y;", 1), (b"x = 1;", 100)], 9),
+];
 
 /// However long the tokens are, they are no file before they are too high.
 #[test]
-fn refuses_long_texts_at_the_first_wrong_token(rt: HostRuntime) -> Result<(), Fail> {
-    let alloc = rt.alloc();
-    let mut statements = Vec::new(alloc);
-    for _ in 0..100 {
-        statements.extend_from_slice(b"x = 1;")?;
+fn refuses_long_texts_at_the_first_wrong_token(rt: HostRuntime) {
+    for (pieces, token) in LONG {
+        let body = joined(&rt, rt.alloc(), pieces);
+        show_body_refused(
+            &rt,
+            rt.alloc(),
+            body.as_slice(),
+            ParseError::NoFile { token },
+        );
     }
-    let mut late = statements.clone()?;
-    late.extend_from_slice(b"x y")?;
-    assert_eq!(rt;
-        body_error(alloc, late.as_slice())?,
-        ParseError::NoFile { token: 409 }
-    );
-    let mut early = b"x y;".to_vec(alloc)?;
-    early.extend_from_slice(statements.as_slice())?;
-    assert_eq!(rt;
-        body_error(alloc, early.as_slice())?,
-        ParseError::NoFile { token: 9 }
-    );
-    Ok(())
 }
+
+/// Bodies that hold what is left out, but are refused at a token that does not begin it.
+const ELSEWHERE: [(&[u8], usize); 6] = [
+    (b"x 1; defer f()", 9),
+    (b"x y.z", 9),
+    (b"x = 1 2; p = &x", 11),
+    (b"x = a * b c", 13),
+    (b"x = (a & b", 14),
+    (b"var x int y", 11),
+];
 
 /// Only what the refused token itself begins is said to be left out.
 #[test]
-fn left_out_marks_elsewhere_do_not_count(rt: HostRuntime) -> Result<(), Fail> {
-    let alloc = rt.alloc();
-    let wrong: [(&[u8], usize); 6] = [
-        (b"x 1; defer f()", 9),
-        (b"x y.z", 9),
-        (b"x = 1 2; p = &x", 11),
-        (b"x = a * b c", 13),
-        (b"x = (a & b", 14),
-        (b"var x int y", 11),
-    ];
-    for (body, token) in wrong {
-        assert_eq!(rt; body_error(alloc, body)?, ParseError::NoFile { token });
+fn left_out_marks_elsewhere_do_not_count(rt: HostRuntime) {
+    for (body, token) in ELSEWHERE {
+        show_body_refused(&rt, rt.alloc(), body, ParseError::NoFile { token });
     }
-    Ok(())
 }
