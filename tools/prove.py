@@ -1,18 +1,28 @@
 #!/usr/bin/env python3
-"""Proves a program and the crates that it stands on, lowest first, and says how far it is.
+"""Proves a program and the crates that it stands on, and says how far it is.
 
     tools/prove.py CRATE PROGRAM [WORD..]      (runs it once, with these words)
 
+Each crate is proved once those below it are, beside others where there are processors for that (RT_JOBS says how many).
 Leaves the program as PROGRAM, and what the toolchain says in make.log beside it. What is proved already stays proved.
+
+The toolchain keeps a crate and all below it to itself while it proves one. So crates that are proved side by side have a
+room each: a folder with a copy of the sources, to which the libraries below are lent.
 """
 import functools
 import os
 import shutil
 import subprocess
 import sys
+import tempfile
 import time
 
 import kit
+
+# The jobs of a check that runs beside another. A third of a check can't be shared among jobs.
+JOBS_BESIDE = 2
+# A job was never seen to take more than 3 GB.
+MOST_ROOMS = 4
 
 
 def order(crate, found):
@@ -23,27 +33,131 @@ def order(crate, found):
     return found
 
 
-def run(crate, words, log):
-    """Whether the toolchain's command ends well in the crate's folder."""
-    log.write(f"{' '.join(words)} in {crate.folder}\n")
+def heights(crates):
+    """For each crate, how many of those given stand above it in the longest chain."""
+    height = {crate: 0 for crate in crates}
+    for crate in reversed(crates):
+        for below in crate.deps:
+            if below in height:
+                height[below] = max(height[below], height[crate] + 1)
+    return height
+
+
+class Room:
+    """A folder in which one crate at a time is proved."""
+
+    def __init__(self, place):
+        shutil.copytree(f"{kit.ROOT}/crates", f"{place}/crates", ignore=shutil.ignore_patterns("out"))
+        shutil.copy(f"{kit.ROOT}/crates.txt", place)
+        self.place = place
+
+    def folder(self, crate):
+        return f"{self.place}/crates/{crate.name}"
+
+    def take_in(self, crate):
+        """Lends the libraries below a crate, and moves here what was kept of earlier checks of it."""
+        for below in order(crate, []):
+            lent = f"{self.folder(below)}/out/rlib"
+            if not os.path.isdir(lent):
+                shutil.copytree(f"{below.folder}/out/rlib", lent, copy_function=os.link)
+        if os.path.isdir(f"{crate.folder}/out"):
+            os.rename(f"{crate.folder}/out", f"{self.folder(crate)}/out")
+
+    def give_back(self, crate):
+        if os.path.isdir(f"{self.folder(crate)}/out"):
+            os.rename(f"{self.folder(crate)}/out", f"{crate.folder}/out")
+
+
+class Check:
+    """A crate's check while it runs in a room, with what it has said so far."""
+
+    def __init__(self, crate, room, jobs):
+        self.crate, self.room = crate, room
+        self.said = tempfile.TemporaryFile("w+", encoding="utf-8", errors="replace")
+        room.take_in(crate)
+        self.process = subprocess.Popen(["rt", "lib", "--jobs", str(jobs)], cwd=room.folder(crate), stdin=subprocess.DEVNULL,
+                                        stdout=self.said, stderr=subprocess.STDOUT)
+
+    def end(self, log):
+        """Whether it ended well. Adds what it said to the log."""
+        ended = self.process.wait()
+        self.room.give_back(self.crate)
+        self.said.seek(0)
+        log.write(f"rt lib in {self.crate.folder}\n")
+        shutil.copyfileobj(self.said, log)
+        log.flush()
+        self.said.close()
+        return ended == 0
+
+
+class Prover:
+    """The crates that wait for their proof, and the checks that run."""
+
+    def __init__(self, crates, rooms, processors, log):
+        self.waiting, self.rooms, self.processors, self.log = list(crates), rooms, processors, log
+        self.running, self.height, self.count, self.start = [], heights(crates), len(crates), time.monotonic()
+
+    def minutes(self):
+        return f"{(time.monotonic() - self.start) / 60:.1f} minutes"
+
+    def ready(self):
+        """The crates that stand on proved ones alone, those with most above them first."""
+        unproved = {*self.waiting, *(it.crate for it in self.running)}
+        free = [it for it in self.waiting if not unproved.intersection(order(it, []))]
+        return sorted(free, key=lambda it: -self.height[it])
+
+    def begin(self, crate, jobs):
+        number = self.count - len(self.waiting) + 1
+        print(f"crate {number} of {self.count}: {crate.name} ({self.minutes()} so far)", flush=True)
+        self.waiting.remove(crate)
+        self.running.append(Check(crate, self.rooms.pop(), jobs))
+
+    def begin_those_ready(self):
+        """Begins as many checks as there are rooms. One alone has all processors."""
+        ready = self.ready()
+        alone = len(ready) == 1 and not self.running
+        jobs = self.processors if alone else min(JOBS_BESIDE, self.processors)
+        for crate in ready[:len(self.rooms)]:
+            self.begin(crate, jobs)
+
+    def end(self, check):
+        """Ends the program where the check did not end well, once the others have ended."""
+        self.running.remove(check)
+        self.rooms.append(check.room)
+        if not check.end(self.log):
+            for other in self.running:
+                other.end(self.log)
+            kit.fail(f"{check.crate.name} is not proved: see {self.log.name}")
+
+    def prove(self):
+        while self.waiting or self.running:
+            self.begin_those_ready()
+            time.sleep(0.1)
+            for check in [it for it in self.running if it.process.poll() is not None]:
+                self.end(check)
+
+
+def run(program, words, log):
+    """Whether the toolchain proves the program and runs it well."""
+    log.write(f"rt run in {program.folder}\n")
     log.flush()
-    return subprocess.run(words, cwd=crate.folder, stdin=subprocess.DEVNULL, stdout=log, stderr=subprocess.STDOUT).returncode == 0
+    said = subprocess.run(["rt", "run", "--", *words], cwd=program.folder, stdin=subprocess.DEVNULL, stdout=log,
+                          stderr=subprocess.STDOUT)
+    return said.returncode == 0
 
 
-def minutes_since(start):
-    return f"{(time.monotonic() - start) / 60:.1f} minutes"
-
-
-def prove(program, words_of_run, log):
+def prove_all(program, words, processors, log):
     """Proves the crates that are not proved yet, and then the program."""
-    start = time.monotonic()
-    wanted = [it for it in order(program, []) if not it.is_built()]
-    for number, crate in enumerate([*wanted, program], 1):
-        print(f"crate {number} of {len(wanted) + 1}: {crate.name} ({minutes_since(start)} so far)", flush=True)
-        words = ["rt", "run", "--", *words_of_run] if crate is program else ["rt", "lib"]
-        if not run(crate, words, log):
-            kit.fail(f"{crate.name} is not proved: see {log.name}")
-    print(f"proved in {minutes_since(start)}")
+    crates = order(program, [])
+    count = max(1, min(processors - 1, MOST_ROOMS))
+    with tempfile.TemporaryDirectory(prefix="rooms-", dir=os.path.dirname(log.name)) as place:
+        rooms = [Room(f"{place}/{number}") for number in range(count)]
+        prover = Prover([it for it in crates if not it.is_built()], rooms, processors, log)
+        prover.prove()
+    print(f"the program: {program.name} ({prover.minutes()} so far)", flush=True)
+    if not run(program, words, log):
+        kit.fail(f"{program.name} is not proved: see {log.name}")
+    print(f"proved in {prover.minutes()}")
 
 
 def main():
@@ -54,13 +168,14 @@ def main():
     place = f"{kit.ROOT}/crates/{name}"
     if not os.path.isdir(place):
         kit.stop(f"there is no crate {name}")
+    processors = int(os.environ.get("RT_JOBS") or len(os.sched_getaffinity(0)))
     library = kit.library(kit.folder())
     # A stamp is made of those of all crates below: each is made once.
     library.Crate.stamp = functools.lru_cache(maxsize=None)(library.Crate.stamp)
     os.chdir(place)
     program = library.Crate(place, kit.ROOT, {}, ())
     with open(f"{os.path.dirname(out)}/make.log", "a", encoding="utf-8") as log:
-        prove(program, sys.argv[3:], log)
+        prove_all(program, sys.argv[3:], processors, log)
     shutil.copy(f"{place}/out/{name}", f"{out}.part")
     os.replace(f"{out}.part", out)
 
