@@ -10,6 +10,7 @@ The toolchain keeps a crate and all below it to itself while it proves one. So c
 room each: a folder with a copy of the sources, to which the libraries below are lent.
 """
 import functools
+import glob
 import os
 import shutil
 import subprocess
@@ -19,8 +20,10 @@ import time
 
 import kit
 
-# The jobs of a check that runs beside another. A third of a check can't be shared among jobs.
+# The jobs of a check that runs beside one on which more depends, and how far it stands back. A third of a check can't be shared
+# among jobs.
 JOBS_BESIDE = 2
+STANDS_BACK = 10
 # A job was never seen to take more than 3 GB.
 MOST_ROOMS = 4
 
@@ -33,13 +36,19 @@ def order(crate, found):
     return found
 
 
+def size(crate):
+    """The bytes of a crate's code, by which the time of its proof is reckoned."""
+    return sum(os.path.getsize(it) for it in glob.glob(f"{crate.folder}/src/**/*.rt", recursive=True))
+
+
 def heights(crates):
-    """For each crate, how many of those given stand above it in the longest chain."""
-    height = {crate: 0 for crate in crates}
+    """For each crate, the size of the longest chain of those given that begins with it, each standing on the one before it."""
+    sizes = {crate: size(crate) for crate in crates}
+    height = dict(sizes)
     for crate in reversed(crates):
         for below in crate.deps:
             if below in height:
-                height[below] = max(height[below], height[crate] + 1)
+                height[below] = max(height[below], sizes[below] + height[crate])
     return height
 
 
@@ -69,14 +78,17 @@ class Room:
 
 
 class Check:
-    """A crate's check while it runs in a room, with what it has said so far."""
+    """A crate's check while it runs in a room, with what it has said so far. One that leads has all processors first."""
 
-    def __init__(self, crate, room, jobs):
+    def __init__(self, crate, room, jobs, leads):
         self.crate, self.room = crate, room
         self.said = tempfile.TemporaryFile("w+", encoding="utf-8", errors="replace")
         room.take_in(crate)
-        self.process = subprocess.Popen(["rt", "lib", "--jobs", str(jobs)], cwd=room.folder(crate), stdin=subprocess.DEVNULL,
-                                        stdout=self.said, stderr=subprocess.STDOUT)
+        words = ["rt", "lib", "--jobs", str(jobs)]
+        if not leads:
+            words = ["nice", "-n", str(STANDS_BACK), *words]
+        self.process = subprocess.Popen(words, cwd=room.folder(crate), stdin=subprocess.DEVNULL, stdout=self.said,
+                                        stderr=subprocess.STDOUT)
 
     def end(self, log):
         """Whether it ended well. Adds what it said to the log."""
@@ -106,19 +118,20 @@ class Prover:
         free = [it for it in self.waiting if not unproved.intersection(order(it, []))]
         return sorted(free, key=lambda it: -self.height[it])
 
-    def begin(self, crate, jobs):
+    def begin(self, crate):
+        """Begins a check. The crate with the longest chain above it, of those that wait or run, leads."""
+        others = [*self.waiting, *(it.crate for it in self.running)]
+        leads = all(self.height[crate] >= self.height[it] for it in others)
+        jobs = self.processors if leads else min(JOBS_BESIDE, self.processors)
         number = self.count - len(self.waiting) + 1
         print(f"crate {number} of {self.count}: {crate.name} ({self.minutes()} so far)", flush=True)
         self.waiting.remove(crate)
-        self.running.append(Check(crate, self.rooms.pop(), jobs))
+        self.running.append(Check(crate, self.rooms.pop(), jobs, leads))
 
     def begin_those_ready(self):
-        """Begins as many checks as there are rooms. One alone has all processors."""
-        ready = self.ready()
-        alone = len(ready) == 1 and not self.running
-        jobs = self.processors if alone else min(JOBS_BESIDE, self.processors)
-        for crate in ready[:len(self.rooms)]:
-            self.begin(crate, jobs)
+        """Begins as many checks as there are rooms."""
+        for crate in self.ready()[:len(self.rooms)]:
+            self.begin(crate)
 
     def end(self, check):
         """Ends the program where the check did not end well, once the others have ended."""
