@@ -7,7 +7,7 @@ REWIND ?= bin/rewind
 RT_JOBS ?= $(shell nproc)
 
 HAS_RT := $(shell command -v rt)
-RT = $(if $(HAS_RT),rt,$(error rewind: 'rt' is not on the path: install the Rattle toolchain first (README.md, 'How to get it')))
+RT = $(if $(HAS_RT),rt,$(error rewind: 'rt' is not on the path: install the Rattle toolchain first (README.md, 'How to build it')))
 NEEDS_RT = @: $(RT)
 
 .DEFAULT_GOAL := $(if $(HAS_RT),all,help)

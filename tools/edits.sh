@@ -79,7 +79,7 @@ tell() {
   [ ${#others[@]} -eq 0 ] || printf '%s\n' "${others[@]}"
 }
 
-command -v rt >/dev/null || stop "'rt' is not on the path: install the Rattle toolchain first (README.md, 'Building it')"
+command -v rt >/dev/null || stop "'rt' is not on the path: install the Rattle toolchain first (README.md, 'How to build it')"
 names=$(wanted "$@")
 mapfile -t names <<<"$names"
 [ -n "${names[0]}" ] || stop "no crate has edits outside the gate"
