@@ -25,6 +25,7 @@ use Rattle.gr_record.specs.Pairs.{id_of}
 use Rattle.gr_record.proofs.ChainLemmas.{Chain}
 use Rattle.gr_record.proofs.RecordLemmas.{report_is, writes_are}
 use Rattle.gr_depend.specs.Histories.{starts, is_fault, sends_to, receives_of}
+use Rattle.gr_depend.proofs.OperationLemmas.{sends_by, receives_by}
 use Rattle.gr_depend.proofs.ReportLemmas.{Fits, Picked, IsTold, told_of, attempt_told}
 
 -- kinds of steps exclude each other
@@ -93,12 +94,6 @@ fault_told k (Some i) picked = not_other (sends k || receives k) (is_fault k) pi
 go_told : (k : Kind) (clause : Option ℕ) → Picked k clause → is_go (option_map_or kinds.Pick clause k) ≡ is_go k
 go_told k None picked = refl
 go_told k (Some i) picked = not_other (sends k || receives k) (is_go k) picked (apart k).start
-
-abbrev sends_by : ChName → Option Operation → Bool → Bool
-sends_by c o fault = elim o [ Some (sends_on d) ↦ same_channel c d && not fault | _ ↦ false ]
-
-abbrev receives_by : ChName → Option Operation → Bool → Bool
-receives_by c o fault = elim o [ Some (receives_from d) ↦ same_channel c d && not fault | _ ↦ false ]
 
 sends_told : (c : ChName) (k : Kind) (o : Option Operation) → Fits k o → sends_by c o (is_fault k) ≡ (sends k && is_on c o)
 sends_told c k (Some (sends_on d)) fits = as_asked (sends k) (is_fault k) (same_channel c d) fits (apart k).send

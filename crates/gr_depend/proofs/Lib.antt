@@ -10,6 +10,7 @@ pub mod OrderingLemmas
 pub mod TurnedLemmas
 pub mod ArrangeLemmas
 pub mod ReportLemmas
+pub mod OperationLemmas
 pub mod HistoryLemmas
 pub mod InstructionLemmas
 pub mod SpotLemmas

@@ -1,12 +1,12 @@
 -- Steps of a log that commands ask for, as the rules tell them, by their records.
-use Rattle.std.specs.Prelude.{ℕ, Bool, true, false, not, ◌&&◌, List, find, filter, Option, Some, option_map}
+use Rattle.std.specs.Prelude.{ℕ, Bool, true, false, not, ◌&&◌, List, find, filter, Option, Some, None, option_map}
 use Rattle.std.specs.List.{list_any}
 use Rattle.gr_base.specs.declared.names.ChName.{ChName}
 use Rattle.gr_base.specs.declared.names.StepId.{StepId}
 use Rattle.gr_base.specs.declared.objects.Object.TheVariants.{Go}
 use Rattle.gr_base.specs.declared.kinds.Kind.{Kind}
 use Rattle.gr_base.specs.declared.kinds.Kind.TheVariants.{Fault}
-use Rattle.gr_rules.specs.Attempts.{sends_on, receives_from}
+use Rattle.gr_rules.specs.Attempts.{Operation, sends_on, receives_from}
 use Rattle.gr_rules.specs.History.{is_go, numbered_step}
 use Rattle.gr_rules.specs.Operators.{same_channel}
 use Rattle.gr_rules.specs.States.{same_go, same}
@@ -33,6 +33,13 @@ sends_to c r = elim (operation_in r.change) [ Some (sends_on d) ↦ same_channel
 
 abbrev pub receives_of : ChName → Record → Bool
 receives_of c r = elim (operation_in r.change) [ Some (receives_from d) ↦ same_channel c d && not (is_fault r.change.kind) | _ ↦ false ]
+
+-- the channel on which an operation sends, and the one from which it receives
+abbrev pub sends_over : Operation → Option ChName
+sends_over o = elim o [ sends_on d ↦ Some d | _ ↦ None ]
+
+abbrev pub receives_over : Operation → Option ChName
+receives_over o = elim o [ receives_from d ↦ Some d | _ ↦ None ]
 
 -- the name of the send with this number on the channel, counted from 1, and of the receive
 abbrev pub sent : ChName → ℕ → List Record → Option StepId

@@ -26,37 +26,48 @@ use crate::history::has_faulted;
 use crate::log::Log;
 use gr_base::{GoName, StepId};
 use gr_code::code::{Action, Ask, Code, FunctionCode, Instruction};
-use gr_goros::{GoUndo, Spot};
+use gr_goros::kept::Packed;
+use gr_goros::{KeptUndo, Spot};
 use gr_program::program::{Function, Program, Variable};
 use gr_record::Record;
 use gr_record::record::Form;
 
 /// Where the innermost frame of a goroutine stood before a change, if that keeps it.
-fn kept_spot(undo: &GoUndo) -> Option<Spot>
+#[tactic(auto, using(crate::proofs::SpotLemmas::kept_in_frame))]
+fn kept_spot(undo: &KeptUndo) -> Option<Spot>
     ensures { result ≡ spot_in undo.now }
 {
-    match undo {
-        GoUndo::Went(function, before) | GoUndo::Made(function, before) => Some(Spot {
-            function: *function,
-            number: before.number,
-        }),
-        GoUndo::Printed(spot)
-        | GoUndo::Entered(spot)
-        | GoUndo::Began(spot)
-        | GoUndo::Parked(spot)
-        | GoUndo::Faulted(spot) => Some(*spot),
-        GoUndo::Left(left) => Some(left.frame.spot()),
-        GoUndo::Finished(frame) => Some(frame.spot()),
-        GoUndo::Met(met) => Some(Spot {
+    match &undo.packed {
+        Packed::Same(_, spot)
+        | Packed::Nothing(_, spot, _)
+        | Packed::Int(_, spot, _, _)
+        | Packed::Bool(_, _, spot, _)
+        | Packed::Unit(_, spot, _)
+        | Packed::Nil(_, spot, _)
+        | Packed::Channel(_, spot, _, _)
+        | Packed::IntAndBool(_, _, spot, _, _)
+        | Packed::Each(_, spot, _)
+        | Packed::Printed(spot)
+        | Packed::Entered(spot)
+        | Packed::Began(spot)
+        | Packed::Parked(spot)
+        | Packed::Faulted(spot) => Some(*spot),
+        Packed::Left(left) => Some(left.frame.spot()),
+        Packed::Finished(frame) => Some(frame.spot()),
+        Packed::Met(met) => Some(Spot {
             function: met.function,
             number: met.frame.number,
         }),
-        GoUndo::Retried(_) => None,
+        Packed::WasReady
+        | Packed::WasSending(_)
+        | Packed::WasReceiving(_)
+        | Packed::WasWaiting(_)
+        | Packed::WasFinished => None,
     }
 }
 
 /// Where a goroutine stood before the first of these changes that keeps it, if one does.
-fn first_spot(go: &GoName, changes: &[(GoName, GoUndo)]) -> Option<Spot>
+fn first_spot(go: &GoName, changes: &[(GoName, KeptUndo)]) -> Option<Spot>
     ensures { result ≡ spot_before go.now changes.now }
 {
     for i in 0..changes.len() {
@@ -223,10 +234,10 @@ fn stood_at(step: &Record) -> Option<Spot>
 {
     match step.change.form() {
         Form::Alone(_, own) => kept_spot(own),
-        Form::Passes(own, _) => kept_spot(own),
-        Form::Waits(waiting) => Some(waiting.spot),
-        Form::Further(own, further) => {
-            if let Some(spot) = kept_spot(own) {
+        Form::WaitsToSend(_, _, spot) | Form::WaitsToReceive(_, _, spot) => Some(*spot),
+        Form::Passes(_, passage) => kept_spot(&passage.own),
+        Form::Further(_, further) => {
+            if let Some(spot) = kept_spot(&further.own) {
                 return Some(spot);
             }
             first_spot(&step.id.go, further.beyond.met.as_slice())

@@ -1,6 +1,6 @@
 //! Steps of the log that commands ask for.
 
-ghost use Rattle.std.specs.Prelude.{◌≡◌, ℕ, List, option_copied, option_map};
+ghost use Rattle.std.specs.Prelude.{◌≡◌, ℕ, List, option_copied, option_map, option_and_then};
 ghost use Rattle.gr_refine.specs.Contents.{Contents};
 ghost use Rattle.gr_program.specs.Programs.{Program};
 ghost use Rattle.gr_rules.specs.History as rules;
@@ -11,6 +11,7 @@ ghost use Rattle.gr_base.specs.declared.names.ChName.{ChName};
 ghost use Rattle.gr_record.specs.declared.record.Record.{Record};
 ghost use Rattle.gr_record.specs.Records.{operation_in, operation_of as operation_ruled};
 ghost use Rattle.gr_depend.specs.Histories.{starts, start_of, is_fault, sends_to, receives_of, sent, received};
+ghost use Rattle.gr_depend.specs.Histories.{sends_over, receives_over};
 
 use crate::conflicts::has_written;
 use crate::log::Log;
@@ -33,35 +34,75 @@ pub(crate) fn has_faulted(step: &Record) -> bool
     matches!(step.change.kind(), Kind::Fault(_))
 }
 
-/// What a step did with a channel.
-fn operation_of(step: &Record) -> Option<&Operation>
-    ensures { option_map operation_ruled (option_copied result) ≡ operation_in step.now.change }
+/// The channel on which an operation sends, if it sends.
+fn sending_on(operation: &Operation) -> Option<&ChName>
+    ensures { option_copied result ≡ sends_over (operation_ruled operation.now) }
+{
+    match operation {
+        Operation::SendsOn(channel) => Some(channel),
+        _ => None,
+    }
+}
+
+/// The channel from which an operation receives, if it receives.
+fn receiving_from(operation: &Operation) -> Option<&ChName>
+    ensures { option_copied result ≡ receives_over (operation_ruled operation.now) }
+{
+    match operation {
+        Operation::ReceivesFrom(channel) => Some(channel),
+        _ => None,
+    }
+}
+
+/// The channel on which a step sent, came to wait for a send, or met a fault in one.
+fn sent_on(step: &Record) -> Option<&ChName>
+    ensures { option_copied result ≡ option_and_then sends_over (operation_in step.now.change) }
 {
     match step.change.form() {
-        Form::Alone(_, _) => None,
-        Form::Waits(waiting) => Some(&waiting.contact.operation),
-        Form::Passes(_, passage) => Some(&passage.contact.operation),
-        Form::Further(_, further) => further.beyond.operation.as_ref(),
+        Form::Alone(_, _) | Form::WaitsToReceive(_, _, _) => None,
+        Form::WaitsToSend(_, channel, _) => Some(channel),
+        Form::Passes(_, passage) => sending_on(&passage.contact.operation),
+        Form::Further(_, further) => match &further.beyond.operation {
+            Some(operation) => sending_on(operation),
+            None => None,
+        },
+    }
+}
+
+/// The channel from which a step received, or came to wait for a receive.
+fn received_from(step: &Record) -> Option<&ChName>
+    ensures { option_copied result ≡ option_and_then receives_over (operation_in step.now.change) }
+{
+    match step.change.form() {
+        Form::Alone(_, _) | Form::WaitsToSend(_, _, _) => None,
+        Form::WaitsToReceive(_, channel, _) => Some(channel),
+        Form::Passes(_, passage) => receiving_from(&passage.contact.operation),
+        Form::Further(_, further) => match &further.beyond.operation {
+            Some(operation) => receiving_from(operation),
+            None => None,
+        },
     }
 }
 
 /// Whether a step sent on a channel, or came to wait for that.
+#[tactic(auto, using(crate::proofs::OperationLemmas::sent_over, crate::proofs::OperationLemmas::none_sent))]
 fn has_sent(step: &Record, channel: &ChName) -> bool
     ensures { result ≡ sends_to channel.now step.now }
 {
-    match operation_of(step) {
-        Some(Operation::SendsOn(own)) => channel == own && !has_faulted(step),
-        _ => false,
+    match sent_on(step) {
+        Some(own) => channel == own && !has_faulted(step),
+        None => false,
     }
 }
 
 /// Whether a step received from a channel, or came to wait for that.
+#[tactic(auto, using(crate::proofs::OperationLemmas::received_over, crate::proofs::OperationLemmas::none_received))]
 fn has_received(step: &Record, channel: &ChName) -> bool
     ensures { result ≡ receives_of channel.now step.now }
 {
-    match operation_of(step) {
-        Some(Operation::ReceivesFrom(own)) => channel == own && !has_faulted(step),
-        _ => false,
+    match received_from(step) {
+        Some(own) => channel == own && !has_faulted(step),
+        None => false,
     }
 }
 

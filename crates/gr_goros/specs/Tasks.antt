@@ -18,10 +18,12 @@ use Rattle.gr_eval.specs.declared.stop.Stop.{Stop}
 use Rattle.gr_eval.specs.Stops.{Stops}
 use Rattle.gr_code.specs.Goroutines.{CodeGoroutine}
 use Rattle.gr_goros.specs.Undoing.{Undoes, frame_before}
+use Rattle.gr_goros.specs.Kinds.{kind_of}
 use Rattle.gr_goros.specs.Views.{Seen}
 use Rattle.gr_goros.specs.declared.undo.FrameUndo.{FrameUndo}
 use Rattle.gr_goros.specs.declared.undo.Former.TheVariants as former
 use Rattle.gr_goros.specs.declared.fast.IntChange.{IntChange}
+use Rattle.gr_goros.specs.declared.kinds.LocalKind.{LocalKind}
 use Rattle.gr_goros.specs.declared.undo.GoUndo.{GoUndo}
 use Rattle.gr_goros.specs.declared.tasks.Task.{Task}
 use Rattle.gr_goros.specs.declared.tasks.Task.TheVariants as tasks
@@ -77,6 +79,6 @@ ChangesInts (Some c) o old new = (o ≡ gives (Steps new)) × (frame_before (kep
 ChangesInts None o old new = new ≡ old
 
 -- the step of a goroutine is of this kind, and its change is undone
-pub record IsStep (r : Kind × GoUndo) (o : Outcome (Kind × CodeGoroutine)) (old new : Seen) : Type 0 where
-  pub is : o ≡ gives (r.0, new.content)
+pub record IsStep (r : LocalKind × GoUndo) (o : Outcome (Kind × CodeGoroutine)) (old new : Seen) : Type 0 where
+  pub is : o ≡ gives (kind_of r.0, new.content)
   pub undone : Undoes r.1 old new

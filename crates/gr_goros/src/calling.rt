@@ -13,9 +13,10 @@ ghost use Rattle.gr_goros.specs.Undoing.{IsLive};
 use crate::cells::{empty, put};
 use crate::frame::Frame;
 use crate::goroutine::Goroutine;
+use crate::kinds::LocalKind;
 use crate::lookups::function_at;
 use crate::undo::GoUndo;
-use gr_base::{Fault, Kind, NoMemory, Value};
+use gr_base::{Fault, NoMemory, Value};
 use gr_code::code::{Ask, Code, Instruction, Operand};
 use gr_eval::{Stop, evaluate, evaluate_all};
 use std::alloc::Global;
@@ -123,7 +124,7 @@ impl Goroutine {
         code: &Code,
         function: u32,
         operands: &[Operand],
-    ) -> Result<(Kind, GoUndo), NoMemory>
+    ) -> Result<(LocalKind, GoUndo), NoMemory>
         requires right { ¬ (calls (program_code_of code.now) self.old.content function
             (operands_of operands.now) self.old.content.frames ≡ wrong) }
         requires live { IsLive self.old.content }
@@ -152,7 +153,7 @@ impl Goroutine {
         code: &Code,
         function: u32,
         operands: &[Operand],
-    ) -> Result<(Kind, GoUndo), NoMemory>
+    ) -> Result<(LocalKind, GoUndo), NoMemory>
         requires right { ¬ (calls (program_code_of code.now) self.old.content function
             (operands_of operands.now) self.old.content.frames ≡ wrong) }
         requires live { IsLive self.old.content }
@@ -171,7 +172,7 @@ impl Goroutine {
     }
 
     /// Begins the frame of a call. Refused, nothing has changed.
-    fn enter(&mut self, frame: Frame) -> Result<(Kind, GoUndo), NoMemory>
+    fn enter(&mut self, frame: Frame) -> Result<(LocalKind, GoUndo), NoMemory>
         requires live { IsLive self.old.content }
         requires counted { self.old.content.steps + 1 < 2 ^ 64 }
         ensures step { IfOk result (λ r. IsStep r (with_call self.old.content frame) self.old self.new) }
@@ -183,6 +184,6 @@ impl Goroutine {
         let spot = caller.spot();
         self.below.push_reserved(caller);
         self.steps += 1;
-        Ok((Kind::Call, GoUndo::Entered(spot)))
+        Ok((LocalKind::Call, GoUndo::Entered(spot)))
     }
 }

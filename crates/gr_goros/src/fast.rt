@@ -1,7 +1,6 @@
 //! Steps of a frame that read and replace whole numbers alone, as most steps do.
 
 ghost use Rattle.std.specs.Prelude.{◌≡◌, ◌+◌, ◌<◌, ◌^◌, Bool, true, slice_get, IfSome, IfNone};
-ghost use Rattle.gr_base.specs.declared.kinds.Kind.TheVariants as kinds;
 ghost use Rattle.gr_base.specs.declared.values.Value.TheVariants.{Int, Bool as Truth};
 ghost use Rattle.gr_rules.specs.Outcomes.{gives, wrong};
 ghost use Rattle.gr_rules.specs.Evaluation as rules;
@@ -13,6 +12,7 @@ ghost use Rattle.gr_code.specs.CodeFrames as frames;
 ghost use Rattle.gr_code.specs.CodeFrames.{at_number, with_cell};
 ghost use Rattle.gr_code.specs.CodeViews.{action_of, instruction_of, operand_of, operands_of, program_code_of};
 ghost use Rattle.gr_code.specs.Goroutines.{CodeGoroutine, is_local, is_local_action, is_local_instruction, local, task_of};
+ghost use Rattle.gr_goros.specs.declared.kinds.LocalKind.TheVariants as locals;
 ghost use Rattle.gr_goros.specs.Tasks.{ChangesInts, IsStep, kept_of, performed, tested, updated};
 ghost use Rattle.gr_goros.specs.Undoing.{frame_before, undone};
 
@@ -73,7 +73,7 @@ impl Goroutine {
     pub fn step_ints(&mut self, code: &Code) -> Option<(u64, GoUndo)>
         requires right { self.old.content.status ≡ ready → ¬ (task_of (program_code_of code.now) self.old.content ≡ wrong) }
         requires counted { self.old.content.steps + 1 < 2 ^ 64 }
-        ensures step { IfSome result (λ r. IsStep (kinds.Pure, r.1)
+        ensures step { IfSome result (λ r. IsStep (locals.Pure, r.1)
             (local (program_code_of code.now) self.old.content) self.old self.new) }
         ensures ordinal { IfSome result (λ r. r.0 ≡ self.old.content.steps + 1) }
         ensures ready { IfSome result (λ _. self.old.content.status ≡ ready) }

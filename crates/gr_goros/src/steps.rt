@@ -1,20 +1,21 @@
 //! Local steps of a goroutine.
 
 ghost use Rattle.std.specs.Prelude.{◌≡◌, ◌+◌, ◌<◌, ◌≤◌, ◌^◌, true, drop, IfOk, OnErr};
-ghost use Rattle.gr_base.specs.declared.kinds.Kind.TheVariants as kinds;
 ghost use Rattle.gr_rules.specs.Outcomes.{wrong};
 ghost use Rattle.gr_code.specs.CodeViews.{program_code_of};
 ghost use Rattle.gr_code.specs.Goroutines.{faulted, leaves, local, printing, task_of, is_local as is_local_now};
 ghost use Rattle.gr_goros.specs.Undoing.{Undoes};
 ghost use Rattle.gr_goros.specs.Tasks.{IsStep};
+ghost use Rattle.gr_goros.specs.declared.kinds.LocalKind.TheVariants as locals;
 
 use crate::calling::call_in;
 use crate::frame::Frame;
 use crate::goroutine::Goroutine;
+use crate::kinds::LocalKind;
 use crate::needs::asks_nothing;
 use crate::tasks::Task;
 use crate::undo::{Former, FrameUndo, GoUndo, Left};
-use gr_base::{Fault, Kind, NoMemory, Value};
+use gr_base::{Fault, NoMemory, Value};
 use gr_code::code::Code;
 use gr_eval::Stop;
 use std::alloc::Global;
@@ -32,7 +33,11 @@ impl Goroutine {
 
     /// Takes the next step, which reaches no further than the goroutine. Refused, nothing has changed.
     #[inline(always)]
-    pub fn local_step(&mut self, alloc: Global, code: &Code) -> Result<(Kind, GoUndo), NoMemory>
+    pub fn local_step(
+        &mut self,
+        alloc: Global,
+        code: &Code,
+    ) -> Result<(LocalKind, GoUndo), NoMemory>
         requires right { ¬ (local (program_code_of code.now) self.old.content ≡ wrong) }
         requires here { is_local_now (program_code_of code.now) self.old.content ≡ true }
         requires counted { self.old.content.steps + 1 < 2 ^ 64 }
@@ -43,7 +48,7 @@ impl Goroutine {
         if let Some(counted) = self.top.step_ints(self.top.instruction(code)) {
             self.steps += 1;
             let own = GoUndo::Went(self.top.kept_function(), counted.undo());
-            return Ok((Kind::Pure, own));
+            return Ok((LocalKind::Pure, own));
         }
         self.take_task(alloc, code)
     }
@@ -53,7 +58,7 @@ impl Goroutine {
     /// Takes the next step, of whatever kind. Refused, nothing has changed.
     #[inline(never)]
     #[tactic(auto, using(crate::proofs::CallLemmas::local_is))]
-    fn take_task(&mut self, alloc: Global, code: &Code) -> Result<(Kind, GoUndo), NoMemory>
+    fn take_task(&mut self, alloc: Global, code: &Code) -> Result<(LocalKind, GoUndo), NoMemory>
         requires right { ¬ (local (program_code_of code.now) self.old.content ≡ wrong) }
         requires here { is_local_now (program_code_of code.now) self.old.content ≡ true }
         requires counted { self.old.content.steps + 1 < 2 ^ 64 }
@@ -69,7 +74,10 @@ impl Goroutine {
         match self.top.task(alloc, instruction, has_caller) {
             Ok(Task::Steps(undo)) => {
                 self.steps += 1;
-                Ok((Kind::Pure, GoUndo::Went(self.top.kept_function(), undo)))
+                Ok((
+                    LocalKind::Pure,
+                    GoUndo::Went(self.top.kept_function(), undo),
+                ))
             }
             Ok(Task::Prints(line)) => self.print(code, line),
             Ok(Task::Leaves(value)) => self.leave(alloc, code, value),
@@ -79,19 +87,19 @@ impl Goroutine {
     }
 
     /// A fault.
-    pub(crate) fn stop(&mut self, fault: Fault) -> (Kind, GoUndo)
+    pub(crate) fn stop(&mut self, fault: Fault) -> (LocalKind, GoUndo)
         requires { self.old.content.steps + 1 < 2 ^ 64 }
-        ensures kind { result.0 ≡ kinds.Fault fault }
+        ensures kind { result.0 ≡ locals.Fault fault }
         ensures after { self.new.content ≡ faulted self.old.content }
         ensures undone { Undoes result.1 self.old self.new }
     {
         self.steps += 1;
-        (Kind::Fault(fault), GoUndo::Faulted(self.top.spot()))
+        (LocalKind::Fault(fault), GoUndo::Faulted(self.top.spot()))
     }
 
     /// Prints a line. Refused, nothing has changed.
     #[tactic(auto, using(crate::proofs::TextLemmas::lines_last, crate::proofs::TextLemmas::front_last, crate::proofs::TextLemmas::last_counts))]
-    fn print(&mut self, code: &Code, line: Vec<u8>) -> Result<(Kind, GoUndo), NoMemory>
+    fn print(&mut self, code: &Code, line: Vec<u8>) -> Result<(LocalKind, GoUndo), NoMemory>
         requires right { ¬ (printing (program_code_of code.now) self.old.content line.items self.old.content.frames ≡ wrong) }
         requires counted { self.old.content.steps + 1 < 2 ^ 64 }
         ensures step { IfOk result (λ r.
@@ -101,7 +109,7 @@ impl Goroutine {
         self.text.push(line)?;
         let spot = self.top.complete(self.top.instruction(code));
         self.steps += 1;
-        Ok((Kind::Pure, GoUndo::Printed(spot)))
+        Ok((LocalKind::Pure, GoUndo::Printed(spot)))
     }
 
     /// Returns a value to the caller. Refused, nothing has changed.
@@ -110,7 +118,7 @@ impl Goroutine {
         alloc: Global,
         code: &Code,
         value: Value,
-    ) -> Result<(Kind, GoUndo), NoMemory>
+    ) -> Result<(LocalKind, GoUndo), NoMemory>
         requires right { ¬ (leaves (program_code_of code.now) self.old.content value (drop 1 self.old.content.frames) ≡ wrong) }
         requires counted { self.old.content.steps + 1 < 2 ^ 64 }
         ensures step { IfOk result (λ r.
@@ -140,6 +148,6 @@ impl Goroutine {
         }
         left.frame = mem::replace(&mut self.top, caller);
         self.steps += 1;
-        Ok((Kind::Return, GoUndo::Left(left)))
+        Ok((LocalKind::Return, GoUndo::Left(left)))
     }
 }

@@ -4,7 +4,7 @@ use Rattle.gr_program.specs.Programs.{Program}
 use Rattle.gr_program.specs.Views.{program_of}
 use Rattle.gr_rules.specs.Frames.{Frame}
 use Rattle.gr_rules.specs.States.{State}
-use Rattle.gr_code.specs.CodeFrames.{ProgramCode, CodeFrame}
+use Rattle.gr_code.specs.CodeFrames.{CodeFrame}
 use Rattle.gr_code.specs.CodeViews.{program_code_of}
 use Rattle.gr_code.specs.Programs.{frame_of}
 use Rattle.gr_refine.specs.Contents.{Contents, state_of}

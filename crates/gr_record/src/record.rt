@@ -1,7 +1,8 @@
 //! Records of steps.
 
-ghost use Rattle.std.specs.Prelude.{◌≡◌, Some, option_copied, IfOk};
-ghost use Rattle.gr_record.specs.Effects.{effect_in, kind_of_wait, queue_left_by};
+ghost use Rattle.std.specs.Prelude.{◌≡◌, Some, None, option_copied, IfOk};
+ghost use Rattle.gr_record.specs.Effects.{effect_in, touched_to_receive, touched_to_send};
+ghost use Rattle.gr_tables.specs.Kinds.{kind_of};
 ghost use Rattle.gr_record.specs.Parts.{begun_in, channel_in};
 ghost use Rattle.gr_record.specs.Records.{event_of, is_printed};
 
@@ -9,7 +10,7 @@ use crate::few::Few;
 use crate::slot::SlotPlace;
 use gr_base::{ChName, Choice, Event, GoName, Kind, NoMemory, Object, StepId};
 use gr_channels::ChanUndo;
-use gr_tables::{GoUndo, Spot};
+use gr_tables::{GoUndo, KeptUndo, LocalKind, Packed, Spot};
 use std::alloc::Global;
 use std::marker::Model;
 
@@ -87,7 +88,7 @@ pub struct Beyond {
     /// The goroutine that it met, which it wrote.
     pub partner: Option<GoName>,
     /// The goroutines that it met or woke, with their changes.
-    pub met: Few<(GoName, GoUndo)>,
+    pub met: Few<(GoName, KeptUndo)>,
     /// Its changes of channels, in their order.
     pub channels: Few<(ChName, ChanUndo)>,
     pub more: Option<Box<More>>,
@@ -112,53 +113,70 @@ pub struct Contact {
     pub touched: Touched,
 }
 
-/// What a step did whose goroutine came to wait for one communication on a channel, outside a select.
-#[derive(Debug, Drop)]
-pub struct Waiting {
-    /// The send or the receive.
-    pub contact: Contact,
-    /// Where the innermost frame stands.
-    pub spot: Spot,
-}
-
-/// What a step reached that communicated over one channel and met nobody, and its kind.
+/// What a step replaced and reached that communicated over one channel and met nobody.
 #[derive(Debug, Drop)]
 pub struct Passage {
-    pub kind: Kind,
+    /// What it replaced in its goroutine.
+    pub own: KeptUndo,
     pub contact: Contact,
     /// What it replaced in the channel, if it changed that.
     pub undo: Option<ChanUndo>,
 }
 
-/// What a step reached that reached further, and its kind.
+/// What a step replaced and reached that reached further.
 #[derive(Debug, Drop)]
 pub struct Further {
-    pub kind: Kind,
+    /// What it replaced in its goroutine.
+    pub own: KeptUndo,
     pub beyond: Beyond,
 }
 
-impl Further {
-    /// What a step reached, before its kind is told.
-    pub fn new(alloc: Global, beyond: Beyond) -> Result<Box<Further>, NoMemory>
-        ensures { IfOk result (λ further. further.value.beyond ≡ beyond) }
-    {
-        let kind = Kind::Pure;
-        Ok(Box::new(alloc, Further { kind, beyond })?)
+/// What stands for a change of a goroutine before the step is taken. A box is made first, and then filled.
+fn none_yet() -> KeptUndo {
+    KeptUndo {
+        packed: Packed::WasReady,
     }
 }
 
-/// How what a step did is kept, in as little memory as there is need for.
+impl Passage {
+    /// What a step will reach, before it replaces anything.
+    pub fn new(alloc: Global, contact: Contact) -> Result<Box<Passage>, NoMemory>
+        ensures { IfOk result (λ passage. passage.value.contact ≡ contact) }
+    {
+        let passage = Passage {
+            own: none_yet(),
+            contact,
+            undo: None,
+        };
+        Ok(Box::new(alloc, passage)?)
+    }
+}
+
+impl Further {
+    /// What a step will reach, before it replaces anything in its goroutine.
+    pub fn new(alloc: Global, beyond: Beyond) -> Result<Box<Further>, NoMemory>
+        ensures { IfOk result (λ further. further.value.beyond ≡ beyond) }
+    {
+        let own = none_yet();
+        Ok(Box::new(alloc, Further { own, beyond })?)
+    }
+}
+
+/// How what a step did is kept, in 32 bytes and a box where there is need for one.
 #[derive(Debug, Drop)]
 pub enum Form {
     /// It reached no further than its goroutine: its kind, and what it replaced there.
-    Alone(Kind, GoUndo),
-    /// Its goroutine came to wait.
-    Waits(Waiting),
-    /// It communicated over a channel, and met nobody: what it replaced in its goroutine, its kind, and what it did with the
-    /// channel.
-    Passes(GoUndo, Box<Passage>),
-    /// It reached further: what it replaced in its goroutine, its kind, and what it reached.
-    Further(GoUndo, Box<Further>),
+    Alone(LocalKind, KeptUndo),
+    /// Its goroutine came to wait for one send on a channel, outside a select: the place of the slot that the next value
+    /// enters, and where the innermost frame stands.
+    WaitsToSend(SlotPlace, ChName, Spot),
+    /// Its goroutine came to wait for one receive from a channel, outside a select: the place of the slot of the front item,
+    /// and where the innermost frame stands.
+    WaitsToReceive(SlotPlace, ChName, Spot),
+    /// It communicated over a channel, and met nobody.
+    Passes(Kind, Box<Passage>),
+    /// It reached further.
+    Further(Kind, Box<Further>),
 }
 
 /// What a step did, and what it replaced.
@@ -176,17 +194,44 @@ impl Model for Change {
 }
 
 impl Change {
-    ghost use Rattle.gr_record.specs.Effects.{reached_on};
+    ghost use Rattle.gr_record.specs.Effects.{reached_on, wait_to_receive, wait_to_send};
+
+    /// What a step did of this kind that reached no further than its goroutine.
+    pub fn alone(kind: LocalKind, own: GoUndo) -> Change
+        ensures { result ≡ record { kind = kind_of kind; own = own; beyond = None } }
+    {
+        Change {
+            form: Form::Alone(kind, KeptUndo::new(own)),
+        }
+    }
+
+    /// What a step did whose goroutine came to wait for a send.
+    pub fn waits_to_send(slot: SlotPlace, channel: ChName, spot: Spot) -> Change
+        ensures { result ≡ wait_to_send slot channel spot }
+    {
+        Change {
+            form: Form::WaitsToSend(slot, channel, spot),
+        }
+    }
+
+    /// What a step did whose goroutine came to wait for a receive.
+    pub fn waits_to_receive(slot: SlotPlace, channel: ChName, spot: Spot) -> Change
+        ensures { result ≡ wait_to_receive slot channel spot }
+    {
+        Change {
+            form: Form::WaitsToReceive(slot, channel, spot),
+        }
+    }
 
     /// What a step did of this kind that communicated over a channel, met nobody, and replaced this in the channel.
     pub fn passed(kind: Kind, own: GoUndo, passage: Box<Passage>, undo: Option<ChanUndo>) -> Change
         ensures { result ≡ record { kind = kind; own = own; beyond = Some (reached_on passage.value.contact undo) } }
     {
         let mut passage = passage;
-        passage.kind = kind;
+        passage.own = KeptUndo::new(own);
         passage.undo = undo;
         Change {
-            form: Form::Passes(own, passage),
+            form: Form::Passes(kind, passage),
         }
     }
 
@@ -195,9 +240,9 @@ impl Change {
         ensures { result ≡ record { kind = kind; own = own; beyond = Some further.value.beyond } }
     {
         let mut further = further;
-        further.kind = kind;
+        further.own = KeptUndo::new(own);
         Change {
-            form: Form::Further(own, further),
+            form: Form::Further(kind, further),
         }
     }
 
@@ -213,10 +258,10 @@ impl Change {
         ensures { result ≡ self.now.kind }
     {
         match &self.form {
-            Form::Alone(kind, _) => *kind,
-            Form::Waits(waiting) => waiting.kind(),
-            Form::Passes(_, passage) => passage.kind,
-            Form::Further(_, further) => further.kind,
+            Form::Alone(kind, _) => kind.kind(),
+            Form::WaitsToSend(_, _, _) => Kind::SendWait,
+            Form::WaitsToReceive(_, _, _) => Kind::RecvWait,
+            Form::Passes(kind, _) | Form::Further(kind, _) => *kind,
         }
     }
 
@@ -226,41 +271,43 @@ impl Change {
     {
         match &self.form {
             Form::Alone(_, own) => wrote_line(own),
-            Form::Waits(_) => false,
-            Form::Passes(own, _) => wrote_line(own),
-            Form::Further(own, _) => wrote_line(own),
+            Form::WaitsToSend(_, _, _) | Form::WaitsToReceive(_, _, _) => false,
+            Form::Passes(_, passage) => wrote_line(&passage.own),
+            Form::Further(_, further) => wrote_line(&further.own),
         }
     }
 }
 
 /// Whether a goroutine's change is a line that it printed.
-fn wrote_line(own: &GoUndo) -> bool
+fn wrote_line(own: &KeptUndo) -> bool
     ensures { result ≡ is_printed own.now }
 {
-    match own {
-        GoUndo::Printed(_) => true,
+    match &own.packed {
+        Packed::Printed(_) => true,
         _ => false,
     }
 }
 
-impl Waiting {
-    /// The kind of the step.
-    pub fn kind(&self) -> Kind
-        ensures { result ≡ kind_of_wait self.now.contact.operation }
+impl Touched {
+    /// What a step touched that came to wait for a send: it read where the next value enters, and wrote the gate.
+    pub fn to_send(slot: SlotPlace) -> Touched
+        ensures { result ≡ touched_to_send slot }
     {
-        match &self.contact.operation {
-            Operation::SendsOn(_) => Kind::SendWait,
-            _ => Kind::RecvWait,
+        Touched {
+            read: Parts::Entrance,
+            written: Parts::Gate,
+            slot,
         }
     }
 
-    /// What it replaced in the channel.
-    pub fn undo(&self) -> ChanUndo
-        ensures { result ≡ queue_left_by self.now.contact.operation }
+    /// What a step touched that came to wait for a receive: it read where the front item is, and wrote the gate.
+    pub fn to_receive(slot: SlotPlace) -> Touched
+        ensures { result ≡ touched_to_receive slot }
     {
-        match &self.contact.operation {
-            Operation::SendsOn(_) => ChanUndo::ParkedSender,
-            _ => ChanUndo::ParkedReceiver,
+        Touched {
+            read: Parts::Exit,
+            written: Parts::Gate,
+            slot,
         }
     }
 }

@@ -1,5 +1,6 @@
 pub mod Basics
 mod PoolLemmas
+mod PriorLemmas
 pub mod KeptLemmas
 mod OwnerLemmas
 mod PoolBackLemmas

@@ -1,9 +1,6 @@
 -- What a caller learns of a step, the step that is asked for, and how the steps that were taken are counted.
-use Rattle.std.specs.Prelude.{◌≡◌, ◌+◌, ◌-◌, ◌^◌, ◌⊎◌, ℕ, zero, suc, List, Option, Some, None, min}
-use Rattle.gr_base.specs.declared.events.Choice.{Choice}
-use Rattle.gr_base.specs.declared.events.Event.{Event}
+use Rattle.std.specs.Prelude.{◌≡◌, ◌+◌, ◌-◌, ◌^◌, ◌⊎◌, ℕ, zero, suc, min}
 use Rattle.gr_program.specs.Programs.{Program}
-use Rattle.gr_rules.specs.States.{State}
 use Rattle.gr_laws.specs.Reached.{Logged}
 use Rattle.gr_step.specs.Record.{Record}
 use Rattle.gr_step.specs.Pairs.{step_kind}

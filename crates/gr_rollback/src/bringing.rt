@@ -11,7 +11,8 @@ ghost use Rattle.gr_rollback.specs.Readiness.{AllKnown, names_met, met_by};
 ghost use Rattle.gr_rollback.specs.Prior.{IsPrior, TellsPrior, BringsBack, BringsStepBack, Loses};
 
 use gr_base::GoName;
-use gr_goros::{GoUndo, Status};
+use gr_goros::kept::Packed;
+use gr_goros::{KeptUndo, Status};
 use gr_pool::Pool;
 use gr_step::{Beyond, Form, Record};
 
@@ -37,25 +38,36 @@ fn prior_in(status: &Status) -> Prior
 }
 
 /// Whether a goroutine was ready before the change that replaced this.
-pub(crate) fn prior_to(undo: &GoUndo) -> Prior
+#[tactic(auto, using(crate::proofs::PriorLemmas::same_in_frame))]
+pub(crate) fn prior_to(undo: &KeptUndo) -> Prior
     ensures { TellsPrior result undo.now }
 {
-    match undo {
-        GoUndo::Went(_, _)
-        | GoUndo::Printed(_)
-        | GoUndo::Entered(_)
-        | GoUndo::Left(_)
-        | GoUndo::Made(_, _)
-        | GoUndo::Began(_)
-        | GoUndo::Faulted(_) => Prior::Same,
-        GoUndo::Parked(_) | GoUndo::Finished(_) => Prior::Ready,
-        GoUndo::Met(met) => prior_in(&met.status),
-        GoUndo::Retried(status) => prior_in(status),
+    match &undo.packed {
+        Packed::Same(_, _)
+        | Packed::Nothing(_, _, _)
+        | Packed::Int(_, _, _, _)
+        | Packed::Bool(_, _, _, _)
+        | Packed::Unit(_, _, _)
+        | Packed::Nil(_, _, _)
+        | Packed::Channel(_, _, _, _)
+        | Packed::IntAndBool(_, _, _, _, _)
+        | Packed::Each(_, _, _)
+        | Packed::Printed(_)
+        | Packed::Entered(_)
+        | Packed::Left(_)
+        | Packed::Began(_)
+        | Packed::Faulted(_) => Prior::Same,
+        Packed::Parked(_) | Packed::Finished(_) | Packed::WasReady => Prior::Ready,
+        Packed::Met(met) => prior_in(&met.status),
+        Packed::WasSending(_)
+        | Packed::WasReceiving(_)
+        | Packed::WasWaiting(_)
+        | Packed::WasFinished => Prior::Unready,
     }
 }
 
 /// Brings the pool back before a change of a goroutine that it knows. It takes no memory.
-fn bring_back(pool: &mut Pool, go: &GoName, undo: &GoUndo)
+fn bring_back(pool: &mut Pool, go: &GoName, undo: &KeptUndo)
     requires { is_among go.now pool.old.known ≡ true }
     ensures { BringsBack ((go.now, undo.now) ∷ []) pool.old pool.new }
 {
@@ -67,7 +79,7 @@ fn bring_back(pool: &mut Pool, go: &GoName, undo: &GoUndo)
 }
 
 /// Brings the pool back before the changes of several goroutines, the last change first.
-fn bring_all_back(pool: &mut Pool, changes: &[(GoName, GoUndo)])
+fn bring_all_back(pool: &mut Pool, changes: &[(GoName, KeptUndo)])
     requires { AllKnown (names_met changes.now) pool.old }
     ensures { BringsBack changes.now pool.old pool.new }
 {
@@ -90,7 +102,7 @@ fn lose(pool: &mut Pool, child: Option<&GoName>)
 
 /// Brings the pool back before a step that reached beyond its goroutine.
 #[inline(never)]
-fn bring_beyond_back(pool: &mut Pool, go: &GoName, own: &GoUndo, beyond: &Beyond)
+fn bring_beyond_back(pool: &mut Pool, go: &GoName, own: &KeptUndo, beyond: &Beyond)
     requires own { is_among go.now pool.old.known ≡ true }
     requires met { AllKnown (names_met (members beyond.now.met)) pool.old }
     ensures { BringsStepBack ((go.now, own.now) ∷ members beyond.now.met) (begun_in beyond.now) pool.old pool.new }
@@ -109,8 +121,9 @@ pub(crate) fn bring_step_back(pool: &mut Pool, step: &Record)
     let go = &step.id.go;
     match step.change.form() {
         Form::Alone(_, own) => bring_back(pool, go, own),
-        Form::Waits(_) => pool.insert(go),
-        Form::Passes(own, _) => bring_back(pool, go, own),
-        Form::Further(own, further) => bring_beyond_back(pool, go, own, &further.beyond),
+        Form::WaitsToSend(_, _, _) => pool.insert(go),
+        Form::WaitsToReceive(_, _, _) => pool.insert(go),
+        Form::Passes(_, passage) => bring_back(pool, go, &passage.own),
+        Form::Further(_, further) => bring_beyond_back(pool, go, &further.own, &further.beyond),
     }
 }

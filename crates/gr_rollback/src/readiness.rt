@@ -10,7 +10,7 @@ ghost use Rattle.gr_rollback.specs.Readiness.{names_met, others_of, met_by};
 
 use crate::bringing::{Prior, prior_to};
 use gr_base::{GoName, NoMemory};
-use gr_goros::{GoUndo, Status};
+use gr_goros::{KeptUndo, Status};
 use gr_pool::Pool;
 use gr_step::{Change, Form, Record, Store};
 
@@ -54,7 +54,7 @@ fn settle_own(pool: &mut Pool, store: &Store, go: &GoName)
 
 /// Makes the goroutine of a step unready where it is so in the store. The step reached no further than the goroutine, which was
 /// ready; what the step replaced tells of most that it is ready still.
-fn settle_alone(pool: &mut Pool, store: &Store, go: &GoName, own: &GoUndo)
+fn settle_alone(pool: &mut Pool, store: &Store, go: &GoName, own: &KeptUndo)
     requires own { is_among go.now pool.old.ready ≡ true }
     requires ready { KeepsStatus own.now → IsReadyIn (contents_at store.now) go.now }
     ensures { Settles (go.now ∷ []) (contents_at store.now) pool.old pool.new }
@@ -66,7 +66,7 @@ fn settle_alone(pool: &mut Pool, store: &Store, go: &GoName, own: &GoUndo)
 }
 
 /// Settles each of the goroutines that a step met.
-fn settle_met(pool: &mut Pool, store: &Store, met: &[(GoName, GoUndo)])
+fn settle_met(pool: &mut Pool, store: &Store, met: &[(GoName, KeptUndo)])
     requires { KnowsReady (names_met met.now) (contents_at store.now) pool.old }
     ensures { Settles (names_met met.now) (contents_at store.now) pool.old pool.new }
 {
@@ -147,7 +147,9 @@ pub(crate) fn settle_taken(pool: &mut Pool, store: &Store, step: &Record)
 {
     match step.change.form() {
         Form::Alone(_, own) => settle_alone(pool, store, &step.id.go, own),
-        Form::Waits(_) | Form::Passes(_, _) => settle_own(pool, store, &step.id.go),
+        Form::WaitsToSend(_, _, _) | Form::WaitsToReceive(_, _, _) | Form::Passes(_, _) => {
+            settle_own(pool, store, &step.id.go)
+        }
         Form::Further(_, _) => settle_further(pool, store, step),
     }
 }

@@ -13,8 +13,11 @@ use Rattle.gr_rules.specs.States.{faulted as run_faulted}
 use Rattle.gr_rules.specs.Steps.{attempt}
 use Rattle.gr_code.specs.CodeFrames.{ProgramCode}
 use Rattle.gr_code.specs.Goroutines.{CodeGoroutine, faulted, is_local, local, task_of}
+use Rattle.gr_goros.specs.Kinds.{kind_of}
 use Rattle.gr_goros.specs.Tasks.{IsStep}
 use Rattle.gr_goros.specs.Undoing.{undone, Fits, need}
+use Rattle.gr_goros.specs.declared.kinds.LocalKind.{LocalKind}
+use Rattle.gr_goros.specs.declared.kinds.LocalKind.TheVariants as locals
 use Rattle.gr_goros.specs.declared.undo.GoUndo.{GoUndo}
 use Rattle.gr_tables.specs.NamedChannels.{contents_of}
 use Rattle.gr_tables.specs.NamedGoroutines.{At, ChangesBy, StepsAlone, TakenBack, seen_at}
@@ -47,10 +50,18 @@ use Rattle.gr_step.proofs.ReachesLemmas.{told}
 use Rattle.gr_step.proofs.RunningLemmas.{acts_here, never_unsound, code_fits}
 
 -- the step of the goroutine of this name
-pub record Stepped (code : ProgramCode) (n : List ℕ) (g : CodeGoroutine) (kind : Kind) (u : GoUndo) (old new : Goroutines) : Type 0 where
+pub record Stepped (code : ProgramCode) (n : List ℕ) (g : CodeGoroutine) (kind : LocalKind) (u : GoUndo) (old new : Goroutines) : Type 0 where
   pub after : CodeGoroutine
-  pub is : local code g ≡ gives (kind, after)
+  pub is : local code g ≡ gives (kind_of kind, after)
   pub own : Placed n g after u old new
+
+-- a kind that is no fault is none among all kinds
+pub still_no_fault : (k : LocalKind) → ((f : Fault) → k ≡ locals.Fault f → ⊥) → (f : Fault) → kind_of k ≡ kinds.Fault f → ⊥
+still_no_fault locals.Pure other f is = let no : kinds.Pure ≡ kinds.Fault f = is in cc
+still_no_fault locals.Call other f is = let no : kinds.Call ≡ kinds.Fault f = is in cc
+still_no_fault locals.Return other f is = let no : kinds.Return ≡ kinds.Fault f = is in cc
+still_no_fault locals.Length other f is = let no : kinds.Length ≡ kinds.Fault f = is in cc
+still_no_fault (locals.Fault fault) other f is = other fault refl
 
 -- a line is printed where the text has it
 pub printed_as : (g after : CodeGoroutine) (u : GoUndo) (line : Option (List ℕ)) → undone u after ≡ g → Fits u after → TextIs g after line
@@ -73,7 +84,7 @@ module _ (p : Program) (e : Event) (number : ℕ) (o : Objects) (acting : Acting
           acting.counted.steps e.go g acting.there,
         )
 
-  module _ (kind : Kind) (u : GoUndo) (new : Goroutines)
+  module _ (kind : LocalKind) (u : GoUndo) (new : Goroutines)
       (change : ChangesBy number (λ a b. IsStep (kind, u) (local (lowered p) a.content) a b) o.goroutines new) where
     pub stepped : Stepped (lowered p) e.go acting.goroutine kind u o.goroutines new
     stepped = record {
@@ -101,42 +112,42 @@ module _ (p : Program) (e : Event) (number : ℕ) (o : Objects) (acting : Acting
         λ j. record { run = run_of (back.runs j); goroutines = own j; channels = contents_of (back.channels j) }
 
     module _ (plain : e.choice ≡ Plain) where
-      by_rules : StepsTo (frame_in p) (attempt p e) (contents_in o) (after_local (contents_in o) e.go kind stepped.after)
-          (local_report kind acting.goroutine (printed_by (task_of (lowered p) acting.goroutine)))
+      by_rules : StepsTo (frame_in p) (attempt p e) (contents_in o) (after_local (contents_in o) e.go (kind_of kind) stepped.after)
+          (local_report (kind_of kind) acting.goroutine (printed_by (task_of (lowered p) acting.goroutine)))
       by_rules =
           let up = acts_here p e number o acting in
-          local_step_is_a_step (meaning p) p (lowered p) (contents_in o) e acting.goroutine up.f up.below stepped.after kind up.acts plain stepped.is
+          local_step_is_a_step (meaning p) p (lowered p) (contents_in o) e acting.goroutine up.f up.below stepped.after (kind_of kind) up.acts plain stepped.is
 
       -- one that is no fault
-      pub local_takes : ((f : Fault) → kind ≡ kinds.Fault f → ⊥)
-          → Takes p e (attempt p e) (contents_in o) (record { kind = kind; own = u; beyond = None }) (contents_in (record o { goroutines = new }))
+      pub local_takes : ((f : Fault) → kind ≡ locals.Fault f → ⊥)
+          → Takes p e (attempt p e) (contents_in o) (record { kind = kind_of kind; own = u; beyond = None }) (contents_in (record o { goroutines = new }))
       local_takes other =
           let s = contents_in o in
           let g = acting.goroutine in
           let up = acts_here p e number o acting in
           let line = printed_by (task_of (lowered p) g) in
-          let what = locally_is (meaning p) p (lowered p) s e g up.f up.below kind stepped.after up.acts stepped.is in
-          let kinds_are = plain_kind g stepped.after line kind other what.kind_is in
-          alone_takes p e (contents_in o) acting.goroutine acting.there acting.running.stand (are_channels o) (attempt p e) stepped.after kind u line (contents_in (record o { goroutines = new })) stepped.own.back
+          let what = locally_is (meaning p) p (lowered p) s e g up.f up.below (kind_of kind) stepped.after up.acts stepped.is in
+          let kinds_are = plain_kind g stepped.after line (kind_of kind) (still_no_fault kind other) what.kind_is in
+          alone_takes p e (contents_in o) acting.goroutine acting.there acting.running.stand (are_channels o) (attempt p e) stepped.after (kind_of kind) u line (contents_in (record o { goroutines = new })) stepped.own.back
           stepped.own.fits
           (λ j. record { run = run_of o.run; goroutines = stepped.own.is j; channels = contents_of o.channels })
-          (local_step_keeps_standing (meaning p) (lowered p) p g stepped.after kind (code_fits p s acting.running)
+          (local_step_keeps_standing (meaning p) (lowered p) p g stepped.after (kind_of kind) (code_fits p s acting.running)
           (acting.running.stand e.go g acting.there) stepped.is)
-          (subst {_, _} (λ t. StepsTo (frame_in p) (attempt p e) s t (local_report kind g line)) (kinds_are.1 s e.go) by_rules)
+          (subst {_, _} (λ t. StepsTo (frame_in p) (attempt p e) s t (local_report (kind_of kind) g line)) (kinds_are.1 s e.go) by_rules)
           (printed_as g stepped.after u line stepped.own.back stepped.own.fits what.text)
           (kinds_are.0 (state_in p s) e (goroutine_of (frame_in p) g))
 
-      pub local_room : HasRoom e.go (record { kind = kind; own = u; beyond = None }) (record o { goroutines = new })
-      local_room = own_room e.go (record { kind = kind; own = u; beyond = None }) (record o { goroutines = new }) stepped.own.room refl
+      pub local_room : HasRoom e.go (record { kind = kind_of kind; own = u; beyond = None }) (record o { goroutines = new })
+      local_room = own_room e.go (record { kind = kind_of kind; own = u; beyond = None }) (record o { goroutines = new }) stepped.own.room refl
 
       -- a fault
-      module _ (fault : Fault) (is : kind ≡ kinds.Fault fault) (c : Effect) (last : Objects)
+      module _ (fault : Fault) (is : kind ≡ locals.Fault fault) (c : Effect) (last : Objects)
           (stop : HasStopped fault u c (record o { goroutines = new }) last) where
         faults_as : LocallyIs acting.goroutine (task_of (lowered p) acting.goroutine) (kinds.Fault fault) stepped.after
         faults_as =
             let up = acts_here p e number o acting in
-            subst {_, _} (λ (k : Kind). LocallyIs acting.goroutine (task_of (lowered p) acting.goroutine) k stepped.after) is
-            (locally_is (meaning p) p (lowered p) (contents_in o) e acting.goroutine up.f up.below kind stepped.after up.acts stepped.is)
+            subst {_, _} (λ (k : Kind). LocallyIs acting.goroutine (task_of (lowered p) acting.goroutine) k stepped.after) (ap kind_of is)
+            (locally_is (meaning p) p (lowered p) (contents_in o) e acting.goroutine up.f up.below (kind_of kind) stepped.after up.acts stepped.is)
 
         stops : Stops e.go fault None [] (contents_in o) acting.goroutine c (contents_in last)
         stops =
@@ -165,7 +176,7 @@ module _ (p : Program) (e : Event) (number : ℕ) (o : Objects) (acting : Acting
             (subst {_, _} (λ (x : CodeGoroutine). StepsTo (frame_in p) (attempt p e) s (after_own s e.go x (run_faulted fault))
             (local_report (kinds.Fault fault) g (printed_by (task_of (lowered p) g)))) faults_as.kind_is.0
             (subst {_, _} (λ (k : Kind). StepsTo (frame_in p) (attempt p e) s (after_local s e.go k stepped.after)
-            (local_report k g (printed_by (task_of (lowered p) g)))) is by_rules)))
+            (local_report k g (printed_by (task_of (lowered p) g)))) (ap kind_of is) by_rules)))
             (plain_fault_row p s e g up.f up.below up.acts faults_as.no_choice fault plain) refl
 
         pub local_fault_room : HasRoom e.go c last

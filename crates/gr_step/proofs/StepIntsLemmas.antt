@@ -13,6 +13,7 @@ use Rattle.gr_rules.specs.Steps.{attempt, count}
 use Rattle.gr_code.specs.Goroutines.{CodeGoroutine, local, task_of}
 use Rattle.gr_goros.specs.Tasks.{IsStep}
 use Rattle.gr_goros.specs.Views.{Seen}
+use Rattle.gr_goros.specs.declared.kinds.LocalKind.TheVariants as locals
 use Rattle.gr_goros.specs.declared.undo.GoUndo.{GoUndo}
 use Rattle.gr_tables.specs.Counting.{CanTry, StepsOn}
 use Rattle.gr_tables.specs.NamedChannels.{contents_of}
@@ -73,15 +74,15 @@ module _ (p : Program) (e : Event) (number : ℕ) (o : Objects) (running : Runni
       is_ready = ap (λ (g : CodeGoroutine). g.status) (sym same) ∙ change.3.is_ready;
     }
 
-    as_step : ChangesBy number (λ a b. IsStep (kinds.Pure, r.1) (local (lowered p) a.content) a b) o.goroutines new
+    as_step : ChangesBy number (λ a b. IsStep (locals.Pure, r.1) (local (lowered p) a.content) a b) o.goroutines new
     as_step = (change.0, change.1, change.2, change.3.is)
 
     -- a step over whole numbers is a step of the rules
     pub count_takes : Takes p e (attempt p e) (contents_in o) (counted_by r.1) (contents_in (record o { goroutines = new }))
-    count_takes = local_takes p e number o acting kinds.Pure r.1 new as_step plain (λ (f : Fault) is. let no : kinds.Pure ≡ kinds.Fault f = is in cc)
+    count_takes = local_takes p e number o acting locals.Pure r.1 new as_step plain (λ (f : Fault) is. let no : locals.Pure ≡ locals.Fault f = is in cc)
 
     pub count_room : HasRoom e.go (counted_by r.1) (record o { goroutines = new })
-    count_room = local_room p e number o acting kinds.Pure r.1 new as_step plain
+    count_room = local_room p e number o acting locals.Pure r.1 new as_step plain
 
     pub count_ordinal : r.0 ≡ count (state_in p (contents_in o)) e.go + 1
     count_ordinal =

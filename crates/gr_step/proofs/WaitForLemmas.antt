@@ -47,13 +47,10 @@ use Rattle.gr_lower.specs.Lowered.{lowered, meaning}
 use Rattle.gr_tables.specs.NamedGoroutines.{seen_at, goroutines_of, At, CanPark, ChangesBy, ComesTo}
 use Rattle.gr_tables.specs.NamedChannels.{contents_of, chan_back, GoesBack}
 use Rattle.gr_step.specs.declared.objects.Objects.{Objects}
-use Rattle.gr_record.specs.Effects.{Effect}
+use Rattle.gr_record.specs.Effects.{Effect, touched_to_receive, touched_to_send, wait_to_receive, wait_to_send}
 use Rattle.gr_record.specs.declared.record.Operation.{Operation}
 use Rattle.gr_record.specs.declared.record.Operation.TheVariants.{SendsOn, ReceivesFrom}
-use Rattle.gr_record.specs.declared.record.Touched.{Touched}
 use Rattle.gr_record.specs.declared.record.Parts.TheVariants as parts
-use Rattle.gr_record.specs.declared.record.Form.TheVariants.{Waits}
-use Rattle.gr_record.specs.Effects.{effect_in}
 use Rattle.gr_record.specs.Parts.{channel_on, AreTouched}
 use Rattle.gr_goros.specs.declared.undo.GoUndo.TheVariants.{Parked}
 use Rattle.gr_goros.specs.declared.undo.Spot.{Spot}
@@ -355,15 +352,12 @@ receives_from_each None = refl
 receives_from_each (Some c) = refl
 
 -- a goroutine that came to wait for one communication on a channel, and what is kept of that
-module _ (e : Event) (number : ℕ) (c : ChName) (touched : Touched) (spot : Spot) (sides : List Object) (old new : Objects) (runs : new.run ≡ old.run) where
-  abbrev kept : Operation → Effect
-  kept operation = effect_in (Waits (record { contact = record { operation = operation; touched = touched }; spot = spot }))
-
+module _ (e : Event) (number : ℕ) (c : ChName) (slot : Option ℕ) (spot : Spot) (sides : List Object) (old new : Objects) (runs : new.run ≡ old.run) where
   pub parks_to_send : (v : Value) → ChangesBy number (ComesTo (parked (ToSend c None ∷ [])) (Parked spot)) old.goroutines new.goroutines
       → contents_of new.channels ≡ queued_for e.go (contents_of old.channels) (None, Sending (Some c) (gives v))
       → GoesBack ((c, ParkedSender) ∷ []) old.channels new.channels
-      → AreTouched touched (Some c) (each_once (gates_of ((None, Sending (Some c) (gives v)) ∷ [])) sides) (gates_of ((None, Sending (Some c) (gives v)) ∷ []))
-      → Parks e number kinds.SendWait (Some (SendsOn c)) sides ((None, Sending (Some c) (gives v)) ∷ []) (kept (SendsOn c)) old new
+      → AreTouched (touched_to_send slot) (Some c) (each_once (gates_of ((None, Sending (Some c) (gives v)) ∷ [])) sides) (gates_of ((None, Sending (Some c) (gives v)) ∷ []))
+      → Parks e number kinds.SendWait (Some (SendsOn c)) sides ((None, Sending (Some c) (gives v)) ∷ []) (wait_to_send slot c spot) old new
   parks_to_send v goes queues back touches = record {
     goroutine = goes;
     channels = queues;
@@ -383,8 +377,8 @@ module _ (e : Event) (number : ℕ) (c : ChName) (touched : Touched) (spot : Spo
   pub parks_to_receive : (zero : Value) → ChangesBy number (ComesTo (parked (ToReceive c None ∷ [])) (Parked spot)) old.goroutines new.goroutines
       → contents_of new.channels ≡ queued_for e.go (contents_of old.channels) (None, Receiving (Some c) zero)
       → GoesBack ((c, ParkedReceiver) ∷ []) old.channels new.channels
-      → AreTouched touched (Some c) (each_once (gates_of ((None, Receiving (Some c) zero) ∷ [])) sides) (gates_of ((None, Receiving (Some c) zero) ∷ []))
-      → Parks e number kinds.RecvWait (Some (ReceivesFrom c)) sides ((None, Receiving (Some c) zero) ∷ []) (kept (ReceivesFrom c)) old new
+      → AreTouched (touched_to_receive slot) (Some c) (each_once (gates_of ((None, Receiving (Some c) zero) ∷ [])) sides) (gates_of ((None, Receiving (Some c) zero) ∷ []))
+      → Parks e number kinds.RecvWait (Some (ReceivesFrom c)) sides ((None, Receiving (Some c) zero) ∷ []) (wait_to_receive slot c spot) old new
   parks_to_receive zero goes queues back touches = record {
     goroutine = goes;
     channels = queues;

@@ -74,7 +74,12 @@ pub record Loan : Type 0 where
   pub steps : ℕ
 
 abbrev pub loan_kept : LocalRun → Loan
-loan_kept b = record { program = program_in b.lent.value.listing; name = b.lent.value.go; goroutine = b.lent.value.goroutine.content; steps = b.len }
+loan_kept b = record {
+  program = program_in b.lent.value.listing;
+  name = b.lent.value.go;
+  goroutine = b.lent.value.goroutine.content;
+  steps = b.len;
+}
 
 abbrev pub loan_of : LentCopy → Loan
 loan_of l = loan_kept l.batch

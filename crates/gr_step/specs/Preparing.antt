@@ -52,7 +52,7 @@ pub record IsPrepared (operation : Operation) (reads touched : List Object) (c :
   pub channel_is : r.channel ≡ c
   pub named : name_at o.goroutines r.number ≡ Some n
   pub names_are : AreToLeave r.names.items c ws
-  pub reached : IsReached operation reads (touched ++ objects.Go n ∷ map objects.Gate (channels_but (c ∷ []) ws)) r.beyond.value.beyond
+  pub reached : IsReached operation reads (touched ++ objects.Go n ∷ map objects.Gate (channels_but (c ∷ []) ws)) r.further.value.beyond
 
 -- two goroutines can go past their communication, with all made ready for that, after a change of their channel
 pub record CanExchange (code : ProgramCode) (e : Event) (number : ℕ) (r : Prepared) (u : ChanUndo) (passes meets : Arrival) (o : Objects) : Type 0 where

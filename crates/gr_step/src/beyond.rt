@@ -9,7 +9,9 @@ ghost use Rattle.gr_step.specs.Preparing.{IsReached};
 ghost use Rattle.gr_record.specs.Records.{operation_of};
 
 use crate::touching::{push_gates, untouched};
-use gr_base::{ChName, GoName, Kind, NoMemory, Object};
+use gr_base::{ChName, GoName, NoMemory, Object};
+use gr_channels::ChanUndo;
+use gr_goros::KeptUndo;
 use gr_record::Few;
 use gr_record::record::{Beyond, Contact, Further, More, Operation, Passage, Touched};
 use std::alloc::Global;
@@ -22,7 +24,8 @@ pub(crate) fn with_more(
     more: More,
     stops: bool,
 ) -> Result<Box<Further>, NoMemory>
-    ensures { IfOk result (λ beyond. ReachesAll operation more.reads.items more.writes.items more.begins more.makes stops beyond.value.beyond) }
+    ensures { IfOk result (λ further.
+        ReachesAll operation more.reads.items more.writes.items more.begins more.makes stops further.value.beyond) }
 {
     let more = Box::new(alloc, more)?;
     let beyond = Beyond {
@@ -44,7 +47,7 @@ pub(crate) fn waited(
     touched: Touched,
 ) -> Result<Box<Further>, NoMemory>
     ensures { (reads writes : List Object) → AreTouched touched (option_map channel_in operation) reads writes
-        → IfOk result (λ beyond. Reaches operation reads writes false beyond.value.beyond) }
+        → IfOk result (λ further. Reaches operation reads writes false further.value.beyond) }
 {
     let beyond = Beyond {
         operation,
@@ -64,12 +67,7 @@ pub(crate) fn passage(alloc: Global, contact: Contact) -> Result<Box<Passage>, N
         → IfOk result (λ passage. IsReached (operation_of contact.operation) reads writes (reached_by_passage passage.value)) }
     ensures channel { IfOk result (λ passage. channel_in passage.value.contact.operation ≡ channel_in contact.operation) }
 {
-    let passage = Passage {
-        kind: Kind::Pure,
-        contact,
-        undo: None,
-    };
-    Ok(Box::new(alloc, passage)?)
+    Passage::new(alloc, contact)
 }
 
 /// The gates of channels, if there are any.
@@ -103,8 +101,8 @@ pub(crate) fn reached_with(
     others: &[ChName],
 ) -> Result<Box<Further>, NoMemory>
     ensures { (reads writes : List Object) → AreTouched touched (Some (channel_in operation)) reads writes
-        → IfOk result (λ beyond. IsReached (operation_of operation) reads (writes ++ objects.Go partner.now
-        ∷ map objects.Gate others.now) beyond.value.beyond) }
+        → IfOk result (λ further. IsReached (operation_of operation) reads (writes ++ objects.Go partner.now
+        ∷ map objects.Gate others.now) further.value.beyond) }
 {
     let more = gates_too(alloc, others)?;
     let beyond = Beyond {
@@ -119,6 +117,20 @@ pub(crate) fn reached_with(
     Further::new(alloc, beyond)
 }
 
+/// What a step reached, with its changes of goroutines and of channels.
+pub(crate) fn with_changes(
+    further: Box<Further>,
+    met: Few<(GoName, KeptUndo)>,
+    channels: Few<(ChName, ChanUndo)>,
+) -> Box<Further>
+    ensures { result.value.beyond ≡ record (further.value.beyond) { met = met; channels = channels } }
+{
+    let mut further = further;
+    further.beyond.met = met;
+    further.beyond.channels = channels;
+    further
+}
+
 /// What a step reached, by what it did with a channel, the objects that it read and wrote, and whether it ended or stopped the
 /// program. It reached nothing else.
 pub(crate) fn reached(
@@ -128,7 +140,7 @@ pub(crate) fn reached(
     writes: Vec<Object>,
     stops: bool,
 ) -> Result<Box<Further>, NoMemory>
-    ensures { IfOk result (λ beyond. Reaches operation reads.items writes.items stops beyond.value.beyond) }
+    ensures { IfOk result (λ further. Reaches operation reads.items writes.items stops further.value.beyond) }
 {
     let more = More {
         reads,

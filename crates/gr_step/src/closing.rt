@@ -33,14 +33,14 @@ ghost use Rattle.gr_record.specs.Taking.{Takes};
 ghost use Rattle.gr_step.specs.Stepping.{MayAct, IsPlain, AsksFor, TakesStep, LeavesRoom, event_for, code_for};
 
 use crate::awaiting::waiting_on;
-use crate::beyond::reached;
+use crate::beyond::{reached, with_changes};
 use crate::objects::Objects;
 use crate::touching::{gate_side, push_gates};
 use crate::turn::Turn;
 use crate::waking::{all_channels, shut, wake_each};
 use gr_base::{ChName, Event, Fault, GoName, Kind, NoMemory, Object};
 use gr_channels::ChanUndo;
-use gr_goros::{Arrival, GoUndo};
+use gr_goros::{Arrival, GoUndo, KeptUndo};
 use gr_record::record::{Change, Further, Operation};
 use gr_record::{Few, Listing};
 use gr_tables::goroutines::Goroutines;
@@ -82,8 +82,8 @@ fn beyond_close(
     channel: &ChName,
     names: &[GoName],
 ) -> Result<Box<Further>, NoMemory>
-    ensures { IfOk result (λ beyond. Reaches (Some (Operation.Closes channel.now)) []
-        (written_by_close channel.now (goroutines_of goroutines.now) names.now) false beyond.value.beyond) }
+    ensures { IfOk result (λ further. Reaches (Some (Operation.Closes channel.now)) []
+        (written_by_close channel.now (goroutines_of goroutines.now) names.now) false further.value.beyond) }
 {
     let channels = all_channels(alloc, goroutines, channel, names)?;
     let writes = written(alloc, names, &channels)?;
@@ -95,7 +95,7 @@ fn beyond_close(
 fn closed(
     own: GoUndo,
     further: Box<Further>,
-    met: Vec<(GoName, GoUndo)>,
+    met: Vec<(GoName, KeptUndo)>,
     channels: Vec<(ChName, ChanUndo)>,
 ) -> Change
     ensures own { result.own ≡ own }
@@ -103,9 +103,7 @@ fn closed(
         → Reaches (Some (Operation.Closes c)) [] writes false further.value.beyond
         → Tells result kinds.Close (Some (closes c)) [] writes own met.items channels.items }
 {
-    let mut further = further;
-    further.beyond.met = Few::of_many(met);
-    further.beyond.channels = Few::of_many(channels);
+    let further = with_changes(further, Few::of_many(met), Few::of_many(channels));
     Change::further(Kind::Close, own, further)
 }
 
@@ -124,7 +122,7 @@ impl Objects {
     {
         let alloc = self.alloc;
         let names = waiting_on(alloc, self.channels.get(channel).unwrap())?;
-        let beyond = beyond_close(alloc, &self.goroutines, channel, &names)?;
+        let further = beyond_close(alloc, &self.goroutines, channel, &names)?;
         let met = Vec::with_capacity(alloc, names.len())?;
         let undos = shut(&mut self.channels, alloc, &self.goroutines, channel, &names)?;
         let arrives = self
@@ -138,7 +136,7 @@ impl Objects {
             }
         };
         let met = wake_each(&mut self.goroutines, names, met);
-        Ok(closed(own, beyond, met, undos))
+        Ok(closed(own, further, met, undos))
     }
 
     /// The fault of closing a channel that is closed. Refused, nothing has changed.

@@ -19,9 +19,9 @@ use crate::faults::stopping;
 use crate::objects::{Objects, Run};
 use crate::turn::Turn;
 use gr_base::{Event, Kind, NoMemory};
-use gr_goros::{Halt, Need};
+use gr_goros::{Halt, LocalKind, Need};
 use gr_record::Listing;
-use gr_record::record::{Change, Form};
+use gr_record::record::Change;
 
 impl Objects {
     /// The goroutine is done, and with that of `main` the program ends (Go: Program execution). Refused, nothing has changed.
@@ -38,9 +38,7 @@ impl Objects {
             return self.end(turn.number);
         }
         let own = self.goroutines.halt(turn.number, Halt::Finished)?;
-        Ok(Change {
-            form: Form::Alone(Kind::Return, own),
-        })
+        Ok(Change::alone(LocalKind::Return, own))
     }
 
     /// The goroutine with a number is done, and the program ends. Refused, nothing has changed.
@@ -50,9 +48,9 @@ impl Objects {
         ensures err { OnErr result (contents_in self.new ≡ contents_in self.old) }
     {
         let nothing = Vec::new(self.alloc);
-        let beyond = stopping(self.alloc, None, nothing)?;
+        let further = stopping(self.alloc, None, nothing)?;
         let own = self.goroutines.halt(number, Halt::Finished)?;
         self.run = Run::Ended;
-        Ok(Change::further(Kind::Exit, own, beyond))
+        Ok(Change::further(Kind::Exit, own, further))
     }
 }

@@ -22,7 +22,7 @@ pub(crate) fn stopping(
     operation: Option<Operation>,
     reads: Vec<Object>,
 ) -> Result<Box<Further>, NoMemory>
-    ensures { IfOk result (λ beyond. Reaches operation reads.items (objects.Run ∷ []) true beyond.value.beyond) }
+    ensures { IfOk result (λ further. Reaches operation reads.items (objects.Run ∷ []) true further.value.beyond) }
 {
     let mut writes = Vec::new(alloc);
     writes.push(Object::Run)?;
@@ -46,10 +46,10 @@ impl Objects {
         ensures room { IfOk result (λ change. (n : List ℕ) → HasRoom n change self.new) }
         ensures err { OnErr result (contents_in self.new ≡ contents_in self.old) }
     {
-        let beyond = stopping(self.alloc, operation, reads)?;
+        let further = stopping(self.alloc, operation, reads)?;
         let own = self.goroutines.halt(number, Halt::Faulted)?;
         self.run = Run::Faulted(fault);
-        Ok(Change::further(Kind::Fault(fault), own, beyond))
+        Ok(Change::further(Kind::Fault(fault), own, further))
     }
 
     /// The goroutine with a number stops the program with a fault, which did nothing with a channel. Refused, nothing has
@@ -79,14 +79,14 @@ impl Objects {
         ensures err { OnErr result (ChangesObjects (ChangesBy number (TakenBack own)) self.old.run self.old self.new) }
     {
         let nothing = Vec::new(self.alloc);
-        let beyond = match stopping(self.alloc, None, nothing) {
-            Ok(beyond) => beyond,
+        let further = match stopping(self.alloc, None, nothing) {
+            Ok(further) => further,
             Err(error) => {
                 self.goroutines.undo(number, own).unwrap();
                 return Err(error);
             }
         };
         self.run = Run::Faulted(fault);
-        Ok(Change::further(Kind::Fault(fault), own, beyond))
+        Ok(Change::further(Kind::Fault(fault), own, further))
     }
 }

@@ -18,10 +18,10 @@ ghost use Rattle.gr_step.specs.Leasing.{Walk, AreRecords, loan_of, loan_kept, na
 ghost use Rattle.gr_step.specs.Leasing.{goroutine_led_to, goes_alone};
 
 use crate::store::Store;
-use gr_base::{Choice, GoName, Kind, NoMemory, StepId};
-use gr_goros::Goroutine;
+use gr_base::{Choice, GoName, NoMemory, StepId};
+use gr_goros::{Goroutine, LocalKind};
 use gr_record::Listing;
-use gr_record::record::{Change, Form, Record};
+use gr_record::record::{Change, Record};
 use std::alloc::Global;
 use std::mem;
 
@@ -123,17 +123,14 @@ impl LentCopy {
         let (kind, own) = self
             .reached
             .local_step(alloc, &self.batch.lent.listing.code)?;
-        if let Kind::Fault(_) = kind {
+        if let LocalKind::Fault(_) = kind {
             let _ = self.reached.undo(own);
             return Ok(false);
         }
-        let change = Change {
-            form: Form::Alone(kind, own),
-        };
         self.records.push_reserved(Record {
             id,
             choice: Choice::Plain,
-            change,
+            change: Change::alone(kind, own),
         });
         self.batch.len = self.records.len();
         Ok(true)

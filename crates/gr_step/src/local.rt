@@ -15,9 +15,10 @@ ghost use Rattle.gr_step.specs.Stepping.{MayAct, IsPlain, OfItsGoroutine, TakesS
 
 use crate::objects::Objects;
 use crate::turn::Turn;
-use gr_base::{Event, Fault, Kind, NoMemory};
+use gr_base::{Event, Fault, NoMemory};
+use gr_goros::LocalKind;
 use gr_record::Listing;
-use gr_record::record::{Change, Form};
+use gr_record::record::Change;
 
 impl Objects {
     /// A step that reaches no further than its goroutine; it may be a fault, which stops the program. Refused, nothing has
@@ -31,12 +32,10 @@ impl Objects {
         ensures err { OnErr result (contents_in self.new ≡ contents_in self.old) }
     {
         let (kind, own) = self.goroutines.local_step(turn.number, &turn.listing.code)?;
-        if let Kind::Fault(fault) = kind {
+        if let LocalKind::Fault(fault) = kind {
             return self.stop(turn.number, fault, own);
         }
-        Ok(Change {
-            form: Form::Alone(kind, own),
-        })
+        Ok(Change::alone(kind, own))
     }
 
     /// A step whose operands are at fault, which stops the program. Refused, nothing has changed.

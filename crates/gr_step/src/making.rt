@@ -30,9 +30,9 @@ use crate::touching::gate_side;
 use crate::turn::Turn;
 use gr_base::{ChName, Event, Fault, GoName, Kind, NoMemory, Object, Value};
 use gr_channels::Channel;
-use gr_goros::{Arrival, Goroutine};
+use gr_goros::{Arrival, Goroutine, LocalKind};
 use gr_record::Listing;
-use gr_record::record::{Change, Form, Further, More, Operation};
+use gr_record::record::{Change, Further, More, Operation};
 use std::alloc::Global;
 
 /// How many places a channel may have.
@@ -54,7 +54,7 @@ fn places_of(size: i64) -> Option<u32>
 
 /// What a step reaches beyond its goroutine that makes a channel of this name.
 fn making(alloc: Global, name: &ChName) -> Result<Box<Further>, NoMemory>
-    ensures { IfOk result (λ beyond. ReachesChannel name.now beyond.value.beyond) }
+    ensures { IfOk result (λ further. ReachesChannel name.now further.value.beyond) }
 {
     let more = More {
         reads: Vec::new(alloc),
@@ -67,7 +67,7 @@ fn making(alloc: Global, name: &ChName) -> Result<Box<Further>, NoMemory>
 
 /// What a step reaches beyond its goroutine that starts a goroutine of this name.
 fn starting(alloc: Global, child: GoName) -> Result<Box<Further>, NoMemory>
-    ensures { IfOk result (λ beyond. ReachesChild child beyond.value.beyond) }
+    ensures { IfOk result (λ further. ReachesChild child further.value.beyond) }
 {
     let mut writes = Vec::with_capacity(alloc, 1)?;
     writes.push(Object::Go(child.copy(alloc)?))?;
@@ -113,7 +113,7 @@ fn reading(
     operation: Operation,
     reads: Vec<Object>,
 ) -> Result<Box<Further>, NoMemory>
-    ensures { IfOk result (λ beyond. Reaches (Some operation) reads.items [] false beyond.value.beyond) }
+    ensures { IfOk result (λ further. Reaches (Some operation) reads.items [] false further.value.beyond) }
 {
     reached(alloc, Some(operation), reads, Vec::new(alloc), false)
 }
@@ -152,7 +152,7 @@ impl Objects {
     {
         let go = turn.event.go.copy(self.alloc)?;
         let name = ChName { go, n: count };
-        let beyond = making(self.alloc, &name)?;
+        let further = making(self.alloc, &name)?;
         let value = Value::Chan(Some(name.copy(self.alloc)?));
         let own = self
             .goroutines
@@ -161,7 +161,7 @@ impl Objects {
             self.goroutines.undo(turn.number, own).unwrap();
             return Err(error);
         }
-        Ok(Change::further(Kind::Make, own, beyond))
+        Ok(Change::further(Kind::Make, own, further))
     }
 
     /// Starts a goroutine; it may be a fault. Refused, nothing has changed.
@@ -209,12 +209,12 @@ impl Objects {
         let child = turn.event.go.child(self.alloc, count)?;
         let goroutine = Goroutine::start(self.alloc, &turn.listing.code, function, arguments)?;
         let place = self.goroutines.know(&child)?;
-        let beyond = starting(self.alloc, child)?;
+        let further = starting(self.alloc, child)?;
         let own = self
             .goroutines
             .deliver(turn.number, &turn.listing.code, Arrival::Child)?;
         self.goroutines.put(place, goroutine);
-        Ok(Change::further(Kind::Go, own, beyond))
+        Ok(Change::further(Kind::Go, own, further))
     }
 
     /// Counts the items of a channel. Refused, nothing has changed.
@@ -235,8 +235,8 @@ impl Objects {
         };
         let items = items_of(self.channels.get(&channel).unwrap());
         let reads = read_for_len(self.alloc, &channel)?;
-        let beyond = reading(self.alloc, Operation::TakesLenOf(channel), reads)?;
-        self.count(turn.listing, turn.number, items, Some(beyond))
+        let further = reading(self.alloc, Operation::TakesLenOf(channel), reads)?;
+        self.count(turn.listing, turn.number, items, Some(further))
     }
 
     /// Counts the places of a channel. Refused, nothing has changed.
@@ -257,8 +257,8 @@ impl Objects {
         };
         let places = self.channels.get(&channel).unwrap().capacity();
         let reads = gate_side(self.alloc, &channel)?;
-        let beyond = reading(self.alloc, Operation::TakesCapOf(channel), reads)?;
-        self.count(turn.listing, turn.number, places, Some(beyond))
+        let further = reading(self.alloc, Operation::TakesCapOf(channel), reads)?;
+        self.count(turn.listing, turn.number, places, Some(further))
     }
 
     /// The goroutine with a number goes on with a count, which reached this beyond it. Refused, nothing has changed.
@@ -267,11 +267,11 @@ impl Objects {
         listing: &Listing,
         number: usize,
         count: u32,
-        beyond: Option<Box<Further>>,
+        further: Option<Box<Further>>,
     ) -> Result<Change, NoMemory>
         requires { At (CanArrive (program_code_of listing.now.code.value) (arrivals.Value (Int (pos count))))
             (seen_at self.old.goroutines number) }
-        ensures ok { IfOk result (λ change. (change.kind ≡ kinds.Length) × (change.beyond ≡ option_map (λ b. b.value.beyond) beyond)
+        ensures ok { IfOk result (λ change. (change.kind ≡ kinds.Length) × (change.beyond ≡ option_map (λ f. f.value.beyond) further)
             × ChangesObjects (ChangesBy number
             (Arrives (program_code_of listing.now.code.value)
             (arrivals.Value (Int (pos count))) change.own)) self.old.run self.old self.new) }
@@ -279,11 +279,9 @@ impl Objects {
     {
         let arrival = Arrival::Value(whole(count));
         let own = self.goroutines.deliver(number, &listing.code, arrival)?;
-        match beyond {
-            Some(beyond) => Ok(Change::further(Kind::Length, own, beyond)),
-            None => Ok(Change {
-                form: Form::Alone(Kind::Length, own),
-            }),
+        match further {
+            Some(further) => Ok(Change::further(Kind::Length, own, further)),
+            None => Ok(Change::alone(LocalKind::Length, own)),
         }
     }
 }

@@ -20,14 +20,14 @@ ghost use Rattle.gr_step.specs.Passing.{CanArriveAt, BothArrive, Tells};
 ghost use Rattle.gr_step.specs.Preparing.{IsReached, IsPrepared, CanPass, IsPass, CanExchange, IsExchange, WaitsFor};
 ghost use Rattle.gr_step.specs.Stepping.{event_for, code_for};
 
-use crate::beyond::reached_with;
+use crate::beyond::{reached_with, with_changes};
 use crate::channels_named::{others_awaited, still_to_leave};
 use crate::objects::Objects;
 use crate::turn::Turn;
 use crate::unstepping::{put_back, put_one_back};
 use gr_base::{ChName, GoName, Kind, NoMemory, Object};
 use gr_channels::ChanUndo;
-use gr_goros::{Arrival, GoUndo};
+use gr_goros::{Arrival, GoUndo, KeptUndo};
 use gr_record::Few;
 use gr_record::record::{Change, Further, Operation, Passage, Touched};
 use gr_tables::channels::Channels;
@@ -53,10 +53,9 @@ fn told_with(
     ensures { (operation : attempts.Operation) (reads writes : List Object) → IsReached operation reads writes further.value.beyond
         → Tells result kind (Some operation) reads writes own (met ∷ []) (members channels) }
 {
-    let mut further = further;
-    further.beyond.met = Few::One(met);
-    further.beyond.channels = channels;
-    Change::further(kind, own, further)
+    let (go, undo) = met;
+    let met = Few::One((go, KeptUndo::new(undo)));
+    Change::further(kind, own, with_changes(further, met, channels))
 }
 
 /// A goroutine leaves the queues of the channels of these names, after a change of a channel in the same step. Refused, that
@@ -96,7 +95,7 @@ pub(crate) struct Prepared {
     pub(crate) names: Vec<ChName>,
     /// The channel of the communication.
     pub(crate) channel: ChName,
-    pub(crate) beyond: Box<Further>,
+    pub(crate) further: Box<Further>,
 }
 
 /// How two goroutines go past their communication: the kind of the step, what arrives at the one that takes it, and what
@@ -126,14 +125,14 @@ impl Objects {
         let goroutine = self.goroutines.at(number);
         let status = goroutine.status();
         let others = others_awaited(self.alloc, channel, status)?;
-        let beyond = reached_with(self.alloc, operation, touched, go, &others)?;
+        let further = reached_with(self.alloc, operation, touched, go, &others)?;
         let names = still_to_leave(self.alloc, channel, status, others)?;
         Ok(Prepared {
             go: go.copy(self.alloc)?,
             number,
             names,
             channel: channel.copy(self.alloc)?,
-            beyond,
+            further,
         })
     }
 
@@ -221,7 +220,7 @@ impl Objects {
         requires { CanExchange (code_for turn.now) (event_for turn.now) turn.now.number prepared undo
             (arrival_of crossing.passes) (arrival_of crossing.meets) self.old }
         ensures ok { (operation : attempts.Operation) (reads writes : List Object)
-            → IsReached operation reads writes prepared.beyond.value.beyond
+            → IsReached operation reads writes prepared.further.value.beyond
             → IfOk result (λ change. IsExchange (code_for turn.now) (event_for turn.now).go prepared.go
             (arrival_of crossing.passes) (arrival_of crossing.meets)
             prepared.names.items crossing.kind operation reads writes ((prepared.channel, undo) ∷ []) change self.old self.new) }
@@ -234,7 +233,7 @@ impl Objects {
             number: partner,
             names,
             channel,
-            beyond,
+            further,
         } = prepared;
         let Crossing {
             kind,
@@ -244,7 +243,7 @@ impl Objects {
         let change = (channel, undo);
         let done = leave_after(&mut self.channels, self.alloc, change, &names, &go)?;
         match self.both_arrive(turn, passes, &go, partner, meets) {
-            Ok((own, met)) => Ok(told_with(kind, own, beyond, (go, met), done)),
+            Ok((own, met)) => Ok(told_with(kind, own, further, (go, met), done)),
             Err(error) => {
                 put_back(&mut self.channels, done);
                 Err(error)

@@ -47,7 +47,7 @@ use std::alloc::Global;
 
 /// What a step reaches beyond its goroutine that read these and wrote nothing.
 fn reading(alloc: Global, reads: Vec<Object>) -> Result<Box<Further>, NoMemory>
-    ensures { IfOk result (λ beyond. Reaches None reads.items [] false beyond.value.beyond) }
+    ensures { IfOk result (λ further. Reaches None reads.items [] false further.value.beyond) }
 {
     reached(alloc, None, reads, Vec::new(alloc), false)
 }
@@ -261,12 +261,12 @@ impl Objects {
             (Passes (Some case) None) change.own)) self.old.run self.old self.new) }
         ensures err { OnErr result (contents_in self.new ≡ contents_in self.old) }
     {
-        let beyond = reading(self.alloc, reads)?;
+        let further = reading(self.alloc, reads)?;
         let arrival = Arrival::Passes {
             clause: Some(case),
             got: None,
         };
         let own = self.goroutines.deliver(number, &listing.code, arrival)?;
-        Ok(Change::further(Kind::Default, own, beyond))
+        Ok(Change::further(Kind::Default, own, further))
     }
 }

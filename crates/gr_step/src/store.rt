@@ -19,13 +19,13 @@ ghost use Rattle.gr_record.specs.Records.{event_of, taken_back, CanGoBack};
 use crate::objects::{Objects, Run};
 use crate::refusal::StepRefused;
 use crate::turn::Turn;
-use gr_base::{ChName, Choice, Event, GoName, Kind, NoMemory, StepId};
+use gr_base::{ChName, Choice, Event, GoName, NoMemory, StepId};
 use gr_channels::Channel;
 use gr_code::code::Code;
-use gr_goros::{Goroutine, Need};
+use gr_goros::{Goroutine, LocalKind, Need};
 use gr_program::program::Program;
 use gr_record::Listing;
-use gr_record::record::{Change, Form, Record};
+use gr_record::record::{Change, Record};
 use gr_tables::channels::Channels;
 use gr_tables::goroutines::Goroutines;
 use std::alloc::Global;
@@ -202,9 +202,7 @@ impl Store {
                 n: ordinal,
             },
             choice: Choice::Plain,
-            change: Change {
-                form: Form::Alone(Kind::Pure, own),
-            },
+            change: Change::alone(LocalKind::Pure, own),
         })
     }
 

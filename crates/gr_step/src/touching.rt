@@ -4,6 +4,7 @@ ghost use Rattle.std.specs.Prelude.{◌≡◌, ◌∷◌, [], ◌++◌, List, So
 ghost use Rattle.gr_base.specs.declared.objects.Object.TheVariants as objects;
 ghost use Rattle.gr_channels.specs.Channels.{tail_of};
 ghost use Rattle.gr_rules.specs.Touches.{slot_numbered};
+ghost use Rattle.gr_record.specs.Effects.{touched_to_receive, touched_to_send};
 ghost use Rattle.gr_record.specs.Parts.{slot_before, AreTouched};
 
 use gr_base::{ChName, NoMemory, Object};
@@ -186,28 +187,28 @@ pub(crate) fn moved(channel: &Channel) -> Touched
     }
 }
 
-/// What a send touches that waits: it writes the gate, and reads where the next value enters.
-pub(crate) fn entrance_read(channel: &Channel) -> Touched
-    ensures { (c : ChName) → AreTouched result (Some c) (objects.Tail c
+/// The place of the slot that a send reads when it comes to wait: it reads where the next value enters, and writes the gate.
+pub(crate) fn entrance_of(channel: &Channel) -> SlotPlace
+    ensures { (c : ChName) → AreTouched (touched_to_send result) (Some c) (objects.Tail c
         ∷ slot_numbered c channel.now.content.capacity (tail_of channel.now.content)) (objects.Gate c ∷ []) }
 {
-    Touched {
-        read: Parts::Entrance,
-        written: Parts::Gate,
-        slot: slot_at_tail(channel),
-    }
+    slot_at_tail(channel)
 }
 
-/// What a receive touches that waits or meets a sender: it writes the gate, and reads where the front item is.
+/// The place of the slot that a receive reads when it comes to wait: it reads where the front item is, and writes the gate.
+pub(crate) fn exit_of(channel: &Channel) -> SlotPlace
+    ensures { (c : ChName) → AreTouched (touched_to_receive result) (Some c) (objects.Head c
+        ∷ slot_numbered c channel.now.content.capacity channel.now.content.head) (objects.Gate c ∷ []) }
+{
+    slot_at_head(channel)
+}
+
+/// What a receive touches that meets a sender: it writes the gate, and reads where the front item is.
 pub(crate) fn exit_read(channel: &Channel) -> Touched
     ensures { (c : ChName) → AreTouched result (Some c) (objects.Head c
         ∷ slot_numbered c channel.now.content.capacity channel.now.content.head) (objects.Gate c ∷ []) }
 {
-    Touched {
-        read: Parts::Exit,
-        written: Parts::Gate,
-        slot: slot_at_head(channel),
-    }
+    Touched::to_receive(exit_of(channel))
 }
 
 /// What a receive reads that finds a closed channel empty: the gate, and where the front item is.

@@ -2,6 +2,7 @@
 
 ghost use Rattle.std.specs.Prelude.{◌≡◌, ◌≤◌, ◌∷◌, [], if◌then◌else◌, Some, IfErr, OnOk, OnErr, IsOk};
 ghost use Rattle.gr_goros.specs.Undoing.{need};
+ghost use Rattle.gr_goros.specs.declared.undo.GoUndo.TheVariants.{Parked};
 ghost use Rattle.gr_tables.specs.NamedChannels.{contents_of, rooms_of, ChansFit, HasRooms, TookBack, listed};
 ghost use Rattle.gr_tables.specs.NamedGoroutines.{goroutines_of, go_rooms_of};
 ghost use Rattle.gr_record.specs.Fews.{members};
@@ -14,11 +15,11 @@ ghost use Rattle.gr_step.specs.Room.{HasRoom};
 ghost use Rattle.gr_step.specs.Unstepping.{GoBack, after_back, IsForgotten, IsUnmade, AreUndone, IsTakenBack};
 
 use crate::objects::{Objects, Run};
-use gr_base::{ChName, GoName, NoMemory};
+use gr_base::{ChName, GoName, Kind, NoMemory};
 use gr_channels::ChanUndo;
-use gr_goros::GoUndo;
+use gr_goros::{GoUndo, KeptUndo, Spot};
 use gr_record::Few;
-use gr_record::record::{Beyond, Change, Form, Further, More, Passage, Waiting};
+use gr_record::record::{Beyond, Change, Form, Further, More, Passage};
 use gr_tables::channels::Channels;
 use gr_tables::goroutines::Goroutines;
 
@@ -42,26 +43,26 @@ fn undo_at(
 }
 
 /// Takes changes of goroutines back, the last first. None of them needs a frame to come back.
-fn undo_each(goroutines: &mut Goroutines, undos: Vec<(GoName, GoUndo)>)
+fn undo_each(goroutines: &mut Goroutines, undos: Vec<(GoName, KeptUndo)>)
     requires fits { GoesFit undos.items (goroutines_of goroutines.old) }
     requires frames { NeedNoFrame undos.items }
     ensures { GoBack undos.items goroutines.old goroutines.new }
 {
     let mut undos = undos;
     while let Some((name, undo)) = undos.pop() {
-        undo_at(goroutines, &name, undo).unwrap();
+        undo_at(goroutines, &name, undo.get()).unwrap();
     }
 }
 
 /// Takes changes of goroutines back, as `undo_each` does, mostly one.
-fn undo_all(goroutines: &mut Goroutines, undos: Few<(GoName, GoUndo)>)
+fn undo_all(goroutines: &mut Goroutines, undos: Few<(GoName, KeptUndo)>)
     requires fits { GoesFit (members undos) (goroutines_of goroutines.old) }
     requires frames { NeedNoFrame (members undos) }
     ensures { GoBack (members undos) goroutines.old goroutines.new }
 {
     match undos {
         Few::Empty => {}
-        Few::One((name, undo)) => undo_at(goroutines, &name, undo).unwrap(),
+        Few::One((name, undo)) => undo_at(goroutines, &name, undo.get()).unwrap(),
         Few::Many(undos) => undo_each(goroutines, undos),
     }
 }
@@ -142,19 +143,20 @@ impl Objects {
         ensures succeeds { HasRoom go.now change self.old → IsOk result }
     {
         match change.form {
-            Form::Alone(kind, own) => match undo_at(&mut self.goroutines, go, own) {
+            Form::Alone(kind, own) => match undo_at(&mut self.goroutines, go, own.get()) {
                 Ok(()) => Ok(()),
-                Err((own, error)) => {
-                    let form = Form::Alone(kind, own);
-                    Err((Change { form }, error))
-                }
+                Err((own, error)) => Err((Change::alone(kind, own), error)),
             },
-            Form::Waits(waiting) => {
-                self.take_wait_back(go, waiting);
+            Form::WaitsToSend(_, channel, spot) => {
+                self.take_wait_back(go, &channel, ChanUndo::ParkedSender, spot);
                 Ok(())
             }
-            Form::Passes(own, passage) => self.take_passage_back(go, own, passage),
-            Form::Further(own, further) => self.take_beyond_back(go, own, further),
+            Form::WaitsToReceive(_, channel, spot) => {
+                self.take_wait_back(go, &channel, ChanUndo::ParkedReceiver, spot);
+                Ok(())
+            }
+            Form::Passes(kind, passage) => self.take_passage_back(go, kind, passage),
+            Form::Further(kind, further) => self.take_beyond_back(go, kind, further),
         }
     }
 
@@ -163,36 +165,38 @@ impl Objects {
     fn take_passage_back(
         &mut self,
         go: &GoName,
-        own: GoUndo,
+        kind: Kind,
         passage: Box<Passage>,
     ) -> Result<(), (Change, NoMemory)>
-        requires { CanGoBack go.now (effect_in (forms.Passes own passage)) (contents_in self.old) }
-        ensures back { OnOk result (IsTakenBack go.now (effect_in (forms.Passes own passage)) self.old self.new) }
+        requires { CanGoBack go.now (effect_in (forms.Passes kind passage)) (contents_in self.old) }
+        ensures back { OnOk result (IsTakenBack go.now (effect_in (forms.Passes kind passage)) self.old self.new) }
         ensures err { OnErr result (contents_in self.new ≡ contents_in self.old) }
-        ensures returned { IfErr result (λ e. e.0 ≡ effect_in (forms.Passes own passage)) }
-        ensures succeeds { HasRoom go.now (effect_in (forms.Passes own passage)) self.old → IsOk result }
+        ensures returned { IfErr result (λ e. e.0 ≡ effect_in (forms.Passes kind passage)) }
+        ensures succeeds { HasRoom go.now (effect_in (forms.Passes kind passage)) self.old → IsOk result }
     {
         let channel = passage.contact.operation.channel();
         if let Err(error) = make_room(&mut self.channels, channel, &passage.undo) {
-            let form = Form::Passes(own, passage);
+            let form = Form::Passes(kind, passage);
             return Err((Change { form }, error));
         }
-        let Passage { contact, undo, .. } = Box::into_inner(passage);
+        let Passage { own, contact, undo } = Box::into_inner(passage);
         put_one_back(&mut self.channels, contact.operation.channel(), undo);
-        undo_at(&mut self.goroutines, go, own).unwrap();
+        undo_at(&mut self.goroutines, go, own.get()).unwrap();
         Ok(())
     }
 
-    /// Takes back what a step did whose goroutine came to wait, which needs no room.
+    /// Takes back what a step did whose goroutine came to wait in a queue of a channel. There is room for it.
     #[inline(never)]
-    fn take_wait_back(&mut self, go: &GoName, waiting: Waiting)
-        requires { CanGoBack go.now (effect_in (forms.Waits waiting)) (contents_in self.old) }
-        ensures { IsTakenBack go.now (effect_in (forms.Waits waiting)) self.old self.new }
+    fn take_wait_back(&mut self, go: &GoName, channel: &ChName, undo: ChanUndo, spot: Spot)
+        requires fits { GoesFit ((go.now, Parked spot) ∷ []) (goroutines_of self.old.goroutines) }
+        requires channels { ChansFit ((channel.now, undo) ∷ []) (contents_of self.old.channels) }
+        requires room { HasRooms ((channel.now, undo) ∷ []) (rooms_of self.old.channels) }
+        ensures goroutines { GoBack ((go.now, Parked spot) ∷ []) self.old.goroutines self.new.goroutines }
+        ensures channels { TookBack ((channel.now, undo) ∷ []) self.old.channels self.new.channels }
+        ensures run { self.new.run ≡ self.old.run }
     {
-        let undo = waiting.undo();
-        self.channels
-            .put_back(waiting.contact.operation.channel(), undo);
-        undo_at(&mut self.goroutines, go, GoUndo::Parked(waiting.spot)).unwrap();
+        self.channels.put_back(channel, undo);
+        undo_at(&mut self.goroutines, go, GoUndo::Parked(spot)).unwrap();
     }
 
     /// Takes back what a step did that reached beyond its goroutine. Refused, nothing has changed.
@@ -200,20 +204,21 @@ impl Objects {
     fn take_beyond_back(
         &mut self,
         go: &GoName,
-        own: GoUndo,
+        kind: Kind,
         further: Box<Further>,
     ) -> Result<(), (Change, NoMemory)>
-        requires { CanGoBack go.now (effect_in (forms.Further own further)) (contents_in self.old) }
-        ensures back { OnOk result (IsTakenBack go.now (effect_in (forms.Further own further)) self.old self.new) }
+        requires { CanGoBack go.now (effect_in (forms.Further kind further)) (contents_in self.old) }
+        ensures back { OnOk result (IsTakenBack go.now (effect_in (forms.Further kind further)) self.old self.new) }
         ensures err { OnErr result (contents_in self.new ≡ contents_in self.old) }
-        ensures returned { IfErr result (λ e. e.0 ≡ effect_in (forms.Further own further)) }
-        ensures succeeds { HasRoom go.now (effect_in (forms.Further own further)) self.old → IsOk result }
+        ensures returned { IfErr result (λ e. e.0 ≡ effect_in (forms.Further kind further)) }
+        ensures succeeds { HasRoom go.now (effect_in (forms.Further kind further)) self.old → IsOk result }
     {
         if let Err(error) = self.channels.make_room(further.beyond.channels.as_slice()) {
-            let form = Form::Further(own, further);
+            let form = Form::Further(kind, further);
             return Err((Change { form }, error));
         }
-        self.take_rest_back(go, own, Box::into_inner(further).beyond);
+        let Further { own, beyond } = Box::into_inner(further);
+        self.take_rest_back(go, own.get(), beyond);
         Ok(())
     }
 

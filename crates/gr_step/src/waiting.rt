@@ -26,6 +26,7 @@ ghost use Rattle.gr_tables.specs.NamedChannels.{contents_of};
 ghost use Rattle.gr_tables.specs.NamedGoroutines.{seen_at, At, CanPark};
 ghost use Rattle.gr_step.specs.Parks.{pending_of, gates_of, with_channels, AreMade, Parks};
 ghost use Rattle.gr_step.specs.Beyonds.{Reaches};
+ghost use Rattle.gr_record.specs.Effects.{touched_to_receive, touched_to_send};
 ghost use Rattle.gr_record.specs.Parts.{channel_on, AreTouched};
 ghost use Rattle.gr_record.specs.declared.record.Operation.TheVariants as operations;
 ghost use Rattle.gr_laws.specs.Touched.{each_once as each_read};
@@ -46,12 +47,13 @@ use crate::channels_named::channels_but;
 use crate::objects::Objects;
 use crate::queues::{all_waits, park_for_few, queue_to_receive, queue_to_send};
 use crate::sides::{each_once, sides};
-use crate::touching::{entrance_read, exit_read, push_gates, untouched};
+use crate::touching::{entrance_of, exit_of, push_gates, untouched};
 use crate::turn::Turn;
 use gr_base::{ChName, Event, Kind, NoMemory, Object, Value};
 use gr_goros::{Clause, Wait};
 use gr_record::Listing;
-use gr_record::record::{Change, Contact, Form, Further, Operation, Touched, Waiting};
+use gr_record::record::{Change, Further, Operation};
+use gr_record::slot::SlotPlace;
 use gr_tables::channels::Channels;
 use std::alloc::Global;
 
@@ -88,28 +90,30 @@ fn gates(alloc: Global, waits: &[Wait]) -> Result<Vec<Object>, NoMemory>
     Ok(gates)
 }
 
-/// What a wait to send touches of its channel, which is there: it writes the gate, and reads where the next value enters.
-fn touched_to_send(channels: &Channels, channel: &ChName, value: &Value) -> Touched
+/// The place of the slot that a wait to send reads of its channel, which is there: it reads where the next value enters, and
+/// writes the gate.
+fn slot_to_send(channels: &Channels, channel: &ChName, value: &Value) -> SlotPlace
     requires { AreMade ((None, deeds.Sending (Some channel.now) (gives value.now)) ∷ []) (contents_of channels.now) }
-    ensures { (frame : CodeFrame → Frame) → AreTouched result (Some channel.now)
+    ensures { (frame : CodeFrame → Frame) → AreTouched (touched_to_send result) (Some channel.now)
         (each_read (gates_of ((None, deeds.Sending (Some channel.now) (gives value.now)) ∷ []))
         (side_by (state_of frame (with_channels (contents_of channels.now)))
         (deeds.Sending (Some channel.now) (gives value.now))))
         (gates_of ((None, deeds.Sending (Some channel.now) (gives value.now)) ∷ [])) }
 {
-    entrance_read(channels.get(channel).unwrap())
+    entrance_of(channels.get(channel).unwrap())
 }
 
-/// What a wait to receive touches of its channel, which is there: it writes the gate, and reads where the front item is.
-fn touched_to_receive(channels: &Channels, channel: &ChName) -> Touched
+/// The place of the slot that a wait to receive reads of its channel, which is there: it reads where the front item is, and
+/// writes the gate.
+fn slot_to_receive(channels: &Channels, channel: &ChName) -> SlotPlace
     requires { (initial : value.Value)
         → AreMade ((None, deeds.Receiving (Some channel.now) initial) ∷ []) (contents_of channels.now) }
-    ensures { (frame : CodeFrame → Frame) (initial : value.Value) → AreTouched result (Some channel.now)
+    ensures { (frame : CodeFrame → Frame) (initial : value.Value) → AreTouched (touched_to_receive result) (Some channel.now)
         (each_read (gates_of ((None, deeds.Receiving (Some channel.now) initial) ∷ []))
         (side_by (state_of frame (with_channels (contents_of channels.now))) (deeds.Receiving (Some channel.now) initial)))
         (gates_of ((None, deeds.Receiving (Some channel.now) initial) ∷ [])) }
 {
-    exit_read(channels.get(channel).unwrap())
+    exit_of(channels.get(channel).unwrap())
 }
 
 impl Objects {
@@ -164,9 +168,9 @@ impl Objects {
         let waits = all_waits(alloc, pending)?;
         let writes = gates(alloc, &waits)?;
         let reads = each_once(alloc, &writes, sides)?;
-        let beyond = reached(alloc, operation, reads, writes, false)?;
+        let further = reached(alloc, operation, reads, writes, false)?;
         let waits = Box::new(alloc, waits)?;
-        self.begin_to_wait(turn, kind, beyond, waits, pending)
+        self.begin_to_wait(turn, kind, further, waits, pending)
     }
 
     /// Begins to wait for a communication on nil, forever. Refused, nothing has changed.
@@ -183,9 +187,9 @@ impl Objects {
             ((None, communication_of communication) ∷ []) change self.old self.new) }
         ensures err { OnErr result (contents_in self.new ≡ contents_in self.old) }
     {
-        let beyond = waited(self.alloc, None, untouched())?;
+        let further = waited(self.alloc, None, untouched())?;
         let waits = Box::new(self.alloc, Vec::new(self.alloc))?;
-        self.begin_to_wait(turn, kind, beyond, waits, &[(None, communication)])
+        self.begin_to_wait(turn, kind, further, waits, &[(None, communication)])
     }
 
     /// Begins to wait to send a value on a channel. Refused, nothing has changed.
@@ -205,7 +209,7 @@ impl Objects {
         ensures err { OnErr result (contents_in self.new ≡ contents_in self.old) }
     {
         let name = channel.copy(self.alloc)?;
-        let touched = touched_to_send(&self.channels, &channel, &value);
+        let slot = slot_to_send(&self.channels, &channel, &value);
         queue_to_send(
             &mut self.channels,
             self.alloc,
@@ -214,10 +218,7 @@ impl Objects {
             value,
         )?;
         let spot = self.goroutines.park_to_send(turn.number, name);
-        let operation = Operation::SendsOn(channel);
-        let contact = Contact { operation, touched };
-        let form = Form::Waits(Waiting { contact, spot });
-        Ok(Change { form })
+        Ok(Change::waits_to_send(slot, channel, spot))
     }
 
     /// Begins to wait to receive from a channel. Refused, nothing has changed.
@@ -237,13 +238,10 @@ impl Objects {
         ensures err { OnErr result (contents_in self.new ≡ contents_in self.old) }
     {
         let name = channel.copy(self.alloc)?;
-        let touched = touched_to_receive(&self.channels, &channel);
+        let slot = slot_to_receive(&self.channels, &channel);
         queue_to_receive(&mut self.channels, self.alloc, &turn.event.go, &channel)?;
         let spot = self.goroutines.park_to_receive(turn.number, name);
-        let operation = Operation::ReceivesFrom(channel);
-        let contact = Contact { operation, touched };
-        let form = Form::Waits(Waiting { contact, spot });
-        Ok(Change { form })
+        Ok(Change::waits_to_receive(slot, channel, spot))
     }
 
     /// Begins to wait to send a value, on nil forever. Refused, nothing has changed.

@@ -12,7 +12,7 @@ ghost use Rattle.gr_step.specs.Wakes.{with_each_woken, IsShut, LeadsOver};
 use crate::channels_named::channels_awaited;
 use gr_base::{ChName, GoName, NoMemory};
 use gr_channels::ChanUndo;
-use gr_goros::GoUndo;
+use gr_goros::KeptUndo;
 use gr_tables::channels::Channels;
 use gr_tables::goroutines::Goroutines;
 use std::alloc::Global;
@@ -113,21 +113,21 @@ pub(crate) fn shut(
 }
 
 /// Makes a goroutine ready again.
-fn wake(goroutines: &mut Goroutines, go: &GoName) -> GoUndo
+fn wake(goroutines: &mut Goroutines, go: &GoName) -> KeptUndo
     requires { is_live_there (goroutines_of goroutines.old go.now) ≡ true }
     ensures woken { goroutines_of goroutines.new ≡ with_one_woken (goroutines_of goroutines.old) go.now }
     ensures back { LeadsOver ((go.now, result) ∷ []) (goroutines_of goroutines.old) (goroutines_of goroutines.new) }
 {
     let number = goroutines.number(go).unwrap();
-    goroutines.retry(number)
+    KeptUndo::new(goroutines.retry(number))
 }
 
 /// Makes goroutines ready again, one after the other, and tells their changes in a list that has room for them.
 pub(crate) fn wake_each(
     goroutines: &mut Goroutines,
     names: Vec<GoName>,
-    met: Vec<(GoName, GoUndo)>,
-) -> Vec<(GoName, GoUndo)>
+    met: Vec<(GoName, KeptUndo)>,
+) -> Vec<(GoName, KeptUndo)>
     requires live { list_all (λ n. is_live_there (goroutines_of goroutines.old n)) names.items ≡ true }
     requires none { met.items ≡ [] }
     requires room { vec_len names ≤ vec_capacity met }

@@ -1,12 +1,12 @@
 -- What is true of an answer that may be none.
 use Rattle.std.proofs.Common.{◌≡◌, ◌+◌, ℕ, true, Option, Some, None}
 use Rattle.std.specs.Prelude.{IfSome, IfNone}
-use Rattle.gr_base.specs.declared.kinds.Kind.TheVariants.{Pure}
 use Rattle.gr_code.specs.CodeFrames.{ProgramCode}
 use Rattle.gr_code.specs.Goroutines.{CodeGoroutine, is_local, local}
 use Rattle.gr_goros.specs.Tasks.{IsStep}
 use Rattle.gr_goros.specs.Undoing.{undone}
 use Rattle.gr_goros.specs.Views.{Seen}
+use Rattle.gr_goros.specs.declared.kinds.LocalKind.TheVariants.{Pure}
 use Rattle.gr_goros.specs.declared.undo.GoUndo.{GoUndo}
 use Rattle.gr_rules.specs.Goroutines.{ready}
 use Rattle.gr_tables.specs.Counting.{StepsOn}

@@ -1,6 +1,5 @@
 -- The next step of a goroutine of a store, where it is one over whole numbers alone.
 use Rattle.std.specs.Prelude.{◌≡◌, ◌+◌, ℕ, true}
-use Rattle.gr_base.specs.declared.kinds.Kind.TheVariants.{Pure}
 use Rattle.gr_rules.specs.Goroutines.{ready}
 use Rattle.gr_rules.specs.Outcomes.{wrong}
 use Rattle.gr_code.specs.CodeFrames.{ProgramCode}
@@ -8,6 +7,7 @@ use Rattle.gr_code.specs.Goroutines.{CodeGoroutine, is_local, local, task_of}
 use Rattle.gr_goros.specs.Tasks.{IsStep}
 use Rattle.gr_goros.specs.Undoing.{undone}
 use Rattle.gr_goros.specs.Views.{Seen}
+use Rattle.gr_goros.specs.declared.kinds.LocalKind.TheVariants.{Pure}
 use Rattle.gr_goros.specs.declared.undo.GoUndo.{GoUndo}
 use Rattle.gr_tables.specs.NamedGoroutines.{IsCounted}
 

@@ -7,4 +7,7 @@ pub mod NamedGoroutines
 pub mod Slots
 pub mod Counting
 pub use Rattle.gr_goros.specs.declared.undo.GoUndo
+pub use Rattle.gr_goros.specs.declared.undo.Spot
 pub use Rattle.gr_goros.specs.Undoing
+pub use Rattle.gr_goros.specs.Kinds
+pub use Rattle.gr_goros.specs.Keeping

@@ -6,5 +6,6 @@ pub mod TouchLemmas
 pub mod StretchLemmas
 pub mod RoomLemmas
 pub mod AddingLemmas
+pub mod FormLemmas
 pub mod MarkLemmas
 pub mod WalkLemmas

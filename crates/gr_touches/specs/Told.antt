@@ -1,9 +1,11 @@
 -- Objects as the record of a step tells them.
-use Rattle.std.specs.Prelude.{ℕ, ◌+◌, List, ◌∷◌, Option, option_copied}
+use Rattle.std.specs.Prelude.{ℕ, ◌+◌, List, [], ◌∷◌, Option, Some, option_copied}
 use Rattle.std.specs.Option.{option_map_or}
+use Rattle.gr_base.specs.declared.names.ChName.{ChName}
 use Rattle.gr_base.specs.declared.objects.Object.{Object}
 use Rattle.gr_base.specs.declared.objects.Object.TheVariants.{Gate, Tail, Head, Slot}
-use Rattle.gr_record.specs.Parts.{partner_before}
+use Rattle.gr_record.specs.declared.record.Touched.{Touched}
+use Rattle.gr_record.specs.Parts.{parts_before, partner_before}
 use Rattle.gr_touches.specs.declared.objects.TouchedObjects.{TouchedObjects}
 use Rattle.gr_touches.specs.ObjectRefs.{seen}
 
@@ -15,6 +17,13 @@ named object o os = option_map_or (λ n. object n ∷ os) o os
 abbrev pub seen_in : TouchedObjects → List Object
 seen_in o = named seen o.front (named Gate (option_copied o.gate) (named Head (option_copied o.head) (named Tail (option_copied o.tail)
     (named (λ s. Slot s.0.now s.1) o.slot (partner_before (option_copied o.partner) o.others.now)))))
+
+-- what a step read of a channel and did not write, and what it wrote of it
+abbrev pub read_on : ChName → Touched → List Object
+read_on c t = parts_before t.read t.slot (Some c) []
+
+abbrev pub written_on : ChName → Touched → List Object
+written_on c t = parts_before t.written t.slot (Some c) []
 
 -- how many of them there are, but for the others
 abbrev pub one_of : {N : Type 0} → Option N → ℕ

@@ -4,15 +4,15 @@ ghost use Rattle.std.specs.Prelude.{◌≡◌, ◌<◌, ◌^◌, ◌∷◌, [], 
 ghost use Rattle.gr_base.specs.declared.objects.Object.TheVariants as objects;
 ghost use Rattle.gr_record.specs.Conflicts.{read_by, written_by};
 ghost use Rattle.gr_record.specs.Parts.{channel_in, parts_before, reads_in, writes_in};
-ghost use Rattle.gr_touches.specs.Told.{seen_in};
+ghost use Rattle.gr_touches.specs.Told.{read_on, seen_in, written_on};
 
 use crate::lanes::Lanes;
 use crate::object_ref::ObjectRef;
 use crate::objects::{TouchedObjects, others_read, others_written, parts_of, parts_written};
-use crate::reached::Reached;
+use crate::reached::{Reached, TouchedChannel};
 use crate::touch::Touch;
-use gr_base::{GoName, NoMemory, Object};
-use gr_record::record::{Beyond, Form, Parts, Record};
+use gr_base::{ChName, GoName, NoMemory, Object};
+use gr_record::record::{Beyond, Form, Parts, Record, Touched};
 
 impl Lanes {
     ghost use Rattle.gr_touches.specs.Room.{NotesFor, NotesStep};
@@ -25,8 +25,16 @@ impl Lanes {
     {
         match step.change.form() {
             Form::Alone(_, _) => self.note_alone(place, step),
-            Form::Waits(waiting) => self.note_reached(place, step, &waiting.contact),
-            Form::Passes(_, passage) => self.note_reached(place, step, &passage.contact),
+            Form::WaitsToSend(slot, channel, _) => {
+                self.note_used(place, step, channel, Touched::to_send(*slot))
+            }
+            Form::WaitsToReceive(slot, channel, _) => {
+                self.note_used(place, step, channel, Touched::to_receive(*slot))
+            }
+            Form::Passes(_, passage) => {
+                let contact = &passage.contact;
+                self.note_used(place, step, contact.operation.channel(), contact.touched)
+            }
             Form::Further(_, further) => self.note_beyond(place, step, &further.beyond),
         }
     }
@@ -47,6 +55,23 @@ impl Lanes {
             return Err(error);
         }
         Ok(())
+    }
+
+    /// Adds the touches of a step that used one channel, and met no partner. Refused, all lists are as before.
+    #[inline(always)]
+    fn note_used(
+        &mut self,
+        place: u32,
+        step: &Record,
+        channel: &ChName,
+        touched: Touched,
+    ) -> Result<(), NoMemory>
+        requires place { place < 2 ^ 31 }
+        requires read { read_by step.now ≡ objects.Run ∷ read_on channel.now touched }
+        requires written { written_by step.now ≡ objects.Go step.now.id.go ∷ written_on channel.now touched }
+        ensures { NotesStep result place step.now self.old self.new }
+    {
+        self.note_reached(place, step, &TouchedChannel { channel, touched })
     }
 
     /// Adds the touches of a step that reached further. Refused, all lists are as before.

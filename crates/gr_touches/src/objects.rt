@@ -4,16 +4,15 @@ ghost use Rattle.std.specs.Prelude.{◌≡◌, ◌∷◌, ◌<◌, [], List, Som
 ghost use Rattle.std.specs.Prelude.{option_map};
 ghost use Rattle.gr_base.specs.declared.objects.Object.TheVariants as variants;
 ghost use Rattle.gr_record.specs.Conflicts.{written_by, read_by};
-ghost use Rattle.gr_record.specs.Effects.{reached_on};
 ghost use Rattle.gr_record.specs.Parts.{channel_in, parts_before, partner_before, slot_before, read_by_more, written_by_more};
 ghost use Rattle.gr_record.specs.Parts.{reads_in, writes_in};
 ghost use Rattle.gr_touches.specs.ObjectRefs.{seen};
-ghost use Rattle.gr_touches.specs.Told.{named, seen_in, count_in};
+ghost use Rattle.gr_touches.specs.Told.{named, seen_in, count_in, read_on, written_on};
 
 use crate::object_ref::ObjectRef;
 use gr_base::{ChName, GoName, Object};
 use gr_record::Record;
-use gr_record::record::{Beyond, Contact, Form, Parts};
+use gr_record::record::{Beyond, Form, Parts, Touched};
 use gr_record::slot::SlotPlace;
 
 /// Objects that a step read or wrote, by borrowed names. They are `Run` or its goroutine, parts of one channel, a goroutine
@@ -220,28 +219,19 @@ pub(crate) fn parts_written(beyond: &Beyond) -> TouchedObjects<'_>
     told(None, beyond, beyond.touched.written, None, &[])
 }
 
-/// The named parts of the one channel that a step used, with one other object.
-fn in_contact<'a>(front: ObjectRef<'a>, contact: &'a Contact, parts: Parts) -> TouchedObjects<'a>
-    ensures { seen_in result ≡ seen front.entry
-        ∷ parts_before parts contact.now.touched.slot (Some (channel_in contact.now.operation)) [] }
-{
-    let channel = contact.operation.channel();
-    let place = contact.touched.slot;
-    TouchedObjects::with_channel(Some(front), parts, channel, place, None, &[])
-}
-
 /// The objects that a step read. The step used one channel, and met no partner.
-pub(crate) fn read_in(contact: &Contact) -> TouchedObjects<'_>
-    ensures { seen_in result ≡ variants.Run ∷ reads_in (reached_on contact.now None) }
+pub(crate) fn read_in(channel: &ChName, touched: Touched) -> TouchedObjects<'_>
+    ensures { seen_in result ≡ variants.Run ∷ read_on channel.now touched }
 {
-    in_contact(ObjectRef::Run, contact, contact.touched.read)
+    let front = Some(ObjectRef::Run);
+    TouchedObjects::with_channel(front, touched.read, channel, touched.slot, None, &[])
 }
 
 /// The objects that a step of goroutine `own` wrote. The step used one channel, and met no partner.
-fn written_in<'a>(own: ObjectRef<'a>, contact: &'a Contact) -> TouchedObjects<'a>
-    ensures { seen_in result ≡ seen own.entry ∷ writes_in (reached_on contact.now None) }
+fn written_in<'a>(own: ObjectRef<'a>, channel: &'a ChName, touched: Touched) -> TouchedObjects<'a>
+    ensures { seen_in result ≡ seen own.entry ∷ written_on channel.now touched }
 {
-    in_contact(own, contact, contact.touched.written)
+    TouchedObjects::with_channel(Some(own), touched.written, channel, touched.slot, None, &[])
 }
 
 /// The objects that a step which reached further read and did not write.
@@ -259,8 +249,12 @@ pub fn reads(step: &Record) -> TouchedObjects<'_>
 {
     match step.change.form() {
         Form::Alone(_, _) => TouchedObjects::without_channel(Some(ObjectRef::Run), None, &[]),
-        Form::Waits(waiting) => read_in(&waiting.contact),
-        Form::Passes(_, passage) => read_in(&passage.contact),
+        Form::WaitsToSend(slot, channel, _) => read_in(channel, Touched::to_send(*slot)),
+        Form::WaitsToReceive(slot, channel, _) => read_in(channel, Touched::to_receive(*slot)),
+        Form::Passes(_, passage) => {
+            let contact = &passage.contact;
+            read_in(contact.operation.channel(), contact.touched)
+        }
         Form::Further(_, further) => read_beyond(&further.beyond),
     }
 }
@@ -272,8 +266,14 @@ pub fn writes(step: &Record) -> TouchedObjects<'_>
     let own = ObjectRef::Go(&step.id.go);
     match step.change.form() {
         Form::Alone(_, _) => TouchedObjects::without_channel(Some(own), None, &[]),
-        Form::Waits(waiting) => written_in(own, &waiting.contact),
-        Form::Passes(_, passage) => written_in(own, &passage.contact),
+        Form::WaitsToSend(slot, channel, _) => written_in(own, channel, Touched::to_send(*slot)),
+        Form::WaitsToReceive(slot, channel, _) => {
+            written_in(own, channel, Touched::to_receive(*slot))
+        }
+        Form::Passes(_, passage) => {
+            let contact = &passage.contact;
+            written_in(own, contact.operation.channel(), contact.touched)
+        }
         Form::Further(_, further) => {
             let beyond = &further.beyond;
             let partner = beyond.partner.as_ref();

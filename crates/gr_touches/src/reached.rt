@@ -1,17 +1,16 @@
-//! What a step reached beyond its goroutine, by the two ways in which its record keeps that.
+//! What a step reached beyond its goroutine: parts of one channel, or more.
 
-ghost use Rattle.std.specs.Prelude.{◌≡◌, ◌∷◌, None, if◌then◌else◌};
+ghost use Rattle.std.specs.Prelude.{◌≡◌, ◌∷◌, if◌then◌else◌};
 ghost use Rattle.gr_base.specs.declared.objects.Object.TheVariants as objects;
-ghost use Rattle.gr_record.specs.Effects.{reached_on};
 ghost use Rattle.gr_record.specs.Parts.{reads_in, writes_in};
 ghost use Rattle.gr_touches.specs.Room.{NotesFor};
-ghost use Rattle.gr_touches.specs.Told.{seen_in};
+ghost use Rattle.gr_touches.specs.Told.{read_on, seen_in, written_on};
 
 use crate::lanes::Lanes;
 use crate::objects::{TouchedObjects, read_beyond, read_in};
 use crate::touch::Touch;
-use gr_base::NoMemory;
-use gr_record::record::{Beyond, Contact};
+use gr_base::{ChName, NoMemory};
+use gr_record::record::{Beyond, Touched};
 
 /// What a step reached beyond its goroutine.
 pub(crate) trait Reached {
@@ -37,22 +36,26 @@ pub(crate) trait Reached {
         ensures { seen_in result ≡ read self.now };
 }
 
-/// A step that used one channel, and met no partner.
-impl Reached for Contact {
-    ghost use Rattle.std.specs.Prelude.{◌∷◌, None};
+/// What a step reached that used one channel, and met no partner: the channel, and what it touched of it.
+#[derive(Clone, Copy)]
+pub(crate) struct TouchedChannel<'a> {
+    pub(crate) channel: &'a ChName,
+    pub(crate) touched: Touched,
+}
+
+impl Reached for TouchedChannel<'_> {
+    ghost use Rattle.std.specs.Prelude.{◌∷◌};
     ghost use Rattle.gr_base.specs.declared.objects.Object.TheVariants as objects;
-    ghost use Rattle.gr_record.specs.Effects.{reached_on};
-    ghost use Rattle.gr_record.specs.Parts.{reads_in, writes_in};
+    ghost use Rattle.gr_touches.specs.Told.{read_on, written_on};
 
-    ghost read = { λ contact. objects.Run ∷ reads_in (reached_on contact None) };
+    ghost read = { λ reached. objects.Run ∷ read_on reached.channel.now reached.touched };
 
-    ghost written = { λ contact. writes_in (reached_on contact None) };
+    ghost written = { λ reached. written_on reached.channel.now reached.touched };
 
     #[inline(always)]
     fn note_read(&self, lanes: &mut Lanes, touch: Touch) -> Result<(), NoMemory> {
         lanes.add_to_run(touch)?;
-        let channel = self.operation.channel();
-        let noted = lanes.note_parts(channel, self.touched.read, self.touched.slot, touch);
+        let noted = lanes.note_parts(self.channel, self.touched.read, self.touched.slot, touch);
         if let Err(error) = noted {
             lanes.take_from_run();
             return Err(error);
@@ -62,12 +65,11 @@ impl Reached for Contact {
 
     #[inline(always)]
     fn note_written(&self, lanes: &mut Lanes, touch: Touch) -> Result<(), NoMemory> {
-        let channel = self.operation.channel();
-        lanes.note_parts(channel, self.touched.written, self.touched.slot, touch)
+        lanes.note_parts(self.channel, self.touched.written, self.touched.slot, touch)
     }
 
     fn objects_read(&self) -> TouchedObjects<'_> {
-        read_in(self)
+        read_in(self.channel, self.touched)
     }
 }
 

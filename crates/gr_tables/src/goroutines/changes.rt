@@ -13,14 +13,18 @@ ghost use Rattle.gr_tables.specs.Counting.{CanTry, StepsOn};
 ghost use Rattle.gr_tables.specs.Slots.{SlotChanges, SlotKeeps};
 
 use crate::goroutines::Goroutines;
-use gr_base::{ChName, Kind, NoMemory};
+use gr_base::{ChName, NoMemory};
 use gr_code::code::Code;
-use gr_goros::{Arrival, GoUndo, Goroutine, Halt, Spot, Wait};
+use gr_goros::{Arrival, GoUndo, Goroutine, Halt, LocalKind, Spot, Wait};
 use std::alloc::Global;
 
 impl Goroutines {
     /// The goroutine with a number takes its next step, as `Goroutine::local_step` does. Refused, no content has changed.
-    pub fn local_step(&mut self, number: usize, code: &Code) -> Result<(Kind, GoUndo), NoMemory>
+    pub fn local_step(
+        &mut self,
+        number: usize,
+        code: &Code,
+    ) -> Result<(LocalKind, GoUndo), NoMemory>
         requires { At (StepsAlone (program_code_of code.now)) (seen_at self.old number) }
         ensures step { IfOk result (λ r. ChangesBy number
             (λ a b. IsStep r (local (program_code_of code.now) a.content) a b) self.old self.new) }

@@ -1,10 +1,9 @@
-use Rattle.std.proofs.Common.{◌≡◌, [], ◌∷◌, Some, if◌then◌else◌, refl, sym, ap, subst, ◌∙◌}
+use Rattle.std.proofs.Common.{[], ◌∷◌, Some, if◌then◌else◌, refl, sym, ap, subst, ◌∙◌}
 use Rattle.std.specs.Prelude.{option_map}
 use Rattle.gr_base.specs.declared.kinds.Kind.TheVariants as kinds
 use Rattle.gr_base.specs.declared.objects.Object.TheVariants as objects
 use Rattle.gr_rules.specs.Attempts.{closes}
 use Rattle.gr_record.specs.declared.record.Beyond.{Beyond}
-use Rattle.gr_record.specs.declared.record.Further.{Further}
 use Rattle.gr_record.specs.Effects.{Effect}
 use Rattle.gr_record.specs.Parts.{reads_in}
 use Rattle.gr_step.specs.Passing.{Tells}
@@ -15,17 +14,15 @@ pub returns-clause-told : goal.returns-clause-told
 returns-clause-told c = λ k writes h.
     let own = c.args.own in
     let value = c.args.further.value.beyond in
-    let put : c.deref_mut-2.result.now.beyond ≡ record value { met = c.of_many.result } =
-    ap (λ (f : Further). f.beyond) c.deref_mut-2.ensures.value ∙ ap (λ (f : Further). record (f.beyond) { met = c.of_many.result }) c.deref_mut.ensures.value in
     subst {_, _} (λ (e : Effect). Tells e kinds.Close (Some (closes k)) [] writes own c.args.met.items c.args.channels.items) (sym c.further.ensures)
     (subst {_, _} (λ (b : Beyond). Tells
     (record {
       kind = kinds.Close;
       own = own;
-      beyond = Some (record b { channels = c.of_many-2.result });
+      beyond = Some b;
     })
     kinds.Close (Some (closes k)) [] writes own c.args.met.items c.args.channels.items)
-    (sym put)
+    (sym c.with_changes-further.ensures)
     (record {
       kind_is = refl;
       own_is = refl;

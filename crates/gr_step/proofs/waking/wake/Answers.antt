@@ -11,4 +11,5 @@ returns-clause-woken c =
 
 pub returns-clause-back : goal.returns-clause-back
 returns-clause-back c =
-    wakes_back c.unwrap-number.result c.args.go.now c.args.goroutines.now c.retry.new.self c.retry.result (rw c.unwrap-number.ensures at c.number.ensures.named) c.retry.ensures
+    rw c.new.ensures (wakes_back c.unwrap-number.result c.args.go.now c.args.goroutines.now c.retry.new.self c.retry.result
+    (rw c.unwrap-number.ensures at c.number.ensures.named) c.retry.ensures)

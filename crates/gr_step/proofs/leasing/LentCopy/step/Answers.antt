@@ -5,12 +5,15 @@ use Rattle.gr_code.specs.CodeFrames.{ProgramCode}
 use Rattle.gr_code.specs.CodeViews.{program_code_of}
 use Rattle.gr_code.specs.Goroutines.{is_local, local, task_of}
 use Rattle.gr_rules.specs.Outcomes.{wrong}
+use Rattle.gr_goros.specs.Kinds.{kind_of}
 use Rattle.gr_goros.specs.Tasks.{IsStep}
 use Rattle.gr_lower.specs.Lowered.{lowered}
+use Rattle.gr_record.specs.Effects.{Effect}
 use Rattle.gr_record.specs.declared.record.Record.{Record}
 use Rattle.gr_step.specs.declared.leasing.Lent.{Lent}
 use Rattle.gr_step.specs.Leasing.{IsOwnRecord, Walk, name_lent, program_lent, goroutine_lent, goroutine_led_to, records_led}
 use Rattle.gr_step.proofs.LeaseLemmas.{has_task, has_step, lease_goes}
+use Rattle.gr_step.proofs.LocalLemmas.{still_no_fault}
 use Rattle.gr_step.proofs.leasing.LentCopy.step.Goals as goal
 
 pub is_local-requires : goal.is_local-requires
@@ -48,7 +51,7 @@ returns c =
     let r : Record = record {
       id = record { go = c.in_ok-copy.field-0; n = c.steps-2.result + 1 };
       choice = Plain;
-      change = record { kind = c.in_ok-kind.kind; own = c.in_ok-kind.own; beyond = None };
+      change = record { kind = kind_of c.in_ok-kind.kind; own = c.in_ok-kind.own; beyond = None };
     } in
     let own : IsOwnRecord (lowered p) (name_lent l) g r c.local_step.new.self.content = record {
       name = λ i. record { go = named i; n = c.steps-2.ensures i + 1 };
@@ -56,14 +59,15 @@ returns c =
       goes = record {
         here = here;
         step = step.is;
-        no_fault = c.in_default.not-Fault;
+        no_fault = still_no_fault c.in_ok-kind.kind c.in_default.not-Fault;
         beyond = refl;
         back = step.undone.back;
         fits = step.undone.fits;
       };
     } in
     let on = lease_goes p (name_lent l) (goroutine_lent l) g c.local_step.new.self.content (records_led l) r c.requires.walk c.requires.can_be own in
-    let records = c.push_reserved.ensures.items ∙ ap (λ rs. rs ++ r ∷ []) c.in_ok-reserve.ensures.items in
+    let records = c.push_reserved.ensures.items ∙ ap (λ rs. rs ++ (record r { change = c.alone.result }) ∷ []) c.in_ok-reserve.ensures.items
+    ∙ ap (λ (change : Effect). records_led l ++ (record r { change = change }) ∷ []) c.alone.ensures in
     record {
       lease = record {
         coded = c.requires.coded;

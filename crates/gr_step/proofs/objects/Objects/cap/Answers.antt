@@ -63,12 +63,12 @@ returns-clause-ok c =
     let there = cap_there p c.args.turn.now.event.now c.args.turn.now.number c.args.self.now acting c.requires.plain c.in-Some.channel task in
     let same = same_there _ there.0 c.unwrap.result.now there.1 (sym c.get.ensures ∙ ap option_copied c.unwrap.ensures) in
     let counts : c.capacity-places.result ≡ there.0.capacity = c.capacity-places.ensures.value ∙ ap (λ (x : Content). x.capacity) same in
-    let reads : Reaches (Some (TakesCapOf c.in-Some.channel)) (objects.Gate c.in-Some.channel ∷ []) [] false c.in_ok-beyond.beyond.value.beyond =
-    rw (← c.in_ok-reads.ensures) c.in_ok-beyond.ensures in
+    let reads : Reaches (Some (TakesCapOf c.in-Some.channel)) (objects.Gate c.in-Some.channel ∷ []) [] false c.in_ok-further.further.value.beyond =
+    rw (← c.in_ok-reads.ensures) c.in_ok-further.ensures in
     if_ok c.count-2.result _ _ (λ change h.
     cap_takes p c.args.turn.now.event.now c.args.turn.now.number c.args.self.now acting c.requires.plain c.capacity-places.result change c.count-2.new.self
     (rw c.requires.may.coded at h.2)
-    c.in-Some.channel there.0 task there.1 (sym counts) h.0 (reaches_some _ _ _ _ change c.in_ok-beyond.beyond.value.beyond h.1 reads))
+    c.in-Some.channel there.0 task there.1 (sym counts) h.0 (reaches_some _ _ _ _ change c.in_ok-further.further.value.beyond h.1 reads))
     c.count-2.ensures.ok
 
 pub returns-clause-room : goal.returns-clause-room
@@ -79,5 +79,5 @@ returns-clause-room c =
     cap_room p c.args.turn.now.event.now c.args.turn.now.number c.args.self.now acting c.requires.plain c.capacity-places.result change c.count-2.new.self
     (rw c.requires.may.coded at h.2)
     c.in-Some.channel c.in_ok-reads.reads.items
-    (reaches_some _ _ _ _ change c.in_ok-beyond.beyond.value.beyond h.1 c.in_ok-beyond.ensures))
+    (reaches_some _ _ _ _ change c.in_ok-further.further.value.beyond h.1 c.in_ok-further.ensures))
     c.count-2.ensures.ok

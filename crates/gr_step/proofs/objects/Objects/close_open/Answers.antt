@@ -46,9 +46,9 @@ returns-clause-ok c x there =
     arrives_at_name code c.args.turn.now.number n Completion c.in-Ok.own old.goroutines c.deliver-arrives.new.self c.requires.named
     (subst (λ k. ChangesBy c.args.turn.now.number (Arrives (program_code_of k) Completion c.in-Ok.own) old.goroutines c.deliver-arrives.new.self) c.deref-3.ensures
     c.in-Ok.ensures.after) in
-    let reaches : Reaches (Some (Closes channel)) [] (written_by_close channel f (waiting_on x)) false c.in_ok-beyond.beyond.value.beyond =
-    subst (λ ns. Reaches (Some (Closes channel)) [] (written_by_close channel f ns) false c.in_ok-beyond.beyond.value.beyond) (c.deref.ensures.value ∙ names)
-    c.in_ok-beyond.ensures in
+    let reaches : Reaches (Some (Closes channel)) [] (written_by_close channel f (waiting_on x)) false c.in_ok-further.further.value.beyond =
+    subst (λ ns. Reaches (Some (Closes channel)) [] (written_by_close channel f ns) false c.in_ok-further.further.value.beyond) (c.deref.ensures.value ∙ names)
+    c.in_ok-further.ensures in
     record {
       between = h;
       met = c.wake_each-met.result.items;

@@ -15,7 +15,7 @@ returns-clause-ok c = λ n g named there.
     rw c.further.ensures (record {
       after = λ j. record { run = faulted c.args.fault; goroutines = own.is j; channels = contents_of c.args.self.now.channels };
       kind = refl;
-      beyond = c.in_ok-beyond.ensures;
+      beyond = c.in_ok-further.ensures;
       back = own.back;
       fits = own.fits;
     })
@@ -26,5 +26,5 @@ returns-clause-room c = λ n.
     let none = need_none h.0.content h.1.content c.in_ok-own.own h.3.1.back (ap (λ g. length g.frames) h.3.0) in
     rw c.further.ensures (record {
       frames = rw none (omega arith);
-      places = no_rooms (members c.in_ok-beyond.beyond.value.beyond.channels) (rooms_of c.args.self.now.channels) c.in_ok-beyond.ensures.channels;
+      places = no_rooms (members c.in_ok-further.further.value.beyond.channels) (rooms_of c.args.self.now.channels) c.in_ok-further.ensures.channels;
     })

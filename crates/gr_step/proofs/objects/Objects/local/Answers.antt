@@ -63,11 +63,11 @@ returns c =
     let code = ap program_code_of c.deref.ensures ∙ c.requires.may.coded in
     let step = rw code at c.in_ok-kind.ensures.step in
     record {
-      ok = local_takes (program_in c.args.turn.now.listing.now) c.args.turn.now.event.now c.args.turn.now.number c.args.self.now c.requires.may.acting c.in_ok-kind.kind
+      ok = rw c.alone.ensures (local_takes (program_in c.args.turn.now.listing.now) c.args.turn.now.event.now c.args.turn.now.number c.args.self.now c.requires.may.acting c.in_ok-kind.kind
           c.in_ok-kind.own
-          c.local_step.new.self step c.requires.plain c.in_default.not-Fault;
-      room = local_room (program_in c.args.turn.now.listing.now) c.args.turn.now.event.now c.args.turn.now.number c.args.self.now c.requires.may.acting c.in_ok-kind.kind
+          c.local_step.new.self step c.requires.plain c.in_default.not-Fault);
+      room = rw c.alone.ensures (local_room (program_in c.args.turn.now.listing.now) c.args.turn.now.event.now c.args.turn.now.number c.args.self.now c.requires.may.acting c.in_ok-kind.kind
           c.in_ok-kind.own
-          c.local_step.new.self step c.requires.plain;
+          c.local_step.new.self step c.requires.plain);
       err = tt;
     }

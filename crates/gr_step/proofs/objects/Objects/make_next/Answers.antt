@@ -71,5 +71,5 @@ returns-clause-ok c =
     let on = arrived_here p c.args.turn.now.event.now c.args.turn.now.number c.args.self.now acting (Channel (Chan (Some next))) c.in_ok-own.own c.deliver.new.self
     (rw (code, name) at c.in_ok-own.ensures.after) in
     rw c.further.ensures (make_takes p c.args.turn.now.event.now c.args.turn.now.number c.args.self.now acting c.requires.plain c.args.places (c.requires.task acting.goroutine acting.there)
-    c.requires.small few.1 c.in_ok-own.own c.in_ok-beyond.beyond.value.beyond (rw is at c.in_ok-beyond.ensures) c.deliver.new.self on c.add.new.self
+    c.requires.small few.1 c.in_ok-own.own c.in_ok-further.further.value.beyond (rw is at c.in_ok-further.ensures) c.deliver.new.self on c.add.new.self
     (rw is at c.in_default.ensures.contents))

@@ -24,8 +24,8 @@ returns c = λ ws reads writes h t.
       channel_is = c.in_ok-copy-2.ensures;
       named = named;
       names_are = c.in_ok-names.ensures ws status;
-      reached = subst {_, _} (λ l. IsReached (operation_of c.args.operation) reads (writes ++ objects.Go c.args.go.now ∷ map objects.Gate l) c.in_ok-beyond.beyond.value.beyond)
-          (c.deref.ensures.value ∙ others) (c.in_ok-beyond.ensures reads writes t);
+      reached = subst {_, _} (λ l. IsReached (operation_of c.args.operation) reads (writes ++ objects.Go c.args.go.now ∷ map objects.Gate l) c.in_ok-further.further.value.beyond)
+          (c.deref.ensures.value ∙ others) (c.in_ok-further.ensures reads writes t);
     }
 
 pub at-goroutine-requires : goal.at-goroutine-requires

@@ -37,10 +37,10 @@ returns-in_err-place-clause-err c =
           o.channels;
     })
 
-pub returns-in_err-beyond-clause-err : goal.returns-in_err-beyond-clause-err
-returns-in_err-beyond-clause-err c =
+pub returns-in_err-further-clause-err : goal.returns-in_err-further-clause-err
+returns-in_err-further-clause-err c =
     let o = c.args.self.now in
-    always c.from_residual-in_err-beyond.result
+    always c.from_residual-in_err-further.result
     (λ j. record {
       run = run_of o.run;
       goroutines = same_seen o.goroutines c.know.new.self c.know.ensures.goroutines j;
@@ -87,4 +87,4 @@ returns-clause-ok c =
     c.args.arguments.items (c.requires.task acting.goroutine acting.there) c.requires.short few.1 c.know.new.self
     (rw child at c.in_ok-place.ensures.names) c.know.ensures.goroutines c.in_ok-own.own c.deliver.new.self (rw again at c.in_ok-own.ensures.after)
     c.in_ok-place.place c.in_ok-goroutine.goroutine c.put.new.self (rw child at c.in_ok-place.ensures.number) begins
-    c.in_ok-beyond.beyond.value.beyond (rw child at c.in_ok-beyond.ensures) c.put.ensures)
+    c.in_ok-further.further.value.beyond (rw child at c.in_ok-further.ensures) c.put.ensures)

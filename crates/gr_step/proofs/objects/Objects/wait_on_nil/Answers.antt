@@ -19,4 +19,4 @@ returns-clause-ok c = λ frame.
     let w = communication_of c.args.communication in
     let s = state_of frame (with_channels (contents_of c.args.self.now.channels)) in
     c.begin_to_wait.ensures.ok None (side s w)
-    (c.in_ok-beyond.ensures (each_once (gates_of ((None, w) ∷ [])) (side s w)) (gates_of ((None, w) ∷ [])) (rw c.untouched.ensures (nil_touched s w c.requires.nil)))
+    (c.in_ok-further.ensures (each_once (gates_of ((None, w) ∷ [])) (side s w)) (gates_of ((None, w) ∷ [])) (rw c.untouched.ensures (nil_touched s w c.requires.nil)))

@@ -23,12 +23,12 @@ returns-clause-step c =
     let code = ap program_code_of c.deref.ensures ∙ c.requires.run.coded in
     let step = rw code at c.in-Some.ensures.step in
     let event = record c.args.event { choice = Plain } in
-    record {
+    rw c.alone.ensures (record {
       takes = count_takes (program_at s) event c.in-Ok.number s.objects c.requires.run.running c.requires.counted c.in-Ok.ensures.ok.runs
           c.in-Ok.ensures.ok.named c.in-Ok.ensures.ok.present refl _ c.step_ints-counted.new.self step;
       named = count_ordinal (program_at s) event c.in-Ok.number s.objects c.requires.run.running c.requires.counted c.in-Ok.ensures.ok.runs
           c.in-Ok.ensures.ok.named c.in-Ok.ensures.ok.present refl _ c.step_ints-counted.new.self step;
-    }
+    })
 
 pub returns-clause-run : goal.returns-clause-run
 returns-clause-run c =
@@ -48,5 +48,5 @@ returns-clause-room c =
     let s = c.args.self.now in
     let code = ap program_code_of c.deref.ensures ∙ c.requires.run.coded in
     let step = rw code at c.in-Some.ensures.step in
-    count_room (program_at s) (record c.args.event { choice = Plain }) c.in-Ok.number s.objects c.requires.run.running c.requires.counted
-    c.in-Ok.ensures.ok.runs c.in-Ok.ensures.ok.named c.in-Ok.ensures.ok.present refl _ c.step_ints-counted.new.self step
+    rw c.alone.ensures (count_room (program_at s) (record c.args.event { choice = Plain }) c.in-Ok.number s.objects c.requires.run.running c.requires.counted
+    c.in-Ok.ensures.ok.runs c.in-Ok.ensures.ok.named c.in-Ok.ensures.ok.present refl _ c.step_ints-counted.new.self step)
