@@ -22,6 +22,11 @@ if [ "$target" = dist ] && git -C "$top" cat-file -e HEAD:dist/SHA256SUMS 2>/dev
   commit=$(sed -n 's/.*from commit `\([0-9a-f]\{40\}\)`.*/\1/p' "$committed/README.md")
 fi
 
+# lend FOLDER COPY: copies a folder of kept proofs, whose files are never changed in place, by links where that can be.
+lend() {
+  cp -rl "$1" "$2" 2>/dev/null || { rm -rf "$2" && cp -r "$1" "$2"; }
+}
+
 # make_in NAME UMASK [VARIABLE=VALUE..]: makes the release in the clone of this name.
 make_in() {
   clone=$work/$1
@@ -32,7 +37,7 @@ make_in() {
   mkdir "$clone.temporary"
   for kept in "$top"/crates/*/out; do
     crate=$clone/crates/$(basename "$(dirname "$kept")")
-    [ "$target" = dist ] && [ -d "$kept" ] && [ -d "$crate" ] && cp -r "$kept" "$crate/out"
+    [ "$target" = dist ] && [ -d "$kept" ] && [ -d "$crate" ] && lend "$kept" "$crate/out"
   done
   (umask "$mask" && env TMPDIR="$clone.temporary" "$@" make -C "$clone" "$target") >"$clone.log" 2>&1 || {
     tail -5 "$clone.log" >&2
