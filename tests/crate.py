@@ -1,7 +1,7 @@
 #!/usr/bin/env python3
 """Runs the tests of one crate as `rt try` builds them, without proofs.
 
-    tests/crate.py test_parts|test_sessions|test_threads|test_races
+    tests/crate.py test_parts|test_sessions|test_races
 
 `test_races` is a program: it races two desks and four workers twice over each of its sources, once with commands that are drawn.
 """
@@ -31,7 +31,7 @@ def results(crate, text):
 
 def main():
     if len(sys.argv) != 2 or not os.path.isdir(f"{TOP}/crates/{sys.argv[1]}"):
-        print("tests: name one of the crates test_parts, test_sessions, test_threads, test_races", file=sys.stderr)
+        print("tests: name one of the crates test_parts, test_sessions, test_races", file=sys.stderr)
         sys.exit(2)
     crate = sys.argv[1]
     os.chdir(f"{TOP}/crates/{crate}")

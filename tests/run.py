@@ -22,7 +22,6 @@ COUNTS = re.compile(r"(\d+) passed, (\d+) failed(?:, (\d+) skipped)?")
 # The parts that take longest come first.
 PARTS = {
     "test_sessions": ["tests/crate.py", "test_sessions"],
-    "test_threads": ["tests/crate.py", "test_threads"],
     "page": ["tests/page.py", "PROGRAM"],
     "test_races": ["tests/crate.py", "test_races"],
     "clients": ["tests/clients.py", "PROGRAM"],

@@ -2,17 +2,18 @@
 //! goroutine changed, or if the grant has no room for it.
 ghost use Rattle.std.specs.Prelude.{◌≤◌};
 
-use gr_command::{Line, Reply, read_command, write_reply};
+use crate::lines::{command, text_of};
+use gr_command::Reply;
 use rewind::{Batch, DeskId, Open, Session, run_batch};
 use std::alloc::Global;
-use std::test::Fail;
+use std::process::Abort;
 
 /// Two goroutines that take 21 steps each, 20 of them by themselves.
-const SPINNING: &[u8] =
+pub(crate) const SPINNING: &[u8] =
     b"package main\nfunc spin(n int) { for i := 0; i < n; i++ { } }\nfunc main() {\n\tgo spin(9)\n\tgo spin(9)\n\tselect {}\n}\n";
 
 /// Starts both, and lets the workers take steps.
-const STARTED: [&[u8]; 4] = [b"step g0", b"step g0", b"step g0", b"free 1000"];
+pub(crate) const STARTED: [&[u8]; 4] = [b"step g0", b"step g0", b"step g0", b"free 1000"];
 
 /// A program that ends beside a goroutine which takes steps by itself.
 const ENDING: &[u8] =
@@ -52,10 +53,6 @@ pub(crate) struct Asking {
     ghost enrolled: { (1 ≤ desk.number) × (desk.number ≤ session.askers) },
 }
 
-fn only_if(holds: bool) -> Option<()> {
-    if holds { Some(()) } else { None }
-}
-
 /// Whether it says that this many steps were committed, or that the batch was stale.
 fn says(reply: &Reply, joined: Option<u32>) -> bool {
     match reply {
@@ -66,62 +63,64 @@ fn says(reply: &Reply, joined: Option<u32>) -> bool {
 }
 
 impl Asking {
-    pub(crate) fn new(alloc: Global, source: &[u8]) -> Option<Asking> {
-        let mut session = Session::open(alloc, source).ok()?;
-        let desk = session.enrol().ok()?;
-        Some(Asking {
+    pub(crate) fn new(rt: &impl Abort, alloc: Global, source: &[u8]) -> Asking {
+        let mut session = Session::open(alloc, source).expect(rt, "a session");
+        let desk = session.enrol().expect(rt, "a desk");
+        Asking {
             session,
             desk,
             batches: Vec::new(alloc),
-        })
-    }
-
-    pub(crate) fn reply(&mut self, alloc: Global, line: &[u8]) -> Option<Reply> {
-        let Ok(Line::Command(command)) = read_command(alloc, line) else {
-            return None;
-        };
-        match self.session.ask(alloc, self.desk, command) {
-            Ok(receipt) => Some(receipt.reply),
-            Err(_) => None,
         }
     }
 
-    fn ask(&mut self, alloc: Global, line: &[u8], wanted: &[u8]) -> Option<()> {
-        let reply = self.reply(alloc, line)?;
-        let mut text = Vec::new(alloc);
-        write_reply(&mut text, &reply).ok()?;
-        only_if(text.as_slice() == wanted)
+    pub(crate) fn reply(&mut self, rt: &impl Abort, alloc: Global, line: &[u8]) -> Reply {
+        let asked = self.session.ask(alloc, self.desk, command(rt, alloc, line));
+        asked.expect(rt, "an entry").reply
     }
 
-    fn run(&mut self, alloc: Global, limit: usize, steps: usize) -> Option<()> {
-        let lease = self.session.lease(alloc, 0).ok()??;
-        let batch = run_batch(alloc, lease, limit, &Open).ok()?;
-        let taken = batch.len();
-        self.batches.push(batch).ok()?;
-        only_if(taken == steps)
-    }
-
-    fn commit(&mut self, alloc: Global, joined: Option<u32>) -> Option<()> {
-        let batch = self.batches.pop()?;
-        match self.session.commit(alloc, self.desk, batch) {
-            Ok(receipt) => only_if(says(&receipt.reply, joined)),
-            Err(_) => None,
+    /// Asks all lines, and lets their replies go.
+    pub(crate) fn ask_all(&mut self, rt: &impl Abort, alloc: Global, lines: &[&[u8]]) {
+        for line in lines {
+            self.reply(rt, alloc, line);
         }
     }
 
-    fn is_idle(&self, alloc: Global) -> Option<()> {
-        let lease = self.session.lease(alloc, 0).ok()?;
-        only_if(lease.is_none() && !self.session.turn_due())
+    /// Answers how many steps the batch has.
+    fn run(&mut self, rt: &impl Abort, alloc: Global, limit: usize) -> usize {
+        self.batches.reserve(1).expect(rt, "memory for a batch");
+        let lent = self.session.lease(alloc, 0).expect(rt, "memory for a loan");
+        let lease = lent.expect(rt, "a goroutine that may be lent");
+        let batch = run_batch(alloc, lease, limit, &Open).expect(rt, "memory for a batch");
+        let steps = batch.len();
+        self.batches.push_reserved(batch);
+        steps
     }
 
-    fn act(&mut self, alloc: Global, act: Act<'_>) -> Option<()> {
+    /// Whether this many steps of the last batch join the log, or it is stale.
+    fn commit(&mut self, rt: &impl Abort, alloc: Global, joined: Option<u32>) -> bool {
+        let batch = self.batches.pop().expect(rt, "a batch");
+        let committed = self.session.commit(alloc, self.desk, batch);
+        let receipt = committed.expect(rt, "an entry");
+        says(&receipt.reply, joined)
+    }
+
+    fn is_idle(&self, rt: &impl Abort, alloc: Global) -> bool {
+        let lent = self.session.lease(alloc, 0).expect(rt, "memory for a loan");
+        lent.is_none() && !self.session.turn_due()
+    }
+
+    /// Whether the act comes out as it says.
+    fn act(&mut self, rt: &impl Abort, alloc: Global, act: Act<'_>) -> bool {
         match act {
-            Act::Ask(line, wanted) => self.ask(alloc, line, wanted),
-            Act::Run(limit, steps) => self.run(alloc, limit, steps),
-            Act::Commit(joined) => self.commit(alloc, joined),
-            Act::Grant(left) => only_if(self.session.grant() == left),
-            Act::Room(left) => only_if(self.session.room() == left),
-            Act::Idle => self.is_idle(alloc),
+            Act::Ask(line, wanted) => {
+                let reply = self.reply(rt, alloc, line);
+                text_of(rt, alloc, &reply).as_slice() == wanted
+            }
+            Act::Run(limit, steps) => self.run(rt, alloc, limit) == steps,
+            Act::Commit(joined) => self.commit(rt, alloc, joined),
+            Act::Grant(left) => self.session.grant() == left,
+            Act::Room(left) => self.session.room() == left,
+            Act::Idle => self.is_idle(rt, alloc),
         }
     }
 }
@@ -229,22 +228,18 @@ const STORIES: [Story; 7] = [
     },
 ];
 
-/// Whether all acts of a story, one after the other, come out as they say.
-fn is_played(alloc: Global, story: &Story) -> Option<()> {
-    let mut asking = Asking::new(alloc, story.source)?;
-    for line in story.lines {
-        asking.reply(alloc, line)?;
+/// Plays a story, whose acts are to come out as they say, one after the other.
+fn play(rt: &impl Abort, alloc: Global, story: &Story) {
+    let mut asking = Asking::new(rt, alloc, story.source);
+    asking.ask_all(rt, alloc, story.lines);
+    for (number, act) in story.acts.iter().enumerate() {
+        assert!(rt; asking.act(rt, alloc, *act), "{}: act {number}", story.name);
     }
-    for act in story.acts {
-        asking.act(alloc, *act)?;
-    }
-    Some(())
 }
 
 #[test]
-fn batches_come_out_as_told(rt: HostRuntime) -> Result<(), Fail> {
+fn batches_come_out_as_told(rt: HostRuntime) {
     for story in &STORIES {
-        is_played(rt.alloc(), story).ok_or(story.name)?;
+        play(&rt, rt.alloc(), story);
     }
-    Ok(())
 }

@@ -1,13 +1,14 @@
 //! Those who call a session, each on a thread of its own.
 
+use crate::lines::{command, text_of};
 use crate::meeting::{Door, Meeting};
-use gr_command::{Command, Line, read_command, write_reply};
 use rewind::counted::Counted;
 use rewind::desk::serve_desk;
 use rewind::stream::ServeFault;
 use rewind::{Desk, Room, Shared, Worker, worker};
 use std::alloc::Global;
 use std::io::{ErrorKind, Write};
+use std::process::Abort;
 use std::sync::Wait;
 use std::thread::Threads;
 use std::time::{Clock, Duration};
@@ -58,30 +59,21 @@ pub(crate) enum Caller<B: Room> {
     Works(Worker<B>, u64),
 }
 
-fn command(alloc: Global, line: &[u8]) -> Option<Command> {
-    match read_command(alloc, line) {
-        Ok(Line::Command(command)) => Some(command),
-        _ => None,
-    }
-}
-
-/// The bytes of the reply to a line, where it got one.
-pub(crate) fn reply<B: Room, T: Wait>(
+/// The bytes of the reply to a line.
+pub(crate) fn reply<B: Room, T: Wait + Abort>(
     rt: &T,
     alloc: Global,
     shared: &Shared<B>,
     desk: &mut Desk<B>,
     line: &[u8],
-) -> Option<Vec<u8>> {
-    let asked = command(alloc, line)?;
-    let mut text = Vec::new(alloc);
-    let receipt = desk.ask(rt, alloc, shared, asked).ok()?;
-    write_reply(&mut text, &receipt.reply).ok()?;
-    Some(text)
+) -> Vec<u8> {
+    let asked = command(rt, alloc, line);
+    let receipt = desk.ask(rt, alloc, shared, asked).expect(rt, "an entry");
+    text_of(rt, alloc, &receipt.reply)
 }
 
 /// 1 where the line got this reply.
-fn said<B: Room, T: Wait>(
+fn said<B: Room, T: Wait + Abort>(
     rt: &T,
     alloc: Global,
     shared: &Shared<B>,
@@ -89,14 +81,11 @@ fn said<B: Room, T: Wait>(
     line: &[u8],
     wanted: &[u8],
 ) -> u64 {
-    match reply(rt, alloc, shared, desk, line) {
-        Some(text) => u64::from(text.as_slice() == wanted),
-        None => 0,
-    }
+    u64::from(reply(rt, alloc, shared, desk, line).as_slice() == wanted)
 }
 
-/// How many of a hundred questions were answered.
-fn ask_a_hundred<B: Room, T: Wait>(
+/// Asks a hundred questions, and counts the answers.
+fn ask_a_hundred<B: Room, T: Wait + Abort>(
     rt: &T,
     alloc: Global,
     shared: &Shared<B>,
@@ -104,15 +93,14 @@ fn ask_a_hundred<B: Room, T: Wait>(
 ) -> u64 {
     let mut answers = 0u64;
     for _ in 0..100u64 {
-        if reply(rt, alloc, shared, desk, b"causes g0#1").is_some() {
-            answers = answers.saturating_add(1);
-        }
+        reply(rt, alloc, shared, desk, b"causes g0#1");
+        answers = answers.saturating_add(1);
     }
     answers
 }
 
 /// 1 where the reply to the line begins like this in the end. The line is asked up to 10,000 times.
-fn wait_until<B: Room, T: Wait + Clock>(
+fn wait_until<B: Room, T: Wait + Clock + Abort>(
     rt: &T,
     alloc: Global,
     shared: &Shared<B>,
@@ -121,10 +109,10 @@ fn wait_until<B: Room, T: Wait + Clock>(
     shown: &[u8],
 ) -> u64 {
     for _ in 0..10_000u64 {
-        let Some(text) = reply(rt, alloc, shared, desk, line) else {
-            return 0;
-        };
-        if text.as_slice().starts_with(shown) {
+        if reply(rt, alloc, shared, desk, line)
+            .as_slice()
+            .starts_with(shown)
+        {
             return 1;
         }
         thread::sleep(rt, Duration::from_millis(1));
@@ -132,7 +120,7 @@ fn wait_until<B: Room, T: Wait + Clock>(
     0
 }
 
-fn watch<B: Room, T: Wait + Clock>(
+fn watch<B: Room, T: Wait + Clock + Abort>(
     rt: &T,
     alloc: Global,
     shared: &Shared<B>,
@@ -144,7 +132,7 @@ fn watch<B: Room, T: Wait + Clock>(
     one.saturating_add(other)
 }
 
-fn take_back<B: Room, T: Wait + Clock>(
+fn take_back<B: Room, T: Wait + Clock + Abort>(
     rt: &T,
     alloc: Global,
     shared: &Shared<B>,
@@ -164,7 +152,12 @@ fn take_back<B: Room, T: Wait + Clock>(
     told
 }
 
-fn see<B: Room, T: Wait>(rt: &T, alloc: Global, shared: &Shared<B>, desk: &mut Desk<B>) -> u64 {
+fn see<B: Room, T: Wait + Abort>(
+    rt: &T,
+    alloc: Global,
+    shared: &Shared<B>,
+    desk: &mut Desk<B>,
+) -> u64 {
     let step = said(rt, alloc, shared, desk, b"step g0", b"ok g0#1 pure\n");
     let text = said(
         rt,
@@ -177,7 +170,7 @@ fn see<B: Room, T: Wait>(rt: &T, alloc: Global, shared: &Shared<B>, desk: &mut D
     step.saturating_add(text)
 }
 
-fn serve_in_vain<B: Room, T: Wait>(
+fn serve_in_vain<B: Room, T: Wait + Abort>(
     rt: &T,
     alloc: Global,
     shared: &Shared<B>,
@@ -190,7 +183,7 @@ fn serve_in_vain<B: Room, T: Wait>(
 }
 
 /// Does an errand, and counts the replies that it asks for.
-fn run<B: Room, T: Wait + Clock>(
+fn run<B: Room, T: Wait + Clock + Abort>(
     rt: &T,
     alloc: Global,
     shared: &Shared<B>,
@@ -213,7 +206,7 @@ fn run<B: Room, T: Wait + Clock>(
 }
 
 /// Does the errand, or works.
-fn call<B: Room, T: Wait + Clock>(
+fn call<B: Room, T: Wait + Clock + Abort>(
     rt: &T,
     alloc: Global,
     shared: &Shared<B>,
@@ -233,7 +226,7 @@ fn call<B: Room, T: Wait + Clock>(
 
 /// Has all call at once, and waits for all of them. Whether the threads could be started.
 #[tactic(auto, using(crate::proofs::Lent::session_send))]
-pub(crate) fn call_at_once<B: Room + Send + Sync, T: Threads + Wait + Clock + Sync>(
+pub(crate) fn call_at_once<B: Room + Send + Sync, T: Threads + Wait + Clock + Abort + Sync>(
     rt: &T,
     alloc: Global,
     shared: &Shared<B>,

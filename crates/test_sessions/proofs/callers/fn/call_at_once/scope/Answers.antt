@@ -8,10 +8,10 @@ use Rattle.rewind.proofs.TieSendSync as tie
 use Rattle.rewind.specs.LockedContracts as Locked
 use Rattle.rewind.specs.SharedContracts as Shared
 use Rattle.rewind.proofs.Crossing.{session_send}
-use Rattle.test_threads.proofs.meeting.Meeting.TheSendSync as meeting
-use Rattle.test_threads.specs.contracts.meeting.Meeting as Meeting
-use Rattle.test_threads.specs.contracts.callers.Caller as Caller
-use Rattle.test_threads.proofs.callers.fn.call_at_once.scope.Goals as goal
+use Rattle.test_sessions.proofs.meeting.Meeting.TheSendSync as meeting
+use Rattle.test_sessions.specs.contracts.meeting.Meeting as Meeting
+use Rattle.test_sessions.specs.contracts.callers.Caller as Caller
+use Rattle.test_sessions.proofs.callers.fn.call_at_once.scope.Goals as goal
 
 pub spawn-requires-send-F : goal.spawn-requires-send-F
 spawn-requires-send-F g c = λ κs within.

@@ -3,24 +3,19 @@
 ghost use Rattle.std.specs.Prelude.{◌≡◌};
 ghost use Rattle.gr_program.specs.Views.{program_of};
 
+use crate::batching::{SPINNING, STARTED};
 use crate::callers::Errand;
+use crate::debugger::show_session;
 use crate::meeting::Hold;
 use crate::scenes::{Outcome, Scene, play};
 use rewind::counted::Counted;
-use rewind::debug::debug;
 use rewind::workers::debug_beside;
 use rewind::{EnrolRefused, Opened, Room, Session, Shared};
 use std::alloc::Global;
 use std::marker::Brand;
+use std::process::Abort;
 use std::sync::Wait;
-use std::test::Fail;
-
-/// Two goroutines that take 21 steps each, 20 of them by themselves.
-const SPINNING: &[u8] =
-    b"package main\nfunc spin(n int) { for i := 0; i < n; i++ { } }\nfunc main() {\n\tgo spin(9)\n\tgo spin(9)\n\tselect {}\n}\n";
-
-/// Starts both, and lets the workers take steps.
-const STARTED: [&[u8]; 4] = [b"step g0", b"step g0", b"step g0", b"free 1000"];
+use std::thread::Threads;
 
 const PRINTING: &[u8] = b"package main\nfunc main() { println(-9223372036854775808) }\n";
 
@@ -41,16 +36,22 @@ struct Wanted {
     met: Option<bool>,
 }
 
+/// Whether this is what is wanted, where something is.
+fn is_wanted<T: PartialEq + Copy>(wanted: Option<T>, found: T) -> bool {
+    match wanted {
+        Some(wanted) => wanted == found,
+        None => true,
+    }
+}
+
 impl Wanted {
     fn is_met_by(&self, outcome: &Outcome) -> bool {
         self.answers == outcome.answers
-            && self.stale.is_none_or(|stale| stale == outcome.stale)
-            && self
-                .entries
-                .is_none_or(|entries| entries == outcome.entries)
-            && self.grant.is_none_or(|grant| grant == outcome.grant)
-            && self.room.is_none_or(|room| room == outcome.room)
-            && self.met.is_none_or(|met| met == outcome.met)
+            && is_wanted(self.entries, outcome.entries)
+            && is_wanted(self.grant, outcome.grant)
+            && is_wanted(self.room, outcome.room)
+            && is_wanted(self.stale, outcome.stale)
+            && is_wanted(self.met, outcome.met)
     }
 }
 
@@ -213,59 +214,56 @@ const ACTS: [Act; 9] = [
 ];
 
 #[test]
-fn scenes_come_to_what_they_should(rt: HostRuntime) -> Result<(), Fail> {
+fn scenes_come_to_what_they_should(rt: HostRuntime) {
     for act in &ACTS {
-        let outcome = play(&rt, rt.alloc(), act.scene)?;
-        if !act.wanted.is_met_by(&outcome) {
-            return Err(Fail::from(act.name));
-        }
+        let outcome = play(&rt, rt.alloc(), act.scene);
+        assert!(rt; act.wanted.is_met_by(&outcome), "{}", act.name);
     }
-    Ok(())
 }
 
-fn seats_given<B: Room, T: Wait>(rt: &T, alloc: Global, opened: Opened) -> Option<bool>
+/// No seat is given, since there are as many askers as there may be.
+fn show_full<T: Drop>(rt: &impl Abort, given: Result<T, EnrolRefused>) {
+    assert_eq!(rt; given.err(), Some(EnrolRefused::Full));
+}
+
+/// As many askers as there may be get their seats, and no further one.
+fn seats_given<B: Room, T: Wait + Abort>(rt: &T, alloc: Global, opened: Opened)
     requires table { opened.table ≡ B.table }
     requires session { (program_of opened.session.program ≡ B.program) × (opened.session.askers ≡ B.first) }
     requires before { opened.session.journal ≡ B.before }
 {
     let shared = Shared::<B>::new(opened);
     for _ in 0..500u64 {
-        shared.desk(rt, alloc).ok()?;
-        shared.worker_seat(rt, alloc).ok()?;
+        shared.desk(rt, alloc).expect(rt, "a desk");
+        shared.worker_seat(rt, alloc).expect(rt, "a worker's seat");
     }
-    let desk = shared.desk(rt, alloc);
-    let seat = shared.worker_seat(rt, alloc);
-    Some(matches!(desk, Err(EnrolRefused::Full)) && matches!(seat, Err(EnrolRefused::Full)))
+    show_full(rt, shared.desk(rt, alloc));
+    show_full(rt, shared.worker_seat(rt, alloc));
 }
 
 #[test]
-fn there_are_a_thousand_askers(rt: HostRuntime) -> Result<(), Fail> {
-    let session = Session::open(rt.alloc(), SPINNING)
-        .ok()
-        .ok_or("no session")?;
-    let opened = Opened::new(rt.alloc(), session)?;
-    assert_eq!(rt;
-        seats_given::<Brand, _>(&rt, rt.alloc(), opened),
-        Some(true)
-    );
-    Ok(())
+fn there_are_a_thousand_askers(rt: HostRuntime) {
+    let session = Session::open(rt.alloc(), SPINNING).expect(&rt, "a session");
+    let opened = Opened::new(rt.alloc(), session).expect(&rt, "memory for a table");
+    seats_given::<Brand, _>(&rt, rt.alloc(), opened);
+}
+
+/// What is written beside this many workers.
+fn written_beside<T: Threads + Wait + Abort + Sync>(
+    rt: &T,
+    alloc: Global,
+    workers: u32,
+) -> Vec<u8> {
+    let mut source = Counted::new(HANDING);
+    let mut reader = Counted::new(HANDED);
+    let mut writer = Counted::new(Vec::new(alloc));
+    let served = debug_beside(rt, alloc, workers, &mut source, &mut reader, &mut writer);
+    served.expect(rt, "a session");
+    writer.into_inner()
 }
 
 #[test]
-fn idle_workers_change_no_reply(rt: HostRuntime) -> Result<(), Fail> {
-    let mut source = Counted::new(HANDING);
-    let mut reader = Counted::new(HANDED);
-    let mut alone = Counted::new(Vec::new(rt.alloc()));
-    let served = debug(rt.alloc(), &mut source, &mut reader, &mut alone);
-    assert!(rt; served.is_ok());
-    let mut source = Counted::new(HANDING);
-    let mut reader = Counted::new(HANDED);
-    let mut beside = Counted::new(Vec::new(rt.alloc()));
-    let served = debug_beside(&rt, rt.alloc(), 4, &mut source, &mut reader, &mut beside);
-    assert!(rt; served.is_ok());
-    assert_eq!(rt;
-        beside.into_inner().as_slice(),
-        alone.into_inner().as_slice()
-    );
-    Ok(())
+fn idle_workers_change_no_reply(rt: HostRuntime) {
+    let beside = written_beside(&rt, rt.alloc(), 4);
+    show_session(&rt, rt.alloc(), HANDING, HANDED, beside.as_slice(), b"");
 }

@@ -8,8 +8,8 @@ use gr_command::Reply;
 use rewind::{Desk, Finished, Opened, Room, Session, Shared, Unfinished, Worker, finish};
 use std::alloc::Global;
 use std::marker::Brand;
+use std::process::Abort;
 use std::sync::Wait;
-use std::test::Fail;
 use std::thread::Threads;
 use std::time::Clock;
 
@@ -41,23 +41,27 @@ pub(crate) struct Outcome {
     pub(crate) met: bool,
 }
 
+fn push<T: Drop>(rt: &impl Abort, list: &mut Vec<T>, value: T) {
+    list.push(value).ok().expect(rt, "memory for a list");
+}
+
 /// All who call: a desk for each errand, and the workers.
-fn callers<B: Room, T: Wait>(
+fn callers<B: Room, T: Wait + Abort>(
     rt: &T,
     alloc: Global,
     shared: &Shared<B>,
     scene: Scene<'_>,
-) -> Option<Vec<Caller<B>>> {
+) -> Vec<Caller<B>> {
     let mut all = Vec::new(alloc);
     for errand in scene.errands {
-        let desk = shared.desk(rt, alloc).ok()?;
-        all.push(Caller::Asks(desk, *errand, 0)).ok()?;
+        let desk = shared.desk(rt, alloc).expect(rt, "a desk");
+        push(rt, &mut all, Caller::Asks(desk, *errand, 0));
     }
     for _ in 0..scene.workers {
-        let me = shared.worker_seat(rt, alloc).ok()?;
-        all.push(Caller::Works(me, scene.budget)).ok()?;
+        let me = shared.worker_seat(rt, alloc).expect(rt, "a worker's seat");
+        push(rt, &mut all, Caller::Works(me, scene.budget));
     }
-    Some(all)
+    all
 }
 
 fn stale_calls<B: Room>(me: &Worker<B>) -> u64 {
@@ -80,21 +84,21 @@ struct Seats<B: Room> {
 }
 
 impl<B: Room> Seats<B> {
-    fn add(&mut self, caller: Caller<B>) -> Option<()> {
+    fn add(&mut self, rt: &impl Abort, caller: Caller<B>) {
         match caller {
             Caller::Asks(desk, _, answers) => {
                 self.answers = self.answers.saturating_add(answers);
-                self.desks.push(desk).ok()
+                push(rt, &mut self.desks, desk);
             }
             Caller::Works(me, _) => {
                 self.stale = self.stale.saturating_add(stale_calls(&me));
-                self.workers.push(me).ok()
+                push(rt, &mut self.workers, me);
             }
         }
     }
 }
 
-fn seats_of<B: Room>(alloc: Global, mut callers: Vec<Caller<B>>) -> Option<Seats<B>> {
+fn seats_of<B: Room>(rt: &impl Abort, alloc: Global, mut callers: Vec<Caller<B>>) -> Seats<B> {
     let mut seats = Seats {
         desks: Vec::new(alloc),
         workers: Vec::new(alloc),
@@ -103,109 +107,112 @@ fn seats_of<B: Room>(alloc: Global, mut callers: Vec<Caller<B>>) -> Option<Seats
     };
     let count = callers.len();
     for _ in 0..count {
-        seats.add(callers.pop()?)?;
+        seats.add(rt, callers.pop().expect(rt, "a caller"));
     }
-    Some(seats)
+    seats
 }
 
-/// Ends the sharing without one desk, which is refused and hands back all.
-fn without_a_desk<B: Room>(
-    shared: Shared<B>,
-    mut desks: Vec<Desk<B>>,
-    workers: Vec<Worker<B>>,
-) -> Option<Unfinished<B>> {
-    let missing = desks.pop()?;
-    let mut unfinished = finish(shared, desks, workers).err()?;
-    unfinished.desks.push(missing).ok()?;
-    Some(unfinished)
+/// The end of the sharing is to be refused, which hands back all.
+fn refused<B: Room>(rt: &impl Abort, all: Unfinished<B>) -> Unfinished<B> {
+    let Unfinished {
+        shared,
+        desks,
+        workers,
+    } = all;
+    match finish(shared, desks, workers) {
+        Ok(_) => panic!(rt; "the sharing ends while a seat is missing"),
+        Err(all) => all,
+    }
 }
 
-/// Ends the sharing without one worker, where there are workers, which is refused and hands back all.
-fn without_a_worker<B: Room>(
-    shared: Shared<B>,
-    desks: Vec<Desk<B>>,
-    mut workers: Vec<Worker<B>>,
-) -> Option<Unfinished<B>> {
-    let Some(missing) = workers.pop() else {
-        return Some(Unfinished {
-            shared,
-            desks,
-            workers,
-        });
+/// Tries to end the sharing without one desk.
+fn without_a_desk<B: Room>(rt: &impl Abort, mut all: Unfinished<B>) -> Unfinished<B> {
+    let missing = all.desks.pop().expect(rt, "a desk");
+    let mut back = refused(rt, all);
+    push(rt, &mut back.desks, missing);
+    back
+}
+
+/// Tries to end the sharing without one worker, where there are workers.
+fn without_a_worker<B: Room>(rt: &impl Abort, mut all: Unfinished<B>) -> Unfinished<B> {
+    let Some(missing) = all.workers.pop() else {
+        return all;
     };
-    let mut unfinished = finish(shared, desks, workers).err()?;
-    unfinished.workers.push(missing).ok()?;
-    Some(unfinished)
+    let mut back = refused(rt, all);
+    push(rt, &mut back.workers, missing);
+    back
 }
 
 /// Ends the sharing, which is refused without a desk, and without a worker.
-fn finish_at_last<B: Room>(
-    shared: Shared<B>,
-    desks: Vec<Desk<B>>,
-    workers: Vec<Worker<B>>,
-) -> Option<Finished<B>> {
+fn finish_at_last<B: Room>(rt: &impl Abort, all: Unfinished<B>) -> Finished<B> {
+    let all = without_a_desk(rt, all);
+    let all = without_a_worker(rt, all);
     let Unfinished {
         shared,
         desks,
         workers,
-    } = without_a_desk(shared, desks, workers)?;
-    let Unfinished {
-        shared,
-        desks,
-        workers,
-    } = without_a_worker(shared, desks, workers)?;
-    finish(shared, desks, workers).ok()
+    } = all;
+    match finish(shared, desks, workers) {
+        Ok(finished) => finished,
+        Err(_) => panic!(rt; "the sharing does not end"),
+    }
 }
 
-fn play_in<B: Room + Send + Sync, T: Threads + Wait + Clock + Sync>(
-    rt: &T,
-    alloc: Global,
-    opened: Opened,
-    scene: Scene<'_>,
-) -> Option<Outcome>
-    requires table { opened.table ≡ B.table }
-    requires session { (program_of opened.session.program ≡ B.program) × (opened.session.askers ≡ B.first) }
-    requires before { opened.session.journal ≡ B.before }
-{
-    let shared = Shared::<B>::new(opened);
-    let mut opener = shared.desk(rt, alloc).ok()?;
-    for line in scene.first {
-        reply(rt, alloc, &shared, &mut opener, line)?;
-    }
-    let meeting = Meeting::new(scene.hold);
-    let mut all = callers(rt, alloc, &shared, scene)?;
-    if !call_at_once(rt, alloc, &shared, &meeting, all.as_mut_slice()) {
-        return None;
-    }
+/// Ends the sharing, and tells what came of it.
+fn ended<B: Room>(rt: &impl Abort, shared: Shared<B>, seats: Seats<B>, met: bool) -> Outcome {
     let Seats {
-        mut desks,
+        desks,
         workers,
         answers,
         stale,
-    } = seats_of(alloc, all)?;
-    desks.push(opener).ok()?;
-    let finished = finish_at_last(shared, desks, workers)?;
+    } = seats;
+    let all = Unfinished {
+        shared,
+        desks,
+        workers,
+    };
+    let finished = finish_at_last(rt, all);
     let session = &finished.session;
-    Some(Outcome {
+    Outcome {
         entries: session.journal().len(),
         grant: session.grant(),
         room: session.room(),
         answers,
         stale,
-        met: meeting.was_held(),
-    })
+        met,
+    }
+}
+
+fn play_in<B: Room + Send + Sync, T: Threads + Wait + Clock + Abort + Sync>(
+    rt: &T,
+    alloc: Global,
+    opened: Opened,
+    scene: Scene<'_>,
+) -> Outcome
+    requires table { opened.table ≡ B.table }
+    requires session { (program_of opened.session.program ≡ B.program) × (opened.session.askers ≡ B.first) }
+    requires before { opened.session.journal ≡ B.before }
+{
+    let shared = Shared::<B>::new(opened);
+    let mut opener = shared.desk(rt, alloc).expect(rt, "a desk");
+    for line in scene.first {
+        reply(rt, alloc, &shared, &mut opener, line);
+    }
+    let meeting = Meeting::new(scene.hold);
+    let mut all = callers(rt, alloc, &shared, scene);
+    assert!(rt; call_at_once(rt, alloc, &shared, &meeting, all.as_mut_slice()));
+    let mut seats = seats_of(rt, alloc, all);
+    push(rt, &mut seats.desks, opener);
+    ended(rt, shared, seats, meeting.was_held())
 }
 
 /// Plays a scene to its end.
-pub(crate) fn play<T: Threads + Wait + Clock + Sync>(
+pub(crate) fn play<T: Threads + Wait + Clock + Abort + Sync>(
     rt: &T,
     alloc: Global,
     scene: Scene<'_>,
-) -> Result<Outcome, Fail> {
-    let session = Session::open(alloc, scene.source).ok().ok_or("no session")?;
-    let opened = Opened::new(alloc, session)?;
-    match play_in::<Brand, T>(rt, alloc, opened, scene) {
-        Some(outcome) => Ok(outcome),
-        None => Err(Fail::from("the scene was not played to its end")),
-    }
+) -> Outcome {
+    let session = Session::open(alloc, scene.source).expect(rt, "a session");
+    let opened = Opened::new(alloc, session).expect(rt, "memory for a table");
+    play_in::<Brand, T>(rt, alloc, opened, scene)
 }

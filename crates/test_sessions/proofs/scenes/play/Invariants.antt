@@ -1,9 +1,9 @@
 use Rattle.gr_program.specs.Views.{program_of}
-use Rattle.test_threads.proofs.sharing.there_are_a_thousand_askers.Given as goal
+use Rattle.test_sessions.proofs.scenes.play.Given as goal
 
 -- the session that was just opened
-abbrev pub ghosts-seats_given : goal.ghosts-seats_given
-ghosts-seats_given g a = record {
+abbrev pub ghosts-play_in : goal.ghosts-play_in
+ghosts-play_in g a = record {
   table = a.opened.table;
   program = program_of a.opened.session.program;
   first = a.opened.session.askers;
