@@ -31,6 +31,7 @@ use gr_goros::{KeptUndo, Spot};
 use gr_program::program::{Function, Program, Variable};
 use gr_record::Record;
 use gr_record::record::Form;
+use std::slice;
 
 /// Where the innermost frame of a goroutine stood before a change, if that keeps it.
 #[tactic(auto, using(crate::proofs::SpotLemmas::kept_in_frame))]
@@ -236,6 +237,12 @@ fn stood_at(step: &Record) -> Option<Spot>
         Form::Alone(_, own) => kept_spot(own),
         Form::WaitsToSend(_, _, spot) | Form::WaitsToReceive(_, _, spot) => Some(*spot),
         Form::Passes(_, passage) => kept_spot(&passage.own),
+        Form::Exchanges(_, exchange) => {
+            if let Some(spot) = kept_spot(&exchange.passage.own) {
+                return Some(spot);
+            }
+            first_spot(&step.id.go, slice::from_ref(&exchange.met))
+        }
         Form::Further(_, further) => {
             if let Some(spot) = kept_spot(&further.own) {
                 return Some(spot);

@@ -62,6 +62,7 @@ fn sent_on(step: &Record) -> Option<&ChName>
         Form::Alone(_, _) | Form::WaitsToReceive(_, _, _) => None,
         Form::WaitsToSend(_, channel, _) => Some(channel),
         Form::Passes(_, passage) => sending_on(&passage.contact.operation),
+        Form::Exchanges(_, exchange) => sending_on(&exchange.passage.contact.operation),
         Form::Further(_, further) => match &further.beyond.operation {
             Some(operation) => sending_on(operation),
             None => None,
@@ -77,6 +78,7 @@ fn received_from(step: &Record) -> Option<&ChName>
         Form::Alone(_, _) | Form::WaitsToSend(_, _, _) => None,
         Form::WaitsToReceive(_, channel, _) => Some(channel),
         Form::Passes(_, passage) => receiving_from(&passage.contact.operation),
+        Form::Exchanges(_, exchange) => receiving_from(&exchange.passage.contact.operation),
         Form::Further(_, further) => match &further.beyond.operation {
             Some(operation) => receiving_from(operation),
             None => None,

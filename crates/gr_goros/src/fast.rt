@@ -13,13 +13,15 @@ ghost use Rattle.gr_code.specs.CodeFrames.{at_number, with_cell};
 ghost use Rattle.gr_code.specs.CodeViews.{action_of, instruction_of, operand_of, operands_of, program_code_of};
 ghost use Rattle.gr_code.specs.Goroutines.{CodeGoroutine, is_local, is_local_action, is_local_instruction, local, task_of};
 ghost use Rattle.gr_goros.specs.declared.kinds.LocalKind.TheVariants as locals;
+ghost use Rattle.gr_goros.specs.declared.undo.GoUndo.TheVariants as undos;
 ghost use Rattle.gr_goros.specs.Tasks.{ChangesInts, IsStep, kept_of, performed, tested, updated};
 ghost use Rattle.gr_goros.specs.Undoing.{frame_before, undone};
 
 use crate::cells::put_number;
 use crate::frame::Frame;
 use crate::goroutine::Goroutine;
-use crate::undo::{Former, FrameUndo, GoUndo};
+use crate::kept::{How, KeptUndo, Packed};
+use crate::undo::Spot;
 use crate::wait::Status;
 use gr_base::Value;
 use gr_code::code::{Action, Code, Instruction, Operand};
@@ -51,26 +53,27 @@ fn truth_of(cells: &[Option<Value>], operand: &Operand) -> Option<bool>
 }
 
 impl IntChange {
-    /// The frame before it.
-    pub(crate) fn undo(self) -> FrameUndo
-        ensures { result ≡ kept_of self }
+    /// What it replaced in a frame of a function, as records keep it.
+    pub(crate) fn kept(self, function: u32) -> KeptUndo
+        ensures { result ≡ undos.Went function (kept_of self) }
     {
-        let cells = if self.writes {
-            Former::Int(self.slot, self.former)
-        } else {
-            Former::Same
-        };
-        FrameUndo {
+        let spot = Spot {
+            function,
             number: self.pc,
-            cells,
-        }
+        };
+        let packed = if self.writes {
+            Packed::Int(How::Went, spot, self.slot, self.former)
+        } else {
+            Packed::Same(How::Went, spot)
+        };
+        KeptUndo { packed }
     }
 }
 
 impl Goroutine {
     /// Takes the next step, if it is ready and the step is over whole numbers alone, and answers its ordinal and what it
     /// replaced. `None` where it is another step; nothing has changed.
-    pub fn step_ints(&mut self, code: &Code) -> Option<(u64, GoUndo)>
+    pub fn step_ints(&mut self, code: &Code) -> Option<(u64, KeptUndo)>
         requires right { self.old.content.status ≡ ready → ¬ (task_of (program_code_of code.now) self.old.content ≡ wrong) }
         requires counted { self.old.content.steps + 1 < 2 ^ 64 }
         ensures step { IfSome result (λ r. IsStep (locals.Pure, r.1)
@@ -86,10 +89,7 @@ impl Goroutine {
         };
         let counted = self.top.step_ints(self.top.instruction(code))?;
         self.steps += 1;
-        Some((
-            self.steps,
-            GoUndo::Went(self.top.kept_function(), counted.undo()),
-        ))
+        Some((self.steps, counted.kept(self.top.kept_function())))
     }
 }
 

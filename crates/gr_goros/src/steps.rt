@@ -11,6 +11,7 @@ ghost use Rattle.gr_goros.specs.declared.kinds.LocalKind.TheVariants as locals;
 use crate::calling::call_in;
 use crate::frame::Frame;
 use crate::goroutine::Goroutine;
+use crate::kept::KeptUndo;
 use crate::kinds::LocalKind;
 use crate::needs::asks_nothing;
 use crate::tasks::Task;
@@ -37,7 +38,7 @@ impl Goroutine {
         &mut self,
         alloc: Global,
         code: &Code,
-    ) -> Result<(LocalKind, GoUndo), NoMemory>
+    ) -> Result<(LocalKind, KeptUndo), NoMemory>
         requires right { ¬ (local (program_code_of code.now) self.old.content ≡ wrong) }
         requires here { is_local_now (program_code_of code.now) self.old.content ≡ true }
         requires counted { self.old.content.steps + 1 < 2 ^ 64 }
@@ -47,10 +48,10 @@ impl Goroutine {
     {
         if let Some(counted) = self.top.step_ints(self.top.instruction(code)) {
             self.steps += 1;
-            let own = GoUndo::Went(self.top.kept_function(), counted.undo());
-            return Ok((LocalKind::Pure, own));
+            return Ok((LocalKind::Pure, counted.kept(self.top.kept_function())));
         }
-        self.take_task(alloc, code)
+        let (kind, own) = self.take_task(alloc, code)?;
+        Ok((kind, KeptUndo::new(own)))
     }
 }
 

@@ -1,5 +1,5 @@
 -- What a step did, however it is kept: its kind, what it replaced in its goroutine, and what it reached beyond that.
-use Rattle.std.specs.Prelude.{ℕ, Option, Some, None, false}
+use Rattle.std.specs.Prelude.{ℕ, List, Option, Some, None, false}
 use Rattle.gr_base.specs.declared.names.ChName.{ChName}
 use Rattle.gr_base.specs.declared.kinds.Kind.{Kind}
 use Rattle.gr_base.specs.declared.kinds.Kind.TheVariants.{SendWait, RecvWait}
@@ -17,8 +17,9 @@ use Rattle.gr_record.specs.declared.record.Contact.{Contact}
 use Rattle.gr_record.specs.declared.record.Parts.TheVariants as parts
 use Rattle.gr_record.specs.declared.record.Touched.{Touched}
 use Rattle.gr_record.specs.declared.record.Passage.{Passage}
+use Rattle.gr_record.specs.declared.record.Exchange.{Exchange}
 use Rattle.gr_record.specs.declared.record.Form.{Form}
-use Rattle.gr_record.specs.declared.record.Form.TheVariants.{Alone, WaitsToSend, WaitsToReceive, Passes, Further}
+use Rattle.gr_record.specs.declared.record.Form.TheVariants.{Alone, WaitsToSend, WaitsToReceive, Passes, Exchanges, Further}
 use Rattle.gr_record.specs.Parts.{channel_in}
 
 pub record Effect : Type 0 where
@@ -54,6 +55,13 @@ reached_on c undo = record {
 abbrev pub reached_by_passage : Passage → Beyond
 reached_by_passage p = reached_on p.contact p.undo
 
+-- what it reached that met this goroutine, with its change
+abbrev pub met_on : Contact → Option ChanUndo → List ℕ × GoUndo → Beyond
+met_on c undo met = record (reached_on c undo) { partner = Some met.0; met = One met }
+
+abbrev pub reached_by_exchange : Exchange → Beyond
+reached_by_exchange e = met_on e.passage.contact e.passage.undo e.met
+
 -- what a step did that came to wait for a send on a channel, or for a receive from it: it came to stand in a queue there
 abbrev pub wait_to_send : Option ℕ → ChName → Spot → Effect
 wait_to_send slot c spot = record {
@@ -74,4 +82,5 @@ effect_in (Alone kind own) = record { kind = kind_of kind; own = own; beyond = N
 effect_in (WaitsToSend slot c spot) = wait_to_send slot c spot
 effect_in (WaitsToReceive slot c spot) = wait_to_receive slot c spot
 effect_in (Passes kind p) = record { kind = kind; own = p.value.own; beyond = Some (reached_by_passage p.value) }
+effect_in (Exchanges kind e) = record { kind = kind; own = e.value.passage.own; beyond = Some (reached_by_exchange e.value) }
 effect_in (Further kind f) = record { kind = kind; own = f.value.own; beyond = Some f.value.beyond }

@@ -123,6 +123,14 @@ pub struct Passage {
     pub undo: Option<ChanUndo>,
 }
 
+/// What a step replaced and reached that communicated over one channel with a goroutine which waited for this alone.
+#[derive(Debug, Drop)]
+pub struct Exchange {
+    pub passage: Passage,
+    /// The goroutine that it met, with what it replaced there.
+    pub met: (GoName, KeptUndo),
+}
+
 /// What a step replaced and reached that reached further.
 #[derive(Debug, Drop)]
 pub struct Further {
@@ -143,12 +151,31 @@ impl Passage {
     pub fn new(alloc: Global, contact: Contact) -> Result<Box<Passage>, NoMemory>
         ensures { IfOk result (λ passage. passage.value.contact ≡ contact) }
     {
-        let passage = Passage {
+        Ok(Box::new(alloc, Passage::of(contact))?)
+    }
+
+    fn of(contact: Contact) -> Passage
+        ensures { result.contact ≡ contact }
+    {
+        Passage {
             own: none_yet(),
             contact,
             undo: None,
+        }
+    }
+}
+
+impl Exchange {
+    /// What a step will reach that meets this goroutine, before it replaces anything.
+    pub fn new(alloc: Global, contact: Contact, partner: GoName) -> Result<Box<Exchange>, NoMemory>
+        ensures contact { IfOk result (λ exchange. exchange.value.passage.contact ≡ contact) }
+        ensures partner { IfOk result (λ exchange. exchange.value.met.0 ≡ partner) }
+    {
+        let exchange = Exchange {
+            passage: Passage::of(contact),
+            met: (partner, none_yet()),
         };
-        Ok(Box::new(alloc, passage)?)
+        Ok(Box::new(alloc, exchange)?)
     }
 }
 
@@ -170,11 +197,12 @@ pub enum Form {
     /// Its goroutine came to wait for one send on a channel, outside a select: the place of the slot that the next value
     /// enters, and where the innermost frame stands.
     WaitsToSend(SlotPlace, ChName, Spot),
-    /// Its goroutine came to wait for one receive from a channel, outside a select: the place of the slot of the front item,
-    /// and where the innermost frame stands.
+    /// The same of one receive from a channel, with the place of the slot of the front item.
     WaitsToReceive(SlotPlace, ChName, Spot),
     /// It communicated over a channel, and met nobody.
     Passes(Kind, Box<Passage>),
+    /// It communicated over a channel with a goroutine that waited for this alone.
+    Exchanges(Kind, Box<Exchange>),
     /// It reached further.
     Further(Kind, Box<Further>),
 }
@@ -194,14 +222,14 @@ impl Model for Change {
 }
 
 impl Change {
-    ghost use Rattle.gr_record.specs.Effects.{reached_on, wait_to_receive, wait_to_send};
+    ghost use Rattle.gr_record.specs.Effects.{met_on, reached_on, wait_to_receive, wait_to_send};
 
     /// What a step did of this kind that reached no further than its goroutine.
-    pub fn alone(kind: LocalKind, own: GoUndo) -> Change
+    pub fn alone(kind: LocalKind, own: KeptUndo) -> Change
         ensures { result ≡ record { kind = kind_of kind; own = own; beyond = None } }
     {
         Change {
-            form: Form::Alone(kind, KeptUndo::new(own)),
+            form: Form::Alone(kind, own),
         }
     }
 
@@ -235,6 +263,29 @@ impl Change {
         }
     }
 
+    /// What a step did of this kind that met a goroutine over a channel, and replaced this in both.
+    pub fn exchanged(
+        kind: Kind,
+        own: GoUndo,
+        exchange: Box<Exchange>,
+        met: GoUndo,
+        undo: ChanUndo,
+    ) -> Change
+        ensures { result ≡ record {
+          kind = kind;
+          own = own;
+          beyond = Some (met_on exchange.value.passage.contact (Some undo) (exchange.value.met.0, met));
+        } }
+    {
+        let mut exchange = exchange;
+        exchange.passage.own = KeptUndo::new(own);
+        exchange.passage.undo = Some(undo);
+        exchange.met.1 = KeptUndo::new(met);
+        Change {
+            form: Form::Exchanges(kind, exchange),
+        }
+    }
+
     /// What a step did of this kind that reached further.
     pub fn further(kind: Kind, own: GoUndo, further: Box<Further>) -> Change
         ensures { result ≡ record { kind = kind; own = own; beyond = Some further.value.beyond } }
@@ -261,7 +312,7 @@ impl Change {
             Form::Alone(kind, _) => kind.kind(),
             Form::WaitsToSend(_, _, _) => Kind::SendWait,
             Form::WaitsToReceive(_, _, _) => Kind::RecvWait,
-            Form::Passes(kind, _) | Form::Further(kind, _) => *kind,
+            Form::Passes(kind, _) | Form::Exchanges(kind, _) | Form::Further(kind, _) => *kind,
         }
     }
 
@@ -273,12 +324,12 @@ impl Change {
             Form::Alone(_, own) => wrote_line(own),
             Form::WaitsToSend(_, _, _) | Form::WaitsToReceive(_, _, _) => false,
             Form::Passes(_, passage) => wrote_line(&passage.own),
+            Form::Exchanges(_, exchange) => wrote_line(&exchange.passage.own),
             Form::Further(_, further) => wrote_line(&further.own),
         }
     }
 }
 
-/// Whether a goroutine's change is a line that it printed.
 fn wrote_line(own: &KeptUndo) -> bool
     ensures { result ≡ is_printed own.now }
 {

@@ -120,6 +120,9 @@ loses_one n old new is known = record {
 pub brings_own : (n : List ℕ) (u : GoUndo) (old new : pools.Goroutines) → BringsBack ((n, u) ∷ []) old new → BringsStepBack ((n, u) ∷ []) None old new
 brings_own n u old new back = record { mid = new; back = back; loses = loses_none new }
 
+pub brings_unstarted : (us : List (List ℕ × GoUndo)) (old new : pools.Goroutines) → BringsBack us old new → BringsStepBack us None old new
+brings_unstarted us old new back = record { mid = new; back = back; loses = loses_none new }
+
 -- its goroutine came to wait, and was ready before
 pub brings_waiting : (n : List ℕ) (spot : Spot) (old new : pools.Goroutines) → new.known ≡ old.known → new.ready ≡ with_name n old.ready
     → BringsBack ((n, Parked spot) ∷ []) old new

@@ -112,6 +112,17 @@ fn bring_beyond_back(pool: &mut Pool, go: &GoName, own: &KeptUndo, beyond: &Beyo
     lose(pool, beyond.begins());
 }
 
+/// Brings the pool back before changes of a goroutine and of the one that it met.
+#[inline(never)]
+fn bring_both_back(pool: &mut Pool, go: &GoName, own: &KeptUndo, met: &(GoName, KeptUndo))
+    requires own { is_among go.now pool.old.known ≡ true }
+    requires met { is_among met.now.0 pool.old.known ≡ true }
+    ensures { BringsBack ((go.now, own.now) ∷ met.now ∷ []) pool.old pool.new }
+{
+    bring_back(pool, &met.0, &met.1);
+    bring_back(pool, go, own);
+}
+
 /// Brings the pool back before a step, whose goroutine and those that it met are known. It takes no memory.
 pub(crate) fn bring_step_back(pool: &mut Pool, step: &Record)
     requires own { is_among step.now.id.go pool.old.known ≡ true }
@@ -124,6 +135,9 @@ pub(crate) fn bring_step_back(pool: &mut Pool, step: &Record)
         Form::WaitsToSend(_, _, _) => pool.insert(go),
         Form::WaitsToReceive(_, _, _) => pool.insert(go),
         Form::Passes(_, passage) => bring_back(pool, go, &passage.own),
+        Form::Exchanges(_, exchange) => {
+            bring_both_back(pool, go, &exchange.passage.own, &exchange.met)
+        }
         Form::Further(_, further) => bring_beyond_back(pool, go, &further.own, &further.beyond),
     }
 }

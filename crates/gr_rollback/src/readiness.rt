@@ -106,12 +106,15 @@ fn settle_others(pool: &mut Pool, store: &Store, step: &Record)
     requires child { KnowsReady (option_to_list (begun_by step.now.change)) (contents_at store.now) pool.old }
     ensures { Settles (others_of step.now.change) (contents_at store.now) pool.old pool.new }
 {
-    let Form::Further(_, further) = step.change.form() else {
-        return;
-    };
-    let beyond = &further.beyond;
-    settle_met(pool, store, beyond.met.as_slice());
-    settle_child(pool, store, beyond.begins());
+    match step.change.form() {
+        Form::Exchanges(_, exchange) => settle(pool, store, &exchange.met.0),
+        Form::Further(_, further) => {
+            let beyond = &further.beyond;
+            settle_met(pool, store, beyond.met.as_slice());
+            settle_child(pool, store, beyond.begins());
+        }
+        _ => {}
+    }
 }
 
 /// Settles the goroutine of a step, which was ready, and those that the step met and started.
@@ -150,6 +153,7 @@ pub(crate) fn settle_taken(pool: &mut Pool, store: &Store, step: &Record)
         Form::WaitsToSend(_, _, _) | Form::WaitsToReceive(_, _, _) | Form::Passes(_, _) => {
             settle_own(pool, store, &step.id.go)
         }
+        Form::Exchanges(_, _) => settle_further(pool, store, step),
         Form::Further(_, _) => settle_further(pool, store, step),
     }
 }

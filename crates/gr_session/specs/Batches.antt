@@ -1,5 +1,5 @@
 -- What comes of a batch: of steps that a goroutine took by itself on a copy of it, and that are to join the log.
-use Rattle.std.specs.Prelude.{◌≡◌, ◌+◌, ◌-◌, ◌<◌, ◌≤◌, Bool, true, false, List, ◌++◌, length}
+use Rattle.std.specs.Prelude.{◌+◌, ◌-◌, ◌<◌, ◌≤◌, Bool, true, false, List, ◌++◌, length}
 use Rattle.gr_program.specs.Programs.{Program}
 use Rattle.gr_rules.specs.Limits.{most_steps}
 use Rattle.gr_rules.specs.States.{State}

@@ -1,7 +1,7 @@
 -- A goroutine that is lent, and the steps that it took by itself on the copy.
-use Rattle.std.specs.Prelude.{◌≡◌, ℕ, ◌<◌, ◌≤◌, min, max}
+use Rattle.std.specs.Prelude.{ℕ, ◌<◌, ◌≤◌, min, max}
 use Rattle.gr_rollback.specs.LentCopy.{LentCopy}
-use Rattle.gr_rollback.specs.StepLeasing.{IsLease, SameLoan, CanCountOn, HasOwnStep, goroutine_led_to, program_lent}
+use Rattle.gr_rollback.specs.StepLeasing.{SameLoan, CanCountOn, HasOwnStep, goroutine_led_to, program_lent}
 pub use Rattle.gr_rollback.specs.StepLeasing.{Loan, loan_of}
 use Rattle.gr_lower.specs.Lowered.{lowered}
 use Rattle.gr_session.specs.declared.TheConstants.{BATCH_LIMIT}

@@ -1,7 +1,7 @@
 -- What the commands of a journal mean: what each makes of the steps that are kept, and its reply.
 -- Lanese, Nishida, Palacios and Vidal, A theory of reversibility for Erlang (2018): forward and backward steps of a system with
 -- its history, and rollback of an action with its consequences.
-use Rattle.std.specs.Prelude.{◌≡◌, ℕ, zero, suc, ◌-◌, ◌≤◌, ◌<◌, min, not, nat_eq, List, [], ◌∷◌, ◌++◌, length, filter, All, Option, Some, None}
+use Rattle.std.specs.Prelude.{◌≡◌, ℕ, zero, suc, ◌-◌, ◌≤◌, ◌<◌, min, not, nat_eq, List, [], ◌∷◌, length, filter, Option, Some, None}
 use Rattle.gr_base.specs.declared.events.Event.{Event}
 use Rattle.gr_base.specs.declared.events.Choice.TheVariants.{Pick}
 use Rattle.gr_base.specs.declared.names.ChName.{ChName}

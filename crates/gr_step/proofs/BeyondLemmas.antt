@@ -11,8 +11,9 @@ use Rattle.gr_record.specs.declared.record.Beyond.{Beyond}
 use Rattle.gr_base.specs.declared.kinds.Kind.{Kind}
 use Rattle.gr_channels.specs.declared.changes.ChanUndo.{ChanUndo}
 use Rattle.gr_goros.specs.declared.undo.GoUndo.{GoUndo}
+use Rattle.gr_record.specs.declared.record.Exchange.{Exchange}
 use Rattle.gr_record.specs.declared.record.Passage.{Passage}
-use Rattle.gr_record.specs.Effects.{Effect, one_or_none, reached_by_passage}
+use Rattle.gr_record.specs.Effects.{Effect, one_or_none, reached_by_exchange, reached_by_passage}
 use Rattle.gr_step.specs.Objects.{run_of, contents_in}
 use Rattle.gr_record.specs.Fews.{members}
 use Rattle.gr_record.specs.Parts.{begun_in, made_in, channel_in}
@@ -61,4 +62,16 @@ passage_taken n kind own p old mid new goroutines same back runs =
     taken n (record { kind = kind; own = own; beyond = Some (reached_by_passage p) }) (reached_by_passage p) (reached_by_passage p) old mid new refl refl
     goroutines same
     (λ q. back.back q ∙ ap (λ us. chan_back us q (contents_of mid q)) (same_changes (channel_in p.contact.operation) p.undo))
+    runs
+
+-- the contents when a step is taken back that met a goroutine which waited for this alone
+pub exchange_taken : (n : List ℕ) (kind : Kind) (own : GoUndo) (e : Exchange) (old : Objects) (mid : Channels) (new : Objects)
+    → GoBack ((n, own) ∷ e.met ∷ []) old.goroutines new.goroutines
+    → contents_of mid ≡ contents_of old.channels → TookBack (listed (channel_in e.passage.contact.operation) e.passage.undo) mid new.channels
+    → new.run ≡ old.run
+    → contents_in new ≡ taken_back n (record { kind = kind; own = own; beyond = Some (reached_by_exchange e) }) (contents_in old)
+exchange_taken n kind own e old mid new goroutines same back runs =
+    taken n (record { kind = kind; own = own; beyond = Some (reached_by_exchange e) }) (reached_by_exchange e) (reached_by_exchange e) old mid new refl refl
+    goroutines same
+    (λ q. back.back q ∙ ap (λ us. chan_back us q (contents_of mid q)) (same_changes (channel_in e.passage.contact.operation) e.passage.undo))
     runs

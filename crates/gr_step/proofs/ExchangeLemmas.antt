@@ -40,7 +40,7 @@ use Rattle.gr_step.specs.Objects.{contents_in, run_of}
 use Rattle.gr_step.specs.Premises.{Acting, OfGoroutine}
 use Rattle.gr_step.specs.Room.{HasRoom}
 use Rattle.gr_step.specs.Passing.{CanArriveAt}
-use Rattle.gr_step.specs.Preparing.{WaitsFor, IsPrepared, CanPass, IsPass, CanExchange, IsExchange}
+use Rattle.gr_step.specs.Preparing.{WaitsFor, IsPrepared, CanPass, IsPass, CanExchange, IsExchange, channel_of, go_of, left_by}
 use Rattle.gr_step.proofs.PartnerLemmas.{some_is}
 use Rattle.gr_step.proofs.PassLemmas.{needs_no_frame}
 use Rattle.gr_step.proofs.RunningLemmas.{acts_here}
@@ -124,13 +124,13 @@ module _ (p : Program) (e : Event) (number : ℕ) (old : Objects) (acting : Acti
   pub can_exchange : CanExchange code e number r u (Passes clause gets) (IsMet case got) (record old { channels = mid })
   can_exchange = record {
     named = acting.named;
-    partner_named = ready.named ∙ ap (λ (n : List ℕ). Some n) (sym ready.go_is);
-    apart = ap (λ n. same_go n e.go) ready.go_is ∙ meet.apart;
+    partner_named = ready.named ∙ ap (λ (n : List ℕ). Some n) (sym ready.partner.go_is);
+    apart = ap (λ n. same_go n e.go) ready.partner.go_is ∙ meet.apart;
     can = subst {_, _} (λ k. CanArriveAt k (Passes clause gets) (goroutines_of old.goroutines e.go)) (sym coded) meet.can;
-    partner_can = subst {_, _} (λ n. CanArriveAt code (IsMet case got) (goroutines_of old.goroutines n)) (sym ready.go_is)
+    partner_can = subst {_, _} (λ n. CanArriveAt code (IsMet case got) (goroutines_of old.goroutines n)) (sym ready.partner.go_is)
         (subst {_, _} (λ k. CanArriveAt k (IsMet case got) (goroutines_of old.goroutines n)) (sym coded) meet.partner_can);
-    fits = subst {_, _} (λ c. ChansFit ((c, u) ∷ []) (contents_of mid)) (sym ready.channel_is) goes.fits;
-    room = subst {_, _} (λ c. HasRooms ((c, u) ∷ []) (rooms_of mid)) (sym ready.channel_is) goes.room;
+    fits = subst {_, _} (λ c. ChansFit ((c, u) ∷ []) (contents_of mid)) (sym ready.partner.channel_is) goes.fits;
+    room = subst {_, _} (λ c. HasRooms ((c, u) ∷ []) (rooms_of mid)) (sym ready.partner.channel_is) goes.room;
   }
 
   -- what it touches
@@ -139,24 +139,24 @@ module _ (p : Program) (e : Event) (number : ℕ) (old : Objects) (acting : Acti
 
   -- the exchange was done
   pub exchanged : (kind : Kind) (change : Effect) (new : Objects)
-      → IsExchange code e.go r.go (Passes clause gets) (IsMet case got) r.names.items kind operation reads written ((r.channel, u) ∷ []) change
+      → IsExchange code e.go (go_of r.partner) (Passes clause gets) (IsMet case got) (left_by r.partner) kind operation reads written ((channel_of r.partner, u) ∷ []) change
       (record old { channels = mid }) new
-      → IsExchange (lowered p) e.go n (Passes clause gets) (IsMet case got) r.names.items kind operation reads written ((c, u) ∷ []) change
+      → IsExchange (lowered p) e.go n (Passes clause gets) (IsMet case got) (left_by r.partner) kind operation reads written ((c, u) ∷ []) change
       (record old { channels = mid }) new
   exchanged kind change new is =
-      subst {_, _} (λ k. IsExchange k e.go n (Passes clause gets) (IsMet case got) r.names.items kind operation reads written ((c, u) ∷ []) change
+      subst {_, _} (λ k. IsExchange k e.go n (Passes clause gets) (IsMet case got) (left_by r.partner) kind operation reads written ((c, u) ∷ []) change
       (record old { channels = mid }) new) coded
-      (subst {_, _} (λ c. IsExchange code e.go n (Passes clause gets) (IsMet case got) r.names.items kind operation reads written ((c, u) ∷ []) change
-      (record old { channels = mid }) new) ready.channel_is
-      (subst {_, _} (λ m. IsExchange code e.go m (Passes clause gets) (IsMet case got) r.names.items kind operation reads written ((r.channel, u) ∷ []) change
-      (record old { channels = mid }) new) ready.go_is is))
+      (subst {_, _} (λ c. IsExchange code e.go n (Passes clause gets) (IsMet case got) (left_by r.partner) kind operation reads written ((c, u) ∷ []) change
+      (record old { channels = mid }) new) ready.partner.channel_is
+      (subst {_, _} (λ m. IsExchange code e.go m (Passes clause gets) (IsMet case got) (left_by r.partner) kind operation reads written ((channel_of r.partner, u) ∷ []) change
+      (record old { channels = mid }) new) ready.partner.go_is is))
 
   -- refused, all is as before
-  pub as_before : (new : Objects) → goroutines_of new.goroutines ≡ goroutines_of old.goroutines → TookBack ((r.channel, u) ∷ []) mid new.channels
+  pub as_before : (new : Objects) → goroutines_of new.goroutines ≡ goroutines_of old.goroutines → TookBack ((channel_of r.partner, u) ∷ []) mid new.channels
       → new.run ≡ old.run → contents_in new ≡ contents_in old
   as_before new gos took is_run =
       let chans = changes_go_back ((c, u) ∷ []) old.channels mid mid new.channels goes refl (λ q. within_self (rooms_of mid q))
-      (subst {_, _} (λ c. TookBack ((c, u) ∷ []) mid new.channels) ready.channel_is took) in
+      (subst {_, _} (λ c. TookBack ((c, u) ∷ []) mid new.channels) ready.partner.channel_is took) in
       λ i. record { run = run_of (is_run i); goroutines = gos i; channels = chans.0 i }
 
 -- a goroutine goes past its communication with nobody

@@ -33,7 +33,7 @@ use Rattle.gr_step.specs.Premises.{Acting, OfActor}
 use Rattle.gr_step.specs.Room.{HasRoom}
 use Rattle.gr_record.specs.Taking.{Takes}
 use Rattle.gr_step.specs.Communicating.{TrialIsSound}
-use Rattle.gr_step.specs.Preparing.{AreToLeave, IsPrepared, CanExchange, IsExchange}
+use Rattle.gr_step.specs.Preparing.{AreToLeave, IsPrepared, CanExchange, IsExchange, channel_of, go_of, left_by}
 use Rattle.gr_step.specs.declared.partners.Prepared.{Prepared}
 use Rattle.gr_step.proofs.OfferLemmas.{was_seen, of_it, first_in, after_handed}
 use Rattle.gr_code.specs.CodeFrames.{ProgramCode}
@@ -124,25 +124,25 @@ module _ (p : Program) (e : Event) (number : ℕ) (old : Objects) (acting : Acti
         mid u goes)
 
     module _ (change : Effect) (new : Objects)
-        (done : IsExchange code e.go r.go (Passes clause None) (IsMet w.case (Some (z, true))) r.names.items (option_map_or Pick clause Hand) (sends_on c) []
-        (objects.Gate c ∷ objects.Go w.go ∷ map objects.Gate (channels_but (c ∷ []) its_receiver.m.waits)) ((r.channel, u) ∷ []) change
+        (done : IsExchange code e.go (go_of r.partner) (Passes clause None) (IsMet w.case (Some (z, true))) (left_by r.partner) (option_map_or Pick clause Hand) (sends_on c) []
+        (objects.Gate c ∷ objects.Go w.go ∷ map objects.Gate (channels_but (c ∷ []) its_receiver.m.waits)) ((channel_of r.partner, u) ∷ []) change
         (record old { channels = mid }) new) where
-      done_so : IsExchange (lowered p) e.go w.go (Passes clause None) (IsMet w.case (Some (v, true))) r.names.items (option_map_or Pick clause Hand)
+      done_so : IsExchange (lowered p) e.go w.go (Passes clause None) (IsMet w.case (Some (v, true))) (left_by r.partner) (option_map_or Pick clause Hand)
           (sends_on c) [] (objects.Gate c ∷ objects.Go w.go ∷ map objects.Gate (channels_but (c ∷ []) its_receiver.m.waits)) ((c, u) ∷ []) change
           (record old { channels = mid }) new
       done_so = exchanged p e number old acting clause None c w.go w.case (Some (v, true)) its_receiver (sends_on c) [] (objects.Gate c ∷ []) r ready code
           coded mid u goes (option_map_or Pick clause Hand) change new
-          (subst {_, _} (λ z. IsExchange code e.go r.go (Passes clause None) (IsMet w.case (Some (z, true))) r.names.items (option_map_or Pick clause Hand)
-          (sends_on c) [] (objects.Gate c ∷ objects.Go w.go ∷ map objects.Gate (channels_but (c ∷ []) its_receiver.m.waits)) ((r.channel, u) ∷ []) change
+          (subst {_, _} (λ z. IsExchange code e.go (go_of r.partner) (Passes clause None) (IsMet w.case (Some (z, true))) (left_by r.partner) (option_map_or Pick clause Hand)
+          (sends_on c) [] (objects.Gate c ∷ objects.Go w.go ∷ map objects.Gate (channels_but (c ∷ []) its_receiver.m.waits)) ((channel_of r.partner, u) ∷ []) change
           (record old { channels = mid }) new) same done)
 
       -- the value was handed over
       pub was_handed : OfActor p e (contents_in old) (λ a. (otherwise : Attempt) → Takes p e (send a clause c v otherwise) (contents_in old) change (contents_in new))
       was_handed = handed p e number old acting clause has c v sound found.content made is_open w first.0 first.1 its_receiver mid
-          (after_handed c old.channels mid found.content made v z u answered w first.0 first.1).1 u (ap is_at_gate answered.rule.1) goes r.names.items
-          ready.names_are change new done_so
+          (after_handed c old.channels mid found.content made v z u answered w first.0 first.1).1 u (ap is_at_gate answered.rule.1) goes (left_by r.partner)
+          ready.partner.names_are change new done_so
 
       pub hand_room : HasRoom e.go change new
       hand_room = handed_room p e number old acting clause has c v sound found.content made is_open w first.0 first.1 its_receiver mid
-          (after_handed c old.channels mid found.content made v z u answered w first.0 first.1).1 u (ap is_at_gate answered.rule.1) goes r.names.items
-          ready.names_are change new done_so
+          (after_handed c old.channels mid found.content made v z u answered w first.0 first.1).1 u (ap is_at_gate answered.rule.1) goes (left_by r.partner)
+          ready.partner.names_are change new done_so

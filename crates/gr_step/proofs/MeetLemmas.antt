@@ -40,7 +40,7 @@ use Rattle.gr_step.specs.Premises.{Acting, OfActor}
 use Rattle.gr_step.specs.Room.{HasRoom}
 use Rattle.gr_record.specs.Taking.{Takes}
 use Rattle.gr_step.specs.Communicating.{TrialIsSound}
-use Rattle.gr_step.specs.Preparing.{IsPrepared, CanExchange, IsExchange}
+use Rattle.gr_step.specs.Preparing.{IsPrepared, CanExchange, IsExchange, channel_of, go_of, left_by}
 use Rattle.gr_step.proofs.RunningLemmas.{acts_here}
 use Rattle.gr_step.proofs.OfferLemmas.{was_seen, of_it, first_in, has_first, after_moved, after_met}
 use Rattle.gr_step.proofs.WaiterLemmas.{waits_at_clause, sender_waits}
@@ -108,17 +108,17 @@ module _ (p : Program) (e : Event) (number : ℕ) (old : Objects) (acting : Acti
           mid u goes)
 
       module _ (change : Effect) (new : Objects)
-          (done : IsExchange code e.go r.go (Passes clause (Some (z, true))) (IsMet w.case None) r.names.items (option_map_or Pick clause Meet)
-          (receives_from c) sides written ((r.channel, u) ∷ []) change (record old { channels = mid }) new) where
-        so : IsExchange (lowered p) e.go w.go (Passes clause (Some (w.value, true))) (IsMet w.case None) r.names.items (option_map_or Pick clause Meet)
+          (done : IsExchange code e.go (go_of r.partner) (Passes clause (Some (z, true))) (IsMet w.case None) (left_by r.partner) (option_map_or Pick clause Meet)
+          (receives_from c) sides written ((channel_of r.partner, u) ∷ []) change (record old { channels = mid }) new) where
+        so : IsExchange (lowered p) e.go w.go (Passes clause (Some (w.value, true))) (IsMet w.case None) (left_by r.partner) (option_map_or Pick clause Meet)
             (receives_from c) sides written ((c, u) ∷ []) change (record old { channels = mid }) new
         so = exchanged p e number old acting clause (Some (w.value, true)) c w.go w.case None its_sender (receives_from c) sides touched r ready code coded
             mid u goes (option_map_or Pick clause Meet) change new
-            (subst {_, _} (λ z. IsExchange code e.go r.go (Passes clause (Some (z, true))) (IsMet w.case None) r.names.items (option_map_or Pick clause Meet)
-            (receives_from c) sides written ((r.channel, u) ∷ []) change (record old { channels = mid }) new) same done)
+            (subst {_, _} (λ z. IsExchange code e.go (go_of r.partner) (Passes clause (Some (z, true))) (IsMet w.case None) (left_by r.partner) (option_map_or Pick clause Meet)
+            (receives_from c) sides written ((channel_of r.partner, u) ∷ []) change (record old { channels = mid }) new) same done)
 
         back : GoesBack so.changed old.channels new.channels
-        back = all_go_back (lowered p) e.go w.go (Passes clause (Some (w.value, true))) (IsMet w.case None) r.names.items (option_map_or Pick clause Meet)
+        back = all_go_back (lowered p) e.go w.go (Passes clause (Some (w.value, true))) (IsMet w.case None) (left_by r.partner) (option_map_or Pick clause Meet)
             (receives_from c) sides written ((c, u) ∷ []) change old.channels (record old { channels = mid }) new goes so
 
         pub sender_was_met : OfActor p e (contents_in old)
@@ -126,15 +126,15 @@ module _ (p : Program) (e : Event) (number : ℕ) (old : Objects) (acting : Acti
         sender_was_met g f below there frames otherwise =
             meet_takes p (contents_in old) acting.running e g f below there frames clause (has g there).0 c initial found.content made valid otherwise
             (contents_in new) so.own so.changed change (ap run_of so.exchanges.run) back.back back.fits w first.0 first.1 its_sender.m its_sender.its
-            its_sender.apart w.value so.exchanges.both.between so.exchanges.both.goes so.met so.exchanges.both.meeting r.names.items ready.names_are no_item
-            refl (so.exchanges.withdraws ∙ ap (withdrawn w.go r.names.items) (after_met c old.channels mid found.content made z u answered w first.0 first.1).1)
+            its_sender.apart w.value so.exchanges.both.between so.exchanges.both.goes so.met so.exchanges.both.meeting (left_by r.partner) ready.partner.names_are no_item
+            refl (so.exchanges.withdraws ∙ ap (withdrawn w.go (left_by r.partner)) (after_met c old.channels mid found.content made z u answered w first.0 first.1).1)
             so.tells
-            (met_inside e.go w.go so.met c its_sender.m.waits sides touched r.names.items u found.content so.changed (contents_in old) (contents_in new)
-            ready.names_are so.exchanges.gates made back.back (gate_first c [])
+            (met_inside e.go w.go so.met c its_sender.m.waits sides touched (left_by r.partner) u found.content so.changed (contents_in old) (contents_in new)
+            ready.partner.names_are so.exchanges.gates made back.back (gate_first c [])
             (gate_is_among c u found.content touched (ap is_at_gate answered.rule.1) (gate_first c [])) (are_channels new))
 
         pub meeting_room : HasRoom e.go change new
-        meeting_room = exchange_room (lowered p) e.go w.go (Passes clause (Some (w.value, true))) (IsMet w.case None) r.names.items
+        meeting_room = exchange_room (lowered p) e.go w.go (Passes clause (Some (w.value, true))) (IsMet w.case None) (left_by r.partner)
             (option_map_or Pick clause Meet) (receives_from c) sides written ((c, u) ∷ []) change old.channels (record old { channels = mid }) new goes so
 
   -- with an item its value moves up
@@ -169,17 +169,17 @@ module _ (p : Program) (e : Event) (number : ℕ) (old : Objects) (acting : Acti
           mid u goes)
 
       module _ (change : Effect) (new : Objects)
-          (done : IsExchange code e.go r.go (Passes clause (Some (z, true))) (IsMet w.case None) r.names.items (option_map_or Pick clause Take)
-          (receives_from c) [] moved ((r.channel, u) ∷ []) change (record old { channels = mid }) new) where
-        done_so : IsExchange (lowered p) e.go w.go (Passes clause (Some (item.0, true))) (IsMet w.case None) r.names.items (option_map_or Pick clause Take)
+          (done : IsExchange code e.go (go_of r.partner) (Passes clause (Some (z, true))) (IsMet w.case None) (left_by r.partner) (option_map_or Pick clause Take)
+          (receives_from c) [] moved ((channel_of r.partner, u) ∷ []) change (record old { channels = mid }) new) where
+        done_so : IsExchange (lowered p) e.go w.go (Passes clause (Some (item.0, true))) (IsMet w.case None) (left_by r.partner) (option_map_or Pick clause Take)
             (receives_from c) [] moved ((c, u) ∷ []) change (record old { channels = mid }) new
         done_so = exchanged p e number old acting clause (Some (item.0, true)) c w.go w.case None its_mover (receives_from c) [] moving r ready code coded
             mid u goes (option_map_or Pick clause Take) change new
-            (subst {_, _} (λ z. IsExchange code e.go r.go (Passes clause (Some (z, true))) (IsMet w.case None) r.names.items (option_map_or Pick clause Take)
-            (receives_from c) [] moved ((r.channel, u) ∷ []) change (record old { channels = mid }) new) same_item done)
+            (subst {_, _} (λ z. IsExchange code e.go (go_of r.partner) (Passes clause (Some (z, true))) (IsMet w.case None) (left_by r.partner) (option_map_or Pick clause Take)
+            (receives_from c) [] moved ((channel_of r.partner, u) ∷ []) change (record old { channels = mid }) new) same_item done)
 
         goes_back : GoesBack done_so.changed old.channels new.channels
-        goes_back = all_go_back (lowered p) e.go w.go (Passes clause (Some (item.0, true))) (IsMet w.case None) r.names.items
+        goes_back = all_go_back (lowered p) e.go w.go (Passes clause (Some (item.0, true))) (IsMet w.case None) (left_by r.partner)
             (option_map_or Pick clause Take) (receives_from c) [] moved ((c, u) ∷ []) change old.channels (record old { channels = mid }) new goes done_so
 
         written_by_move : AreAmong (written_objects c u found.content) moving
@@ -195,13 +195,13 @@ module _ (p : Program) (e : Event) (number : ℕ) (old : Objects) (acting : Acti
             move_takes p (contents_in old) acting.running e g f below there frames clause (has g there).0 c initial found.content made valid otherwise
             (contents_in new) done_so.own done_so.changed change (ap run_of done_so.exchanges.run) goes_back.back goes_back.fits w first.0 first.1
             its_mover.m its_mover.its its_mover.apart item.0 done_so.exchanges.both.between done_so.exchanges.both.goes done_so.met
-            done_so.exchanges.both.meeting r.names.items ready.names_are item.1 item.2
-            (done_so.exchanges.withdraws ∙ ap (withdrawn w.go r.names.items)
+            done_so.exchanges.both.meeting (left_by r.partner) ready.partner.names_are item.1 item.2
+            (done_so.exchanges.withdraws ∙ ap (withdrawn w.go (left_by r.partner))
             (after_moved c old.channels mid found.content made z u answered item.0 item.1 item.2 w first.0 first.1).1) done_so.tells
-            (met_inside e.go w.go done_so.met c its_mover.m.waits [] moving r.names.items u found.content done_so.changed (contents_in old) (contents_in new)
-            ready.names_are done_so.exchanges.gates made goes_back.back
+            (met_inside e.go w.go done_so.met c its_mover.m.waits [] moving (left_by r.partner) u found.content done_so.changed (contents_in old) (contents_in new)
+            ready.partner.names_are done_so.exchanges.gates made goes_back.back
             (gate_first c (objects.Head c ∷ objects.Tail c ∷ slot_numbered c found.content.capacity found.content.head)) written_by_move (are_channels new))
 
         pub moving_room : HasRoom e.go change new
-        moving_room = exchange_room (lowered p) e.go w.go (Passes clause (Some (item.0, true))) (IsMet w.case None) r.names.items
+        moving_room = exchange_room (lowered p) e.go w.go (Passes clause (Some (item.0, true))) (IsMet w.case None) (left_by r.partner)
             (option_map_or Pick clause Take) (receives_from c) [] moved ((c, u) ∷ []) change old.channels (record old { channels = mid }) new goes done_so

@@ -10,6 +10,7 @@ use Rattle.gr_rules.specs.Actors.{channels_but}
 use Rattle.gr_refine.specs.Meetings.{NamesChannels}
 use Rattle.gr_refine.specs.Partners.{waits_in}
 use Rattle.gr_refine.proofs.MeetingLemmas.{named}
+use Rattle.gr_refine.proofs.NameLemmas.{channel_self}
 use Rattle.gr_goros.specs.Views.{Seen, waits_of}
 use Rattle.gr_goros.specs.declared.wait.Wait.{Wait as DeclaredWait}
 use Rattle.gr_tables.specs.NamedGoroutines.{At, goroutines_of, seen_of}
@@ -54,3 +55,12 @@ pub alone_leaves_none : (w : Wait) (c : ChName) (ws : List Wait) → waiting (w 
 alone_leaves_none w c ws is =
     let same : w ∷ [] ≡ ws = ap waits_in is in
     subst (λ (l : List Wait). AreToLeave [] c l) same (record { alone = λ one. refl; otherwise = λ not. absurd (not refl) })
+
+-- nor does one that waits on this channel alone wait on another
+none_here : (w : Wait) (c : ChName) → channel_of w ≡ c → channels_but (c ∷ []) (w ∷ []) ≡ []
+none_here w c is = rw (is, channel_self c) refl
+
+pub waits_for_one : (w : Wait) (c : ChName) (ws : List Wait) → channel_of w ≡ c → waiting (w ∷ []) ≡ waiting ws
+    → AreToLeave [] c ws × (channels_but (c ∷ []) ws ≡ [])
+waits_for_one w c ws on is =
+    (alone_leaves_none w c ws is, subst (λ (l : List Wait). channels_but (c ∷ []) l ≡ []) (ap waits_in is) (none_here w c on))

@@ -18,10 +18,14 @@ use Rattle.gr_tables.specs.NamedChannels.{contents_of, rooms_of, ChansFit, HasRo
 use Rattle.gr_tables.specs.NamedGoroutines.{goroutines_of, name_at}
 use Rattle.gr_step.specs.declared.objects.Objects.{Objects}
 use Rattle.gr_record.specs.declared.record.Beyond.{Beyond}
-use Rattle.gr_record.specs.Effects.{Effect}
+use Rattle.gr_record.specs.declared.record.Exchange.{Exchange}
+use Rattle.gr_record.specs.Effects.{Effect, reached_on}
+use Rattle.gr_step.specs.declared.partners.Partner.{Partner}
+use Rattle.gr_step.specs.declared.partners.Partner.TheVariants.{Alone, Selects}
 use Rattle.gr_step.specs.declared.partners.Prepared.{Prepared}
+use Rattle.gr_step.specs.declared.partners.Selecting.{Selecting}
 use Rattle.gr_record.specs.Fews.{members}
-use Rattle.gr_record.specs.Parts.{reads_in, writes_in, begun_in, made_in}
+use Rattle.gr_record.specs.Parts.{reads_in, writes_in, begun_in, made_in, channel_in}
 use Rattle.gr_record.specs.Records.{operation_of}
 use Rattle.gr_step.specs.Passing.{CanArriveAt, ArrivesAt, Tells, Exchanges}
 
@@ -45,24 +49,63 @@ pub record AreToLeave (names : List ChName) (c : ChName) (ws : List Wait) : Type
   pub alone : length ws ≡ 1 → names ≡ []
   pub otherwise : ¬ (length ws ≡ 1) → NamesChannels names c ws
 
--- it names the goroutine, which waits for these, and the channels that it is still to leave, and tells what the step touches
+-- what a step reaches that meets a goroutine which waits for this alone, before it changes anything
+abbrev pub before_exchange : Exchange → Beyond
+before_exchange e = record (reached_on e.passage.contact None) { partner = Some e.met.0 }
+
+-- the name of a goroutine that is made ready, the channel of the communication, the channels that the goroutine is still to leave,
+-- and what the step reaches
+abbrev pub go_of : Partner → List ℕ
+go_of (Alone e) = e.value.met.0
+go_of (Selects s) = s.go
+
+abbrev pub channel_of : Partner → ChName
+channel_of (Alone e) = channel_in e.value.passage.contact.operation
+channel_of (Selects s) = s.channel
+
+abbrev pub left_by : Partner → List ChName
+left_by (Alone e) = []
+left_by (Selects s) = s.names.items
+
+abbrev pub reached_by : Partner → Beyond
+reached_by (Alone e) = before_exchange e.value
+reached_by (Selects s) = s.further.value.beyond
+
+-- the goroutine of this name, which waits for these, is to go past a communication on this channel
+pub record IsReady (operation : Operation) (reads touched : List Object) (c : ChName) (n : List ℕ) (ws : List Wait) (go : List ℕ) (channel : ChName)
+    (names : List ChName) (b : Beyond) : Type 0 where
+  pub go_is : go ≡ n
+  pub channel_is : channel ≡ c
+  pub names_are : AreToLeave names c ws
+  pub reached : IsReached operation reads (touched ++ objects.Go n ∷ map objects.Gate (channels_but (c ∷ []) ws)) b
+
+abbrev pub IsSelecting : Operation → List Object → List Object → ChName → List ℕ → List Wait → Selecting → Type 0
+IsSelecting operation reads touched c n ws s = IsReady operation reads touched c n ws s.go s.channel s.names.items s.further.value.beyond
+
+abbrev pub IsPartner : Operation → List Object → List Object → ChName → List ℕ → List Wait → Partner → Type 0
+IsPartner operation reads touched c n ws p = IsReady operation reads touched c n ws (go_of p) (channel_of p) (left_by p) (reached_by p)
+
+-- it is so of the partner, which has this number
 pub record IsPrepared (operation : Operation) (reads touched : List Object) (c : ChName) (n : List ℕ) (ws : List Wait) (o : Objects) (r : Prepared)
     : Type 0 where
-  pub go_is : r.go ≡ n
-  pub channel_is : r.channel ≡ c
+  pub partner : IsPartner operation reads touched c n ws r.partner
   pub named : name_at o.goroutines r.number ≡ Some n
-  pub names_are : AreToLeave r.names.items c ws
-  pub reached : IsReached operation reads (touched ++ objects.Go n ∷ map objects.Gate (channels_but (c ∷ []) ws)) r.further.value.beyond
 
--- two goroutines can go past their communication, with all made ready for that, after a change of their channel
-pub record CanExchange (code : ProgramCode) (e : Event) (number : ℕ) (r : Prepared) (u : ChanUndo) (passes meets : Arrival) (o : Objects) : Type 0 where
+-- Two goroutines can go past their communication, after a change of their channel: the one that acts, with this number, and its
+-- partner, by number and name.
+pub record MayExchange (code : ProgramCode) (e : Event) (number partner : ℕ) (n : List ℕ) (c : ChName) (u : ChanUndo) (passes meets : Arrival) (o : Objects)
+    : Type 0 where
   pub named : name_at o.goroutines number ≡ Some e.go
-  pub partner_named : name_at o.goroutines r.number ≡ Some r.go
-  pub apart : same_go r.go e.go ≡ false
+  pub partner_named : name_at o.goroutines partner ≡ Some n
+  pub apart : same_go n e.go ≡ false
   pub can : CanArriveAt code passes (goroutines_of o.goroutines e.go)
-  pub partner_can : CanArriveAt code meets (goroutines_of o.goroutines r.go)
-  pub fits : ChansFit ((r.channel, u) ∷ []) (contents_of o.channels)
-  pub room : HasRooms ((r.channel, u) ∷ []) (rooms_of o.channels)
+  pub partner_can : CanArriveAt code meets (goroutines_of o.goroutines n)
+  pub fits : ChansFit ((c, u) ∷ []) (contents_of o.channels)
+  pub room : HasRooms ((c, u) ∷ []) (rooms_of o.channels)
+
+-- with all made ready for that
+abbrev pub CanExchange : ProgramCode → Event → ℕ → Prepared → ChanUndo → Arrival → Arrival → Objects → Type 0
+CanExchange code e number r u passes meets o = MayExchange code e number r.number (go_of r.partner) (channel_of r.partner) u passes meets o
 
 -- two goroutines went past their communication, and the change tells of it
 pub record IsExchange (code : ProgramCode) (n m : List ℕ) (passes meets : Arrival) (names : List ChName) (kind : Kind) (operation : Operation)

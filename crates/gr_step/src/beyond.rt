@@ -5,7 +5,7 @@ ghost use Rattle.gr_base.specs.declared.objects.Object.TheVariants as objects;
 ghost use Rattle.gr_step.specs.Beyonds.{Reaches, ReachesAll};
 ghost use Rattle.gr_record.specs.Effects.{reached_by_passage};
 ghost use Rattle.gr_record.specs.Parts.{channel_in, read_by_more, written_by_more, begun_by_more, made_by_more, AreTouched};
-ghost use Rattle.gr_step.specs.Preparing.{IsReached};
+ghost use Rattle.gr_step.specs.Preparing.{before_exchange, IsReached};
 ghost use Rattle.gr_record.specs.Records.{operation_of};
 
 use crate::touching::{push_gates, untouched};
@@ -13,7 +13,7 @@ use gr_base::{ChName, GoName, NoMemory, Object};
 use gr_channels::ChanUndo;
 use gr_goros::KeptUndo;
 use gr_record::Few;
-use gr_record::record::{Beyond, Contact, Further, More, Operation, Passage, Touched};
+use gr_record::record::{Beyond, Contact, Exchange, Further, More, Operation, Passage, Touched};
 use std::alloc::Global;
 
 /// What a step reached that met nobody and changed no channel, by what it did with a channel, and whether it ended or stopped
@@ -91,23 +91,39 @@ fn gates_too(alloc: Global, channels: &[ChName]) -> Result<Option<Box<More>>, No
     Ok(Some(Box::new(alloc, more)?))
 }
 
+/// What a step reached that met a goroutine which waited for this alone, by what it did with a channel and touched of it, before
+/// it changes anything.
+pub(crate) fn exchange(
+    alloc: Global,
+    contact: Contact,
+    partner: &GoName,
+) -> Result<Box<Exchange>, NoMemory>
+    ensures told { (reads writes : List Object) → AreTouched contact.touched (Some (channel_in contact.operation)) reads writes
+        → IfOk result (λ exchange. IsReached (operation_of contact.operation) reads (writes ++ objects.Go partner.now ∷ [])
+        (before_exchange exchange.value)) }
+    ensures channel { IfOk result (λ exchange. channel_in exchange.value.passage.contact.operation
+        ≡ channel_in contact.operation) }
+    ensures partner { IfOk result (λ exchange. exchange.value.met.0 ≡ partner.now) }
+{
+    Exchange::new(alloc, contact, partner.copy(alloc)?)
+}
+
 /// What a step with one channel reached that met a goroutine which waited there, and on the others too, before it changes
 /// anything.
 pub(crate) fn reached_with(
     alloc: Global,
-    operation: Operation,
-    touched: Touched,
+    contact: Contact,
     partner: &GoName,
     others: &[ChName],
 ) -> Result<Box<Further>, NoMemory>
-    ensures { (reads writes : List Object) → AreTouched touched (Some (channel_in operation)) reads writes
-        → IfOk result (λ further. IsReached (operation_of operation) reads (writes ++ objects.Go partner.now
+    ensures { (reads writes : List Object) → AreTouched contact.touched (Some (channel_in contact.operation)) reads writes
+        → IfOk result (λ further. IsReached (operation_of contact.operation) reads (writes ++ objects.Go partner.now
         ∷ map objects.Gate others.now) further.value.beyond) }
 {
     let more = gates_too(alloc, others)?;
     let beyond = Beyond {
-        operation: Some(operation),
-        touched,
+        operation: Some(contact.operation),
+        touched: contact.touched,
         partner: Some(partner.copy(alloc)?),
         met: Few::Empty,
         channels: Few::Empty,

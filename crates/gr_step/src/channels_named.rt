@@ -1,6 +1,6 @@
 //! The channels of waits.
 
-ghost use Rattle.std.specs.Prelude.{◌≡◌, [], ◌∷◌, if◌then◌else◌, List, IfOk};
+ghost use Rattle.std.specs.Prelude.{◌≡◌, [], ◌∷◌, if◌then◌else◌, List, IfOk, IsTrue};
 ghost use Rattle.std.specs.List.{list_any};
 ghost use Rattle.gr_rules.specs.Operators.{same_channel};
 ghost use Rattle.gr_rules.specs.Actors.{channels_but as ruled};
@@ -130,6 +130,19 @@ fn channels_to_leave(
     let mut names = others;
     names.push(channel.copy(alloc)?)?;
     Ok(names)
+}
+
+/// Whether a goroutine of this status waits on a channel, and for nothing else, outside a select.
+#[tactic(auto, using(crate::proofs::PrepareLemmas::waits_for_one))]
+pub(crate) fn waits_alone(channel: &ChName, status: &Status) -> bool
+    ensures { (ws : List WaitSeen) → status_of status.now ≡ waiting ws → IsTrue result
+        → AreToLeave [] channel.now ws × (ruled (channel.now ∷ []) ws ≡ []) }
+{
+    match status {
+        Status::Sending(own) => own == channel,
+        Status::Receiving(own) => own == channel,
+        Status::Waiting(_) | Status::Ready | Status::Finished => false,
+    }
 }
 
 /// The channels that a goroutine with this status is still to leave, where it waits and left a queue of this channel.

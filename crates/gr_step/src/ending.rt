@@ -19,7 +19,7 @@ use crate::faults::stopping;
 use crate::objects::{Objects, Run};
 use crate::turn::Turn;
 use gr_base::{Event, Kind, NoMemory};
-use gr_goros::{Halt, LocalKind, Need};
+use gr_goros::{Halt, KeptUndo, LocalKind, Need};
 use gr_record::Listing;
 use gr_record::record::Change;
 
@@ -38,7 +38,7 @@ impl Objects {
             return self.end(turn.number);
         }
         let own = self.goroutines.halt(turn.number, Halt::Finished)?;
-        Ok(Change::alone(LocalKind::Return, own))
+        Ok(Change::alone(LocalKind::Return, KeptUndo::new(own)))
     }
 
     /// The goroutine with a number is done, and the program ends. Refused, nothing has changed.

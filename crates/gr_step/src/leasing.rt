@@ -124,7 +124,7 @@ impl LentCopy {
             .reached
             .local_step(alloc, &self.batch.lent.listing.code)?;
         if let LocalKind::Fault(_) = kind {
-            let _ = self.reached.undo(own);
+            let _ = self.reached.undo(own.get());
             return Ok(false);
         }
         self.records.push_reserved(Record {

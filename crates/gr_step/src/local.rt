@@ -33,7 +33,7 @@ impl Objects {
     {
         let (kind, own) = self.goroutines.local_step(turn.number, &turn.listing.code)?;
         if let LocalKind::Fault(fault) = kind {
-            return self.stop(turn.number, fault, own);
+            return self.stop(turn.number, fault, own.get());
         }
         Ok(Change::alone(kind, own))
     }

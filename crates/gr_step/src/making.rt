@@ -30,7 +30,7 @@ use crate::touching::gate_side;
 use crate::turn::Turn;
 use gr_base::{ChName, Event, Fault, GoName, Kind, NoMemory, Object, Value};
 use gr_channels::Channel;
-use gr_goros::{Arrival, Goroutine, LocalKind};
+use gr_goros::{Arrival, Goroutine, KeptUndo, LocalKind};
 use gr_record::Listing;
 use gr_record::record::{Change, Further, More, Operation};
 use std::alloc::Global;
@@ -281,7 +281,7 @@ impl Objects {
         let own = self.goroutines.deliver(number, &listing.code, arrival)?;
         match further {
             Some(further) => Ok(Change::further(Kind::Length, own, further)),
-            None => Ok(Change::alone(LocalKind::Length, own)),
+            None => Ok(Change::alone(LocalKind::Length, KeptUndo::new(own))),
         }
     }
 }

@@ -4,10 +4,10 @@ ghost use Rattle.std.specs.Prelude.{◌≡◌, List, [], ◌∷◌, false, true,
 ghost use Rattle.gr_base.specs.declared.objects.Object.TheVariants as objects;
 ghost use Rattle.gr_rules.specs.Attempts as attempts;
 ghost use Rattle.gr_rules.specs.States.{same_go};
-ghost use Rattle.gr_rules.specs.Goroutines.{Wait};
+ghost use Rattle.gr_rules.specs.Goroutines.{waiting, Wait};
 ghost use Rattle.gr_refine.specs.Partners.{is_waiting};
 ghost use Rattle.gr_code.specs.CodeViews.{program_code_of};
-ghost use Rattle.gr_goros.specs.Views.{arrival_of};
+ghost use Rattle.gr_goros.specs.Views.{arrival_of, status_of};
 ghost use Rattle.gr_record.specs.Fews.{members};
 ghost use Rattle.gr_tables.specs.NamedChannels.{contents_of, rooms_of, withdrawn, ChansFit, HasRooms, TookBack, Follows};
 ghost use Rattle.gr_tables.specs.NamedChannels.{MoreAtGates, listed};
@@ -18,18 +18,19 @@ ghost use Rattle.gr_record.specs.Parts.{channel_in, AreTouched};
 ghost use Rattle.gr_record.specs.Records.{operation_of};
 ghost use Rattle.gr_step.specs.Passing.{CanArriveAt, BothArrive, Tells};
 ghost use Rattle.gr_step.specs.Preparing.{IsReached, IsPrepared, CanPass, IsPass, CanExchange, IsExchange, WaitsFor};
+ghost use Rattle.gr_step.specs.Preparing.{before_exchange, channel_of, go_of, left_by, reached_by, IsPartner, IsSelecting, MayExchange};
 ghost use Rattle.gr_step.specs.Stepping.{event_for, code_for};
 
-use crate::beyond::{reached_with, with_changes};
-use crate::channels_named::{others_awaited, still_to_leave};
+use crate::beyond::{exchange, reached_with, with_changes};
+use crate::channels_named::{others_awaited, still_to_leave, waits_alone};
 use crate::objects::Objects;
 use crate::turn::Turn;
 use crate::unstepping::{put_back, put_one_back};
 use gr_base::{ChName, GoName, Kind, NoMemory, Object};
 use gr_channels::ChanUndo;
-use gr_goros::{Arrival, GoUndo, KeptUndo};
+use gr_goros::{Arrival, GoUndo, KeptUndo, Status};
 use gr_record::Few;
-use gr_record::record::{Change, Further, Operation, Passage, Touched};
+use gr_record::record::{Change, Contact, Exchange, Further, Operation, Passage, Touched};
 use gr_tables::channels::Channels;
 use std::alloc::Global;
 
@@ -56,6 +57,22 @@ fn told_with(
     let (go, undo) = met;
     let met = Few::One((go, KeptUndo::new(undo)));
     Change::further(kind, own, with_changes(further, met, channels))
+}
+
+/// The change of a step that met one goroutine, which waited for this alone, with its change of the channel.
+fn told_alone(
+    kind: Kind,
+    own: GoUndo,
+    exchange: Box<Exchange>,
+    met: GoUndo,
+    undo: ChanUndo,
+) -> Change
+    ensures { (operation : attempts.Operation) (reads writes : List Object)
+        → IsReached operation reads writes (before_exchange exchange.value)
+        → Tells result kind (Some operation) reads writes own ((exchange.value.met.0, met) ∷ [])
+        ((channel_in exchange.value.passage.contact.operation, undo) ∷ []) }
+{
+    Change::exchanged(kind, own, exchange, met, undo)
 }
 
 /// A goroutine leaves the queues of the channels of these names, after a change of a channel in the same step. Refused, that
@@ -86,16 +103,73 @@ fn leave_after(
     Ok(Few::of_many(done))
 }
 
-/// What a step with a goroutine that waits has ready before it changes anything.
+/// A goroutine that waits for more than the communication in which a step meets it.
 #[derive(Drop)]
-pub(crate) struct Prepared {
+pub(crate) struct Selecting {
     pub(crate) go: GoName,
-    pub(crate) number: usize,
     /// The channels that it is still to leave, where it left a queue of that of the communication.
     pub(crate) names: Vec<ChName>,
     /// The channel of the communication.
     pub(crate) channel: ChName,
     pub(crate) further: Box<Further>,
+}
+
+/// A goroutine that waits, and what the step reaches that meets it.
+#[derive(Drop)]
+pub(crate) enum Partner {
+    /// It waits for this alone.
+    Alone(Box<Exchange>),
+    Selects(Selecting),
+}
+
+/// What a step with a goroutine that waits has ready before it changes anything.
+#[derive(Drop)]
+pub(crate) struct Prepared {
+    /// The number of the goroutine.
+    pub(crate) number: usize,
+    pub(crate) partner: Partner,
+}
+
+/// A goroutine with this status is made ready for a communication on a channel, where it waits for more things.
+fn prepare_selecting(
+    alloc: Global,
+    contact: Contact,
+    channel: &ChName,
+    go: &GoName,
+    status: &Status,
+) -> Result<Selecting, NoMemory>
+    ensures { (ws : List Wait) (reads writes : List Object) → status_of status.now ≡ waiting ws
+        → AreTouched contact.touched (Some (channel_in contact.operation)) reads writes
+        → IfOk result (λ s. IsSelecting (operation_of contact.operation) reads writes channel.now go.now ws s) }
+{
+    let others = others_awaited(alloc, channel, status)?;
+    let further = reached_with(alloc, contact, go, &others)?;
+    let names = still_to_leave(alloc, channel, status, others)?;
+    Ok(Selecting {
+        go: go.copy(alloc)?,
+        names,
+        channel: channel.copy(alloc)?,
+        further,
+    })
+}
+
+/// A goroutine with this status is made ready for a communication on a channel.
+fn prepare_partner(
+    alloc: Global,
+    contact: Contact,
+    channel: &ChName,
+    go: &GoName,
+    status: &Status,
+) -> Result<Partner, NoMemory>
+    requires { channel_in contact.operation ≡ channel.now }
+    ensures { (ws : List Wait) (reads writes : List Object) → status_of status.now ≡ waiting ws
+        → AreTouched contact.touched (Some (channel_in contact.operation)) reads writes
+        → IfOk result (λ r. IsPartner (operation_of contact.operation) reads writes channel.now go.now ws r) }
+{
+    if waits_alone(channel, status) {
+        return Ok(Partner::Alone(exchange(alloc, contact, go)?));
+    }
+    Ok(Partner::Selects(prepare_selecting(alloc, contact, channel, go, status)?))
 }
 
 /// How two goroutines go past their communication: the kind of the step, what arrives at the one that takes it, and what
@@ -116,24 +190,18 @@ impl Objects {
         channel: &ChName,
         go: &GoName,
     ) -> Result<Prepared, NoMemory>
-        requires { is_waiting (goroutines_of self.now.goroutines go.now) ≡ true }
+        requires waits { is_waiting (goroutines_of self.now.goroutines go.now) ≡ true }
+        requires channel { channel_in operation ≡ channel.now }
         ensures { (ws : List Wait) (reads writes : List Object) → At (WaitsFor ws) (goroutines_of self.now.goroutines go.now)
             → AreTouched touched (Some (channel_in operation)) reads writes
             → IfOk result (λ r. IsPrepared (operation_of operation) reads writes channel.now go.now ws self.now r) }
     {
         let number = self.goroutines.number(go).unwrap();
         let goroutine = self.goroutines.at(number);
+        let contact = Contact { operation, touched };
         let status = goroutine.status();
-        let others = others_awaited(self.alloc, channel, status)?;
-        let further = reached_with(self.alloc, operation, touched, go, &others)?;
-        let names = still_to_leave(self.alloc, channel, status, others)?;
-        Ok(Prepared {
-            go: go.copy(self.alloc)?,
-            number,
-            names,
-            channel: channel.copy(self.alloc)?,
-            further,
-        })
+        let partner = prepare_partner(self.alloc, contact, channel, go, status)?;
+        Ok(Prepared { number, partner })
     }
 
     /// The goroutine with a number goes past its communication and meets nobody, after a change of its channel in the same
@@ -208,33 +276,33 @@ impl Objects {
         }
     }
 
-    /// The goroutine with a number goes past its communication, with all made ready for that, and its partner too, after a change
-    /// of their channel. Refused, that change is taken back.
-    pub(crate) fn exchange(
+    /// The goroutine with a number goes past its communication, and so does its partner, which waits for more things, after a
+    /// change of their channel. Refused, that change is taken back.
+    fn exchange_with_more(
         &mut self,
         turn: &Turn<'_>,
-        prepared: Prepared,
+        partner: usize,
+        selecting: Selecting,
         undo: ChanUndo,
         crossing: Crossing,
     ) -> Result<Change, NoMemory>
-        requires { CanExchange (code_for turn.now) (event_for turn.now) turn.now.number prepared undo
+        requires { MayExchange (code_for turn.now) (event_for turn.now) turn.now.number partner selecting.go selecting.channel undo
             (arrival_of crossing.passes) (arrival_of crossing.meets) self.old }
         ensures ok { (operation : attempts.Operation) (reads writes : List Object)
-            → IsReached operation reads writes prepared.further.value.beyond
-            → IfOk result (λ change. IsExchange (code_for turn.now) (event_for turn.now).go prepared.go
+            → IsReached operation reads writes selecting.further.value.beyond
+            → IfOk result (λ change. IsExchange (code_for turn.now) (event_for turn.now).go selecting.go
             (arrival_of crossing.passes) (arrival_of crossing.meets)
-            prepared.names.items crossing.kind operation reads writes ((prepared.channel, undo) ∷ []) change self.old self.new) }
+            selecting.names.items crossing.kind operation reads writes ((selecting.channel, undo) ∷ []) change self.old self.new) }
         ensures err_goroutines { OnErr result (goroutines_of self.new.goroutines ≡ goroutines_of self.old.goroutines) }
-        ensures err_channels { OnErr result (TookBack ((prepared.channel, undo) ∷ []) self.old.channels self.new.channels) }
+        ensures err_channels { OnErr result (TookBack ((selecting.channel, undo) ∷ []) self.old.channels self.new.channels) }
         ensures run { self.new.run ≡ self.old.run }
     {
-        let Prepared {
+        let Selecting {
             go,
-            number: partner,
             names,
             channel,
             further,
-        } = prepared;
+        } = selecting;
         let Crossing {
             kind,
             passes,
@@ -247,6 +315,76 @@ impl Objects {
             Err(error) => {
                 put_back(&mut self.channels, done);
                 Err(error)
+            }
+        }
+    }
+
+    /// The goroutine with a number goes past its communication, and so does its partner, which waits for this alone, after a
+    /// change of their channel. Refused, that change is taken back.
+    fn exchange_alone(
+        &mut self,
+        turn: &Turn<'_>,
+        partner: usize,
+        exchange: Box<Exchange>,
+        undo: ChanUndo,
+        crossing: Crossing,
+    ) -> Result<Change, NoMemory>
+        requires { MayExchange (code_for turn.now) (event_for turn.now) turn.now.number partner exchange.value.met.0
+            (channel_in exchange.value.passage.contact.operation) undo
+            (arrival_of crossing.passes) (arrival_of crossing.meets) self.old }
+        ensures ok { (operation : attempts.Operation) (reads writes : List Object)
+            → IsReached operation reads writes (before_exchange exchange.value)
+            → IfOk result (λ change. IsExchange (code_for turn.now) (event_for turn.now).go exchange.value.met.0
+            (arrival_of crossing.passes) (arrival_of crossing.meets) [] crossing.kind operation reads writes
+            ((channel_in exchange.value.passage.contact.operation, undo) ∷ []) change self.old self.new) }
+        ensures err_goroutines { OnErr result (goroutines_of self.new.goroutines ≡ goroutines_of self.old.goroutines) }
+        ensures err_channels { OnErr result
+            (TookBack ((channel_in exchange.value.passage.contact.operation, undo) ∷ []) self.old.channels self.new.channels) }
+        ensures run { self.new.run ≡ self.old.run }
+    {
+        let Crossing {
+            kind,
+            passes,
+            meets,
+        } = crossing;
+        match self.both_arrive(turn, passes, &exchange.met.0, partner, meets) {
+            Ok((own, met)) => Ok(told_alone(kind, own, exchange, met, undo)),
+            Err(error) => {
+                let channel = exchange.passage.contact.operation.channel();
+                self.channels.put_back(channel, undo);
+                Err(error)
+            }
+        }
+    }
+
+    /// The goroutine with a number goes past its communication, with all made ready for that, and its partner too, after a change
+    /// of their channel. Refused, that change is taken back.
+    pub(crate) fn exchange(
+        &mut self,
+        turn: &Turn<'_>,
+        prepared: Prepared,
+        undo: ChanUndo,
+        crossing: Crossing,
+    ) -> Result<Change, NoMemory>
+        requires { CanExchange (code_for turn.now) (event_for turn.now) turn.now.number prepared undo
+            (arrival_of crossing.passes) (arrival_of crossing.meets) self.old }
+        ensures ok { (operation : attempts.Operation) (reads writes : List Object)
+            → IsReached operation reads writes (reached_by prepared.partner)
+            → IfOk result (λ change. IsExchange (code_for turn.now) (event_for turn.now).go (go_of prepared.partner)
+            (arrival_of crossing.passes) (arrival_of crossing.meets) (left_by prepared.partner) crossing.kind operation reads writes
+            ((channel_of prepared.partner, undo) ∷ []) change self.old self.new) }
+        ensures err_goroutines { OnErr result (goroutines_of self.new.goroutines ≡ goroutines_of self.old.goroutines) }
+        ensures err_channels { OnErr result
+            (TookBack ((channel_of prepared.partner, undo) ∷ []) self.old.channels self.new.channels) }
+        ensures run { self.new.run ≡ self.old.run }
+    {
+        let Prepared { number, partner } = prepared;
+        match partner {
+            Partner::Alone(exchange) => {
+                self.exchange_alone(turn, number, exchange, undo, crossing)
+            }
+            Partner::Selects(selecting) => {
+                self.exchange_with_more(turn, number, selecting, undo, crossing)
             }
         }
     }

@@ -19,7 +19,7 @@ use gr_base::{ChName, GoName, Kind, NoMemory};
 use gr_channels::ChanUndo;
 use gr_goros::{GoUndo, KeptUndo, Spot};
 use gr_record::Few;
-use gr_record::record::{Beyond, Change, Form, Further, More, Passage};
+use gr_record::record::{Beyond, Change, Exchange, Form, Further, More, Passage};
 use gr_tables::channels::Channels;
 use gr_tables::goroutines::Goroutines;
 
@@ -145,7 +145,7 @@ impl Objects {
         match change.form {
             Form::Alone(kind, own) => match undo_at(&mut self.goroutines, go, own.get()) {
                 Ok(()) => Ok(()),
-                Err((own, error)) => Err((Change::alone(kind, own), error)),
+                Err((own, error)) => Err((Change::alone(kind, KeptUndo::new(own)), error)),
             },
             Form::WaitsToSend(_, channel, spot) => {
                 self.take_wait_back(go, &channel, ChanUndo::ParkedSender, spot);
@@ -156,6 +156,7 @@ impl Objects {
                 Ok(())
             }
             Form::Passes(kind, passage) => self.take_passage_back(go, kind, passage),
+            Form::Exchanges(kind, exchange) => self.take_exchange_back(go, kind, exchange),
             Form::Further(kind, further) => self.take_beyond_back(go, kind, further),
         }
     }
@@ -183,6 +184,44 @@ impl Objects {
         put_one_back(&mut self.channels, contact.operation.channel(), undo);
         undo_at(&mut self.goroutines, go, own.get()).unwrap();
         Ok(())
+    }
+
+    /// Takes back a step that communicated over one channel with a goroutine which waited for this alone.
+    #[inline(never)]
+    fn take_exchange_back(
+        &mut self,
+        go: &GoName,
+        kind: Kind,
+        exchange: Box<Exchange>,
+    ) -> Result<(), (Change, NoMemory)>
+        requires { CanGoBack go.now (effect_in (forms.Exchanges kind exchange)) (contents_in self.old) }
+        ensures back { OnOk result (IsTakenBack go.now (effect_in (forms.Exchanges kind exchange)) self.old self.new) }
+        ensures err { OnErr result (contents_in self.new ≡ contents_in self.old) }
+        ensures returned { IfErr result (λ e. e.0 ≡ effect_in (forms.Exchanges kind exchange)) }
+        ensures succeeds { HasRoom go.now (effect_in (forms.Exchanges kind exchange)) self.old → IsOk result }
+    {
+        let channel = exchange.passage.contact.operation.channel();
+        if let Err(error) = make_room(&mut self.channels, channel, &exchange.passage.undo) {
+            let form = Form::Exchanges(kind, exchange);
+            return Err((Change { form }, error));
+        }
+        let Exchange { passage, met } = Box::into_inner(exchange);
+        let Passage { own, contact, undo } = passage;
+        put_one_back(&mut self.channels, contact.operation.channel(), undo);
+        self.take_both_back(go, own.get(), met);
+        Ok(())
+    }
+
+    /// Takes changes of a goroutine and of the one that it met back. Neither needs a frame to come back.
+    fn take_both_back(&mut self, go: &GoName, own: GoUndo, met: (GoName, KeptUndo))
+        requires fits { GoesFit ((go.now, own) ∷ met ∷ []) (goroutines_of self.old.goroutines) }
+        requires frames { NeedNoFrame ((go.now, own) ∷ met ∷ []) }
+        ensures goroutines { GoBack ((go.now, own) ∷ met ∷ []) self.old.goroutines self.new.goroutines }
+        ensures channels { self.new.channels ≡ self.old.channels }
+        ensures run { self.new.run ≡ self.old.run }
+    {
+        undo_all(&mut self.goroutines, Few::One(met));
+        undo_at(&mut self.goroutines, go, own).unwrap();
     }
 
     /// Takes back what a step did whose goroutine came to wait in a queue of a channel. There is room for it.

@@ -3,7 +3,7 @@ use Rattle.std.specs.Prelude.{ℕ, ◌+◌, List, [], ◌∷◌, Option, Some, o
 use Rattle.std.specs.Option.{option_map_or}
 use Rattle.gr_base.specs.declared.names.ChName.{ChName}
 use Rattle.gr_base.specs.declared.objects.Object.{Object}
-use Rattle.gr_base.specs.declared.objects.Object.TheVariants.{Gate, Tail, Head, Slot}
+use Rattle.gr_base.specs.declared.objects.Object.TheVariants.{Go, Gate, Tail, Head, Slot}
 use Rattle.gr_record.specs.declared.record.Touched.{Touched}
 use Rattle.gr_record.specs.Parts.{parts_before, partner_before}
 use Rattle.gr_touches.specs.declared.objects.TouchedObjects.{TouchedObjects}
@@ -24,6 +24,10 @@ read_on c t = parts_before t.read t.slot (Some c) []
 
 abbrev pub written_on : ChName → Touched → List Object
 written_on c t = parts_before t.written t.slot (Some c) []
+
+-- what it wrote of it, and the goroutine that it met
+abbrev pub written_on_with : ChName → Touched → List ℕ → List Object
+written_on_with c t n = parts_before t.written t.slot (Some c) (Go n ∷ [])
 
 -- how many of them there are, but for the others
 abbrev pub one_of : {N : Type 0} → Option N → ℕ

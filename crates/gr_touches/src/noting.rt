@@ -4,15 +4,16 @@ ghost use Rattle.std.specs.Prelude.{◌≡◌, ◌<◌, ◌^◌, ◌∷◌, [], 
 ghost use Rattle.gr_base.specs.declared.objects.Object.TheVariants as objects;
 ghost use Rattle.gr_record.specs.Conflicts.{read_by, written_by};
 ghost use Rattle.gr_record.specs.Parts.{channel_in, parts_before, reads_in, writes_in};
-ghost use Rattle.gr_touches.specs.Told.{read_on, seen_in, written_on};
+ghost use Rattle.gr_record.specs.Effects.{reached_by_exchange};
+ghost use Rattle.gr_touches.specs.Told.{read_on, seen_in, written_on, written_on_with};
 
 use crate::lanes::Lanes;
 use crate::object_ref::ObjectRef;
 use crate::objects::{TouchedObjects, others_read, others_written, parts_of, parts_written};
-use crate::reached::{Reached, TouchedChannel};
+use crate::reached::{Reached, TouchedChannel, TouchedPair};
 use crate::touch::Touch;
 use gr_base::{ChName, GoName, NoMemory, Object};
-use gr_record::record::{Beyond, Form, Parts, Record, Touched};
+use gr_record::record::{Beyond, Exchange, Form, Parts, Record, Touched};
 
 impl Lanes {
     ghost use Rattle.gr_touches.specs.Room.{NotesFor, NotesStep};
@@ -35,6 +36,7 @@ impl Lanes {
                 let contact = &passage.contact;
                 self.note_used(place, step, contact.operation.channel(), contact.touched)
             }
+            Form::Exchanges(_, exchange) => self.note_exchange(place, step, exchange),
             Form::Further(_, further) => self.note_beyond(place, step, &further.beyond),
         }
     }
@@ -72,6 +74,27 @@ impl Lanes {
         ensures { NotesStep result place step.now self.old self.new }
     {
         self.note_reached(place, step, &TouchedChannel { channel, touched })
+    }
+
+    /// Adds the touches of a step that used one channel, and met a partner. Refused, all lists are as before.
+    #[inline(never)]
+    fn note_exchange(
+        &mut self,
+        place: u32,
+        step: &Record,
+        exchange: &Exchange,
+    ) -> Result<(), NoMemory>
+        requires place { place < 2 ^ 31 }
+        requires beyond { step.now.change.beyond ≡ Some (reached_by_exchange exchange.now) }
+        ensures { NotesStep result place step.now self.old self.new }
+    {
+        let contact = &exchange.passage.contact;
+        let used = TouchedChannel {
+            channel: contact.operation.channel(),
+            touched: contact.touched,
+        };
+        let partner = &exchange.met.0;
+        self.note_reached(place, step, &TouchedPair { used, partner })
     }
 
     /// Adds the touches of a step that reached further. Refused, all lists are as before.
@@ -157,6 +180,26 @@ impl Lanes {
         let noted = self.note_partner(partner, touch, others);
         if let Err(error) = noted {
             self.forget_list(&mut parts_written(beyond));
+            return Err(error);
+        }
+        Ok(())
+    }
+
+    /// Adds a touch to the lists of the parts of a channel that a step wrote, and of the goroutine that it met. Refused, all
+    /// lists are as before.
+    pub(crate) fn note_pair(
+        &mut self,
+        channel: &ChName,
+        touched: Touched,
+        partner: &GoName,
+        touch: Touch,
+    ) -> Result<(), NoMemory>
+        ensures { NotesFor result (written_on_with channel.now touched partner.now) touch self.old self.new }
+    {
+        self.note_parts(channel, touched.written, touched.slot, touch)?;
+        let noted = self.add_to_lane(partner, touch);
+        if let Err(error) = noted {
+            self.forget_list(&mut parts_of(channel, touched.written, touched.slot));
             return Err(error);
         }
         Ok(())

@@ -7,12 +7,12 @@ ghost use Rattle.gr_record.specs.Conflicts.{written_by, read_by};
 ghost use Rattle.gr_record.specs.Parts.{channel_in, parts_before, partner_before, slot_before, read_by_more, written_by_more};
 ghost use Rattle.gr_record.specs.Parts.{reads_in, writes_in};
 ghost use Rattle.gr_touches.specs.ObjectRefs.{seen};
-ghost use Rattle.gr_touches.specs.Told.{named, seen_in, count_in, read_on, written_on};
+ghost use Rattle.gr_touches.specs.Told.{named, seen_in, count_in, read_on, written_on, written_on_with};
 
 use crate::object_ref::ObjectRef;
 use gr_base::{ChName, GoName, Object};
 use gr_record::Record;
-use gr_record::record::{Beyond, Form, Parts, Touched};
+use gr_record::record::{Beyond, Contact, Form, Parts, Touched};
 use gr_record::slot::SlotPlace;
 
 /// Objects that a step read or wrote, by borrowed names. They are `Run` or its goroutine, parts of one channel, a goroutine
@@ -234,6 +234,26 @@ fn written_in<'a>(own: ObjectRef<'a>, channel: &'a ChName, touched: Touched) -> 
     TouchedObjects::with_channel(Some(own), touched.written, channel, touched.slot, None, &[])
 }
 
+/// The objects that a step of goroutine `own` wrote. The step used one channel, and met a partner.
+fn written_with<'a>(
+    own: ObjectRef<'a>,
+    contact: &'a Contact,
+    partner: &'a GoName,
+) -> TouchedObjects<'a>
+    ensures { seen_in result ≡ seen own.entry ∷ written_on_with (channel_in contact.now.operation) contact.now.touched partner.now }
+{
+    let (channel, touched) = (contact.operation.channel(), contact.touched);
+    let partner = Some(partner);
+    TouchedObjects::with_channel(
+        Some(own),
+        touched.written,
+        channel,
+        touched.slot,
+        partner,
+        &[],
+    )
+}
+
 /// The objects that a step which reached further read and did not write.
 pub(crate) fn read_beyond(beyond: &Beyond) -> TouchedObjects<'_>
     ensures { seen_in result ≡ (if beyond.now.stops then reads_in beyond.now else variants.Run ∷ reads_in beyond.now) }
@@ -255,6 +275,10 @@ pub fn reads(step: &Record) -> TouchedObjects<'_>
             let contact = &passage.contact;
             read_in(contact.operation.channel(), contact.touched)
         }
+        Form::Exchanges(_, exchange) => {
+            let contact = &exchange.passage.contact;
+            read_in(contact.operation.channel(), contact.touched)
+        }
         Form::Further(_, further) => read_beyond(&further.beyond),
     }
 }
@@ -274,6 +298,11 @@ pub fn writes(step: &Record) -> TouchedObjects<'_>
             let contact = &passage.contact;
             written_in(own, contact.operation.channel(), contact.touched)
         }
+        Form::Exchanges(_, exchange) => written_with(
+            own,
+            &exchange.passage.contact,
+            &exchange.met.0,
+        ),
         Form::Further(_, further) => {
             let beyond = &further.beyond;
             let partner = beyond.partner.as_ref();

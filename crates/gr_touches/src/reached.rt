@@ -4,12 +4,12 @@ ghost use Rattle.std.specs.Prelude.{◌≡◌, ◌∷◌, if◌then◌else◌};
 ghost use Rattle.gr_base.specs.declared.objects.Object.TheVariants as objects;
 ghost use Rattle.gr_record.specs.Parts.{reads_in, writes_in};
 ghost use Rattle.gr_touches.specs.Room.{NotesFor};
-ghost use Rattle.gr_touches.specs.Told.{read_on, seen_in, written_on};
+ghost use Rattle.gr_touches.specs.Told.{read_on, seen_in, written_on, written_on_with};
 
 use crate::lanes::Lanes;
 use crate::objects::{TouchedObjects, read_beyond, read_in};
 use crate::touch::Touch;
-use gr_base::{ChName, NoMemory};
+use gr_base::{ChName, GoName, NoMemory};
 use gr_record::record::{Beyond, Touched};
 
 /// What a step reached beyond its goroutine.
@@ -70,6 +70,37 @@ impl Reached for TouchedChannel<'_> {
 
     fn objects_read(&self) -> TouchedObjects<'_> {
         read_in(self.channel, self.touched)
+    }
+}
+
+/// What a step reached that used one channel, and met a partner.
+#[derive(Clone, Copy)]
+pub(crate) struct TouchedPair<'a> {
+    pub(crate) used: TouchedChannel<'a>,
+    pub(crate) partner: &'a GoName,
+}
+
+impl Reached for TouchedPair<'_> {
+    ghost use Rattle.std.specs.Prelude.{◌∷◌};
+    ghost use Rattle.gr_base.specs.declared.objects.Object.TheVariants as objects;
+    ghost use Rattle.gr_touches.specs.Told.{read_on, written_on_with};
+
+    ghost read = { λ reached. objects.Run ∷ read_on reached.used.channel.now reached.used.touched };
+
+    ghost written = { λ reached. written_on_with reached.used.channel.now reached.used.touched reached.partner.now };
+
+    #[inline(always)]
+    fn note_read(&self, lanes: &mut Lanes, touch: Touch) -> Result<(), NoMemory> {
+        self.used.note_read(lanes, touch)
+    }
+
+    #[inline(always)]
+    fn note_written(&self, lanes: &mut Lanes, touch: Touch) -> Result<(), NoMemory> {
+        lanes.note_pair(self.used.channel, self.used.touched, self.partner, touch)
+    }
+
+    fn objects_read(&self) -> TouchedObjects<'_> {
+        self.used.objects_read()
     }
 }
 

@@ -15,7 +15,7 @@ ghost use Rattle.gr_tables.specs.Slots.{SlotChanges, SlotKeeps};
 use crate::goroutines::Goroutines;
 use gr_base::{ChName, NoMemory};
 use gr_code::code::Code;
-use gr_goros::{Arrival, GoUndo, Goroutine, Halt, LocalKind, Spot, Wait};
+use gr_goros::{Arrival, GoUndo, Goroutine, Halt, KeptUndo, LocalKind, Spot, Wait};
 use std::alloc::Global;
 
 impl Goroutines {
@@ -24,7 +24,7 @@ impl Goroutines {
         &mut self,
         number: usize,
         code: &Code,
-    ) -> Result<(LocalKind, GoUndo), NoMemory>
+    ) -> Result<(LocalKind, KeptUndo), NoMemory>
         requires { At (StepsAlone (program_code_of code.now)) (seen_at self.old number) }
         ensures step { IfOk result (λ r. ChangesBy number
             (λ a b. IsStep r (local (program_code_of code.now) a.content) a b) self.old self.new) }
@@ -39,7 +39,7 @@ impl Goroutines {
 
     /// The goroutine with a number takes its next step as `Goroutine::step_ints` does, if it is ready and the step is over
     /// whole numbers alone. Else no content has changed.
-    pub fn step_ints(&mut self, number: usize, code: &Code) -> Option<(u64, GoUndo)>
+    pub fn step_ints(&mut self, number: usize, code: &Code) -> Option<(u64, KeptUndo)>
         requires { At (CanTry (program_code_of code.now)) (seen_at self.old number) }
         ensures step { IfSome result (λ r. ChangesBy number (StepsOn (program_code_of code.now) r) self.old self.new) }
         ensures none { IfNone result (KeepsContents self.old self.new) }

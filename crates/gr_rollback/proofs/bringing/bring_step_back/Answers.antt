@@ -1,5 +1,9 @@
-use Rattle.gr_step.specs.Form.TheVariants.{Alone, WaitsToSend, WaitsToReceive, Passes}
-use Rattle.gr_rollback.proofs.PoolBackLemmas.{brings_in, brings_own, brings_waiting}
+use Rattle.std.proofs.Common.{◌∙◌, ap, sym, subst}
+use Rattle.gr_step.specs.Effects.{Effect, effect_in}
+use Rattle.gr_step.specs.Form.TheVariants.{Alone, WaitsToSend, WaitsToReceive, Passes, Exchanges}
+use Rattle.gr_rollback.specs.Readiness.{met_by, AllKnown}
+use Rattle.gr_rollback.proofs.PoolLemmas.{itself_alone}
+use Rattle.gr_rollback.proofs.PoolBackLemmas.{brings_in, brings_own, brings_unstarted, brings_waiting}
 use Rattle.gr_rollback.proofs.bringing.bring_step_back.Goals as goal
 
 pub returns-in-Alone : goal.returns-in-Alone
@@ -30,3 +34,15 @@ returns-in-Passes c =
     brings_in step.id.go c.form.result.now (Passes c.in-Passes.field-0 c.in-Passes.passage) step.change c.args.pool.now c.bring_back-in-Passes.new.pool
     c.form.ensures c.in-Passes.is
     (brings_own step.id.go c.in-Passes.passage.value.own c.args.pool.now c.bring_back-in-Passes.new.pool (rw c.deref.ensures at c.bring_back-in-Passes.ensures))
+
+pub bring_both_back-requires-clause-met : goal.bring_both_back-requires-clause-met
+bring_both_back-requires-clause-met c =
+    let known = subst (λ (e : Effect). AllKnown (met_by e) c.args.pool.now) (sym c.form.ensures ∙ ap effect_in c.in-Exchanges.is) c.requires.met in
+    let go = c.in-Exchanges.exchange.value.met.0 in
+    rw c.deref-in-Exchanges-2.ensures (known go (itself_alone go))
+
+pub returns-in-Exchanges : goal.returns-in-Exchanges
+returns-in-Exchanges c =
+    let step = c.args.step.now in
+    brings_in step.id.go c.form.result.now (Exchanges c.in-Exchanges.field-0 c.in-Exchanges.exchange) step.change c.args.pool.now c.bring_both_back.new.pool
+    c.form.ensures c.in-Exchanges.is (brings_unstarted _ c.args.pool.now c.bring_both_back.new.pool (rw (c.deref-in-Exchanges.ensures, c.deref-in-Exchanges-2.ensures) at c.bring_both_back.ensures))

@@ -1,4 +1,4 @@
-use Rattle.std.proofs.Common.{Ok, Err, ap, subst}
+use Rattle.std.proofs.Common.{Ok, Err, subst}
 use Rattle.gr_session.specs.Journal.{event_asked}
 use Rattle.gr_session.specs.Refusing.{Takes}
 use Rattle.gr_session.proofs.StepLemmas.{refused_leads, joined_leads}

@@ -1,4 +1,4 @@
-use Rattle.std.proofs.Common.{◌≡◌, replicate, None, sym, ap, ◌∙◌}
+use Rattle.std.proofs.Common.{replicate, None, sym, ap, ◌∙◌}
 use Rattle.std.specs.Prelude.{option_copied}
 use Rattle.gr_rules.specs.Outcomes.{gives}
 use Rattle.gr_code.specs.CodeViews.{function_code_of, operands_of, program_code_of}

@@ -40,6 +40,6 @@ returns-clause-ok c =
     let own = placed c.args.turn.now.number c.args.turn.now.event.now.go o.goroutines c.halt.new.self acting.named acting.goroutine acting.there finished
     c.in_ok-own.own
     c.in_ok-own.ensures.ok in
-    rw c.alone.ensures (return_takes (program_in c.args.turn.now.listing.now) c.args.turn.now.event.now c.args.turn.now.number o acting (c.requires.task acting.goroutine acting.there)
+    rw (c.alone.ensures, c.new.ensures) (return_takes (program_in c.args.turn.now.listing.now) c.args.turn.now.event.now c.args.turn.now.number o acting (c.requires.task acting.goroutine acting.there)
     c.requires.plain
     c.in_ok-own.own c.halt.new.self own (λ main. false≢true (sym c.if-is_main.false ∙ c.is_main.ensures.1 main)))

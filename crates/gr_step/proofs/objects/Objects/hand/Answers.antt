@@ -9,8 +9,8 @@ use Rattle.gr_step.proofs.HandLemmas.{its_receiver, can_hand_over, was_handed, h
 use Rattle.gr_step.proofs.ResultLemmas.{if_ok, if_err}
 use Rattle.gr_step.proofs.objects.Objects.hand.Goals as goal
 
-pub prepare-requires : goal.prepare-requires
-prepare-requires c =
+pub prepare-requires-clause-waits : goal.prepare-requires-clause-waits
+prepare-requires-clause-waits c =
     (its_receiver (program_in c.args.meeting.now.turn.now.listing.now) c.args.meeting.now.turn.now.event.now c.args.meeting.now.turn.now.number c.args.self.now c.requires.may.acting c.args.meeting.now.clause c.requires.may.clause
     c.args.meeting.now.channel.now c.args.value c.requires.sound c.at-found.result.now c.at-found.ensures c.requires.waits c.in-Some.receiver.now
     c.in-Some.ensures).waits
@@ -34,7 +34,7 @@ returns-clause-ok c =
     c.in-Some.ensures in
     let ready = rw c.in_ok-copy.ensures at (c.in_ok-prepared.ensures its.m.waits [] (Gate c.in_ok-copy.field-0 ∷ []) its.waits_for (c.gate_written-touched.ensures c.in_ok-copy.field-0)) in
     if_ok c.exchange.result (rw c.kind_by-kind.ensures at (c.exchange.ensures.ok (sends_on c.args.meeting.now.channel.now) []
-    (Gate c.args.meeting.now.channel.now ∷ Go c.in-Some.receiver.now.go ∷ map Gate (channels_but (c.args.meeting.now.channel.now ∷ []) its.m.waits)) ready.reached))
+    (Gate c.args.meeting.now.channel.now ∷ Go c.in-Some.receiver.now.go ∷ map Gate (channels_but (c.args.meeting.now.channel.now ∷ []) its.m.waits)) ready.partner.reached))
     (λ change done. was_handed (program_in c.args.meeting.now.turn.now.listing.now) c.args.meeting.now.turn.now.event.now c.args.meeting.now.turn.now.number c.args.self.now c.requires.may.acting c.args.meeting.now.clause c.requires.may.clause
     c.args.meeting.now.channel.now c.args.value c.requires.sound c.at-found.result.now c.at-found.ensures c.requires.waits c.in-Some.receiver.now
     c.in-Some.ensures c.in_ok-prepared.prepared ready (program_code_of c.args.meeting.now.turn.now.listing.now.code.value)
@@ -48,7 +48,7 @@ returns-clause-room c =
     c.in-Some.ensures in
     let ready = rw c.in_ok-copy.ensures at (c.in_ok-prepared.ensures its.m.waits [] (Gate c.in_ok-copy.field-0 ∷ []) its.waits_for (c.gate_written-touched.ensures c.in_ok-copy.field-0)) in
     if_ok c.exchange.result (rw c.kind_by-kind.ensures at (c.exchange.ensures.ok (sends_on c.args.meeting.now.channel.now) []
-    (Gate c.args.meeting.now.channel.now ∷ Go c.in-Some.receiver.now.go ∷ map Gate (channels_but (c.args.meeting.now.channel.now ∷ []) its.m.waits)) ready.reached))
+    (Gate c.args.meeting.now.channel.now ∷ Go c.in-Some.receiver.now.go ∷ map Gate (channels_but (c.args.meeting.now.channel.now ∷ []) its.m.waits)) ready.partner.reached))
     (λ change done. hand_room (program_in c.args.meeting.now.turn.now.listing.now) c.args.meeting.now.turn.now.event.now c.args.meeting.now.turn.now.number c.args.self.now c.requires.may.acting c.args.meeting.now.clause c.requires.may.clause
     c.args.meeting.now.channel.now c.args.value c.requires.sound c.at-found.result.now c.at-found.ensures c.requires.waits c.in-Some.receiver.now
     c.in-Some.ensures c.in_ok-prepared.prepared ready (program_code_of c.args.meeting.now.turn.now.listing.now.code.value)

@@ -19,14 +19,14 @@ local_step-requires c =
 pub stop-requires-clause-fits : goal.stop-requires-clause-fits
 stop-requires-clause-fits c =
     let code = ap program_code_of c.deref.ensures ∙ c.requires.may.coded in
-    step_fits (program_in c.args.turn.now.listing.now) c.args.turn.now.event.now c.args.turn.now.number c.args.self.now c.requires.may.acting c.in_ok-kind.kind c.in_ok-kind.own
-    c.local_step.new.self (rw code at c.in_ok-kind.ensures.step)
+    rw c.get.ensures (step_fits (program_in c.args.turn.now.listing.now) c.args.turn.now.event.now c.args.turn.now.number c.args.self.now c.requires.may.acting c.in_ok-kind.kind c.in_ok-kind.own
+    c.local_step.new.self (rw code at c.in_ok-kind.ensures.step))
 
 pub stop-requires-clause-room : goal.stop-requires-clause-room
 stop-requires-clause-room c =
     let code = ap program_code_of c.deref.ensures ∙ c.requires.may.coded in
-    step_room (program_in c.args.turn.now.listing.now) c.args.turn.now.event.now c.args.turn.now.number c.args.self.now c.requires.may.acting c.in_ok-kind.kind c.in_ok-kind.own
-    c.local_step.new.self (rw code at c.in_ok-kind.ensures.step)
+    rw c.get.ensures (step_room (program_in c.args.turn.now.listing.now) c.args.turn.now.event.now c.args.turn.now.number c.args.self.now c.requires.may.acting c.in_ok-kind.kind c.in_ok-kind.own
+    c.local_step.new.self (rw code at c.in_ok-kind.ensures.step))
 
 pub returns-in-Fault-clause-ok : goal.returns-in-Fault-clause-ok
 returns-in-Fault-clause-ok c =
@@ -36,7 +36,7 @@ returns-in-Fault-clause-ok c =
     local_fault_takes (program_in c.args.turn.now.listing.now) c.args.turn.now.event.now c.args.turn.now.number c.args.self.now c.requires.may.acting c.in_ok-kind.kind
     c.in_ok-kind.own
     c.local_step.new.self step c.requires.plain c.in-Fault.fault c.in-Fault.is change c.stop.new.self stop)
-    c.stop.ensures.ok
+    (rw c.get.ensures at c.stop.ensures.ok)
 
 pub returns-in-Fault-clause-room : goal.returns-in-Fault-clause-room
 returns-in-Fault-clause-room c =
@@ -46,7 +46,7 @@ returns-in-Fault-clause-room c =
     local_fault_room (program_in c.args.turn.now.listing.now) c.args.turn.now.event.now c.args.turn.now.number c.args.self.now c.requires.may.acting c.in_ok-kind.kind
     c.in_ok-kind.own
     c.local_step.new.self step c.requires.plain c.in-Fault.fault c.in-Fault.is change c.stop.new.self stop)
-    c.stop.ensures.ok
+    (rw c.get.ensures at c.stop.ensures.ok)
 
 pub returns-in-Fault-clause-err : goal.returns-in-Fault-clause-err
 returns-in-Fault-clause-err c =
@@ -56,7 +56,7 @@ returns-in-Fault-clause-err c =
     step_taken_back (program_in c.args.turn.now.listing.now) c.args.turn.now.event.now c.args.turn.now.number c.args.self.now c.requires.may.acting c.in_ok-kind.kind
     c.in_ok-kind.own
     c.local_step.new.self step c.stop.new.self back)
-    c.stop.ensures.err
+    (rw c.get.ensures at c.stop.ensures.err)
 
 pub returns : goal.returns
 returns c =

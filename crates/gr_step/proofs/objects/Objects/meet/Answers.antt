@@ -10,8 +10,8 @@ use Rattle.gr_step.proofs.MeetLemmas.{its_sender, can_meet_sender, sender_was_me
 use Rattle.gr_step.proofs.ResultLemmas.{if_ok, if_err, on_err}
 use Rattle.gr_step.proofs.objects.Objects.meet.Goals as goal
 
-pub prepare-requires : goal.prepare-requires
-prepare-requires c =
+pub prepare-requires-clause-waits : goal.prepare-requires-clause-waits
+prepare-requires-clause-waits c =
     (its_sender (program_in c.args.meeting.now.turn.now.listing.now) c.args.meeting.now.turn.now.event.now c.args.meeting.now.turn.now.number c.args.self.now c.requires.may.acting c.args.meeting.now.clause c.requires.may.clause
     c.args.meeting.now.channel.now c.args.zero c.requires.sound c.at-found.result.now c.at-found.ensures c.in-Some.sender.now
     c.in-Some.ensures c.requires.empty).waits
@@ -35,7 +35,7 @@ returns-clause-ok c =
     c.in-Some.ensures c.requires.empty in
     let ready = rw c.in_ok-copy.ensures at (c.in_ok-prepared.ensures its.m.waits (Head c.in_ok-copy.field-0 ∷ slot_numbered c.in_ok-copy.field-0 c.at-found.result.now.content.capacity c.at-found.result.now.content.head) (Gate c.in_ok-copy.field-0 ∷ []) its.waits_for (c.exit_read-touched.ensures c.in_ok-copy.field-0)) in
     if_ok c.exchange.result (rw c.kind_by-kind.ensures at (c.exchange.ensures.ok (receives_from c.args.meeting.now.channel.now) (Head c.args.meeting.now.channel.now ∷ slot_numbered c.args.meeting.now.channel.now c.at-found.result.now.content.capacity c.at-found.result.now.content.head)
-    ((Gate c.args.meeting.now.channel.now ∷ []) ++ Go c.in-Some.sender.now.go ∷ map Gate (channels_but (c.args.meeting.now.channel.now ∷ []) its.m.waits)) ready.reached))
+    ((Gate c.args.meeting.now.channel.now ∷ []) ++ Go c.in-Some.sender.now.go ∷ map Gate (channels_but (c.args.meeting.now.channel.now ∷ []) its.m.waits)) ready.partner.reached))
     (λ change done. sender_was_met (program_in c.args.meeting.now.turn.now.listing.now) c.args.meeting.now.turn.now.event.now c.args.meeting.now.turn.now.number c.args.self.now c.requires.may.acting c.args.meeting.now.clause c.requires.may.clause
     c.args.meeting.now.channel.now c.args.zero c.requires.sound c.at-found.result.now c.at-found.ensures c.in-Some.sender.now
     c.in-Some.ensures c.requires.empty c.in_ok-prepared.prepared ready (program_code_of c.args.meeting.now.turn.now.listing.now.code.value)
@@ -49,7 +49,7 @@ returns-clause-room c =
     c.in-Some.ensures c.requires.empty in
     let ready = rw c.in_ok-copy.ensures at (c.in_ok-prepared.ensures its.m.waits (Head c.in_ok-copy.field-0 ∷ slot_numbered c.in_ok-copy.field-0 c.at-found.result.now.content.capacity c.at-found.result.now.content.head) (Gate c.in_ok-copy.field-0 ∷ []) its.waits_for (c.exit_read-touched.ensures c.in_ok-copy.field-0)) in
     if_ok c.exchange.result (rw c.kind_by-kind.ensures at (c.exchange.ensures.ok (receives_from c.args.meeting.now.channel.now) (Head c.args.meeting.now.channel.now ∷ slot_numbered c.args.meeting.now.channel.now c.at-found.result.now.content.capacity c.at-found.result.now.content.head)
-    ((Gate c.args.meeting.now.channel.now ∷ []) ++ Go c.in-Some.sender.now.go ∷ map Gate (channels_but (c.args.meeting.now.channel.now ∷ []) its.m.waits)) ready.reached))
+    ((Gate c.args.meeting.now.channel.now ∷ []) ++ Go c.in-Some.sender.now.go ∷ map Gate (channels_but (c.args.meeting.now.channel.now ∷ []) its.m.waits)) ready.partner.reached))
     (λ change done. meeting_room (program_in c.args.meeting.now.turn.now.listing.now) c.args.meeting.now.turn.now.event.now c.args.meeting.now.turn.now.number c.args.self.now c.requires.may.acting c.args.meeting.now.clause c.requires.may.clause
     c.args.meeting.now.channel.now c.args.zero c.requires.sound c.at-found.result.now c.at-found.ensures c.in-Some.sender.now
     c.in-Some.ensures c.requires.empty c.in_ok-prepared.prepared ready (program_code_of c.args.meeting.now.turn.now.listing.now.code.value)

@@ -3,22 +3,22 @@ use Rattle.gr_tables.specs.NamedChannels.{contents_of, rooms_of, withdrawn, More
 use Rattle.gr_tables.proofs.RoomLemmas.{within_self}
 use Rattle.gr_tables.proofs.Withdrawals.{still_fit, still_have_rooms, took_all}
 use Rattle.gr_record.specs.Fews.{members}
-use Rattle.gr_step.proofs.objects.Objects.exchange.Goals as goal
+use Rattle.gr_step.proofs.objects.Objects.exchange_with_more.Goals as goal
 
 pub put_back-requires-clause-fits : goal.put_back-requires-clause-fits
 put_back-requires-clause-fits c =
-    still_fit ((c.args.prepared.channel, c.args.undo) ∷ []) (members c.in_ok-done.done) c.args.self.now.channels c.leave_after.new.channels
+    still_fit ((c.args.selecting.channel, c.args.undo) ∷ []) (members c.in_ok-done.done) c.args.self.now.channels c.leave_after.new.channels
     c.in_ok-done.ensures.back c.both_arrive.new.self.channels c.requires.fits (ap contents_of c.both_arrive.ensures.channels)
 
 pub put_back-requires-clause-room : goal.put_back-requires-clause-room
 put_back-requires-clause-room c =
-    still_have_rooms ((c.args.prepared.channel, c.args.undo) ∷ []) (members c.in_ok-done.done) c.args.self.now.channels c.leave_after.new.channels
+    still_have_rooms ((c.args.selecting.channel, c.args.undo) ∷ []) (members c.in_ok-done.done) c.args.self.now.channels c.leave_after.new.channels
     c.in_ok-done.ensures.back c.both_arrive.new.self.channels c.requires.room
     (rw c.both_arrive.ensures.channels (λ q. within_self (rooms_of c.leave_after.new.channels q)))
 
 pub returns-in-Err-clause-err_channels : goal.returns-in-Err-clause-err_channels
 returns-in-Err-clause-err_channels c =
-    took_all ((c.args.prepared.channel, c.args.undo) ∷ []) (members c.in_ok-done.done) c.args.self.now.channels c.leave_after.new.channels
+    took_all ((c.args.selecting.channel, c.args.undo) ∷ []) (members c.in_ok-done.done) c.args.self.now.channels c.leave_after.new.channels
     c.in_ok-done.ensures.back c.both_arrive.new.self.channels c.put_back.new.channels (ap contents_of c.both_arrive.ensures.channels)
     (rw c.both_arrive.ensures.channels (λ q. within_self (rooms_of c.leave_after.new.channels q))) c.put_back.ensures
 
@@ -31,10 +31,10 @@ returns-in-Ok-clause-ok c = λ operation reads writes h. record {
   exchanges = record {
     both = c.in-Ok.ensures.after;
     withdraws = ap contents_of c.both_arrive.ensures.channels ∙ c.in_ok-done.ensures.contents
-        ∙ ap (λ names. withdrawn c.args.prepared.go names (contents_of c.args.self.now.channels)) c.deref.ensures.value;
+        ∙ ap (λ names. withdrawn c.args.selecting.go names (contents_of c.args.self.now.channels)) c.deref.ensures.value;
     follows = rw c.both_arrive.ensures.channels c.in_ok-done.ensures.back;
     gates = subst {_, _}
-        (λ names. MoreAtGates names ((c.args.prepared.channel, c.args.undo) ∷ []) (members c.in_ok-done.done)) c.deref.ensures.value
+        (λ names. MoreAtGates names ((c.args.selecting.channel, c.args.undo) ∷ []) (members c.in_ok-done.done)) c.deref.ensures.value
         c.in_ok-done.ensures.gates;
     run = c.both_arrive.ensures.run;
   };
