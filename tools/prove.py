@@ -24,8 +24,9 @@ import kit
 # among jobs.
 JOBS_BESIDE = 2
 STANDS_BACK = 10
-# A job was never seen to take more than 3 GB.
 MOST_ROOMS = 4
+# The memory for which there may be a room: two jobs of some 2.3 GB.
+ROOM_BYTES = 5 << 30
 
 
 def order(crate, found):
@@ -150,6 +151,11 @@ class Prover:
                 self.end(check)
 
 
+def memory():
+    """The bytes of memory of this machine."""
+    return os.sysconf("SC_PAGE_SIZE") * os.sysconf("SC_PHYS_PAGES")
+
+
 def run(program, words, log):
     """Whether the toolchain proves the program and runs it well."""
     log.write(f"rt run in {program.folder}\n")
@@ -162,7 +168,7 @@ def run(program, words, log):
 def prove_all(program, words, processors, log):
     """Proves the crates that are not proved yet, and then the program."""
     crates = order(program, [])
-    count = max(1, min(processors - 1, MOST_ROOMS))
+    count = max(1, min(processors, MOST_ROOMS, memory() // ROOM_BYTES))
     with tempfile.TemporaryDirectory(prefix="rooms-", dir=os.path.dirname(log.name)) as place:
         rooms = [Room(f"{place}/{number}") for number in range(count)]
         prover = Prover([it for it in crates if not it.is_built()], rooms, processors, log)
