@@ -154,9 +154,13 @@ help: ## lists these targets
 	@awk '/^## / { printf "\n%s\n", substr($$0, 4) } /^[a-z-]+:.*## / { name = $$0; sub(/:.*/, "", name); sub(/.*## /, ""); \
 		printf "  make %-18s %s\n", name, $$0 }' $(firstword $(MAKEFILE_LIST))
 
-bin/bench_channels bin/bench_front bin/test_races: FORCE
+bin/bench_channels bin/test_races: FORCE
 	$(NEEDS_RT)
 	tools/prove.py $(notdir $@) $@
+
+bin/bench_front: FORCE
+	$(NEEDS_RT)
+	tools/prove.py bench_front $@ check 1 data/two_functions.go
 
 # A program that is named and that no rule makes must be there.
 $(filter-out bin/rewind bin/rewind-quick,$(REWIND)):
