@@ -1,20 +1,23 @@
 #!/usr/bin/env python3
 """Loads of memory that wait for stores: what a program reads at once shortly after it wrote it in parts.
 
-    bench/stalls.py [--steps N] [--most N] PROGRAM SOURCE      (3000 steps, 20 addresses)
+    bench/stalls.py [--steps N] [--most N] PROGRAM SOURCE      (3000 steps, 20 places)
 
 A processor hands the bytes of a store to a load that follows, unless these bytes come of several stores: then the load
 waits some twelve cycles, until they are in the cache. Structs that are put together in memory and then moved are read so.
-Runs the program with `run N` in valgrind, and prints how many such loads a step makes, and the addresses of those that
-come up most, each with the stores for which it waits.
+Runs the program with `run N` in valgrind, and prints how many such loads a step makes, and the places of those that come up
+most, each with the stores for which it waits. A place is a function of the program and an offset, where its symbols are there.
 """
 import argparse
+import bisect
 import collections
 import subprocess
 
 # As many instructions as a store takes to reach the cache, about.
 WINDOW = 60
 FORGET = 5000
+# Where valgrind puts a program that may lie anywhere.
+BASE = 0x108000
 
 
 class Trace:
@@ -59,6 +62,22 @@ class Trace:
             self.store(address, size)
 
 
+class Symbols:
+    """The functions of a program, by their places."""
+
+    def __init__(self, program):
+        said = subprocess.run(["nm", "-C", program], stdout=subprocess.PIPE, stderr=subprocess.DEVNULL, text=True).stdout
+        fields = (line.split(" ", 2) for line in said.splitlines())
+        self.functions = sorted((int(it[0], 16), it[2]) for it in fields if len(it) == 3 and it[0] and it[1] in "tT")
+
+    def name(self, place):
+        found = bisect.bisect(self.functions, (place - BASE, "\x7f")) - 1
+        if found < 0:
+            return f"{place:x}"
+        start, name = self.functions[found]
+        return f"{name}+{place - BASE - start:x}"
+
+
 def traced(program, source, steps):
     """The trace of a run of so many steps. Opening the program is traced too."""
     command = ["valgrind", "--tool=lackey", "--trace-mem=yes", "--log-fd=2", program, source]
@@ -78,11 +97,11 @@ def main():
     parser.add_argument("--steps", type=int, default=3000)
     parser.add_argument("--most", type=int, default=20)
     asked = parser.parse_args()
-    trace = traced(asked.program, asked.source, asked.steps)
+    trace, symbols = traced(asked.program, asked.source, asked.steps), Symbols(asked.program)
     print(f"{sum(trace.waited.values()) / asked.steps:.2f} loads a step wait for stores")
     for place, count in trace.waited.most_common(asked.most):
-        stores = " ".join(f"{it:x}" for it in trace.sources[place].most_common(1)[0][0])
-        print(f"{count / asked.steps:.2f} at {place:x}, for the stores at {stores}")
+        stores = " ".join(symbols.name(it) for it in trace.sources[place].most_common(1)[0][0])
+        print(f"{count / asked.steps:.2f} at {symbols.name(place)}, for the stores at {stores}")
 
 
 main()
