@@ -18,7 +18,8 @@ ghost use Rattle.gr_record.specs.Parts.{channel_in, AreTouched};
 ghost use Rattle.gr_record.specs.Records.{operation_of};
 ghost use Rattle.gr_step.specs.Passing.{CanArriveAt, BothArrive, Tells};
 ghost use Rattle.gr_step.specs.Preparing.{IsReached, IsPrepared, CanPass, IsPass, CanExchange, IsExchange, WaitsFor};
-ghost use Rattle.gr_step.specs.Preparing.{before_exchange, channel_of, go_of, left_by, reached_by, IsPartner, IsSelecting, MayExchange};
+ghost use Rattle.gr_step.specs.Preparing.{before_exchange, channel_of, go_of, left_by, reached_by};
+ghost use Rattle.gr_step.specs.Preparing.{IsPartner, IsSelecting, MayExchange};
 ghost use Rattle.gr_step.specs.Stepping.{event_for, code_for};
 
 use crate::beyond::{exchange, reached_with, with_changes};
@@ -286,13 +287,14 @@ impl Objects {
         undo: ChanUndo,
         crossing: Crossing,
     ) -> Result<Change, NoMemory>
-        requires { MayExchange (code_for turn.now) (event_for turn.now) turn.now.number partner selecting.go selecting.channel undo
-            (arrival_of crossing.passes) (arrival_of crossing.meets) self.old }
+        requires { MayExchange (code_for turn.now) (event_for turn.now) turn.now.number partner
+            selecting.go selecting.channel undo (arrival_of crossing.passes) (arrival_of crossing.meets) self.old }
         ensures ok { (operation : attempts.Operation) (reads writes : List Object)
             → IsReached operation reads writes selecting.further.value.beyond
             → IfOk result (λ change. IsExchange (code_for turn.now) (event_for turn.now).go selecting.go
             (arrival_of crossing.passes) (arrival_of crossing.meets)
-            selecting.names.items crossing.kind operation reads writes ((selecting.channel, undo) ∷ []) change self.old self.new) }
+            selecting.names.items crossing.kind operation reads writes
+            ((selecting.channel, undo) ∷ []) change self.old self.new) }
         ensures err_goroutines { OnErr result (goroutines_of self.new.goroutines ≡ goroutines_of self.old.goroutines) }
         ensures err_channels { OnErr result (TookBack ((selecting.channel, undo) ∷ []) self.old.channels self.new.channels) }
         ensures run { self.new.run ≡ self.old.run }
@@ -371,7 +373,8 @@ impl Objects {
         ensures ok { (operation : attempts.Operation) (reads writes : List Object)
             → IsReached operation reads writes (reached_by prepared.partner)
             → IfOk result (λ change. IsExchange (code_for turn.now) (event_for turn.now).go (go_of prepared.partner)
-            (arrival_of crossing.passes) (arrival_of crossing.meets) (left_by prepared.partner) crossing.kind operation reads writes
+            (arrival_of crossing.passes) (arrival_of crossing.meets)
+            (left_by prepared.partner) crossing.kind operation reads writes
             ((channel_of prepared.partner, undo) ∷ []) change self.old self.new) }
         ensures err_goroutines { OnErr result (goroutines_of self.new.goroutines ≡ goroutines_of self.old.goroutines) }
         ensures err_channels { OnErr result

@@ -240,7 +240,8 @@ fn written_with<'a>(
     contact: &'a Contact,
     partner: &'a GoName,
 ) -> TouchedObjects<'a>
-    ensures { seen_in result ≡ seen own.entry ∷ written_on_with (channel_in contact.now.operation) contact.now.touched partner.now }
+    ensures { seen_in result ≡ seen own.entry
+        ∷ written_on_with (channel_in contact.now.operation) contact.now.touched partner.now }
 {
     let (channel, touched) = (contact.operation.channel(), contact.touched);
     let partner = Some(partner);
