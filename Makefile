@@ -154,13 +154,13 @@ help: ## lists these targets
 	@awk '/^## / { printf "\n%s\n", substr($$0, 4) } /^[a-z-]+:.*## / { name = $$0; sub(/:.*/, "", name); sub(/.*## /, ""); \
 		printf "  make %-18s %s\n", name, $$0 }' $(firstword $(MAKEFILE_LIST))
 
-bin/bench_channels bin/test_races: FORCE
-	$(NEEDS_RT)
-	tools/prove.py $(notdir $@) $@
+# A program that is proved is run once, in its crate's folder, with words that it takes.
+RUN_bench_front := check 1 data/two_functions.go
+RUN_test_races := 2 1 100 10 data/relay.go
 
-bin/bench_front: FORCE
+bin/bench_channels bin/bench_front bin/test_races: FORCE
 	$(NEEDS_RT)
-	tools/prove.py bench_front $@ check 1 data/two_functions.go
+	tools/prove.py $(notdir $@) $@ $(RUN_$(notdir $@))
 
 # A program that is named and that no rule makes must be there.
 $(filter-out bin/rewind bin/rewind-quick,$(REWIND)):
