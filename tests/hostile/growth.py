@@ -15,7 +15,8 @@ program ends with `rewind: memory`, and the replies up to there went out. Or the
 
 Or the reply is the one with memory, and so is all after it. 'Nothing is changed' is asked of every goroutine, channel and
 text, the log, the console, `redo` and a `run`; where a part is done, of a session that takes the steps of the log anew.
-Opening each example is a case too: it ends in `S8`, `P4`, `C11` or `rewind: memory`, or a refusal cannot be told.
+Opening each example is a case too: it ends in `S8`, `P4`, `C11` or `rewind: memory`, or a refusal cannot be told. With workers
+it also ends in `rewind: threads`, where a thread is not started.
 
 With workers a desk answers the commands, and no step is granted. Sessions that grant steps are left out.
 """
@@ -28,6 +29,7 @@ from program import (
 
 UNCHANGED = (b"no N6", b"no Q2", b"no B6 0")
 MEMORY = (3, b"rewind: memory\n")
+NO_THREAD = (3, b"rewind: threads\n")
 # The commands of a short run, those that change a session first.
 WORDS = (b"run", b"back", b"redo", b"order", b"undo", b"step", b"deps", b"causes", b"log", b"console", b"show", b"chan", b"text")
 OPENING = (b"rewind: S8\n", b"rewind: P4\n", b"rewind: C11\n")
@@ -165,6 +167,8 @@ def opening_is(opener, name, ended, rest):
         return "no line, status %d" % ended.status, ended.status in (1, 3)
     if (ended.status, ended.error) == MEMORY or ended.status == 1 and ended.error in OPENING:
         return ended.error.decode().strip(), True
+    if (ended.status, ended.error) == NO_THREAD:
+        return ended.error.decode().strip(), settings.workers > 0
     return "as with memory", ended[:3] == opener.run(examples()[name])[:3]
 
 
