@@ -197,7 +197,7 @@ pub enum Form {
     /// Its goroutine came to wait for one send on a channel, outside a select: the place of the slot that the next value
     /// enters, and where the innermost frame stands.
     WaitsToSend(SlotPlace, ChName, Spot),
-    /// The same of one receive from a channel, with the place of the slot of the front item.
+    /// Its goroutine came to wait for one receive, outside a select: the slot of the front item, and where its frame stands.
     WaitsToReceive(SlotPlace, ChName, Spot),
     /// It communicated over a channel, and met nobody.
     Passes(Kind, Box<Passage>),
@@ -263,7 +263,7 @@ impl Change {
         }
     }
 
-    /// What a step did of this kind that met a goroutine over a channel, and replaced this in both.
+    /// What a step did of this kind that met a goroutine over a channel, and replaced this in both goroutines and the channel.
     pub fn exchanged(
         kind: Kind,
         own: GoUndo,
