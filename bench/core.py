@@ -5,63 +5,80 @@
 
 Each row is one run of up to 1,000,000 steps, in a process of its own: the processor time of a step, with what opening
 costs taken off, and the bytes that the process grew by for each step that it keeps. With `undo` all steps are taken
-back after that, by a command each. The last row is the memory of opening a source of 1 MiB.
+back after that, by a command each. The last rows are the time and the memory of opening sources of 1 MiB.
 """
 import os
 import re
-import resource
 import subprocess
 import sys
 import tempfile
+
+from front import mixed
 
 HERE = os.path.dirname(os.path.abspath(__file__))
 PROGRAMS = ("loop", "loop_in_a_child", "hand_to_hand", "through_a_buffer", "in_a_select", "many_goroutines", "turns",
             "recursion", "deep_calls")
 ROUNDS = 3
 RUN = b"run 1000000\n"
+FIRST = b"run 1\n"
 SOURCE_LIMIT = 1_048_576
 
 
 def once(command, script):
-    """Processor seconds, peak bytes of resident memory and output of one process."""
-    reader, writer = os.pipe()
-    child = os.fork()
-    if child == 0:
-        os.close(reader)
-        p = subprocess.run(command, input=script, stdout=subprocess.PIPE)
-        used = resource.getrusage(resource.RUSAGE_CHILDREN)
-        line = "%r %d %s" % (used.ru_utime + used.ru_stime, used.ru_maxrss * 1024, p.stdout[:100].decode().replace("\n", ";"))
-        os.write(writer, line.encode())
-        os._exit(0)
-    os.close(writer)
-    with os.fdopen(reader) as f:
-        time, memory, output = f.read().split(" ", 2)
-    os.waitpid(child, 0)
-    return float(time), int(memory), output
+    """The processor seconds and the output of one process."""
+    with tempfile.TemporaryFile() as lines, tempfile.TemporaryFile() as replies:
+        lines.write(script)
+        lines.seek(0)
+        process = subprocess.Popen(command, stdin=lines, stdout=replies)
+        _, status, used = os.wait4(process.pid, 0)
+        process.returncode = os.waitstatus_to_exitcode(status)
+        if process.returncode:
+            sys.exit(f"{' '.join(command)} ended with status {process.returncode}")
+        replies.seek(0)
+        return used.ru_utime + used.ru_stime, replies.read()
+
+
+def peak(command, line=b"?\n"):
+    """The peak bytes of resident memory of a process that has answered a line. It is asked while the process lives: of one that has
+    ended, the peak is at least that of the process that began it."""
+    with subprocess.Popen(command, stdin=subprocess.PIPE, stdout=subprocess.PIPE) as process:
+        process.stdin.write(line)
+        process.stdin.flush()
+        process.stdout.readline()
+        with open(f"/proc/{process.pid}/status", encoding="utf-8") as status:
+            kilobytes = int(re.search(r"VmHWM:\s+(\d+) kB", status.read()).group(1))
+        process.stdin.close()
+    return kilobytes * 1024
 
 
 def least(command, script):
     runs = [once(command, script) for _ in range(ROUNDS)]
-    return min(r[0] for r in runs), min(r[1] for r in runs), runs[0][2]
+    return min(r[0] for r in runs), runs[0][1]
 
 
 def row(name, command):
-    start = least(command, b"run 1\n")
+    start = least(command, FIRST)
     forward = least(command, RUN)
-    steps = int(re.search(r"ok (\d+)", forward[2]).group(1))
+    steps = int(re.search(rb"ok (\d+)", forward[1]).group(1))
     back = least(command, RUN + b"undo\n" * steps)
+    size = (peak(command, RUN) - peak(command, FIRST)) / steps
     print("%-18s %8d %10.0f %10.0f %10.1f" % (
-        name, steps, (forward[0] - start[0]) / steps * 1e9, (back[0] - forward[0]) / steps * 1e9, (forward[1] - start[1]) / steps))
+        name, steps, (forward[0] - start[0]) / steps * 1e9, (back[0] - forward[0]) / steps * 1e9, size))
 
 
-def opening(program):
-    with tempfile.TemporaryDirectory() as folder:
-        file = os.path.join(folder, "large.go")
-        head, line, tail = "package main\nfunc main() {\n\ta, b := 1, 2\n", "\ta, b = b, a+b*3-(b/2+1)\n", "}\n"
-        with open(file, "w") as f:
-            f.write(head + line * ((SOURCE_LIMIT - len(head) - len(tail)) // len(line)) + tail)
-        time, memory, _ = least([program, file], b"")
-        print("opening 1 MiB: %.0f ms, %.0f MB" % (time * 1e3, memory / 1e6))
+def large_source(size):
+    """A source of one long function, of at most this many bytes."""
+    head, line, tail = "package main\nfunc main() {\n\ta, b := 1, 2\n", "\ta, b = b, a+b*3-(b/2+1)\n", "}\n"
+    return head + line * ((size - len(head) - len(tail)) // len(line)) + tail
+
+
+def opening(program, what, text):
+    """Tells the time and the memory of opening a source."""
+    with tempfile.NamedTemporaryFile("w", suffix=".go") as file:
+        file.write(text)
+        file.flush()
+        time, _ = least([program, file.name], b"")
+        print("opening 1 MiB, %s: %.0f ms, %.0f MB" % (what, time * 1e3, peak([program, file.name]) / 1e6))
 
 
 def main():
@@ -69,7 +86,8 @@ def main():
     print("%-18s %8s %10s %10s %10s" % ("program", "steps", "ns a step", "ns an undo", "bytes"))
     for name in PROGRAMS:
         row(name, [program, os.path.join(HERE, "programs", name + ".go")])
-    opening(program)
+    opening(program, "one long function", large_source(SOURCE_LIMIT))
+    opening(program, "functions of all forms", mixed(SOURCE_LIMIT))
 
 
 if __name__ == "__main__":

@@ -51,7 +51,7 @@ def main():
                 start = once([program, FILE], before)
                 whole = once([program, FILE], before + work)
                 times[i].append(whole[0] - start[0])
-                outputs.add(whole[2])
+                outputs.add(whole[1])
         print("%-26s %10d  %s%s" % (name, steps, "".join("%10.1f" % (min(t) * 1e3) for t in times), "" if len(outputs) == 1 else "  answers differ"))
 
 
