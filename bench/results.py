@@ -1,9 +1,10 @@
 #!/usr/bin/env python3
 """Runs the benches and writes their figures as one table, with the machine, the date and the commit.
 
-    bench/results.py [--out FILE] [--only BENCH]      (bench/RESULTS.md, all benches)
+    bench/results.py [--out FILE] [--only BENCH] [--beside PROGRAM]      (bench/RESULTS.md, all benches)
 
-Takes bin/rewind, bin/bench_channels and bin/bench_front. Figures depend on what else the machine does: leave it alone.
+Takes bin/rewind, bin/bench_channels and bin/bench_front. Figures depend on what else the machine does: leave it alone. With
+`--beside` it is compared with another program that takes the same commands, too.
 """
 import argparse
 import os
@@ -16,11 +17,14 @@ TOP = os.path.dirname(HERE)
 sys.path.append(f"{TOP}/tools")
 from figures import origin, told  # noqa: E402
 BENCHES = {
-    "steps": "rewind", "core": "rewind", "rollback": "rewind", "workers": "rewind", "channels": "bench_channels", "front": "bench_front",
+    "steps": "rewind", "core": "rewind", "parts": "rewind", "opening": "rewind", "rollback": "rewind", "workers": "rewind",
+    "channels": "bench_channels", "front": "bench_front", "beside": "rewind",
 }
 HEAD = """# Measurements
 
-Written by `make bench`. Times are of processors and not by the clock, but for those of workers.
+Written by `make bench`. Times are of processors and not by the clock, but for those of workers. The rows of `parts` count instructions: how many a step takes, and in which crate.
+
+The rows of `beside` compare with a plain program that takes the same commands. It has no proofs and no threads, and is no part of this repository: `make bench BESIDE=PROGRAM`.
 
 %s
 
@@ -52,12 +56,13 @@ def row(bench, line):
     return (" ".join(what.split()), figure.strip()) if colon else None
 
 
-def rows(bench):
-    """The rows of a bench, which may end with a status of 1 where a limit is missed, and none where its program is missing."""
+def rows(bench, *before):
+    """The rows of a bench, which may end with a status of 1 where a limit is missed, and none where its program is missing. It is
+    given these words before its program."""
     if not os.access(f"{TOP}/bin/{BENCHES[bench]}", os.X_OK):
         print(f"results: there is no bin/{BENCHES[bench]}, so {bench} is left out")
         return [], 1
-    done = subprocess.run([f"{HERE}/{bench}.py", f"{TOP}/bin/{BENCHES[bench]}"], stdout=subprocess.PIPE, text=True)
+    done = subprocess.run([f"{HERE}/{bench}.py", *before, f"{TOP}/bin/{BENCHES[bench]}"], stdout=subprocess.PIPE, text=True)
     print(done.stdout, end="", flush=True)
     found = [row(bench, line) for line in done.stdout.splitlines()]
     return [(bench, *it) for it in found if it], done.returncode
@@ -67,10 +72,13 @@ def main():
     parser = argparse.ArgumentParser(description=__doc__.splitlines()[0])
     parser.add_argument("--out", default=f"{HERE}/RESULTS.md")
     parser.add_argument("--only", choices=BENCHES)
+    parser.add_argument("--beside", metavar="PROGRAM")
     asked = parser.parse_args()
     text, status = [], 0
     for bench in [asked.only] if asked.only else BENCHES:
-        found, missed = rows(bench)
+        if bench == "beside" and not asked.beside:
+            continue
+        found, missed = rows(bench, *([asked.beside] if bench == "beside" else []))
         text += ["| %s | %s | %s |\n" % it for it in found]
         status = status or missed
     with open(asked.out, "w", encoding="utf-8") as file:
