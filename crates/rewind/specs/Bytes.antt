@@ -10,10 +10,9 @@ abbrev pub Plain : List ℕ → Type 0
 Plain [] = Unit {0}
 Plain (b ∷ bs) = (b ≢ 10) × Plain bs
 
--- what one byte of reading did: a byte came, or there is none
-abbrev pub Next : Option (List ℕ) → Option (List ℕ) → Option ℕ → Type 0
-Next had has None = Keeps had has × IsAtEnd has
-Next had has (Some b) = Consumes had has (b ∷ [])
+-- these bytes came of a reader, none only at its end
+abbrev pub Came : Option (List ℕ) → Option (List ℕ) → List ℕ → Type 0
+Came had has bytes = Consumes had has bytes × (bytes ≡ [] → IsAtEnd has)
 
 -- bytes of a line were read, and enough of them are kept to show whether there were too many
 pub record Part (had has : Option (List ℕ)) (kept : List ℕ) : Type 0 where

@@ -3,7 +3,7 @@ ghost use Rattle.std.specs.Prelude.{◌≡◌, ◌≢◌, ◌↔◌, ◌+◌, �
 ghost use Rattle.std.specs.Prelude.{IfOk, IfErr, OnOk, OnErr, IsErrOf};
 ghost use Rattle.std.specs.IoError.{error_kind};
 ghost use Rattle.std.specs.Io.KnownBytes.{Appends, Consumes, Keeps};
-ghost use Rattle.rewind.specs.Bytes.{Next, Plain, BeginsNewline, with_end, Comes, Taken, LineRead, Begins};
+ghost use Rattle.rewind.specs.Bytes.{Came, Plain, BeginsNewline, with_end, Comes, Taken, LineRead, Begins};
 ghost use Rattle.rewind.specs.declared.counted.LineEnd.TheVariants.{End};
 ghost use Rattle.rewind.specs.Devices.{one_more, device_of, failures_of, left_of};
 
@@ -69,10 +69,12 @@ impl<T> Counted<T> {
 }
 
 impl<R: Read> Counted<R> {
-    /// The next byte, if there is one.
-    pub(crate) fn next_byte(&mut self) -> Result<Option<u8>, DeviceError>
-        ensures ok { IfOk result (λ next.
-            Next (R.remaining (device_of self.old)) (R.remaining (device_of self.new)) next) }
+    /// Reads into these bytes, and tells how many came: none at the end.
+    pub(crate) fn read(&mut self, bytes: &mut [u8]) -> Result<usize, DeviceError>
+        requires { 0 < length bytes.old }
+        ensures bound { IfOk result (λ count. count ≤ length bytes.new) }
+        ensures ok { IfOk result (λ count.
+            Came (R.remaining (device_of self.old)) (R.remaining (device_of self.new)) (take count bytes.new)) }
         ensures err { OnErr result (Keeps (R.remaining (device_of self.old)) (R.remaining (device_of self.new))) }
         ensures same { OnOk result (failures_of self.new ≡ failures_of self.old) }
         ensures failures { OnErr result (failures_of self.new ≡ one_more (failures_of self.old)) }
@@ -86,8 +88,8 @@ impl<R: Read> Counted<R> {
             return Err(DeviceError::Spent);
         }
         self.left -= 1;
-        match one_byte(&mut self.inner) {
-            Ok(next) => Ok(next),
+        match read_some(&mut self.inner, bytes) {
+            Ok(count) => Ok(count),
             Err(_) => {
                 self.fail();
                 Err(DeviceError::Device)
@@ -103,17 +105,17 @@ fn interrupted() -> io::Error
     io::Error::from(ErrorKind::TimedOut)
 }
 
-// One byte, tried again where the read was interrupted.
-fn one_byte<R: Read>(reader: &mut R) -> io::Result<Option<u8>>
-    ensures ok { IfOk result (λ next. Next (R.remaining reader.old) (R.remaining reader.new) next) }
+// Reads into these bytes, and tells how many came: none at the end. Tries again where the read was interrupted.
+fn read_some<R: Read>(reader: &mut R, bytes: &mut [u8]) -> io::Result<usize>
+    requires { 0 < length bytes.old }
+    ensures bound { IfOk result (λ count. count ≤ length bytes.new) }
+    ensures ok { IfOk result (λ count. Came (R.remaining reader.old) (R.remaining reader.new) (take count bytes.new)) }
     ensures err { OnErr result (Keeps (R.remaining reader.old) (R.remaining reader.new)) }
     ensures retried { IfErr result (λ error. error_kind error ≢ ErrorKind.Interrupted) }
 {
     for _ in 0..u64::MAX {
-        let mut one = [0u8; 1];
-        match reader.read(&mut one) {
-            Ok(0) => return Ok(None),
-            Ok(_) => return Ok(Some(one[0])),
+        match reader.read(bytes) {
+            Ok(count) => return Ok(count),
             Err(e) => {
                 if e.kind() != ErrorKind::Interrupted {
                     return Err(e);

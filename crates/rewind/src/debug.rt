@@ -30,7 +30,10 @@ pub enum DebugFault {
     Threads,
 }
 
-// The bytes of the source; of a source that is too long, one byte more than a text may have.
+// How many bytes of a source are read at once.
+const BLOCK: usize = 8192;
+
+// The bytes of the source; of a source that is too long, more than a text may have.
 fn read_source<S: Read>(source: &mut Counted<S>, text: &mut Vec<u8>) -> Result<(), LineError>
     requires { length text.old.items ≡ 0 }
     ensures ok { OnOk result
@@ -39,15 +42,16 @@ fn read_source<S: Read>(source: &mut Counted<S>, text: &mut Vec<u8>) -> Result<(
     ensures read { IsErrOf result LineError.Read → Fails (change S.remaining source.old source.new) }
     ensures memory { IsErrOf result LineError.Memory → NeverFails (change S.remaining source.old source.new) }
 {
+    let mut block = [0u8; BLOCK];
     while text.len() <= TEXT_LIMIT {
-        match source.next_byte() {
-            Err(_) => return Err(LineError::Read),
-            Ok(None) => return Ok(()),
-            Ok(Some(byte)) => {
-                if text.push(byte).is_err() {
-                    return Err(LineError::Memory);
-                }
-            }
+        let Ok(count) = source.read(&mut block) else {
+            return Err(LineError::Read);
+        };
+        if count == 0 {
+            return Ok(());
+        }
+        if text.extend_from_slice(&block[..count]).is_err() {
+            return Err(LineError::Memory);
         }
     }
     Ok(())
