@@ -20,9 +20,9 @@ import time
 
 import kit
 
-# The jobs of a check that runs beside one on which more depends, and how far it stands back. A third of a check can't be shared
-# among jobs.
-JOBS_BESIDE = 2
+# The fewest jobs of the check on which most depends, and how far others stand back behind it. A third of a check can't be shared
+# among jobs, and each job reads the libraries for itself.
+JOBS_OF_THE_FIRST = 2
 STANDS_BACK = 10
 MOST_ROOMS = 4
 # The memory for which there may be a room: two jobs of some 2.3 GB.
@@ -79,7 +79,7 @@ class Room:
 
 
 class Check:
-    """A crate's check while it runs in a room, with what it has said so far. One that leads has all processors first."""
+    """A crate's check while it runs in a room, with what it has said so far. The processors serve one that leads first."""
 
     def __init__(self, crate, room, jobs, leads):
         self.crate, self.room = crate, room
@@ -123,7 +123,8 @@ class Prover:
         """Begins a check. The crate with the longest chain above it, of those that wait or run, leads."""
         others = [*self.waiting, *(it.crate for it in self.running)]
         leads = all(self.height[crate] >= self.height[it] for it in others)
-        jobs = self.processors if leads else min(JOBS_BESIDE, self.processors)
+        beside = min(len(self.ready()), len(self.rooms)) + len(self.running)
+        jobs = max(JOBS_OF_THE_FIRST if leads else 1, self.processors // beside)
         number = self.count - len(self.waiting) + 1
         print(f"crate {number} of {self.count}: {crate.name} ({self.minutes()} so far)", flush=True)
         self.waiting.remove(crate)
