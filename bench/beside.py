@@ -1,7 +1,7 @@
 #!/usr/bin/env python3
 """Streams of commands, answered by a program and by another one by turns.
 
-    bench/beside.py [--rounds N] OTHER [PROGRAM]      (5 rounds, bin/rewind)
+    bench/beside.py [--rounds N] OTHER [PROGRAM]      (9 rounds, bin/rewind)
 
 OTHER takes the same commands and answers the same bytes: a plain program, say, that is not proved and has no threads. Prints for
 each stream the processor time of a step or line in both, best of the rounds, with what comes before it taken off; the bytes that
@@ -40,9 +40,9 @@ def streams(program):
     yield "`back` of all", "loop", RUN, b"back g0#1\n", loop, 2.0
     yield "`back` and `redo` of all", "loop", RUN, b"back g0#1\nredo\n" * 3, 3 * loop, 2.0
     yield "`back` of all, hand to hand", "hand_to_hand", RUN, b"back g0#1\n", hand, 2.0
-    for k in (1000, 100_000, 400_000):
-        lines = (b"back g0.1#%d\nredo\n" % (500_001 - k)) * 3
-        yield f"`back` and `redo` of {k:,} among 1,000,000", "two_loops", RUN, lines, 3 * k, 2.0
+    for k, times in ((1000, 200), (100_000, 10), (400_000, 3)):
+        lines = (b"back g0.1#%d\nredo\n" % (500_001 - k)) * times
+        yield f"`back` and `redo` of {k:,} among 1,000,000", "two_loops", RUN, lines, times * k, 2.0
     yield "`deps` of the first step", "loop", RUN, b"deps g0#1\n" * 3, 3 * loop, 2.0
     causes = b"causes g0#200000\n"
     named = steps_of(program, "hand_to_hand", RUN + causes)
@@ -50,7 +50,7 @@ def streams(program):
     yield "`log`, hand to hand", "hand_to_hand", RUN, b"log\n" * 3, 3 * hand, 2.0
 
 
-def times(programs, file, before, lines, rounds):
+def least_times(programs, file, before, lines, rounds):
     """For each program the least time of what comes before, and of all, where they answer the same."""
     best = [[float("inf")] * 2 for _ in programs]
     for _ in range(rounds):
@@ -72,13 +72,13 @@ def kept(program, file, steps):
 
 def main():
     parser = argparse.ArgumentParser(description=__doc__.splitlines()[0])
-    parser.add_argument("--rounds", type=int, default=5)
+    parser.add_argument("--rounds", type=int, default=9)
     parser.add_argument("other")
     parser.add_argument("program", nargs="?", default="bin/rewind")
     asked = parser.parse_args()
     programs = [asked.other, asked.program]
     for what, name, before, lines, count, wanted in streams(asked.program):
-        other, own = times(programs, file_of(name), before, lines, asked.rounds)
+        other, own = least_times(programs, file_of(name), before, lines, asked.rounds)
         sizes = [kept(program, file_of(name), count) for program in programs] if lines == RUN else []
         ratio = own[1] / other[1]
         print("%s: %.0f ns, other %.0f ns%s; %.2f times as long (at most %.1f%s)" % (
