@@ -22,7 +22,7 @@ BENCHES = {
 }
 HEAD = """# Measurements
 
-Written by `make bench`. Times are of processors and not by the clock, but for those of workers. The rows of `parts` count instructions: how many a step takes, and in which crate.
+Written by `make bench`. Times are of processors and not by the clock, but for those of workers. The rows of `parts` count instructions: how many a step takes, and in which crate. Where the machine is shared with others, the times of two runs may differ by a half, and the counts do not.
 
 The rows of `beside` compare with a plain program that takes the same commands. It has no proofs and no threads, and is no part of this repository: `make bench BESIDE=PROGRAM`.
 
