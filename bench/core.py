@@ -5,15 +5,13 @@
 
 Each row is one run of up to 1,000,000 steps, in a process of its own: the processor time of a step, with what opening
 costs taken off, and the bytes that the process grew by for each step that it keeps. With `undo` all steps are taken
-back after that, by a command each. The last rows are the time and the memory of opening sources of 1 MiB.
+back after that, by a command each.
 """
 import os
 import re
 import subprocess
 import sys
 import tempfile
-
-from front import mixed
 
 HERE = os.path.dirname(os.path.abspath(__file__))
 PROGRAMS = ("loop", "loop_in_a_child", "hand_to_hand", "through_a_buffer", "in_a_select", "many_goroutines", "turns",
@@ -72,22 +70,11 @@ def large_source(size):
     return head + line * ((size - len(head) - len(tail)) // len(line)) + tail
 
 
-def opening(program, what, text):
-    """Tells the time and the memory of opening a source."""
-    with tempfile.NamedTemporaryFile("w", suffix=".go") as file:
-        file.write(text)
-        file.flush()
-        time, _ = least([program, file.name], b"")
-        print("opening 1 MiB, %s: %.0f ms, %.0f MB" % (what, time * 1e3, peak([program, file.name]) / 1e6))
-
-
 def main():
     program = sys.argv[1] if len(sys.argv) > 1 else "bin/rewind"
     print("%-18s %8s %10s %10s %10s" % ("program", "steps", "ns a step", "ns an undo", "bytes"))
     for name in PROGRAMS:
         row(name, [program, os.path.join(HERE, "programs", name + ".go")])
-    opening(program, "one long function", large_source(SOURCE_LIMIT))
-    opening(program, "functions of all forms", mixed(SOURCE_LIMIT))
 
 
 if __name__ == "__main__":

@@ -1,5 +1,5 @@
 #!/usr/bin/env python3
-"""The time of opening a source of 1 MiB, beside Go's own parser and type checker on the same text.
+"""The time and the memory of opening a source of 1 MiB, and the time of Go's own parser and type checker on the same text.
 
     bench/opening.py [PROGRAM]      (bin/rewind)
 
@@ -13,7 +13,7 @@ import sys
 import tempfile
 import time
 
-from core import HERE, SOURCE_LIMIT, large_source
+from core import HERE, SOURCE_LIMIT, large_source, peak
 from front import mixed
 
 ROUNDS = 10
@@ -40,7 +40,9 @@ def main():
                 source.write(text(SOURCE_LIMIT))
             own = min(clock([program, "--check", file]) for _ in range(ROUNDS)) * 1e3
             other = float(subprocess.run([front, file], stdout=subprocess.PIPE, check=True, text=True).stdout)
-            print("opening 1 MiB, %s: %.0f ms, Go %.0f ms; %.2f times as fast (at least %.1f)" % (what, own, other, other / own, wanted), flush=True)
+            megabytes = peak([program, file]) / 1e6
+            print("opening 1 MiB, %s: %.0f ms, %.0f MB; Go %.0f ms; %.2f times as fast (at least %.1f)"
+                  % (what, own, megabytes, other, other / own, wanted), flush=True)
 
 
 if __name__ == "__main__":
