@@ -126,8 +126,8 @@ page-test: browser-needs other-browsers $(if $(IS_QUICK),quick-page,page) ## the
 hostile: $(REWIND) bin/test_races ## hostile sources and commands, failing devices, refused memory, races (6 processor minutes)
 	tests/hostile/all.sh $(REWIND)
 
-bench: bin/rewind bin/bench_channels bin/bench_front ## times of steps, rollback, workers, channels and the front, into bench/RESULTS.md (minutes; BESIDE=PROGRAM compares)
-	bench/results.py $(if $(BESIDE),--beside $(BESIDE))
+bench: bin/rewind bin/bench_channels bin/bench_front ## times of steps, rollback, workers, channels and the front, into bench/RESULTS.md (minutes; BASELINE=PROGRAM compares)
+	bench/results.py $(if $(BASELINE),--baseline $(BASELINE))
 
 times: ## how long demo, quick, quick-page and test take on two processors, in fresh clones (15 minutes)
 	$(NEEDS_RT)

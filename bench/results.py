@@ -1,10 +1,10 @@
 #!/usr/bin/env python3
 """Runs the benches and writes their figures as one table, with the machine, the date and the commit.
 
-    bench/results.py [--out FILE] [--only BENCH] [--beside PROGRAM]      (bench/RESULTS.md, all benches)
+    bench/results.py [--out FILE] [--only BENCH] [--baseline PROGRAM]      (bench/RESULTS.md, all benches)
 
 Takes bin/rewind, bin/bench_channels and bin/bench_front. Figures depend on what else the machine does: leave it alone. With
-`--beside` it is compared with another program that takes the same commands, too.
+`--baseline` it is compared with another program that takes the same commands, too.
 """
 import argparse
 import os
@@ -17,14 +17,14 @@ TOP = os.path.dirname(HERE)
 sys.path.append(f"{TOP}/tools")
 from figures import origin, told  # noqa: E402
 BENCHES = {
-    "steps": "rewind", "core": "rewind", "parts": "rewind", "opening": "rewind", "rollback": "rewind", "workers": "rewind",
-    "channels": "bench_channels", "front": "bench_front", "beside": "rewind",
+    "steps": "rewind", "core": "rewind", "instructions": "rewind", "opening": "rewind", "rollback": "rewind", "workers": "rewind",
+    "channels": "bench_channels", "front": "bench_front", "baseline": "rewind",
 }
 HEAD = """# Measurements
 
-Written by `make bench`. Times are of processors and not by the clock, but for those of workers. The rows of `parts` count instructions: how many a step takes, and in which crate. Where the machine is shared with others, the times of two runs may differ by a half, and the counts do not.
+Written by `make bench`. Times are of processors and not by the clock, but for those of `opening` and `workers`. The rows of `instructions` say how many a step takes, and in which crate. Where the machine is shared with others, the times of two runs may differ by a half, and the counts do not.
 
-The rows of `beside` compare with a plain program that takes the same commands. It has no proofs and no threads, and is no part of this repository: `make bench BESIDE=PROGRAM`.
+The rows of `baseline` compare with a plain program that takes the same commands. It has no proofs and no threads, and is no part of this repository: `make bench BASELINE=PROGRAM`.
 
 %s
 
@@ -72,13 +72,13 @@ def main():
     parser = argparse.ArgumentParser(description=__doc__.splitlines()[0])
     parser.add_argument("--out", default=f"{HERE}/RESULTS.md")
     parser.add_argument("--only", choices=BENCHES)
-    parser.add_argument("--beside", metavar="PROGRAM")
+    parser.add_argument("--baseline", metavar="PROGRAM")
     asked = parser.parse_args()
     text, status = [], 0
     for bench in [asked.only] if asked.only else BENCHES:
-        if bench == "beside" and not asked.beside:
+        if bench == "baseline" and not asked.baseline:
             continue
-        found, missed = rows(bench, *([asked.beside] if bench == "beside" else []))
+        found, missed = rows(bench, *([asked.baseline] if bench == "baseline" else []))
         text += ["| %s | %s | %s |\n" % it for it in found]
         status = status or missed
     with open(asked.out, "w", encoding="utf-8") as file:

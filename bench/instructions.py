@@ -1,7 +1,7 @@
 #!/usr/bin/env python3
 """Where the instructions of a step go: how many a step takes, and the part of each crate in it.
 
-    bench/parts.py [PROGRAM]      (bin/rewind)
+    bench/instructions.py [PROGRAM]      (bin/rewind)
 
 Counts with valgrind, so the figures do not depend on what else the machine does. A crate's part holds what the compiler copied
 into its functions of others. What takes less than a twentieth stands together at the end. The last row is of opening a source.
@@ -54,7 +54,7 @@ def tell(what, unit, counts, many):
 def main():
     program = sys.argv[1] if len(sys.argv) > 1 else "bin/rewind"
     if not shutil.which("valgrind"):
-        sys.exit("parts: valgrind is not installed")
+        sys.exit("instructions: valgrind is not installed")
     for name in PROGRAMS:
         command = [program, os.path.join(HERE, "programs", name + ".go")]
         counts = instructions(command, b"run %d\n" % STEPS)

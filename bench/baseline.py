@@ -1,11 +1,11 @@
 #!/usr/bin/env python3
-"""Streams of commands, answered by a program and by another one by turns.
+"""Streams of commands, answered by a program and by a baseline by turns.
 
-    bench/beside.py [--rounds N] OTHER [PROGRAM]      (9 rounds, bin/rewind)
+    bench/baseline.py [--rounds N] BASELINE [PROGRAM]      (9 rounds, bin/rewind)
 
-OTHER takes the same commands and answers the same bytes: a plain program, say, that is not proved and has no threads. Prints for
+BASELINE takes the same commands and answers the same bytes: a plain program, say, that is not proved and has no threads. Prints for
 each stream the processor time of a step or line in both, best of the rounds, with what comes before it taken off; the bytes that
-each step keeps; and how many times as long as OTHER the program takes, beside what is wanted at most.
+each step keeps; and how many times as long as BASELINE the program takes, beside what is wanted at most.
 """
 import argparse
 import os
@@ -13,7 +13,7 @@ import re
 
 from core import FIRST, HERE, RUN, once, peak
 
-# The programs that are run, and how many times as long as OTHER each may take.
+# The programs that are run, and how many times as long as BASELINE each may take.
 RUNS = {"loop": 1.6, "loop_in_a_child": 1.6, "hand_to_hand": 2.0, "through_a_buffer": 2.0, "in_a_select": 2.0, "many_goroutines": 2.0,
         "recursion": 2.0, "deep_calls": 2.0}
 LINES = 400_000
@@ -61,7 +61,7 @@ def least_times(programs, file, before, lines, rounds):
                 own[part] = min(own[part], time)
             answers.add(answer)
         if len(answers) > 1:
-            raise SystemExit(f"beside: the two answer {file} in different ways")
+            raise SystemExit(f"baseline: the two answer {file} in different ways")
     return best
 
 
@@ -73,17 +73,17 @@ def kept(program, file, steps):
 def main():
     parser = argparse.ArgumentParser(description=__doc__.splitlines()[0])
     parser.add_argument("--rounds", type=int, default=9)
-    parser.add_argument("other")
+    parser.add_argument("baseline")
     parser.add_argument("program", nargs="?", default="bin/rewind")
     asked = parser.parse_args()
-    programs = [asked.other, asked.program]
+    programs = [asked.baseline, asked.program]
     for what, name, before, lines, count, wanted in streams(asked.program):
-        other, own = least_times(programs, file_of(name), before, lines, asked.rounds)
+        base, own = least_times(programs, file_of(name), before, lines, asked.rounds)
         sizes = [kept(program, file_of(name), count) for program in programs] if lines == RUN else []
-        ratio = own[1] / other[1]
-        print("%s: %.0f ns, other %.0f ns%s; %.2f times as long (at most %.1f%s)" % (
-            what, (own[1] - own[0]) / count * 1e9, (other[1] - other[0]) / count * 1e9,
-            "; %.1f bytes, other %.1f" % (sizes[1], sizes[0]) if sizes else "", ratio, wanted, ": " + MISSED if ratio > wanted else ""), flush=True)
+        ratio = own[1] / base[1]
+        print("%s: %.0f ns, baseline %.0f ns%s; %.2f times as long (at most %.1f%s)" % (
+            what, (own[1] - own[0]) / count * 1e9, (base[1] - base[0]) / count * 1e9,
+            "; %.1f bytes, baseline %.1f" % (sizes[1], sizes[0]) if sizes else "", ratio, wanted, ": " + MISSED if ratio > wanted else ""), flush=True)
 
 
 if __name__ == "__main__":
