@@ -1,6 +1,6 @@
 -- Look-ups in tables of spellings.
-use Rattle.std.proofs.Common.{◌≡◌, ℕ, ◌+◌, ◌<◌, ◌≤◌, Bool, true, false, List, [], ◌∷◌, length, take, refl, ap, sym, ◌∙◌, subst, arith, length-take, inl, inr, nat_eq}
-use Rattle.std.specs.Prelude.{◌&&◌, nat_le, if◌then◌else◌, Some, None}
+use Rattle.std.proofs.Common.{◌≡◌, ℕ, ◌≤◌, Bool, true, List, [], ◌∷◌, length, take, refl, ap, sym, ◌∙◌, subst, arith, length-take, inl, inr, nat_eq}
+use Rattle.std.specs.Prelude.{◌&&◌, nat_le, Some, None}
 use Rattle.std.specs.Cmp.Lexicographic.{pointwise, same_text}
 use Rattle.std.specs.List.{list_all, starts_with}
 use Rattle.std.proofs.lemmas.Bool.{cases_Bool, and_parts}
@@ -17,26 +17,6 @@ found P (entry ∷ t) s m all e = elim (cases_Bool (pointwise nat_eq entry.0 s))
   | inl w ↦ subst (λ x. P x ≡ true) (same_text entry.0 s (sym w)) ((and_parts (P entry.0) (list_all (λ entry. P entry.0) t) all).0)
   | inr w ↦ found P t s m ((and_parts (P entry.0) (list_all (λ entry. P entry.0) t) all).1) (rw w at e)
 ]
-
--- the entries whose lengths pass a test
-abbrev pub those : (ℕ → Bool) → List Spelling → List Spelling
-those P [] = []
-those P (entry ∷ t) = if P (length entry.0) then entry ∷ those P t else those P t
-
--- a spelling whose length passes is found among the entries whose lengths pass
-pub among : (P : ℕ → Bool) (t : List Spelling) (s : List ℕ) → P (length s) ≡ true → mark_in t s ≡ mark_in (those P t) s
-among P [] s e = refl
-among P (entry ∷ t) s e = elim (cases_Bool (P (length entry.0))) [
-  | inl p ↦ rw p (ap (λ m. if pointwise nat_eq entry.0 s then Some entry.1 else m) (among P t s e))
-  | inr p ↦ elim (cases_Bool (pointwise nat_eq entry.0 s)) [
-    | inl w ↦ both (P (length s)) e (subst (λ x. P (length x) ≡ false) (same_text entry.0 s (sym w)) p)
-    | inr w ↦ rw p (rw w (among P t s e))
-  ]
-]
-
--- a spelling of this length is found among the entries of its length
-pub of_length : (n : ℕ) (t : List Spelling) (s : List ℕ) → n ≤ length s → length s < n + 1 → mark_in t s ≡ mark_in (those (nat_eq n) t) s
-of_length n t s low high = among (nat_eq n) t s (grind (arith, low, high))
 
 -- what is answered where the first entry is a prefix
 taken : (entry : Spelling) (t : List Spelling) (text : List ℕ) (m : Mark) (n : ℕ) → starts_with nat_eq text entry.0 ≡ true → first_prefix (entry ∷ t) text ≡ Some (m, n) → (entry.1 ≡ m) × (length entry.0 ≡ n)

@@ -5,45 +5,32 @@ ghost use Rattle.gr_scan.specs.Scanning.{first_prefix};
 
 use crate::token::Mark;
 
-// The keywords by their length, so that a name is compared with few of them.
-const OF_TWO: [(&[u8], Mark); 2] = [(b"go", Mark::Go), (b"if", Mark::If)];
-
-const OF_THREE: [(&[u8], Mark); 3] = [
-    (b"for", Mark::For),
-    (b"map", Mark::Map),
-    (b"var", Mark::Var),
-];
-
-const OF_FOUR: [(&[u8], Mark); 6] = [
+const KEYWORDS: [(&[u8], Mark); 25] = [
+    (b"break", Mark::Break),
     (b"case", Mark::Case),
     (b"chan", Mark::Chan),
-    (b"else", Mark::Else),
-    (b"func", Mark::Func),
-    (b"goto", Mark::Goto),
-    (b"type", Mark::Type),
-];
-
-const OF_FIVE: [(&[u8], Mark); 4] = [
-    (b"break", Mark::Break),
     (b"const", Mark::Const),
+    (b"continue", Mark::Continue),
+    (b"default", Mark::Default),
     (b"defer", Mark::Defer),
-    (b"range", Mark::Range),
-];
-
-const OF_SIX: [(&[u8], Mark); 5] = [
+    (b"else", Mark::Else),
+    (b"fallthrough", Mark::Fallthrough),
+    (b"for", Mark::For),
+    (b"func", Mark::Func),
+    (b"go", Mark::Go),
+    (b"goto", Mark::Goto),
+    (b"if", Mark::If),
     (b"import", Mark::Import),
+    (b"interface", Mark::Interface),
+    (b"map", Mark::Map),
+    (b"package", Mark::Package),
+    (b"range", Mark::Range),
     (b"return", Mark::Return),
     (b"select", Mark::Select),
     (b"struct", Mark::Struct),
     (b"switch", Mark::Switch),
-];
-
-const OF_SEVEN: [(&[u8], Mark); 2] = [(b"default", Mark::Default), (b"package", Mark::Package)];
-
-const LONGER: [(&[u8], Mark); 3] = [
-    (b"continue", Mark::Continue),
-    (b"fallthrough", Mark::Fallthrough),
-    (b"interface", Mark::Interface),
+    (b"type", Mark::Type),
+    (b"var", Mark::Var),
 ];
 
 fn look_up(mut table: &[(&[u8], Mark)], spelling: &[u8]) -> Option<Mark>
@@ -63,16 +50,7 @@ fn look_up(mut table: &[(&[u8], Mark)], spelling: &[u8]) -> Option<Mark>
 pub fn keyword(word: &[u8]) -> Option<Mark>
     ensures { result ≡ mark_in keywords word.now }
 {
-    match word {
-        [] | [_] => None,
-        [_, _] => look_up(&OF_TWO, word),
-        [_, _, _] => look_up(&OF_THREE, word),
-        [_, _, _, _] => look_up(&OF_FOUR, word),
-        [_, _, _, _, _] => look_up(&OF_FIVE, word),
-        [_, _, _, _, _, _] => look_up(&OF_SIX, word),
-        [_, _, _, _, _, _, _] => look_up(&OF_SEVEN, word),
-        _ => look_up(&LONGER, word),
-    }
+    look_up(&KEYWORDS, word)
 }
 
 /// The longest operator or punctuation mark at the front of a text, and its length in bytes.
