@@ -10,8 +10,8 @@ The toolchain keeps a crate and all below it to itself while it proves one. So c
 room each: a folder with a copy of the sources, to which the libraries below are lent.
 """
 import functools
-import glob
 import os
+import re
 import shutil
 import subprocess
 import sys
@@ -25,6 +25,8 @@ import kit
 JOBS_OF_THE_FIRST = 2
 STANDS_BACK = 10
 MOST_ROOMS = 4
+# The minutes of a crate whose time bench/GATE.md does not tell.
+UNTOLD = 0.1
 # The memory for which there may be a room: two jobs of some 2.3 GB.
 ROOM_BYTES = 5 << 30
 
@@ -37,19 +39,22 @@ def order(crate, found):
     return found
 
 
-def size(crate):
-    """The bytes of a crate's code, by which the time of its proof is reckoned."""
-    return sum(os.path.getsize(it) for it in glob.glob(f"{crate.folder}/src/**/*.rt", recursive=True))
+def times():
+    """The processor minutes of each crate's proof, as bench/GATE.md tells them."""
+    with open(f"{kit.ROOT}/bench/GATE.md", encoding="utf-8") as lines:
+        rows = [[cell.strip() for cell in line.split("|")] for line in lines if line.startswith("| ")]
+    return {row[1]: float(row[2]) for row in rows if len(row) > 2 and re.fullmatch(r"[0-9]+\.[0-9]", row[2])}
 
 
 def heights(crates):
-    """For each crate, the size of the longest chain of those given that begins with it, each standing on the one before it."""
-    sizes = {crate: size(crate) for crate in crates}
-    height = dict(sizes)
+    """For each crate, the minutes of the longest chain of those given that begins with it, each standing on the one before it."""
+    told = times()
+    minutes = {crate: told.get(crate.name, UNTOLD) for crate in crates}
+    height = dict(minutes)
     for crate in reversed(crates):
         for below in crate.deps:
             if below in height:
-                height[below] = max(height[below], sizes[below] + height[crate])
+                height[below] = max(height[below], minutes[below] + height[crate])
     return height
 
 
