@@ -19,9 +19,9 @@ pub data Tok : Type 0 where
   At : (place : Place) (word : Word) → Tok
 
 abbrev pub word_of : Kind → Word
-word_of (kinds.Name letters) = Name letters.items
+word_of (kinds.Name letters) = Name letters.now
 word_of (kinds.Number n) = Number n
-word_of (kinds.Text bytes) = Text bytes.items
+word_of (kinds.Text bytes) = Text bytes.value.items
 word_of (kinds.Mark mark) = Sign mark
 
 abbrev pub place_of_span : Span → Place

@@ -116,3 +116,10 @@ pub fn value(alloc: Global, literal: &[u8]) -> Result<Vec<u8>, AllocError>
     }
     Ok(value)
 }
+
+/// The bytes that a string literal stands for, on the heap.
+pub fn boxed_value(alloc: Global, literal: &[u8]) -> Result<Box<Vec<u8>>, AllocError>
+    ensures { IfOk result (λ b. IfSome (text_of literal.now) (λ bytes. b.value.items ≡ bytes)) }
+{
+    Ok(Box::new(alloc, value(alloc, literal)?)?)
+}

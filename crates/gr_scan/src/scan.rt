@@ -84,9 +84,9 @@ fn ends_line(mark: Mark) -> bool
 }
 
 #[tactic(auto, using(crate::proofs::Goes::tokens_of_push))]
-fn push(tokens: &mut Vec<Token>, kind: Kind, span: Span) -> Result<(), AllocError>
+fn push<'a>(tokens: &mut Vec<Token<'a>>, kind: Kind<'a>, span: Span) -> Result<(), AllocError>
     ensures { OnOk result (tokens_of tokens.new.items ≡ tokens_of tokens.old.items
-        ++ (token_of (record { kind = kind; span = span }) ∷ [])) }
+        ++ (token_of (record { kind = kind.entry; span = span }) ∷ [])) }
 {
     tokens.push(Token { kind, span })?;
     Ok(())
@@ -109,10 +109,9 @@ fn end_line(tokens: &mut Vec<Token>, wanted: bool, at: u32, line: u32) -> Result
 
 /// Adds a keyword or a name; answers whether a line that ends in it wants a semicolon.
 #[tactic(auto, using(crate::proofs::Goes::tokens_of_push))]
-fn put_word(
-    alloc: Global,
-    tokens: &mut Vec<Token>,
-    bytes: &[u8],
+fn put_word<'a>(
+    tokens: &mut Vec<Token<'a>>,
+    bytes: &'a [u8],
     span: Span,
 ) -> Result<bool, AllocError>
     ensures added { OnOk result (tokens_of tokens.new.items ≡ tokens_of tokens.old.items
@@ -123,17 +122,17 @@ fn put_word(
         push(tokens, Kind::Mark(mark), span)?;
         return Ok(ends_line(mark));
     }
-    push(tokens, Kind::Name(bytes.to_vec(alloc)?), span)?;
+    push(tokens, Kind::Name(bytes), span)?;
     Ok(true)
 }
 
 /// Adds what a piece is; answers whether the line so far wants a semicolon at its end.
-fn put(
+fn put<'a>(
     alloc: Global,
-    tokens: &mut Vec<Token>,
+    tokens: &mut Vec<Token<'a>>,
     wanted: bool,
     piece: Piece,
-    bytes: &[u8],
+    bytes: &'a [u8],
     span: Span,
 ) -> Result<bool, ScanError>
     requires spelled { Spells piece bytes.now }
@@ -150,7 +149,7 @@ fn put(
             Ok(false)
         }
         Piece::OpenComment => Err(ScanError::Unclosed(span.start as usize)),
-        Piece::Word => Ok(put_word(alloc, tokens, bytes, span)?),
+        Piece::Word => Ok(put_word(tokens, bytes, span)?),
         Piece::Number => {
             push(
                 tokens,
@@ -165,7 +164,7 @@ fn put(
         }
         Piece::Fraction => Err(ScanError::LeftOut(span.start as usize)),
         Piece::Text => {
-            push(tokens, Kind::Text(quoted::value(alloc, bytes)?), span)?;
+            push(tokens, Kind::Text(quoted::boxed_value(alloc, bytes)?), span)?;
             Ok(true)
         }
     }
@@ -196,7 +195,7 @@ fn byte_order_mark(text: &[u8]) -> usize
 }
 
 /// The tokens of a text.
-pub fn scan(alloc: Global, text: &[u8]) -> Result<Vec<Token>, ScanError>
+pub fn scan(alloc: Global, text: &[u8]) -> Result<Vec<Token<'_>>, ScanError>
     // The answer is the list of tokens of the text.
     ensures tokens { IfOk result (λ v. IsScan text.now (tokens_of v.items)) }
     // An error says that the text has none.

@@ -81,13 +81,13 @@ pub enum Mark {
 
 /// What a token is.
 #[derive(Debug, Drop)]
-pub enum Kind {
-    /// An identifier.
-    Name(Vec<u8>),
+pub enum Kind<'a> {
+    /// An identifier, where it stands in the text.
+    Name(&'a [u8]),
     /// A whole number, at most 2^63.
     Number(u64),
-    /// A string literal, by the bytes that it stands for.
-    Text(Vec<u8>),
+    /// A string literal, by the bytes that it stands for. They lie on the heap, so that other tokens take no room for them.
+    Text(Box<Vec<u8>>),
     Mark(Mark),
 }
 
@@ -115,12 +115,12 @@ pub struct Span {
 
 /// A token of a text.
 #[derive(Debug, Drop)]
-pub struct Token {
-    pub kind: Kind,
+pub struct Token<'a> {
+    pub kind: Kind<'a>,
     pub span: Span,
 }
 
-impl Token {
+impl Token<'_> {
     /// Where it stands.
     pub fn place(&self) -> Place
         ensures { result ≡ place_of_span self.now.span }

@@ -9,8 +9,8 @@ use Rattle.gr_tree.specs.declared.stmt.Stmt.{Stmt}
 use Rattle.gr_tree.specs.Statements.{Target, Old, New, Statements, statements_of}
 
 -- a name and the tokens after it, if one is there
-abbrev pub SeesName : Option (Bor (Vec ℕ Global) × Bor (List Token)) → Option (List ℕ × List Tok) → Type 0
-SeesName (Some p) o = o ≡ Some (p.0.now.items, tokens_of p.1.now)
+abbrev pub SeesName : Option (Bor (List ℕ) × Bor (List Token)) → Option (List ℕ × List Tok) → Type 0
+SeesName (Some p) o = o ≡ Some (p.0.now, tokens_of p.1.now)
 SeesName None o = o ≡ None
 
 -- whether a range's name is a new one and the tokens after its `range`, if they are there

@@ -7,23 +7,25 @@ ghost use Rattle.gr_syntax.specs.SimpleReading.{var_typed, var_after, var_at, go
 ghost use Rattle.gr_syntax.specs.Views.{Finds, AtMost, NoLonger};
 
 use crate::expression::{arguments, expr, exprs};
-use crate::look::{Found, ReadError, abandon, after, copy, is_the_make, name, names, needed};
+use crate::look::{
+    Found, ReadError, Tokens, abandon, after, copy, is_the_make, name, names, needed,
+};
 use crate::opening::{ends, first_name};
 use crate::types::type_tree;
-use gr_scan::token::{Mark, Token};
+use gr_scan::token::Mark;
 use gr_tree::{Action, TypeTree};
 use std::alloc::Global;
 
 /// What follows the names and the type of a declaration.
 #[tactic(auto, unfolding(crate::specs::SimpleReading::var_typed))]
-fn typed<'a>(
+fn typed<'a, 't>(
     alloc: Global,
     limit: u32,
     names: Vec<Vec<u8>>,
     type_tree: TypeTree,
     height: u32,
-    tokens: &'a [Token],
-) -> Result<Found<'a, Action>, ReadError>
+    tokens: Tokens<'a, 't>,
+) -> Result<Found<'a, 't, Action>, ReadError>
     requires limit { limit < 2 ^ 30 }
     requires fits { height ≤ limit }
     ensures gives { Finds act_of tokens.now result
@@ -58,12 +60,12 @@ fn typed<'a>(
 
 /// What follows the names of a declaration.
 #[tactic(auto, unfolding(crate::specs::SimpleReading::var_after))]
-fn declared<'a>(
+fn declared<'a, 't>(
     alloc: Global,
     limit: u32,
     names: Vec<Vec<u8>>,
-    tokens: &'a [Token],
-) -> Result<Found<'a, Action>, ReadError>
+    tokens: Tokens<'a, 't>,
+) -> Result<Found<'a, 't, Action>, ReadError>
     requires { limit < 2 ^ 30 }
     ensures gives { Finds act_of tokens.now result (var_after limit (names_of names.items)) }
     ensures fits { AtMost limit result }
@@ -86,11 +88,11 @@ fn declared<'a>(
 
 /// A declaration, after `var`.
 #[tactic(auto, unfolding(crate::specs::SimpleReading::var_at))]
-pub(crate) fn var(
+pub(crate) fn var<'a, 't>(
     alloc: Global,
     limit: u32,
-    tokens: &[Token],
-) -> Result<Found<'_, Action>, ReadError>
+    tokens: Tokens<'a, 't>,
+) -> Result<Found<'a, 't, Action>, ReadError>
     requires { limit < 2 ^ 30 }
     ensures gives { Finds act_of tokens.now result (var_at limit) }
     ensures fits { AtMost limit result }
@@ -102,11 +104,11 @@ pub(crate) fn var(
 
 /// A call for a new goroutine, after `go`.
 #[tactic(auto, unfolding(crate::specs::SimpleReading::go_at))]
-pub(crate) fn go(
+pub(crate) fn go<'a, 't>(
     alloc: Global,
     limit: u32,
-    tokens: &[Token],
-) -> Result<Found<'_, Action>, ReadError>
+    tokens: Tokens<'a, 't>,
+) -> Result<Found<'a, 't, Action>, ReadError>
     requires { limit < 2 ^ 30 }
     ensures gives { Finds act_of tokens.now result (go_at limit) }
     ensures fits { AtMost limit result }
@@ -122,7 +124,7 @@ pub(crate) fn go(
         return Err(ReadError::TooHigh { left: rest.len() });
     }
     Ok(Found {
-        value: Action::Go(copy(function)?, arguments.value),
+        value: Action::Go(copy(alloc, function)?, arguments.value),
         height: arguments.height + 2,
         rest: arguments.rest,
     })
@@ -130,11 +132,11 @@ pub(crate) fn go(
 
 /// What follows `return`.
 #[tactic(auto, unfolding(crate::specs::SimpleReading::return_at))]
-pub(crate) fn returned(
+pub(crate) fn returned<'a, 't>(
     alloc: Global,
     limit: u32,
-    tokens: &[Token],
-) -> Result<Found<'_, Action>, ReadError>
+    tokens: Tokens<'a, 't>,
+) -> Result<Found<'a, 't, Action>, ReadError>
     requires limit { limit < 2 ^ 30 }
     requires positive { 0 < limit }
     ensures gives { Finds act_of tokens.now result (return_at limit) }
@@ -161,7 +163,10 @@ pub(crate) fn returned(
 
 /// A break, after its keyword.
 #[tactic(auto, unfolding(crate::specs::SimpleReading::jump_at))]
-pub(crate) fn break_from(tokens: &[Token]) -> Result<Found<'_, Action>, ReadError>
+pub(crate) fn break_from<'a, 't>(
+    alloc: Global,
+    tokens: Tokens<'a, 't>,
+) -> Result<Found<'a, 't, Action>, ReadError>
     ensures gives { Finds act_of tokens.now result (jump_at Break) }
     ensures high { IfOk result (λ f. f.height ≡ 1) }
     ensures rest { NoLonger tokens.now result }
@@ -174,7 +179,7 @@ pub(crate) fn break_from(tokens: &[Token]) -> Result<Found<'_, Action>, ReadErro
         });
     };
     Ok(Found {
-        value: Action::Break(Some(copy(label)?)),
+        value: Action::Break(Some(copy(alloc, label)?)),
         height: 1,
         rest,
     })
@@ -182,7 +187,10 @@ pub(crate) fn break_from(tokens: &[Token]) -> Result<Found<'_, Action>, ReadErro
 
 /// A continue, after its keyword.
 #[tactic(auto, unfolding(crate::specs::SimpleReading::jump_at))]
-pub(crate) fn continue_from(tokens: &[Token]) -> Result<Found<'_, Action>, ReadError>
+pub(crate) fn continue_from<'a, 't>(
+    alloc: Global,
+    tokens: Tokens<'a, 't>,
+) -> Result<Found<'a, 't, Action>, ReadError>
     ensures gives { Finds act_of tokens.now result (jump_at Continue) }
     ensures high { IfOk result (λ f. f.height ≡ 1) }
     ensures rest { NoLonger tokens.now result }
@@ -195,7 +203,7 @@ pub(crate) fn continue_from(tokens: &[Token]) -> Result<Found<'_, Action>, ReadE
         });
     };
     Ok(Found {
-        value: Action::Continue(Some(copy(label)?)),
+        value: Action::Continue(Some(copy(alloc, label)?)),
         height: 1,
         rest,
     })

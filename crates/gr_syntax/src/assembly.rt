@@ -14,7 +14,7 @@ use gr_tree::{Action, Clause, Expr, ForHead, IfHead, Stmt};
 use std::alloc::Global;
 
 /// This action as a statement that stands here.
-pub(crate) fn acts(place: Place, action: Found<'_, Action>) -> Found<'_, Stmt>
+pub(crate) fn acts<'a, 't>(place: Place, action: Found<'a, 't, Action>) -> Found<'a, 't, Stmt>
     ensures gives { found_of statement_of result ≡ placed place (found_of act_of action.entry) }
 {
     Found {
@@ -68,12 +68,12 @@ pub(crate) fn select_stmt(place: Place, clauses: Vec<Clause>) -> Stmt
 
 /// A simple statement that begins with this expression, as a statement that stands here.
 #[tactic(auto, unfolding(crate::specs::StatementReading::plain_after))]
-pub(crate) fn plain<'a>(
+pub(crate) fn plain<'a, 't>(
     alloc: Global,
     limit: u32,
     place: Place,
-    first: Found<'a, Expr>,
-) -> Result<Found<'a, Stmt>, ReadError>
+    first: Found<'a, 't, Expr>,
+) -> Result<Found<'a, 't, Stmt>, ReadError>
     requires limit { limit < 2 ^ 30 }
     requires fits { first.height ≤ limit }
     ensures gives { Continues statement_of first.entry result (plain_after limit place) }

@@ -8,8 +8,8 @@ ghost use Rattle.gr_syntax.specs.StatementReading.{comm_at};
 ghost use Rattle.gr_syntax.specs.Views.{Finds, Continues, found_of, AtMost};
 
 use crate::expression::{expr, operand};
-use crate::look::{Found, ReadError, abandon, after, boxed, copy, name, needed};
-use gr_scan::token::{Mark, Token};
+use crate::look::{Found, ReadError, Tokens, abandon, after, boxed, copy, name, needed};
+use gr_scan::token::Mark;
 use gr_tree::{Communication, Expr, UnaryOp};
 use std::alloc::Global;
 
@@ -26,7 +26,11 @@ fn is_receive(value: &Expr) -> bool
 
 /// A receive of at most this height, in parentheses or not.
 #[tactic(auto, unfolding(crate::specs::StatementReading::receive_at))]
-fn receive(alloc: Global, limit: u32, tokens: &[Token]) -> Result<Found<'_, Expr>, ReadError>
+fn receive<'a, 't>(
+    alloc: Global,
+    limit: u32,
+    tokens: Tokens<'a, 't>,
+) -> Result<Found<'a, 't, Expr>, ReadError>
     requires { limit < 2 ^ 30 }
     ensures gives { Finds tree_of tokens.now result (receive_at limit) }
     ensures fits { AtMost limit result }
@@ -51,12 +55,12 @@ fn receive(alloc: Global, limit: u32, tokens: &[Token]) -> Result<Found<'_, Expr
 
 /// What follows the names of a receive in a select.
 #[tactic(auto, unfolding(crate::specs::StatementReading::received_at))]
-fn received<'a>(
+fn received<'a, 't>(
     alloc: Global,
     limit: u32,
     names: Vec<Vec<u8>>,
-    tokens: &'a [Token],
-) -> Result<Found<'a, Communication>, ReadError>
+    tokens: Tokens<'a, 't>,
+) -> Result<Found<'a, 't, Communication>, ReadError>
     requires { limit < 2 ^ 30 }
     ensures gives { Finds comm_of tokens.now result (received_at limit (names_of names.items)) }
     ensures fits { AtMost limit result }
@@ -80,12 +84,12 @@ fn received<'a>(
 
 /// What follows the first name of a receive in a select.
 #[tactic(auto, unfolding(crate::specs::StatementReading::comm_names))]
-fn named<'a>(
+fn named<'a, 't>(
     alloc: Global,
     limit: u32,
     first: Vec<u8>,
-    tokens: &'a [Token],
-) -> Result<Found<'a, Communication>, ReadError>
+    tokens: Tokens<'a, 't>,
+) -> Result<Found<'a, 't, Communication>, ReadError>
     requires { limit < 2 ^ 30 }
     ensures gives { Finds comm_of tokens.now result (comm_names limit first.items) }
     ensures fits { AtMost limit result }
@@ -94,12 +98,12 @@ fn named<'a>(
         return received(alloc, limit, vec![in alloc; first]?, tokens);
     };
     let (second, rest) = name(rest)?;
-    let second = copy(second)?;
+    let second = copy(alloc, second)?;
     received(alloc, limit, vec![in alloc; first, second]?, rest)
 }
 
 /// This expression, which has to be a receive.
-fn alone(value: Found<'_, Expr>) -> Result<Found<'_, Communication>, ReadError>
+fn alone<'a, 't>(value: Found<'a, 't, Expr>) -> Result<Found<'a, 't, Communication>, ReadError>
     ensures gives { Continues comm_of value.entry result comm_alone }
     ensures fits { IfOk result (λ f. f.height ≡ value.entry.height) }
 {
@@ -115,12 +119,12 @@ fn alone(value: Found<'_, Expr>) -> Result<Found<'_, Communication>, ReadError>
 }
 
 /// A send on this channel, after its `<-`.
-fn send<'a>(
+fn send<'a, 't>(
     alloc: Global,
     limit: u32,
-    channel: Found<'a, Expr>,
-    tokens: &'a [Token],
-) -> Result<Found<'a, Communication>, ReadError>
+    channel: Found<'a, 't, Expr>,
+    tokens: Tokens<'a, 't>,
+) -> Result<Found<'a, 't, Communication>, ReadError>
     requires limit { limit < 2 ^ 30 }
     requires fits { channel.height ≤ limit }
     ensures gives { Finds comm_of tokens.now result (comm_sent limit (found_of tree_of channel.entry)) }
@@ -139,11 +143,11 @@ fn send<'a>(
 
 /// What a clause of a select waits for, after `case`.
 #[tactic(auto, unfolding(crate::specs::StatementReading::comm_at, crate::specs::StatementReading::comm_after, crate::specs::SimpleReading::bare))]
-pub(crate) fn communication(
+pub(crate) fn communication<'a, 't>(
     alloc: Global,
     limit: u32,
-    tokens: &[Token],
-) -> Result<Found<'_, Communication>, ReadError>
+    tokens: Tokens<'a, 't>,
+) -> Result<Found<'a, 't, Communication>, ReadError>
     requires { limit < 2 ^ 30 }
     ensures gives { Finds comm_of tokens.now result (comm_at limit) }
     ensures fits { AtMost limit result }

@@ -9,11 +9,11 @@ ghost use Rattle.gr_syntax.specs.Reading.{unit_at, paren_at, word_at, unary_at, 
 ghost use Rattle.gr_syntax.specs.Views.{Gives, Finds, found_of, AtMost, Shorter, NoLonger};
 
 use crate::look::{
-    Found, ReadError, abandon, after, binary, boxed, boxed_copy, copy, fitted, is_the_make, needed,
-    next, unary,
+    Found, ReadError, Tokens, abandon, after, binary, boxed, boxed_copy, copy, fitted, is_the_make,
+    needed, next, unary,
 };
 use crate::types::type_tree;
-use gr_scan::token::{Kind, Mark, Token};
+use gr_scan::token::{Kind, Mark};
 use gr_tree::{BinaryOp, Expr, TypeTree};
 use std::alloc::{AllocError, Global};
 
@@ -47,7 +47,7 @@ const TIGHT: u32 = 6;
 
 /// `{}{}`, after `struct`.
 #[tactic(auto, unfolding(crate::specs::Reading::unit_at))]
-fn unit(tokens: &[Token]) -> Result<Found<'_, Expr>, ReadError>
+fn unit<'a, 't>(tokens: Tokens<'a, 't>) -> Result<Found<'a, 't, Expr>, ReadError>
     ensures gives { Finds tree_of tokens.now result unit_at }
     ensures fits { IfOk result (λ f. f.height ≡ 1) }
     ensures shorter { Shorter tokens.now result }
@@ -65,7 +65,7 @@ fn unit(tokens: &[Token]) -> Result<Found<'_, Expr>, ReadError>
 
 /// The tokens after a `)`, before which a comma may stand.
 #[tactic(auto, unfolding(crate::specs::Reading::close_at))]
-fn close(tokens: &[Token]) -> Result<&[Token], ReadError>
+fn close<'a, 't>(tokens: Tokens<'a, 't>) -> Result<Tokens<'a, 't>, ReadError>
     ensures gives { Gives (λ rest. tokens_of rest.now) result (close_at (tokens_of tokens.now)) }
     ensures shorter { IfOk result (λ rest. length rest.now < length tokens.now) }
 {
@@ -80,12 +80,12 @@ fn close(tokens: &[Token]) -> Result<&[Token], ReadError>
 /// The size in a make of this type, after the comma before it; it is of at most this height.
 #[cycle(parser)]
 #[tactic(auto, unfolding(crate::specs::Reading::size_at))]
-fn sized<'a>(
+fn sized<'a, 't>(
     alloc: Global,
     below: u32,
-    made: Found<'a, TypeTree>,
-    tokens: &'a [Token],
-) -> Result<Found<'a, Expr>, ReadError>
+    made: Found<'a, 't, TypeTree>,
+    tokens: Tokens<'a, 't>,
+) -> Result<Found<'a, 't, Expr>, ReadError>
     requires limit { below < 2 ^ 31 }
     requires fits { made.height ≤ below }
     ensures gives { Finds tree_of tokens.now result (size_at (expr_at below) (found_of type_of made.entry)) }
@@ -117,7 +117,11 @@ fn sized<'a>(
 /// A make, after its `(`; its type and its size are of at most this height.
 #[cycle(parser)]
 #[tactic(auto, unfolding(crate::specs::Reading::make_at, crate::specs::Reading::make_after))]
-fn make(alloc: Global, below: u32, tokens: &[Token]) -> Result<Found<'_, Expr>, ReadError>
+fn make<'a, 't>(
+    alloc: Global,
+    below: u32,
+    tokens: Tokens<'a, 't>,
+) -> Result<Found<'a, 't, Expr>, ReadError>
     requires { below < 2 ^ 31 }
     ensures gives { Finds tree_of tokens.now result (make_at (type_at below) (expr_at below)) }
     ensures fits { AtMost (below + 1) result }
@@ -148,20 +152,20 @@ fn make(alloc: Global, below: u32, tokens: &[Token]) -> Result<Found<'_, Expr>, 
 /// What begins with this name: a call, a make, or the name alone; its parts are of at most this height.
 #[cycle(parser)]
 #[tactic(auto, unfolding(crate::specs::Reading::named_at, crate::specs::Reading::call_at))]
-fn named<'a>(
+fn named<'a, 't>(
     alloc: Global,
     below: u32,
-    name: &Vec<u8>,
-    tokens: &'a [Token],
-) -> Result<Found<'a, Expr>, ReadError>
+    name: &[u8],
+    tokens: Tokens<'a, 't>,
+) -> Result<Found<'a, 't, Expr>, ReadError>
     requires { below < 2 ^ 31 }
-    ensures gives { Finds tree_of tokens.now result (named_at (type_at below) (expr_at below) name.now.items) }
+    ensures gives { Finds tree_of tokens.now result (named_at (type_at below) (expr_at below) name.now) }
     ensures fits { AtMost (below + 1) result }
     ensures shorter { NoLonger tokens.now result }
 {
     let Some(rest) = after(Mark::LeftParen, tokens) else {
         return Ok(Found {
-            value: Expr::Name(copy(name)?),
+            value: Expr::Name(copy(alloc, name)?),
             height: 1,
             rest: tokens,
         });
@@ -180,7 +184,11 @@ fn named<'a>(
 /// A number, a string, or what begins with a name; its parts are of at most this height.
 #[cycle(parser)]
 #[tactic(auto, unfolding(crate::specs::Reading::word_at))]
-fn word(alloc: Global, below: u32, tokens: &[Token]) -> Result<Found<'_, Expr>, ReadError>
+fn word<'a, 't>(
+    alloc: Global,
+    below: u32,
+    tokens: Tokens<'a, 't>,
+) -> Result<Found<'a, 't, Expr>, ReadError>
     requires { below < 2 ^ 31 }
     ensures gives { Finds tree_of tokens.now result (word_at (type_at below) (expr_at below)) }
     ensures fits { AtMost (below + 1) result }
@@ -193,7 +201,7 @@ fn word(alloc: Global, below: u32, tokens: &[Token]) -> Result<Found<'_, Expr>, 
     let value = match &token.kind {
         Kind::Name(name) => return named(alloc, below, name, rest),
         Kind::Number(number) => Expr::Number(*number),
-        Kind::Text(bytes) => Expr::Text(copy(bytes)?),
+        Kind::Text(bytes) => Expr::Text(copy(alloc, bytes.as_slice())?),
         Kind::Mark(_) => return Err(ReadError::Wrong { left }),
     };
     Ok(Found {
@@ -206,7 +214,11 @@ fn word(alloc: Global, below: u32, tokens: &[Token]) -> Result<Found<'_, Expr>, 
 /// An expression in parentheses, after the first of them; the inner expression is of at most this height.
 #[cycle(parser)]
 #[tactic(auto, unfolding(crate::specs::Reading::paren_at))]
-fn paren(alloc: Global, below: u32, tokens: &[Token]) -> Result<Found<'_, Expr>, ReadError>
+fn paren<'a, 't>(
+    alloc: Global,
+    below: u32,
+    tokens: Tokens<'a, 't>,
+) -> Result<Found<'a, 't, Expr>, ReadError>
     requires { below < 2 ^ 31 }
     ensures gives { Finds tree_of tokens.now result (paren_at (expr_at below)) }
     ensures fits { AtMost (below + 1) result }
@@ -224,11 +236,11 @@ fn paren(alloc: Global, below: u32, tokens: &[Token]) -> Result<Found<'_, Expr>,
 /// What no binary operator joins (Go: Operands, Unary operators); its parts are of at most this height.
 #[cycle(parser)]
 #[tactic(auto, unfolding(crate::specs::Reading::unary_at))]
-pub(crate) fn operand(
+pub(crate) fn operand<'a, 't>(
     alloc: Global,
     below: u32,
-    tokens: &[Token],
-) -> Result<Found<'_, Expr>, ReadError>
+    tokens: Tokens<'a, 't>,
+) -> Result<Found<'a, 't, Expr>, ReadError>
     requires { below < 2 ^ 31 }
     ensures gives { Finds tree_of tokens.now result (unary_at (type_at below) (expr_at below)) }
     ensures fits { AtMost (below + 1) result }
@@ -252,12 +264,12 @@ pub(crate) fn operand(
 }
 
 /// Two operands joined by this operator.
-fn join<'a>(
+fn join<'a, 't>(
     alloc: Global,
     op: BinaryOp,
-    left: Found<'a, Expr>,
-    right: Found<'a, Expr>,
-) -> Result<Found<'a, Expr>, AllocError>
+    left: Found<'a, 't, Expr>,
+    right: Found<'a, 't, Expr>,
+) -> Result<Found<'a, 't, Expr>, AllocError>
     requires left { left.height < 2 ^ 31 }
     requires right { right.height < 2 ^ 31 }
     ensures joined { IfOk result (λ f. found_of tree_of f
@@ -282,12 +294,12 @@ fn join<'a>(
 /// An expression of at most this height, whose operators bind at least as strongly as `level`, by precedence climbing.
 #[cycle(parser)]
 #[tactic(auto, unfolding(crate::specs::Reading::expr_at, crate::specs::Reading::chain_turn))]
-pub(crate) fn expr(
+pub(crate) fn expr<'a, 't>(
     alloc: Global,
     level: u32,
     limit: u32,
-    tokens: &[Token],
-) -> Result<Found<'_, Expr>, ReadError>
+    tokens: Tokens<'a, 't>,
+) -> Result<Found<'a, 't, Expr>, ReadError>
     requires limit { limit < 2 ^ 31 }
     requires level { 0 < level }
     ensures gives { Finds tree_of tokens.now result (expr_at limit level) }
@@ -315,7 +327,7 @@ pub(crate) fn expr(
 
 /// Whether a `)` comes next, where a list may end so after a comma.
 #[tactic(auto, unfolding(crate::specs::Reading::ends_at))]
-fn ends(trailing: bool, tokens: &[Token]) -> bool
+fn ends(trailing: bool, tokens: Tokens<'_, '_>) -> bool
     ensures { result ≡ ends_at trailing (tokens_of tokens.now) }
 {
     if trailing {
@@ -328,38 +340,40 @@ fn ends(trailing: bool, tokens: &[Token]) -> bool
 /// Expressions of at most this height with commas between them; where `trailing`, one more comma may stand before a `)`.
 #[cycle(parser)]
 #[tactic(auto, unfolding(crate::specs::Reading::exprs_at))]
-pub(crate) fn exprs(
+pub(crate) fn exprs<'a, 't>(
     alloc: Global,
     limit: u32,
     trailing: bool,
-    tokens: &[Token],
-) -> Result<Found<'_, Vec<Expr>>, ReadError>
+    tokens: Tokens<'a, 't>,
+) -> Result<Found<'a, 't, Vec<Expr>>, ReadError>
     requires { limit < 2 ^ 31 }
     ensures gives { Finds (λ v. trees_of v.items) tokens.now result (exprs_at (expr_at limit) trailing) }
     ensures fits { AtMost limit result }
     ensures shorter { Shorter tokens.now result }
 {
-    let mut value = Vec::new(alloc);
-    let mut height = 0u32;
-    let mut rest = tokens;
+    let mut found = Found {
+        value: Vec::new(alloc),
+        height: 0,
+        rest: tokens,
+    };
     loop {
-        let next = expr(alloc, 1, limit, rest)?;
-        value.push(next.value)?;
-        height = height.max(next.height);
-        rest = next.rest;
-        let Some(more) = after(Mark::Comma, rest) else {
+        let next = expr(alloc, 1, limit, found.rest)?;
+        found.value.push(next.value)?;
+        found.height = found.height.max(next.height);
+        found.rest = next.rest;
+        let Some(more) = after(Mark::Comma, found.rest) else {
             return Ok(Found {
-                value: fitted(value),
-                height,
-                rest,
+                value: fitted(found.value),
+                height: found.height,
+                rest: found.rest,
             });
         };
-        rest = more;
-        if ends(trailing, rest) {
+        found.rest = more;
+        if ends(trailing, found.rest) {
             return Ok(Found {
-                value: fitted(value),
-                height,
-                rest,
+                value: fitted(found.value),
+                height: found.height,
+                rest: found.rest,
             });
         }
     }
@@ -368,11 +382,11 @@ pub(crate) fn exprs(
 /// The arguments of a call, after its `(` and with its `)`, each of at most this height.
 #[cycle(parser)]
 #[tactic(auto, unfolding(crate::specs::Reading::arguments_at))]
-pub(crate) fn arguments(
+pub(crate) fn arguments<'a, 't>(
     alloc: Global,
     limit: u32,
-    tokens: &[Token],
-) -> Result<Found<'_, Vec<Expr>>, ReadError>
+    tokens: Tokens<'a, 't>,
+) -> Result<Found<'a, 't, Vec<Expr>>, ReadError>
     requires { limit < 2 ^ 31 }
     ensures gives { Finds (λ v. trees_of v.items) tokens.now result (arguments_at (expr_at limit)) }
     ensures fits { AtMost limit result }

@@ -9,10 +9,10 @@ ghost use Rattle.gr_syntax.specs.FileReading.{groups_at, parameters_at, result_a
 ghost use Rattle.gr_syntax.specs.FileReading.{file_at};
 ghost use Rattle.gr_syntax.specs.Views.{Gives, Finds, Shorter, NoLonger};
 
-use crate::look::{Found, ReadError, after, copy, name, names, needed};
+use crate::look::{Found, ReadError, Tokens, after, copy, name, names, needed};
 use crate::statement::block;
 use crate::types::type_tree;
-use gr_scan::token::{Mark, Token};
+use gr_scan::token::Mark;
 use gr_tree::{File, Func, Group, HEIGHT_LIMIT, TypeTree};
 use std::alloc::Global;
 
@@ -23,46 +23,45 @@ const LIMIT: u32 = HEIGHT_LIMIT as u32;
 
 /// Groups of parameters with commas between them, with types of at most this height; one more comma may stand before a `)`.
 #[tactic(auto, unfolding(crate::specs::FileReading::groups_at))]
-fn groups(alloc: Global, limit: u32, tokens: &[Token]) -> Result<Found<'_, Vec<Group>>, ReadError>
+fn groups<'a, 't>(
+    alloc: Global,
+    limit: u32,
+    tokens: Tokens<'a, 't>,
+) -> Result<Found<'a, 't, Vec<Group>>, ReadError>
     requires { limit < 2 ^ 29 }
     ensures gives { Finds (λ v. groups_of v.items) tokens.now result (groups_at limit) }
     ensures shorter { Shorter tokens.now result }
 {
-    let mut value = Vec::new(alloc);
-    let mut rest = tokens;
+    let mut found = Found {
+        value: Vec::new(alloc),
+        height: 0,
+        rest: tokens,
+    };
     loop {
-        let names = names(alloc, rest)?;
+        let names = names(alloc, found.rest)?;
         let type_tree = type_tree(alloc, limit, names.rest)?;
-        value.push(Group {
+        found.value.push(Group {
             names: names.value,
             type_tree: type_tree.value,
         })?;
-        rest = type_tree.rest;
-        let Some(more) = after(Mark::Comma, rest) else {
-            return Ok(Found {
-                value,
-                height: 0,
-                rest,
-            });
+        found.rest = type_tree.rest;
+        let Some(more) = after(Mark::Comma, found.rest) else {
+            return Ok(found);
         };
-        rest = more;
-        if after(Mark::RightParen, rest).is_some() {
-            return Ok(Found {
-                value,
-                height: 0,
-                rest,
-            });
+        found.rest = more;
+        if after(Mark::RightParen, found.rest).is_some() {
+            return Ok(found);
         }
     }
 }
 
 /// The parameters of a function, with their parentheses (Go: Function types).
 #[tactic(auto, unfolding(crate::specs::FileReading::parameters_at))]
-fn parameters(
+fn parameters<'a, 't>(
     alloc: Global,
     limit: u32,
-    tokens: &[Token],
-) -> Result<Found<'_, Vec<Group>>, ReadError>
+    tokens: Tokens<'a, 't>,
+) -> Result<Found<'a, 't, Vec<Group>>, ReadError>
     requires { limit < 2 ^ 29 }
     ensures gives { Finds (λ v. groups_of v.items) tokens.now result (parameters_at limit) }
     ensures shorter { Shorter tokens.now result }
@@ -86,11 +85,11 @@ fn parameters(
 
 /// The type of a function's result, if one stands before the `{`.
 #[tactic(auto, unfolding(crate::specs::FileReading::result_at))]
-fn result(
+fn result<'a, 't>(
     alloc: Global,
     limit: u32,
-    tokens: &[Token],
-) -> Result<Found<'_, Option<TypeTree>>, ReadError>
+    tokens: Tokens<'a, 't>,
+) -> Result<Found<'a, 't, Option<TypeTree>>, ReadError>
     requires { limit < 2 ^ 29 }
     ensures gives { Finds (optional type_of) tokens.now result (result_at limit) }
     ensures shorter { NoLonger tokens.now result }
@@ -112,7 +111,11 @@ fn result(
 
 /// A function, with types and statements of at most this height (Go: Function declarations).
 #[tactic(auto, unfolding(crate::specs::FileReading::function_at))]
-fn function(alloc: Global, limit: u32, tokens: &[Token]) -> Result<Found<'_, Func>, ReadError>
+fn function<'a, 't>(
+    alloc: Global,
+    limit: u32,
+    tokens: Tokens<'a, 't>,
+) -> Result<Found<'a, 't, Func>, ReadError>
     requires { limit < 2 ^ 29 }
     ensures { Finds function_of tokens.now result (function_at limit) }
 {
@@ -124,7 +127,7 @@ fn function(alloc: Global, limit: u32, tokens: &[Token]) -> Result<Found<'_, Fun
     let (body, end) = block.value;
     let value = Func {
         place,
-        name: copy(func_name)?,
+        name: copy(alloc, func_name)?,
         parameters: parameters.value,
         result: result.value,
         body,
@@ -139,28 +142,31 @@ fn function(alloc: Global, limit: u32, tokens: &[Token]) -> Result<Found<'_, Fun
 
 /// The functions up to the end, each with its semicolon, with types and statements of at most this height.
 #[tactic(auto, unfolding(crate::specs::FileReading::functions_at))]
-fn functions(alloc: Global, limit: u32, tokens: &[Token]) -> Result<Found<'_, Vec<Func>>, ReadError>
+fn functions<'a, 't>(
+    alloc: Global,
+    limit: u32,
+    tokens: Tokens<'a, 't>,
+) -> Result<Found<'a, 't, Vec<Func>>, ReadError>
     requires { limit < 2 ^ 29 }
     ensures { Finds (λ v. functions_of v.items) tokens.now result (functions_at limit) }
 {
-    let mut value = Vec::new(alloc);
-    let mut rest = tokens;
-    while !rest.is_empty() {
-        let next = function(alloc, limit, rest)?;
-        let (_, more) = needed(Mark::Semicolon, next.rest)?;
-        value.push(next.value)?;
-        rest = more;
-    }
-    Ok(Found {
-        value,
+    let mut found = Found {
+        value: Vec::new(alloc),
         height: 0,
-        rest,
-    })
+        rest: tokens,
+    };
+    while !found.rest.is_empty() {
+        let next = function(alloc, limit, found.rest)?;
+        let (_, more) = needed(Mark::Semicolon, next.rest)?;
+        found.value.push(next.value)?;
+        found.rest = more;
+    }
+    Ok(found)
 }
 
 /// A whole file (Go: Source file organization).
 #[tactic(auto, unfolding(crate::specs::FileReading::file_at))]
-pub(crate) fn file(alloc: Global, tokens: &[Token]) -> Result<File, ReadError>
+pub(crate) fn file(alloc: Global, tokens: Tokens<'_, '_>) -> Result<File, ReadError>
     ensures { Gives file_of result (file_at 200 (tokens_of tokens.now)) }
 {
     let (place, rest) = needed(Mark::Package, tokens)?;
@@ -169,7 +175,7 @@ pub(crate) fn file(alloc: Global, tokens: &[Token]) -> Result<File, ReadError>
     let functions = functions(alloc, LIMIT, rest)?;
     Ok(File {
         place,
-        package: copy(package)?,
+        package: copy(alloc, package)?,
         funcs: functions.value,
     })
 }

@@ -11,15 +11,15 @@ ghost use Rattle.gr_syntax.specs.Views.{Gives, Finds, Continues, AtMost};
 ghost use Rattle.gr_syntax.specs.StatementViews.{SeesRange};
 
 use crate::expression::expr;
-use crate::look::{Found, ReadError, abandon, after, boxed, needed, next};
+use crate::look::{Found, ReadError, Tokens, abandon, after, boxed, needed, next};
 use crate::simple::simple;
-use gr_scan::token::{Mark, Place, Token};
+use gr_scan::token::{Mark, Place};
 use gr_tree::{Expr, ForHead, Header, IfHead, RangeTarget};
 use std::alloc::Global;
 
 /// The place of the first token.
 #[tactic(auto, unfolding(crate::specs::SimpleReading::place_at))]
-pub(crate) fn place(tokens: &[Token]) -> Result<Place, ReadError>
+pub(crate) fn place(tokens: Tokens<'_, '_>) -> Result<Place, ReadError>
     ensures { Gives (λ p. p) result (place_at (tokens_of tokens.now)) }
 {
     let Some((token, _)) = next(tokens) else {
@@ -30,13 +30,13 @@ pub(crate) fn place(tokens: &[Token]) -> Result<Place, ReadError>
 
 /// A simple statement in a heading, which begins with this expression at this place.
 #[tactic(auto, unfolding(crate::specs::StatementReading::heading_after))]
-fn heading<'a>(
+fn heading<'a, 't>(
     alloc: Global,
     limit: u32,
     may_define: bool,
     place: Place,
-    first: Found<'a, Expr>,
-) -> Result<Found<'a, Box<Header>>, ReadError>
+    first: Found<'a, 't, Expr>,
+) -> Result<Found<'a, 't, Box<Header>>, ReadError>
     requires limit { limit < 2 ^ 30 }
     requires fits { first.height ≤ limit }
     ensures gives { Continues heading_of first.entry result (heading_after limit may_define place) }
@@ -56,13 +56,13 @@ fn heading<'a>(
 
 /// The condition of an if, after what stands before it.
 #[tactic(auto, unfolding(crate::specs::StatementReading::tested))]
-fn condition_of_if<'a>(
+fn condition_of_if<'a, 't>(
     alloc: Global,
     limit: u32,
     init: Option<Box<Header>>,
     height: u32,
-    tokens: &'a [Token],
-) -> Result<Found<'a, IfHead>, ReadError>
+    tokens: Tokens<'a, 't>,
+) -> Result<Found<'a, 't, IfHead>, ReadError>
     requires limit { limit < 2 ^ 30 }
     requires fits { height ≤ limit }
     ensures gives { Finds if_of tokens.now result (tested limit (optional heading_of init) height) }
@@ -84,12 +84,12 @@ fn condition_of_if<'a>(
 
 /// What stands between `if` and its block, and begins with this expression.
 #[tactic(auto, unfolding(crate::specs::StatementReading::if_after))]
-fn if_from<'a>(
+fn if_from<'a, 't>(
     alloc: Global,
     limit: u32,
     place: Place,
-    first: Found<'a, Expr>,
-) -> Result<Found<'a, IfHead>, ReadError>
+    first: Found<'a, 't, Expr>,
+) -> Result<Found<'a, 't, IfHead>, ReadError>
     requires limit { limit < 2 ^ 30 }
     requires fits { first.height ≤ limit }
     ensures gives { Continues if_of first.entry result (if_after limit place) }
@@ -115,11 +115,11 @@ fn if_from<'a>(
 
 /// What stands between `if` and its block.
 #[tactic(auto, unfolding(crate::specs::StatementReading::if_head_at))]
-pub(crate) fn if_head(
+pub(crate) fn if_head<'a, 't>(
     alloc: Global,
     limit: u32,
-    tokens: &[Token],
-) -> Result<Found<'_, IfHead>, ReadError>
+    tokens: Tokens<'a, 't>,
+) -> Result<Found<'a, 't, IfHead>, ReadError>
     requires { limit < 2 ^ 30 }
     ensures gives { Finds if_of tokens.now result (if_head_at limit) }
     ensures fits { AtMost limit result }
@@ -134,12 +134,12 @@ pub(crate) fn if_head(
 
 /// The channel of a range with this target, after `range`.
 #[tactic(auto, unfolding(crate::specs::StatementReading::ranged))]
-fn range<'a>(
+fn range<'a, 't>(
     alloc: Global,
     limit: u32,
     target: RangeTarget,
-    tokens: &'a [Token],
-) -> Result<Found<'a, ForHead>, ReadError>
+    tokens: Tokens<'a, 't>,
+) -> Result<Found<'a, 't, ForHead>, ReadError>
     requires { limit < 2 ^ 30 }
     ensures gives { Finds for_of tokens.now result (ranged limit (target_of target)) }
     ensures fits { AtMost limit result }
@@ -154,11 +154,11 @@ fn range<'a>(
 
 /// The condition of a for of three parts, if it has one.
 #[tactic(auto, unfolding(crate::specs::StatementReading::condition_at))]
-fn condition_of_for(
+fn condition_of_for<'a, 't>(
     alloc: Global,
     limit: u32,
-    tokens: &[Token],
-) -> Result<Found<'_, Option<Expr>>, ReadError>
+    tokens: Tokens<'a, 't>,
+) -> Result<Found<'a, 't, Option<Expr>>, ReadError>
     requires { limit < 2 ^ 30 }
     ensures gives { Finds (optional tree_of) tokens.now result (condition_at limit) }
     ensures fits { AtMost limit result }
@@ -180,11 +180,11 @@ fn condition_of_for(
 
 /// The post statement of a for, if it has one.
 #[tactic(auto, unfolding(crate::specs::StatementReading::post_at))]
-fn post(
+fn post<'a, 't>(
     alloc: Global,
     limit: u32,
-    tokens: &[Token],
-) -> Result<Found<'_, Option<Box<Header>>>, ReadError>
+    tokens: Tokens<'a, 't>,
+) -> Result<Found<'a, 't, Option<Box<Header>>>, ReadError>
     requires { limit < 2 ^ 30 }
     ensures gives { Finds (optional heading_of) tokens.now result (post_at limit) }
     ensures fits { AtMost limit result }
@@ -208,13 +208,13 @@ fn post(
 
 /// The condition and the third part of a for, after its first semicolon.
 #[tactic(auto, unfolding(crate::specs::StatementReading::parts_at))]
-fn parts<'a>(
+fn parts<'a, 't>(
     alloc: Global,
     limit: u32,
     init: Option<Box<Header>>,
     height: u32,
-    tokens: &'a [Token],
-) -> Result<Found<'a, ForHead>, ReadError>
+    tokens: Tokens<'a, 't>,
+) -> Result<Found<'a, 't, ForHead>, ReadError>
     requires limit { limit < 2 ^ 30 }
     requires fits { height ≤ limit }
     ensures gives { Finds for_of tokens.now result (parts_at limit (optional heading_of init) height) }
@@ -241,7 +241,7 @@ fn parts<'a>(
 
 /// The tokens after `=` or `:=` and `range`, and whether it is `:=`.
 #[tactic(auto, unfolding(crate::specs::StatementReading::target_at))]
-fn range_mark(tokens: &[Token]) -> Option<(bool, &[Token])>
+fn range_mark<'a, 't>(tokens: Tokens<'a, 't>) -> Option<(bool, Tokens<'a, 't>)>
     ensures { (x : List ℕ) → SeesRange x result (target_at x (tokens_of tokens.now)) }
 {
     if let Some(mid) = after(Mark::Assign, tokens) {
@@ -261,12 +261,12 @@ fn range_mark(tokens: &[Token]) -> Option<(bool, &[Token])>
 
 /// A for of three parts that begins with this expression.
 #[tactic(auto, unfolding(crate::specs::StatementReading::for_init))]
-fn for_parts<'a>(
+fn for_parts<'a, 't>(
     alloc: Global,
     limit: u32,
     place: Place,
-    first: Found<'a, Expr>,
-) -> Result<Found<'a, ForHead>, ReadError>
+    first: Found<'a, 't, Expr>,
+) -> Result<Found<'a, 't, ForHead>, ReadError>
     requires limit { limit < 2 ^ 30 }
     requires fits { first.height ≤ limit }
     ensures gives { Continues for_of first.entry result (for_init limit place) }
@@ -282,14 +282,14 @@ fn for_parts<'a>(
 
 /// What stands between `for` and its block, and begins with this name.
 #[tactic(auto, unfolding(crate::specs::StatementReading::for_named))]
-fn for_name<'a>(
+fn for_name<'a, 't>(
     alloc: Global,
     limit: u32,
     place: Place,
     name: Vec<u8>,
     height: u32,
-    tokens: &'a [Token],
-) -> Result<Found<'a, ForHead>, ReadError>
+    tokens: Tokens<'a, 't>,
+) -> Result<Found<'a, 't, ForHead>, ReadError>
     requires limit { limit < 2 ^ 30 }
     requires fits { height ≤ limit }
     ensures gives { Finds for_of tokens.now result (λ ts. for_named limit place (Name name.items, height, ts) name.items) }
@@ -313,12 +313,12 @@ fn for_name<'a>(
 
 /// What stands between `for` and its block, and begins with this expression.
 #[tactic(auto, unfolding(crate::specs::StatementReading::for_after, crate::specs::SimpleReading::bare))]
-fn for_from<'a>(
+fn for_from<'a, 't>(
     alloc: Global,
     limit: u32,
     place: Place,
-    first: Found<'a, Expr>,
-) -> Result<Found<'a, ForHead>, ReadError>
+    first: Found<'a, 't, Expr>,
+) -> Result<Found<'a, 't, ForHead>, ReadError>
     requires limit { limit < 2 ^ 30 }
     requires fits { first.height ≤ limit }
     ensures gives { Continues for_of first.entry result (for_after limit place) }
@@ -353,11 +353,11 @@ fn for_from<'a>(
 
 /// What stands between `for` and its block.
 #[tactic(auto, unfolding(crate::specs::StatementReading::for_head_at))]
-pub(crate) fn for_head(
+pub(crate) fn for_head<'a, 't>(
     alloc: Global,
     limit: u32,
-    tokens: &[Token],
-) -> Result<Found<'_, ForHead>, ReadError>
+    tokens: Tokens<'a, 't>,
+) -> Result<Found<'a, 't, ForHead>, ReadError>
     requires { limit < 2 ^ 30 }
     ensures gives { Finds for_of tokens.now result (for_head_at limit) }
     ensures fits { AtMost limit result }

@@ -12,6 +12,9 @@ use gr_scan::token::{Kind, Mark, Place, Token};
 use gr_tree::{BinaryOp, UnaryOp};
 use std::alloc::{AllocError, AllocFailed, Global};
 
+/// Tokens that are left; their names lie in the text.
+pub(crate) type Tokens<'a, 't> = &'a [Token<'t>];
+
 /// Why reading stopped, and how many tokens were left there.
 #[derive(Debug, Drop)]
 pub(crate) enum ReadError {
@@ -40,10 +43,10 @@ impl<T: Drop> From<AllocFailed<T>> for ReadError {
 
 /// What is read: a value, its height, and the tokens after it.
 #[derive(Drop)]
-pub(crate) struct Found<'a, T> {
+pub(crate) struct Found<'a, 't, T> {
     pub(crate) value: T,
     pub(crate) height: u32,
-    pub(crate) rest: &'a [Token],
+    pub(crate) rest: Tokens<'a, 't>,
 }
 
 /// This error; what was read before it is dropped.
@@ -79,7 +82,7 @@ pub(crate) fn fitted<T: Drop>(mut values: Vec<T>) -> Vec<T>
 }
 
 /// The first token, and the others.
-pub(crate) fn next(tokens: &[Token]) -> Option<(&Token, &[Token])>
+pub(crate) fn next<'a, 't>(tokens: Tokens<'a, 't>) -> Option<(&'a Token<'t>, Tokens<'a, 't>)>
     ensures value { Splits result (tokens_of tokens.now) }
     ensures shorter { IfSome result (λ p. length p.1.now < length tokens.now) }
 {
@@ -88,7 +91,7 @@ pub(crate) fn next(tokens: &[Token]) -> Option<(&Token, &[Token])>
 
 /// The tokens after this mark, if it comes first.
 #[tactic(auto, unfolding(crate::specs::Grammar::after_mark))]
-pub(crate) fn after(mark: Mark, tokens: &[Token]) -> Option<&[Token]>
+pub(crate) fn after<'a, 't>(mark: Mark, tokens: Tokens<'a, 't>) -> Option<Tokens<'a, 't>>
     ensures value { Sees result (after_mark mark (tokens_of tokens.now)) }
     ensures shorter { IfSome result (λ rest. length rest.now < length tokens.now) }
 {
@@ -144,7 +147,7 @@ fn unary_op(mark: Mark) -> Option<UnaryOp>
 }
 
 /// The binary operator that comes first, if one does.
-pub(crate) fn binary(tokens: &[Token]) -> Option<(BinaryOp, &[Token])>
+pub(crate) fn binary<'a, 't>(tokens: Tokens<'a, 't>) -> Option<(BinaryOp, Tokens<'a, 't>)>
     ensures value { SeesOperator result (operator_at binary_of (tokens_of tokens.now)) }
     ensures shorter { IfSome result (λ p. length p.1.now < length tokens.now) }
 {
@@ -161,7 +164,7 @@ pub(crate) fn binary(tokens: &[Token]) -> Option<(BinaryOp, &[Token])>
 }
 
 /// The unary operator that comes first, if one does.
-pub(crate) fn unary(tokens: &[Token]) -> Option<(UnaryOp, &[Token])>
+pub(crate) fn unary<'a, 't>(tokens: Tokens<'a, 't>) -> Option<(UnaryOp, Tokens<'a, 't>)>
     ensures value { SeesOperator result (operator_at unary_of (tokens_of tokens.now)) }
     ensures shorter { IfSome result (λ p. length p.1.now < length tokens.now) }
 {
@@ -179,7 +182,10 @@ pub(crate) fn unary(tokens: &[Token]) -> Option<(UnaryOp, &[Token])>
 
 /// The place of this mark and the tokens after it; refused where another token comes first.
 #[tactic(auto, unfolding(crate::specs::Reading::need))]
-pub(crate) fn needed(mark: Mark, tokens: &[Token]) -> Result<(Place, &[Token]), ReadError>
+pub(crate) fn needed<'a, 't>(
+    mark: Mark,
+    tokens: Tokens<'a, 't>,
+) -> Result<(Place, Tokens<'a, 't>), ReadError>
     ensures gives { Gives (λ p. (p.0, tokens_of p.1.now)) result (need mark (tokens_of tokens.now)) }
     ensures shorter { IfOk result (λ p. length p.1.now < length tokens.now) }
 {
@@ -194,8 +200,8 @@ pub(crate) fn needed(mark: Mark, tokens: &[Token]) -> Result<(Place, &[Token]), 
 
 /// The name that comes first, and the tokens after it.
 #[tactic(auto, unfolding(crate::specs::Reading::name_at))]
-pub(crate) fn name(tokens: &[Token]) -> Result<(&Vec<u8>, &[Token]), ReadError>
-    ensures gives { Gives (λ p. (p.0.now.items, tokens_of p.1.now)) result (name_at (tokens_of tokens.now)) }
+pub(crate) fn name<'a, 't>(tokens: Tokens<'a, 't>) -> Result<(&'t [u8], Tokens<'a, 't>), ReadError>
+    ensures gives { Gives (λ p. (p.0.now, tokens_of p.1.now)) result (name_at (tokens_of tokens.now)) }
     ensures shorter { IfOk result (λ p. length p.1.now < length tokens.now) }
 {
     let left = tokens.len();
@@ -203,7 +209,7 @@ pub(crate) fn name(tokens: &[Token]) -> Result<(&Vec<u8>, &[Token]), ReadError>
         return Err(ReadError::Wrong { left });
     };
     match &token.kind {
-        Kind::Name(name) => Ok((name, rest)),
+        Kind::Name(name) => Ok((*name, rest)),
         Kind::Number(_) => Err(ReadError::Wrong { left }),
         Kind::Text(_) => Err(ReadError::Wrong { left }),
         Kind::Mark(_) => Err(ReadError::Wrong { left }),
@@ -211,45 +217,47 @@ pub(crate) fn name(tokens: &[Token]) -> Result<(&Vec<u8>, &[Token]), ReadError>
 }
 
 /// A list of its own with these bytes.
-pub(crate) fn copy(bytes: &Vec<u8>) -> Result<Vec<u8>, AllocError>
-    ensures { IfOk result (λ v. v.items ≡ bytes.now.items) }
+pub(crate) fn copy(alloc: Global, bytes: &[u8]) -> Result<Vec<u8>, AllocError>
+    ensures { IfOk result (λ v. v.items ≡ bytes.now) }
 {
-    bytes.clone()
+    bytes.to_vec(alloc)
 }
 
 /// A list of its own with these bytes, on the heap.
-pub(crate) fn boxed_copy(alloc: Global, bytes: &Vec<u8>) -> Result<Box<Vec<u8>>, AllocError>
-    ensures { IfOk result (λ b. b.value.items ≡ bytes.now.items) }
+pub(crate) fn boxed_copy(alloc: Global, bytes: &[u8]) -> Result<Box<Vec<u8>>, AllocError>
+    ensures { IfOk result (λ b. b.value.items ≡ bytes.now) }
 {
-    boxed(alloc, copy(bytes)?)
+    boxed(alloc, copy(alloc, bytes)?)
 }
 
 /// Whether this is the name `make`, which takes a type.
-pub(crate) fn is_the_make(name: &Vec<u8>) -> bool
-    ensures { result ≡ is_make name.now.items }
+pub(crate) fn is_the_make(name: &[u8]) -> bool
+    ensures { result ≡ is_make name.now }
 {
-    name.as_slice() == b"make".as_slice()
+    name == b"make".as_slice()
 }
 
 /// Names with commas between them; they count nothing for the height.
 #[tactic(auto, unfolding(crate::specs::Reading::names_at))]
-pub(crate) fn names(alloc: Global, tokens: &[Token]) -> Result<Found<'_, Vec<Vec<u8>>>, ReadError>
+pub(crate) fn names<'a, 't>(
+    alloc: Global,
+    tokens: Tokens<'a, 't>,
+) -> Result<Found<'a, 't, Vec<Vec<u8>>>, ReadError>
     ensures gives { Finds (λ v. names_of v.items) tokens.now result names_at }
     ensures shorter { Shorter tokens.now result }
 {
-    let mut value = Vec::new(alloc);
-    let mut rest = tokens;
+    let mut found = Found {
+        value: Vec::new(alloc),
+        height: 0,
+        rest: tokens,
+    };
     loop {
-        let (first, more) = name(rest)?;
-        value.push(copy(first)?)?;
-        rest = more;
-        let Some(more) = after(Mark::Comma, rest) else {
-            return Ok(Found {
-                value,
-                height: 0,
-                rest,
-            });
+        let (first, more) = name(found.rest)?;
+        found.value.push(copy(alloc, first)?)?;
+        found.rest = more;
+        let Some(more) = after(Mark::Comma, found.rest) else {
+            return Ok(found);
         };
-        rest = more;
+        found.rest = more;
     }
 }

@@ -8,8 +8,8 @@ ghost use Rattle.gr_syntax.specs.StatementReading.{past_semicolon};
 ghost use Rattle.gr_syntax.specs.StatementViews.{SeesName};
 ghost use Rattle.gr_syntax.specs.Views.{Gives, SeesOperator};
 
-use crate::look::{ReadError, after, needed, next};
-use gr_scan::token::{Kind, Mark, Token};
+use crate::look::{ReadError, Tokens, after, needed, next};
+use gr_scan::token::{Kind, Mark};
 use gr_tree::BinaryOp;
 
 /// A mark that begins a statement and says which.
@@ -60,7 +60,7 @@ fn keyword_of(mark: Mark) -> Option<Keyword>
 }
 
 /// The keyword or the brace that comes first, if one does.
-pub(crate) fn first_keyword(tokens: &[Token]) -> Option<(Keyword, &[Token])>
+pub(crate) fn first_keyword<'a, 't>(tokens: Tokens<'a, 't>) -> Option<(Keyword, Tokens<'a, 't>)>
     ensures value { SeesOperator result (operator_at keyword_of (tokens_of tokens.now)) }
     ensures shorter { IfSome result (λ p. length p.1.now < length tokens.now) }
 {
@@ -99,7 +99,7 @@ fn joint_of(mark: Mark) -> Option<Joint>
 }
 
 /// The token that joins a name to the rest of a simple statement, if it comes first.
-pub(crate) fn first_joint(tokens: &[Token]) -> Option<(Joint, &[Token])>
+pub(crate) fn first_joint<'a, 't>(tokens: Tokens<'a, 't>) -> Option<(Joint, Tokens<'a, 't>)>
     ensures value { SeesOperator result (operator_at joint_of (tokens_of tokens.now)) }
     ensures shorter { IfSome result (λ p. length p.1.now < length tokens.now) }
 {
@@ -115,7 +115,7 @@ pub(crate) fn first_joint(tokens: &[Token]) -> Option<(Joint, &[Token])>
 
 /// Whether a `;` or a `}` comes first, so that nothing more belongs to a statement.
 #[tactic(auto, unfolding(crate::specs::SimpleReading::done_at))]
-pub(crate) fn ends(tokens: &[Token]) -> bool
+pub(crate) fn ends(tokens: Tokens<'_, '_>) -> bool
     ensures { result ≡ done_at (tokens_of tokens.now) }
 {
     let Some((token, _)) = next(tokens) else {
@@ -129,7 +129,7 @@ pub(crate) fn ends(tokens: &[Token]) -> bool
 
 /// Whether a list of statements ends here: at a `}` or before the next clause of a select.
 #[tactic(auto, unfolding(crate::specs::SimpleReading::stops_at))]
-pub(crate) fn stops(tokens: &[Token]) -> bool
+pub(crate) fn stops(tokens: Tokens<'_, '_>) -> bool
     ensures { result ≡ stops_at (tokens_of tokens.now) }
 {
     let Some((token, _)) = next(tokens) else {
@@ -143,20 +143,20 @@ pub(crate) fn stops(tokens: &[Token]) -> bool
 
 /// The name that comes first and the tokens after it, if one does.
 #[tactic(auto, unfolding(crate::specs::SimpleReading::first_name))]
-pub(crate) fn first_name(tokens: &[Token]) -> Option<(&Vec<u8>, &[Token])>
+pub(crate) fn first_name<'a, 't>(tokens: Tokens<'a, 't>) -> Option<(&'t [u8], Tokens<'a, 't>)>
     ensures value { SeesName result (first_name (tokens_of tokens.now)) }
     ensures shorter { IfSome result (λ p. length p.1.now < length tokens.now) }
 {
     let (token, rest) = next(tokens)?;
     match &token.kind {
-        Kind::Name(name) => Some((name, rest)),
+        Kind::Name(name) => Some((*name, rest)),
         Kind::Number(_) | Kind::Text(_) | Kind::Mark(_) => None,
     }
 }
 
 /// The tokens after the semicolon that ends a statement; none is needed before a `}`.
 #[tactic(auto, unfolding(crate::specs::StatementReading::past_semicolon))]
-pub(crate) fn past_semicolon(tokens: &[Token]) -> Result<&[Token], ReadError>
+pub(crate) fn past_semicolon<'a, 't>(tokens: Tokens<'a, 't>) -> Result<Tokens<'a, 't>, ReadError>
     ensures gives { Gives (λ rest. tokens_of rest.now) result (past_semicolon (tokens_of tokens.now)) }
     ensures rest { IfOk result (λ rest. length rest.now ≤ length tokens.now) }
 {

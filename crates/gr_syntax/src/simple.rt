@@ -9,15 +9,15 @@ ghost use Rattle.gr_syntax.specs.SimpleReading.{simple_named, simple_after};
 ghost use Rattle.gr_syntax.specs.Views.{Finds, Continues, AtMost, Shorter, NoLonger, Sees};
 
 use crate::expression::{expr, exprs};
-use crate::look::{Found, ReadError, abandon, after, fitted, names, needed};
+use crate::look::{Found, ReadError, Tokens, abandon, after, fitted, names, needed};
 use crate::opening::{Joint, first_joint};
-use gr_scan::token::{Mark, Token};
+use gr_scan::token::Mark;
 use gr_tree::{BinaryOp, Expr, Simple};
 use std::alloc::Global;
 
 /// The tokens after a `:=`, where one may stand and comes first.
 #[tactic(auto, unfolding(crate::specs::SimpleReading::define_at))]
-fn define(may_define: bool, tokens: &[Token]) -> Option<&[Token]>
+fn define<'a, 't>(may_define: bool, tokens: Tokens<'a, 't>) -> Option<Tokens<'a, 't>>
     ensures value { Sees result (define_at may_define (tokens_of tokens.now)) }
     ensures shorter { IfSome result (λ rest. length rest.now < length tokens.now) }
 {
@@ -30,13 +30,13 @@ fn define(may_define: bool, tokens: &[Token]) -> Option<&[Token]>
 
 /// What follows the names of an assignment or, where it may be one, of a definition.
 #[tactic(auto, unfolding(crate::specs::SimpleReading::values_at))]
-fn values<'a>(
+fn values<'a, 't>(
     alloc: Global,
     limit: u32,
     may_define: bool,
     names: Vec<Vec<u8>>,
-    tokens: &'a [Token],
-) -> Result<Found<'a, Simple>, ReadError>
+    tokens: Tokens<'a, 't>,
+) -> Result<Found<'a, 't, Simple>, ReadError>
     requires { limit < 2 ^ 30 }
     ensures gives { Finds simple_of tokens.now result (values_at limit may_define (names_of names.items)) }
     ensures fits { AtMost limit result }
@@ -67,11 +67,11 @@ fn values<'a>(
 
 /// More names after this one, after the comma between them; they count nothing for the height.
 #[tactic(auto, unfolding(crate::specs::SimpleReading::names_from))]
-fn names_from<'a>(
+fn names_from<'a, 't>(
     alloc: Global,
     first: Vec<u8>,
-    tokens: &'a [Token],
-) -> Result<Found<'a, Vec<Vec<u8>>>, ReadError>
+    tokens: Tokens<'a, 't>,
+) -> Result<Found<'a, 't, Vec<Vec<u8>>>, ReadError>
     ensures gives { Finds (λ v. names_of v.items) tokens.now result (names_from first.items) }
     ensures shorter { Shorter tokens.now result }
 {
@@ -87,13 +87,13 @@ fn names_from<'a>(
 
 /// A value after the operator of an update.
 #[tactic(auto, unfolding(crate::specs::SimpleReading::update_at))]
-fn update<'a>(
+fn update<'a, 't>(
     alloc: Global,
     limit: u32,
     name: Vec<u8>,
     op: BinaryOp,
-    tokens: &'a [Token],
-) -> Result<Found<'a, Simple>, ReadError>
+    tokens: Tokens<'a, 't>,
+) -> Result<Found<'a, 't, Simple>, ReadError>
     requires { limit < 2 ^ 30 }
     ensures gives { Finds simple_of tokens.now result (update_at limit name.items op) }
     ensures fits { AtMost limit result }
@@ -111,7 +111,7 @@ fn update<'a>(
 }
 
 /// This expression as a statement.
-fn alone(limit: u32, value: Found<'_, Expr>) -> Result<Found<'_, Simple>, ReadError>
+fn alone<'a, 't>(limit: u32, value: Found<'a, 't, Expr>) -> Result<Found<'a, 't, Simple>, ReadError>
     requires limit { limit < 2 ^ 30 }
     requires fits { value.height ≤ limit }
     ensures gives { Continues simple_of value.entry result (alone_at limit) }
@@ -130,13 +130,13 @@ fn alone(limit: u32, value: Found<'_, Expr>) -> Result<Found<'_, Simple>, ReadEr
 }
 
 /// A send to this channel, after its `<-`.
-fn send<'a>(
+fn send<'a, 't>(
     alloc: Global,
     limit: u32,
     channel: Expr,
     height: u32,
-    tokens: &'a [Token],
-) -> Result<Found<'a, Simple>, ReadError>
+    tokens: Tokens<'a, 't>,
+) -> Result<Found<'a, 't, Simple>, ReadError>
     requires limit { limit < 2 ^ 30 }
     requires fits { height ≤ limit }
     ensures gives { Finds simple_of tokens.now result (sent_at limit (tree_of channel, height, [])) }
@@ -159,7 +159,11 @@ fn send<'a>(
 }
 
 /// This statement, which has no parts.
-fn leaf(limit: u32, value: Simple, tokens: &[Token]) -> Result<Found<'_, Simple>, ReadError>
+fn leaf<'a, 't>(
+    limit: u32,
+    value: Simple,
+    tokens: Tokens<'a, 't>,
+) -> Result<Found<'a, 't, Simple>, ReadError>
     ensures gives { Finds simple_of tokens.now result (λ ts. up_to limit (simple_of value, 1, ts)) }
     ensures fits { AtMost limit result }
     ensures rest { NoLonger tokens.now result }
@@ -176,15 +180,15 @@ fn leaf(limit: u32, value: Simple, tokens: &[Token]) -> Result<Found<'_, Simple>
 
 /// What follows a name and this joint in a simple statement; the tokens from the joint on are `from`.
 #[tactic(auto, unfolding(crate::specs::SimpleReading::joined_at))]
-fn joined<'a>(
+fn joined<'a, 't>(
     alloc: Global,
     limit: u32,
     may_define: bool,
     name: Vec<u8>,
     joint: Joint,
-    from: &'a [Token],
-    tokens: &'a [Token],
-) -> Result<Found<'a, Simple>, ReadError>
+    from: Tokens<'a, 't>,
+    tokens: Tokens<'a, 't>,
+) -> Result<Found<'a, 't, Simple>, ReadError>
     requires limit { limit < 2 ^ 30 }
     requires rest { length tokens.now < length from.now }
     ensures gives { Finds simple_of tokens.now result (joined_at limit may_define name.items joint (tokens_of from.now)) }
@@ -205,14 +209,14 @@ fn joined<'a>(
 
 /// A simple statement that begins with this name, before the tokens after it.
 #[tactic(auto, unfolding(crate::specs::SimpleReading::simple_named))]
-fn named<'a>(
+fn named<'a, 't>(
     alloc: Global,
     limit: u32,
     may_define: bool,
     name: Vec<u8>,
     height: u32,
-    tokens: &'a [Token],
-) -> Result<Found<'a, Simple>, ReadError>
+    tokens: Tokens<'a, 't>,
+) -> Result<Found<'a, 't, Simple>, ReadError>
     requires limit { limit < 2 ^ 30 }
     requires fits { height ≤ limit }
     ensures gives { Finds simple_of tokens.now result
@@ -235,12 +239,12 @@ fn named<'a>(
 
 /// A simple statement that begins with this expression.
 #[tactic(auto, unfolding(crate::specs::SimpleReading::simple_after, crate::specs::SimpleReading::bare))]
-pub(crate) fn simple<'a>(
+pub(crate) fn simple<'a, 't>(
     alloc: Global,
     limit: u32,
     may_define: bool,
-    first: Found<'a, Expr>,
-) -> Result<Found<'a, Simple>, ReadError>
+    first: Found<'a, 't, Expr>,
+) -> Result<Found<'a, 't, Simple>, ReadError>
     requires limit { limit < 2 ^ 30 }
     requires fits { first.height ≤ limit }
     ensures gives { Continues simple_of first.entry result (simple_after limit may_define) }

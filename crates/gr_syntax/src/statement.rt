@@ -18,22 +18,22 @@ use crate::assembly::{
 use crate::communication::communication;
 use crate::expression::expr;
 use crate::heading::{for_head, if_head, place};
-use crate::look::{Found, ReadError, abandon, after, boxed, fitted, needed, push};
+use crate::look::{Found, ReadError, Tokens, abandon, after, boxed, fitted, needed, push};
 use crate::opening::{Keyword, ends, first_keyword, past_semicolon, stops};
-use gr_scan::token::{Mark, Place, Token};
+use gr_scan::token::{Mark, Place};
 use gr_tree::{Clause, Expr, IfHead, Stmt};
 use std::alloc::Global;
 
 /// The statement after a label and its colon; it is of at most this height.
 #[cycle(statement)]
 #[tactic(auto, unfolding(crate::specs::StatementReading::labelled_at))]
-fn labelled<'a>(
+fn labelled<'a, 't>(
     alloc: Global,
     below: u32,
     place: Place,
     name: Vec<u8>,
-    tokens: &'a [Token],
-) -> Result<Found<'a, Stmt>, ReadError>
+    tokens: Tokens<'a, 't>,
+) -> Result<Found<'a, 't, Stmt>, ReadError>
     requires { below < 2 ^ 29 }
     ensures gives { Finds statement_of tokens.now result (labelled_at (statement_at below) place name.items) }
     ensures fits { AtMost (below + 1) result }
@@ -56,14 +56,14 @@ fn labelled<'a>(
 /// A statement that begins with this name: one with a label, or a simple one.
 #[cycle(statement)]
 #[tactic(auto, unfolding(crate::specs::StatementReading::name_open))]
-fn named<'a>(
+fn named<'a, 't>(
     alloc: Global,
     below: u32,
     place: Place,
     name: Vec<u8>,
     height: u32,
-    tokens: &'a [Token],
-) -> Result<Found<'a, Stmt>, ReadError>
+    tokens: Tokens<'a, 't>,
+) -> Result<Found<'a, 't, Stmt>, ReadError>
     requires limit { below < 2 ^ 29 }
     requires fits { height ≤ below + 1 }
     ensures gives { Finds statement_of tokens.now result
@@ -88,12 +88,12 @@ fn named<'a>(
 /// A statement that begins with no keyword; its parts are of at most this height.
 #[cycle(statement)]
 #[tactic(auto, unfolding(crate::specs::StatementReading::open_at, crate::specs::StatementReading::open_after, crate::specs::SimpleReading::bare))]
-fn opened(
+fn opened<'a, 't>(
     alloc: Global,
     below: u32,
     place: Place,
-    tokens: &[Token],
-) -> Result<Found<'_, Stmt>, ReadError>
+    tokens: Tokens<'a, 't>,
+) -> Result<Found<'a, 't, Stmt>, ReadError>
     requires { below < 2 ^ 29 }
     ensures gives { Finds statement_of tokens.now result (open_at (below + 1) (statement_at below) place) }
     ensures fits { AtMost (below + 1) result }
@@ -121,39 +121,45 @@ fn opened(
 /// The statements up to a `}` or to the next clause of a select, each of at most this height.
 #[cycle(statement)]
 #[tactic(auto, unfolding(crate::specs::StatementReading::list_at))]
-fn list(alloc: Global, limit: u32, tokens: &[Token]) -> Result<Found<'_, Vec<Stmt>>, ReadError>
+fn list<'a, 't>(
+    alloc: Global,
+    limit: u32,
+    tokens: Tokens<'a, 't>,
+) -> Result<Found<'a, 't, Vec<Stmt>>, ReadError>
     requires { limit < 2 ^ 29 }
     ensures gives { Finds (λ v. statements_of v.items) tokens.now result (list_at (statement_at limit)) }
     ensures fits { AtMost limit result }
 {
-    let mut value = Vec::new(alloc);
-    let mut height = 0u32;
-    let mut rest = tokens;
-    while !stops(rest) {
-        if let Some(more) = after(Mark::Semicolon, rest) {
-            rest = more;
+    let mut found = Found {
+        value: Vec::new(alloc),
+        height: 0,
+        rest: tokens,
+    };
+    while !stops(found.rest) {
+        if let Some(more) = after(Mark::Semicolon, found.rest) {
+            found.rest = more;
             continue;
         }
-        let next = statement(alloc, limit, rest)?;
-        push(&mut value, next.value)?;
-        height = height.max(next.height);
-        rest = past_semicolon(next.rest)?;
+        let next = statement(alloc, limit, found.rest)?;
+        push(&mut found.value, next.value)?;
+        found.height = found.height.max(next.height);
+        found.rest = past_semicolon(next.rest)?;
     }
     Ok(Found {
-        value: fitted(value),
-        height,
-        rest,
+        value: fitted(found.value),
+        height: found.height,
+        rest: found.rest,
     })
 }
 
 /// A block, and where it closes; its statements are of at most this height.
 #[cycle(statement)]
 #[tactic(auto, unfolding(crate::specs::StatementReading::block_at))]
-pub(crate) fn block(
+pub(crate) fn block<'a, 't>(
     alloc: Global,
     limit: u32,
-    tokens: &[Token],
-) -> Result<Found<'_, (Vec<Stmt>, Place)>, ReadError>
+    tokens: Tokens<'a, 't>,
+) -> Result<Found<'a, 't, (Vec<Stmt>, Place)>, ReadError>
     requires { limit < 2 ^ 29 }
     ensures gives { Finds closed_of tokens.now result (block_at (statement_at limit)) }
     ensures fits { AtMost limit result }
@@ -174,12 +180,12 @@ pub(crate) fn block(
 /// A block where a statement stands; its statements are of at most this height.
 #[cycle(statement)]
 #[tactic(auto, unfolding(crate::specs::StatementReading::braced_at))]
-fn braced(
+fn braced<'a, 't>(
     alloc: Global,
     below: u32,
     place: Place,
-    tokens: &[Token],
-) -> Result<Found<'_, Stmt>, ReadError>
+    tokens: Tokens<'a, 't>,
+) -> Result<Found<'a, 't, Stmt>, ReadError>
     requires { below < 2 ^ 29 }
     ensures gives { Finds statement_of tokens.now result (braced_at (statement_at below) place) }
     ensures fits { AtMost (below + 1) result }
@@ -195,14 +201,14 @@ fn braced(
 /// What follows the else of an if with this head and this block.
 #[cycle(statement)]
 #[tactic(auto, unfolding(crate::specs::StatementReading::else_at))]
-fn otherwise<'a>(
+fn otherwise<'a, 't>(
     alloc: Global,
     below: u32,
     place: Place,
-    head: Found<'a, IfHead>,
-    body: Found<'a, (Vec<Stmt>, Place)>,
-    tokens: &'a [Token],
-) -> Result<Found<'a, Stmt>, ReadError>
+    head: Found<'a, 't, IfHead>,
+    body: Found<'a, 't, (Vec<Stmt>, Place)>,
+    tokens: Tokens<'a, 't>,
+) -> Result<Found<'a, 't, Stmt>, ReadError>
     requires limit { below < 2 ^ 29 }
     requires head { head.height ≤ below }
     requires body { body.height ≤ below }
@@ -238,12 +244,12 @@ fn otherwise<'a>(
 /// An if, after its keyword; its parts are of at most this height.
 #[cycle(statement)]
 #[tactic(auto, unfolding(crate::specs::StatementReading::if_at))]
-fn branch(
+fn branch<'a, 't>(
     alloc: Global,
     below: u32,
     place: Place,
-    tokens: &[Token],
-) -> Result<Found<'_, Stmt>, ReadError>
+    tokens: Tokens<'a, 't>,
+) -> Result<Found<'a, 't, Stmt>, ReadError>
     requires { below < 2 ^ 29 }
     ensures gives { Finds statement_of tokens.now result (if_at below (statement_at below) place) }
     ensures fits { AtMost (below + 1) result }
@@ -266,12 +272,12 @@ fn branch(
 /// A for, after its keyword; its parts are of at most this height.
 #[cycle(statement)]
 #[tactic(auto, unfolding(crate::specs::StatementReading::for_at))]
-fn looped(
+fn looped<'a, 't>(
     alloc: Global,
     below: u32,
     place: Place,
-    tokens: &[Token],
-) -> Result<Found<'_, Stmt>, ReadError>
+    tokens: Tokens<'a, 't>,
+) -> Result<Found<'a, 't, Stmt>, ReadError>
     requires { below < 2 ^ 29 }
     ensures gives { Finds statement_of tokens.now result (for_at below (statement_at below) place) }
     ensures fits { AtMost (below + 1) result }
@@ -290,11 +296,11 @@ fn looped(
 
 /// What a clause of a select does, from its colon on; its statements are of at most this height.
 #[cycle(statement)]
-fn clause_body(
+fn clause_body<'a, 't>(
     alloc: Global,
     limit: u32,
-    tokens: &[Token],
-) -> Result<Found<'_, Vec<Stmt>>, ReadError>
+    tokens: Tokens<'a, 't>,
+) -> Result<Found<'a, 't, Vec<Stmt>>, ReadError>
     requires { limit < 2 ^ 29 }
     ensures gives { Finds (λ v. statements_of v.items) tokens.now result (clause_body_at (statement_at limit)) }
     ensures fits { AtMost limit result }
@@ -306,49 +312,51 @@ fn clause_body(
 /// The clauses of a select; what they wait for and their statements are of at most this height.
 #[cycle(statement)]
 #[tactic(auto, unfolding(crate::specs::StatementReading::clauses_at))]
-fn clauses(alloc: Global, limit: u32, tokens: &[Token]) -> Result<Found<'_, Vec<Clause>>, ReadError>
+fn clauses<'a, 't>(
+    alloc: Global,
+    limit: u32,
+    tokens: Tokens<'a, 't>,
+) -> Result<Found<'a, 't, Vec<Clause>>, ReadError>
     requires { limit < 2 ^ 29 }
     ensures gives { Finds (λ v. clauses_of v.items) tokens.now result (clauses_at limit (statement_at limit)) }
     ensures fits { AtMost limit result }
 {
-    let mut value = Vec::new(alloc);
-    let mut height = 0u32;
-    let mut rest = tokens;
+    let mut found = Found {
+        value: Vec::new(alloc),
+        height: 0,
+        rest: tokens,
+    };
     loop {
-        if let Some(more) = after(Mark::Case, rest) {
+        if let Some(more) = after(Mark::Case, found.rest) {
             let awaited = communication(alloc, limit, more)?;
             let body = match clause_body(alloc, limit, awaited.rest) {
                 Ok(body) => body,
                 Err(fault) => return abandon(awaited, fault),
             };
-            push(&mut value, Clause::Case(awaited.value, body.value))?;
-            height = height.max(awaited.height.max(body.height));
-            rest = body.rest;
+            push(&mut found.value, Clause::Case(awaited.value, body.value))?;
+            found.height = found.height.max(awaited.height.max(body.height));
+            found.rest = body.rest;
             continue;
         }
-        let Some(more) = after(Mark::Default, rest) else {
-            return Ok(Found {
-                value,
-                height,
-                rest,
-            });
+        let Some(more) = after(Mark::Default, found.rest) else {
+            return Ok(found);
         };
         let body = clause_body(alloc, limit, more)?;
-        push(&mut value, Clause::Default(body.value))?;
-        height = height.max(body.height);
-        rest = body.rest;
+        push(&mut found.value, Clause::Default(body.value))?;
+        found.height = found.height.max(body.height);
+        found.rest = body.rest;
     }
 }
 
 /// A select, after its keyword; its parts are of at most this height.
 #[cycle(statement)]
 #[tactic(auto, unfolding(crate::specs::StatementReading::select_at))]
-fn select(
+fn select<'a, 't>(
     alloc: Global,
     below: u32,
     place: Place,
-    tokens: &[Token],
-) -> Result<Found<'_, Stmt>, ReadError>
+    tokens: Tokens<'a, 't>,
+) -> Result<Found<'a, 't, Stmt>, ReadError>
     requires { below < 2 ^ 29 }
     ensures gives { Finds statement_of tokens.now result (select_at below (statement_at below) place) }
     ensures fits { AtMost (below + 1) result }
@@ -369,14 +377,14 @@ fn select(
 /// A statement that begins with this keyword, before these tokens; from the keyword on they are `from`.
 #[cycle(statement)]
 #[tactic(auto, unfolding(crate::specs::StatementReading::keyed_at))]
-fn keyed<'a>(
+fn keyed<'a, 't>(
     alloc: Global,
     below: u32,
     place: Place,
     keyword: Keyword,
-    from: &'a [Token],
-    tokens: &'a [Token],
-) -> Result<Found<'a, Stmt>, ReadError>
+    from: Tokens<'a, 't>,
+    tokens: Tokens<'a, 't>,
+) -> Result<Found<'a, 't, Stmt>, ReadError>
     requires { below < 2 ^ 29 }
     ensures gives { Finds statement_of tokens.now result
         (keyed_at below (statement_at below) place keyword (tokens_of from.now)) }
@@ -386,8 +394,8 @@ fn keyed<'a>(
         Keyword::Var => Ok(acts(place, var(alloc, below + 1, tokens)?)),
         Keyword::Go => Ok(acts(place, go(alloc, below + 1, tokens)?)),
         Keyword::Return => Ok(acts(place, returned(alloc, below + 1, tokens)?)),
-        Keyword::Break => Ok(acts(place, break_from(tokens)?)),
-        Keyword::Continue => Ok(acts(place, continue_from(tokens)?)),
+        Keyword::Break => Ok(acts(place, break_from(alloc, tokens)?)),
+        Keyword::Continue => Ok(acts(place, continue_from(alloc, tokens)?)),
         Keyword::Block => braced(alloc, below, place, from),
         Keyword::If => branch(alloc, below, place, tokens),
         Keyword::For => looped(alloc, below, place, tokens),
@@ -398,11 +406,11 @@ fn keyed<'a>(
 /// A statement of at most this height.
 #[cycle(statement)]
 #[tactic(auto, unfolding(crate::specs::StatementReading::statement_at, crate::specs::StatementReading::tier_at))]
-pub(crate) fn statement(
+pub(crate) fn statement<'a, 't>(
     alloc: Global,
     limit: u32,
-    tokens: &[Token],
-) -> Result<Found<'_, Stmt>, ReadError>
+    tokens: Tokens<'a, 't>,
+) -> Result<Found<'a, 't, Stmt>, ReadError>
     requires { limit < 2 ^ 29 }
     ensures gives { Finds statement_of tokens.now result (statement_at limit) }
     ensures fits { AtMost limit result }

@@ -5,14 +5,17 @@ ghost use Rattle.gr_tree.specs.Exprs.{type_of};
 ghost use Rattle.gr_syntax.specs.Reading.{channel_at, both_at, paren_type_at, plain_type_at, type_at};
 ghost use Rattle.gr_syntax.specs.Views.{Finds, AtMost, Shorter};
 
-use crate::look::{Found, ReadError, after, boxed, copy, name, needed};
-use gr_scan::token::{Mark, Token};
+use crate::look::{Found, ReadError, Tokens, after, boxed, copy, name, needed};
+use gr_scan::token::Mark;
 use gr_tree::{Direction, TypeTree};
 use std::alloc::Global;
 
 /// A name, or `struct{}`.
 #[tactic(auto, unfolding(crate::specs::Reading::plain_type_at))]
-fn plain_type(tokens: &[Token]) -> Result<Found<'_, TypeTree>, ReadError>
+fn plain_type<'a, 't>(
+    alloc: Global,
+    tokens: Tokens<'a, 't>,
+) -> Result<Found<'a, 't, TypeTree>, ReadError>
     ensures gives { Finds type_of tokens.now result plain_type_at }
     ensures fits { IfOk result (λ f. f.height ≡ 1) }
     ensures shorter { Shorter tokens.now result }
@@ -28,7 +31,7 @@ fn plain_type(tokens: &[Token]) -> Result<Found<'_, TypeTree>, ReadError>
     }
     let (first, rest) = name(tokens)?;
     Ok(Found {
-        value: TypeTree::Name(copy(first)?),
+        value: TypeTree::Name(copy(alloc, first)?),
         height: 1,
         rest,
     })
@@ -37,12 +40,12 @@ fn plain_type(tokens: &[Token]) -> Result<Found<'_, TypeTree>, ReadError>
 /// A channel type whose element, of at most this height, begins here.
 #[cycle(types)]
 #[tactic(auto, unfolding(crate::specs::Reading::channel_at))]
-fn channel(
+fn channel<'a, 't>(
     alloc: Global,
     below: u32,
     direction: Direction,
-    tokens: &[Token],
-) -> Result<Found<'_, TypeTree>, ReadError>
+    tokens: Tokens<'a, 't>,
+) -> Result<Found<'a, 't, TypeTree>, ReadError>
     requires { below < 2 ^ 31 }
     ensures gives { Finds type_of tokens.now result (channel_at (type_at below) direction) }
     ensures fits { AtMost (below + 1) result }
@@ -59,7 +62,11 @@ fn channel(
 /// A type in parentheses, after the first of them; the inner type is of at most this height.
 #[cycle(types)]
 #[tactic(auto, unfolding(crate::specs::Reading::paren_type_at))]
-fn paren_type(alloc: Global, below: u32, tokens: &[Token]) -> Result<Found<'_, TypeTree>, ReadError>
+fn paren_type<'a, 't>(
+    alloc: Global,
+    below: u32,
+    tokens: Tokens<'a, 't>,
+) -> Result<Found<'a, 't, TypeTree>, ReadError>
     requires { below < 2 ^ 31 }
     ensures gives { Finds type_of tokens.now result (paren_type_at (type_at below)) }
     ensures fits { AtMost (below + 1) result }
@@ -77,11 +84,11 @@ fn paren_type(alloc: Global, below: u32, tokens: &[Token]) -> Result<Found<'_, T
 /// A type of at most this height. A `<-` after `chan` belongs to that `chan`.
 #[cycle(types)]
 #[tactic(auto, unfolding(crate::specs::Reading::type_at, crate::specs::Reading::type_from, crate::specs::Reading::both_at))]
-pub(crate) fn type_tree(
+pub(crate) fn type_tree<'a, 't>(
     alloc: Global,
     limit: u32,
-    tokens: &[Token],
-) -> Result<Found<'_, TypeTree>, ReadError>
+    tokens: Tokens<'a, 't>,
+) -> Result<Found<'a, 't, TypeTree>, ReadError>
     requires { limit < 2 ^ 31 }
     ensures gives { Finds type_of tokens.now result (type_at limit) }
     ensures fits { AtMost limit result }
@@ -103,6 +110,6 @@ pub(crate) fn type_tree(
     }
     match after(Mark::LeftParen, tokens) {
         Some(rest) => paren_type(alloc, below, rest),
-        None => plain_type(tokens),
+        None => plain_type(alloc, tokens),
     }
 }

@@ -25,7 +25,7 @@ enum What<'a> {
 
 fn is_shown(kind: &Kind, what: What) -> bool {
     match (kind, what) {
-        (Kind::Name(name), What::Name(shown)) => name.as_slice() == shown,
+        (Kind::Name(name), What::Name(shown)) => *name == shown,
         (Kind::Number(number), What::Number(shown)) => *number == shown,
         (Kind::Text(bytes), What::Text(shown)) => bytes.as_slice() == shown,
         (Kind::Mark(mark), What::Mark(shown)) => *mark == shown,

@@ -35,44 +35,44 @@ expr-returns-clause-shorter t c = expr_shorter c.args.limit c.args.level c.args.
 
 pub exprs-returns-in_err-next-clause-gives : goal.exprs-returns-in_err-next-clause-gives
 exprs-returns-in_err-next-clause-gives t c =
-    let es : Found Trees = (trees_of c.loop-value.value.items, c.loop-value.height, tokens_of c.loop-value.rest.now) in
+    let es : Found Trees = (trees_of c.loop-found.found.value.items, c.loop-found.found.height, tokens_of c.loop-found.found.rest.now) in
     let p = err_from_is_err_and c.from_residual.result c.from_residual.ensures.1 in
-    rw (p.1, p.2) (fails_on c.in_err-next.field-0.0 _ _ (λ d e. sym c.loop-value.invariant.gives ∙ exprs_err c.args.limit c.args.trailing es d e) c.in_err-next.ensures.gives)
+    rw (p.1, p.2) (fails_on c.in_err-next.field-0.0 _ _ (λ d e. sym c.loop-found.invariant.gives ∙ exprs_err c.args.limit c.args.trailing es d e) c.in_err-next.ensures.gives)
 
 pub exprs-returns-in_default-clause-gives : goal.exprs-returns-in_default-clause-gives
 exprs-returns-in_default-clause-gives t c =
-    let es : Found Trees = (trees_of c.loop-value.value.items, c.loop-value.height, tokens_of c.loop-value.rest.now) in
+    let es : Found Trees = (trees_of c.loop-found.found.value.items, c.loop-found.found.height, tokens_of c.loop-found.found.rest.now) in
     let e = exprs_last c.args.limit c.args.trailing es (found_of tree_of c.in_ok-next.next) c.in_ok-next.ensures.gives c.in_default.ensures.value in
-    let p = trees_push c.loop-value.value.items c.in_ok-next.next.value in
-    let q = c.loop-value.invariant.gives in
+    let p = trees_push c.loop-found.found.value.items c.in_ok-next.next.value in
+    let q = c.loop-found.invariant.gives in
     let r = c.in_ok-push.ensures.items in
-    let s = c.max-height.ensures in
+    let s = c.max.ensures in
     cc
 
 pub exprs-returns-then-ends-clause-gives : goal.exprs-returns-then-ends-clause-gives
 exprs-returns-then-ends-clause-gives t c =
-    let es : Found Trees = (trees_of c.loop-value.value.items, c.loop-value.height, tokens_of c.loop-value.rest.now) in
+    let es : Found Trees = (trees_of c.loop-found.found.value.items, c.loop-found.found.height, tokens_of c.loop-found.found.rest.now) in
     let e = exprs_trail c.args.limit c.args.trailing es (found_of tree_of c.in_ok-next.next) (tokens_of c.in-Some.more.now) c.in_ok-next.ensures.gives c.in-Some.ensures.value (sym c.ends.ensures ∙ c.if-ends.true) in
-    let p = trees_push c.loop-value.value.items c.in_ok-next.next.value in
-    let q = c.loop-value.invariant.gives in
+    let p = trees_push c.loop-found.found.value.items c.in_ok-next.next.value in
+    let q = c.loop-found.invariant.gives in
     let r = c.in_ok-push.ensures.items in
-    let s = c.max-height.ensures in
+    let s = c.max.ensures in
     cc
 
-pub exprs-loop-value-preserved : goal.exprs-loop-value-preserved
-exprs-loop-value-preserved t c =
-    let es : Found Trees = (trees_of c.loop-value.value.items, c.loop-value.height, tokens_of c.loop-value.rest.now) in
+pub exprs-loop-found-preserved : goal.exprs-loop-found-preserved
+exprs-loop-found-preserved t c =
+    let es : Found Trees = (trees_of c.loop-found.found.value.items, c.loop-found.found.height, tokens_of c.loop-found.found.rest.now) in
     let e = exprs_go c.args.limit c.args.trailing es (found_of tree_of c.in_ok-next.next) (tokens_of c.in-Some.more.now) c.in_ok-next.ensures.gives c.in-Some.ensures.value (sym c.ends.ensures ∙ c.if-ends.false) in
-    let p = trees_push c.loop-value.value.items c.in_ok-next.next.value in
-    let q = c.loop-value.invariant.gives in
+    let p = trees_push c.loop-found.found.value.items c.in_ok-next.next.value in
+    let q = c.loop-found.invariant.gives in
     let r = c.in_ok-push.ensures.items in
-    let s = c.max-height.ensures in
-    record { gives = cc; fits = omega (arith, c.max-height.ensures, c.loop-value.invariant.fits, c.in_ok-next.ensures.fits); shorter = omega (arith, c.loop-value.invariant.shorter, c.in_ok-next.ensures.shorter, c.in-Some.ensures.shorter) }
+    let s = c.max.ensures in
+    record { gives = cc; fits = omega (arith, c.max.ensures, c.loop-found.invariant.fits, c.in_ok-next.ensures.fits); shorter = omega (arith, c.loop-found.invariant.shorter, c.in_ok-next.ensures.shorter, c.in-Some.ensures.shorter) }
 
 pub named-returns-clause-gives : goal.named-returns-clause-gives
 named-returns-clause-gives t c =
     let es : Found Trees = (trees_of c.in_ok-passed.passed.value.items, c.in_ok-passed.passed.height, tokens_of c.in_ok-passed.passed.rest.now) in
-    let e = named_call (type_at c.args.below) (expr_at c.args.below) c.args.name.now.items (tokens_of c.args.tokens.now) (tokens_of c.in-Some.rest.now) es c.in-Some.ensures.value (sym c.is_the_make.ensures ∙ c.if-is_the_make.false) c.in_ok-passed.ensures.gives in
+    let e = named_call (type_at c.args.below) (expr_at c.args.below) c.args.name.now (tokens_of c.args.tokens.now) (tokens_of c.in-Some.rest.now) es c.in-Some.ensures.value (sym c.is_the_make.ensures ∙ c.if-is_the_make.false) c.in_ok-passed.ensures.gives in
     let k = call_is c.in_ok-boxed_copy.field-0 c.in_ok-passed.passed.value in
     let n = c.in_ok-boxed_copy.ensures in
     cc

@@ -41,12 +41,12 @@ invariant-expr-loop-op l = record {
 abbrev pub decreases-expr-loop-op : goal.decreases-expr-loop-op
 decreases-expr-loop-op l = length l.left.rest.now
 
-abbrev pub invariant-exprs-loop-value : goal.invariant-exprs-loop-value
-invariant-exprs-loop-value l = record {
-  gives : loop (exprs_turn (expr_at l.limit) l.trailing) (trees_of l.value.items, l.height, tokens_of l.rest) ≡ exprs_at (expr_at l.fn.limit) l.fn.trailing (tokens_of l.fn.tokens);
-  fits : l.height ≤ l.limit;
-  shorter : length l.rest ≤ length l.fn.tokens;
+abbrev pub invariant-exprs-loop-found : goal.invariant-exprs-loop-found
+invariant-exprs-loop-found l = record {
+  gives : loop (exprs_turn (expr_at l.limit) l.trailing) (trees_of l.found.value.items, l.found.height, tokens_of l.found.rest.now) ≡ exprs_at (expr_at l.fn.limit) l.fn.trailing (tokens_of l.fn.tokens);
+  fits : l.found.height ≤ l.limit;
+  shorter : length l.found.rest.now ≤ length l.fn.tokens;
 }
 
-abbrev pub decreases-exprs-loop-value : goal.decreases-exprs-loop-value
-decreases-exprs-loop-value l = length l.rest
+abbrev pub decreases-exprs-loop-found : goal.decreases-exprs-loop-found
+decreases-exprs-loop-found l = length l.found.rest.now

@@ -5,11 +5,12 @@ use Rattle.gr_syntax.specs.Reading.{loop}
 use Rattle.gr_syntax.specs.FileReading.{groups_turn, groups_at}
 use Rattle.gr_syntax.proofs.function.groups.Given as goal
 
-abbrev pub invariant-loop-value : goal.invariant-loop-value
-invariant-loop-value l = record {
-  gives : loop (groups_turn l.limit) (groups_of l.value.items, 0, tokens_of l.rest) ≡ groups_at l.fn.limit (tokens_of l.fn.tokens);
-  shorter : length l.rest ≤ length l.fn.tokens;
+abbrev pub invariant-loop-found : goal.invariant-loop-found
+invariant-loop-found l = record {
+  gives : loop (groups_turn l.limit) (groups_of l.found.value.items, 0, tokens_of l.found.rest.now) ≡ groups_at l.fn.limit (tokens_of l.fn.tokens);
+  low : l.found.height ≡ 0;
+  shorter : length l.found.rest.now ≤ length l.fn.tokens;
 }
 
-abbrev pub decreases-loop-value : goal.decreases-loop-value
-decreases-loop-value l = length l.rest
+abbrev pub decreases-loop-found : goal.decreases-loop-found
+decreases-loop-found l = length l.found.rest.now

@@ -4,11 +4,12 @@ use Rattle.gr_tree.specs.Exprs.{names_of}
 use Rattle.gr_syntax.specs.Reading.{loop, names_turn, names_at}
 use Rattle.gr_syntax.proofs.look.names.Given as goal
 
-abbrev pub invariant-loop-value : goal.invariant-loop-value
-invariant-loop-value l = record {
-  gives : loop names_turn (names_of l.value.items, 0, tokens_of l.rest) ≡ names_at (tokens_of l.fn.tokens);
-  shorter : length l.rest ≤ length l.fn.tokens;
+abbrev pub invariant-loop-found : goal.invariant-loop-found
+invariant-loop-found l = record {
+  gives : loop names_turn (names_of l.found.value.items, 0, tokens_of l.found.rest.now) ≡ names_at (tokens_of l.fn.tokens);
+  low : l.found.height ≡ 0;
+  shorter : length l.found.rest.now ≤ length l.fn.tokens;
 }
 
-abbrev pub decreases-loop-value : goal.decreases-loop-value
-decreases-loop-value l = length l.rest
+abbrev pub decreases-loop-found : goal.decreases-loop-found
+decreases-loop-found l = length l.found.rest.now

@@ -50,18 +50,18 @@ decreases-keyed l = 8 * l.below + 5
 
 abbrev pub invariant-list-loop-alloc : goal.invariant-list-loop-alloc
 invariant-list-loop-alloc l = record {
-  gives : loop (list_turn (statement_at l.limit)) (statements_of l.value.items, l.height, tokens_of l.rest) ≡ list_at (statement_at l.fn.limit) (tokens_of l.fn.tokens);
-  fits : l.height ≤ l.limit;
+  gives : loop (list_turn (statement_at l.limit)) (statements_of l.found.value.items, l.found.height, tokens_of l.found.rest.now) ≡ list_at (statement_at l.fn.limit) (tokens_of l.fn.tokens);
+  fits : l.found.height ≤ l.limit;
 }
 
 abbrev pub decreases-list-loop-alloc : goal.decreases-list-loop-alloc
-decreases-list-loop-alloc l = length l.rest
+decreases-list-loop-alloc l = length l.found.rest.now
 
 abbrev pub invariant-clauses-loop-more : goal.invariant-clauses-loop-more
 invariant-clauses-loop-more l = record {
-  gives : loop (clause_turn l.limit (statement_at l.limit)) (clauses_of l.value.items, l.height, tokens_of l.rest) ≡ clauses_at l.fn.limit (statement_at l.fn.limit) (tokens_of l.fn.tokens);
-  fits : l.height ≤ l.limit;
+  gives : loop (clause_turn l.limit (statement_at l.limit)) (clauses_of l.found.value.items, l.found.height, tokens_of l.found.rest.now) ≡ clauses_at l.fn.limit (statement_at l.fn.limit) (tokens_of l.fn.tokens);
+  fits : l.found.height ≤ l.limit;
 }
 
 abbrev pub decreases-clauses-loop-more : goal.decreases-clauses-loop-more
-decreases-clauses-loop-more l = length l.rest
+decreases-clauses-loop-more l = length l.found.rest.now
