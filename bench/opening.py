@@ -19,6 +19,13 @@ from front import mixed
 ROUNDS = 10
 # How many times as fast as Go's front it is to be at least.
 SOURCES = (("one long function", large_source, 2.0), ("functions of all forms", mixed, 2.5))
+LEVELS = 150
+
+
+def nested(size):
+    """A source of blocks in blocks. Of the texts of 1 MiB that were tried, it takes the most memory."""
+    head, line, tail = "package main\nfunc main() {\n", "{" * LEVELS + "}" * LEVELS + "\n", "}\n"
+    return head + line * ((size - len(head) - len(tail)) // len(line)) + tail
 
 
 def clock(command):
@@ -43,6 +50,9 @@ def main():
             megabytes = peak([program, file]) / 1e6
             print("opening 1 MiB, %s: %.0f ms, %.0f MB; Go %.0f ms; %.2f times as fast (at least %.1f)"
                   % (what, own, megabytes, other, other / own, wanted), flush=True)
+        with open(file, "w", encoding="utf-8") as source:
+            source.write(nested(SOURCE_LIMIT))
+        print("opening 1 MiB, blocks in blocks: %.0f MB (at most 150)" % (peak([program, file]) / 1e6))
 
 
 if __name__ == "__main__":
