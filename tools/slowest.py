@@ -14,7 +14,8 @@ import os
 import re
 
 # What the toolchain writes for a function, beside the files of its folder in proofs/.
-PARTS = re.compile(r"(\.(Code|Mir|Statement|Key|Symbol|Layout|Kinds[-0-9]*|Lts[^.]*|Named|Met|Reads|Tie|Proof|TheLink|TheImpl|Goals|Given))+$")
+PARTS = re.compile(r"(\.(Code|Mir|Statement|Key|Symbol|Layout|Kinds[-0-9]*|Lts[^.]*|Named|Met|Reads|Tie|Proof|Goals|Given"
+                   r"|TheLink|TheImpl))+$")
 
 
 def modules(crate):
@@ -46,7 +47,8 @@ def seconds_of(crate):
 
 
 def table(heading, rows):
-    return "\n".join([f"| Crate | {heading} | Seconds |", "|---|---|---|", *(f"| {crate} | `{name}` | {seconds:.1f} |" for seconds, crate, name in rows)])
+    lines = [f"| {crate} | `{name}` | {seconds:.1f} |" for seconds, crate, name in rows]
+    return "\n".join([f"| Crate | {heading} | Seconds |", "|---|---|---|", *lines])
 
 
 def main():
