@@ -99,7 +99,7 @@ pub fn literal_length(text: &[u8], at: usize) -> Result<usize, ScanError>
 }
 
 /// The bytes that a string literal stands for.
-pub fn value(alloc: Global, literal: &[u8]) -> Result<Vec<u8>, AllocError>
+fn value(alloc: Global, literal: &[u8]) -> Result<Vec<u8>, AllocError>
     ensures { IfOk result (λ v. IfSome (text_of literal.now) (λ bytes. v.items ≡ bytes)) }
 {
     let mut value = Vec::new(alloc);
