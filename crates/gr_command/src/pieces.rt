@@ -1,8 +1,8 @@
 //! Pieces of replies. Each is appended to a text. Where there is no room for it, the text may end in a beginning of it.
 
-ghost use Rattle.std.specs.Prelude.{◌≡◌, ◌++◌, decimal, OnOk, OnErr};
-ghost use Rattle.gr_command.specs.Room.{Grows, IsFull};
-ghost use Rattle.gr_command.specs.Texts.{row, rows, spaced, each_spaced};
+ghost use Rattle.std.specs.Prelude.{◌≡◌, ◌++◌, ◌≤◌, decimal, vec_capacity};
+ghost use Rattle.gr_command.specs.Room.{Puts};
+ghost use Rattle.gr_command.specs.Texts.{rows, each_spaced};
 
 use gr_base::NoMemory;
 use itoa::Buffer;
@@ -15,86 +15,151 @@ pub(crate) trait Written {
 
     /// Appends the text.
     fn put_into(&self, text: &mut Vec<u8>) -> Result<(), NoMemory>
-        ensures ok { OnOk result (text.new.items ≡ text.old.items ++ text_of self.now) }
-        ensures full { OnErr result (IsFull text.old (text_of self.now)) }
-        ensures grows { Grows text.old text.new };
+        ensures { Puts result text.old text.new (text_of self.now) };
 }
 
 /// Appends the bytes.
-#[tactic(auto, using(crate::proofs::Growing::grows_same, crate::proofs::Growing::grows_append))]
 pub(crate) fn put(text: &mut Vec<u8>, piece: &[u8]) -> Result<(), NoMemory>
-    ensures ok { OnOk result (text.new.items ≡ text.old.items ++ piece.now) }
-    ensures full { OnErr result (IsFull text.old piece.now) }
-    ensures grows { Grows text.old text.new }
+    ensures { Puts result text.old text.new piece.now }
 {
     Ok(text.extend_from_slice(piece)?)
 }
 
 /// Makes room for this many bytes, where it can be had.
-#[tactic(auto, using(crate::proofs::Growing::grows_same))]
 pub(crate) fn make_room(text: &mut Vec<u8>, bytes: usize)
     ensures items { text.new.items ≡ text.old.items }
-    ensures grows { Grows text.old text.new }
+    ensures capacity { vec_capacity text.old ≤ vec_capacity text.new }
 {
     let _ = text.reserve(bytes);
 }
 
 /// Appends the number in decimal.
-#[tactic(auto, using(crate::proofs::Growing::grows_same, crate::proofs::Growing::grows_then))]
-pub(crate) fn put_number(text: &mut Vec<u8>, n: u64) -> Result<(), NoMemory>
-    ensures ok { OnOk result (text.new.items ≡ text.old.items ++ decimal n) }
-    ensures full { OnErr result (IsFull text.old (decimal n)) }
-    ensures grows { Grows text.old text.new }
+fn put_number(text: &mut Vec<u8>, n: u64) -> Result<(), NoMemory>
+    ensures { Puts result text.old text.new (decimal n) }
 {
     let mut buffer = Buffer::new();
     put(text, buffer.format(n).as_bytes())
 }
 
-/// Appends this after a space.
-#[tactic(auto, using(crate::proofs::Growing::grows_then))]
-fn put_after_space<W: Written>(text: &mut Vec<u8>, item: &W) -> Result<(), NoMemory>
-    ensures ok { OnOk result (text.new.items ≡ text.old.items ++ spaced (W.text_of item.now)) }
-    ensures full { OnErr result (IsFull text.old (spaced (W.text_of item.now))) }
-    ensures grows { Grows text.old text.new }
+/// Appends two pieces.
+pub(crate) fn put_two<A: Written, B: Written>(
+    text: &mut Vec<u8>,
+    first: &A,
+    second: &B,
+) -> Result<(), NoMemory>
+    ensures { Puts result text.old text.new (A.text_of first.now ++ B.text_of second.now) }
 {
-    put(text, b" ")?;
-    item.put_into(text)
+    first.put_into(text)?;
+    second.put_into(text)
+}
+
+/// Appends three pieces.
+pub(crate) fn put_three<A: Written, B: Written, C: Written>(
+    text: &mut Vec<u8>,
+    first: &A,
+    second: &B,
+    third: &C,
+) -> Result<(), NoMemory>
+    ensures { Puts result text.old text.new (A.text_of first.now ++ (B.text_of second.now ++ C.text_of third.now)) }
+{
+    first.put_into(text)?;
+    put_two(text, second, third)
 }
 
 /// Appends each of these after a space.
-#[tactic(auto, using(crate::proofs::Growing::grows_same, crate::proofs::Growing::grows_then))]
-pub(crate) fn put_spaced<W: Written>(text: &mut Vec<u8>, items: &[W]) -> Result<(), NoMemory>
-    ensures ok { OnOk result (text.new.items ≡ text.old.items ++ each_spaced W.text_of items.now) }
-    ensures full { OnErr result (IsFull text.old (each_spaced W.text_of items.now)) }
-    ensures grows { Grows text.old text.new }
+fn put_spaced<W: Written>(text: &mut Vec<u8>, items: &[W]) -> Result<(), NoMemory>
+    ensures { Puts result text.old text.new (each_spaced W.text_of items.now) }
 {
     for item in items {
-        put_after_space(text, item)?;
+        put_two(text, b" ", item)?;
     }
     Ok(())
-}
-
-/// Appends this as a row.
-#[tactic(auto, using(crate::proofs::Growing::grows_then))]
-pub(crate) fn put_row<W: Written>(text: &mut Vec<u8>, item: &W) -> Result<(), NoMemory>
-    ensures ok { OnOk result (text.new.items ≡ text.old.items ++ row (W.text_of item.now)) }
-    ensures full { OnErr result (IsFull text.old (row (W.text_of item.now))) }
-    ensures grows { Grows text.old text.new }
-{
-    put(text, b"| ")?;
-    item.put_into(text)?;
-    put(text, b"\n")
 }
 
 /// Appends each of these as a row.
-#[tactic(auto, using(crate::proofs::Growing::grows_same, crate::proofs::Growing::grows_then))]
-pub(crate) fn put_rows<W: Written>(text: &mut Vec<u8>, items: &[W]) -> Result<(), NoMemory>
-    ensures ok { OnOk result (text.new.items ≡ text.old.items ++ rows W.text_of items.now) }
-    ensures full { OnErr result (IsFull text.old (rows W.text_of items.now)) }
-    ensures grows { Grows text.old text.new }
+fn put_rows<W: Written>(text: &mut Vec<u8>, items: &[W]) -> Result<(), NoMemory>
+    ensures { Puts result text.old text.new (rows W.text_of items.now) }
 {
     for item in items {
-        put_row(text, item)?;
+        put_three(text, b"| ", item, b"\n")?;
     }
     Ok(())
+}
+
+impl<const N: usize> Written for [u8; N] {
+    ghost text_of = { λ bytes. bytes };
+
+    fn put_into(&self, text: &mut Vec<u8>) -> Result<(), NoMemory> {
+        put(text, self)
+    }
+}
+
+impl Written for &[u8] {
+    ghost text_of = { λ bytes. bytes.now };
+
+    fn put_into(&self, text: &mut Vec<u8>) -> Result<(), NoMemory> {
+        put(text, self)
+    }
+}
+
+impl Written for Vec<u8> {
+    ghost text_of = { λ bytes. bytes.items };
+
+    fn put_into(&self, text: &mut Vec<u8>) -> Result<(), NoMemory> {
+        put(text, self.as_slice())
+    }
+}
+
+impl Written for u32 {
+    ghost text_of = { decimal };
+
+    fn put_into(&self, text: &mut Vec<u8>) -> Result<(), NoMemory> {
+        put_number(text, u64::from(*self))
+    }
+}
+
+impl Written for u64 {
+    ghost text_of = { decimal };
+
+    fn put_into(&self, text: &mut Vec<u8>) -> Result<(), NoMemory> {
+        put_number(text, *self)
+    }
+}
+
+/// Items, each after a space.
+#[derive(Drop)]
+pub(crate) struct EachSpaced<'a, W>(pub(crate) &'a [W]);
+
+impl<W: Written> Written for EachSpaced<'_, W> {
+    ghost text_of = { λ each. each_spaced W.text_of each.0.now };
+
+    fn put_into(&self, text: &mut Vec<u8>) -> Result<(), NoMemory> {
+        put_spaced(text, self.0)
+    }
+}
+
+/// A line as a row.
+#[derive(Drop)]
+pub(crate) struct RowOf<'a, W>(pub(crate) &'a W);
+
+impl<W: Written> Written for RowOf<'_, W> {
+    ghost use Rattle.gr_command.specs.Texts.{row};
+
+    ghost text_of = { λ line. row (W.text_of line.0.now) };
+
+    fn put_into(&self, text: &mut Vec<u8>) -> Result<(), NoMemory> {
+        put_three(text, b"| ", self.0, b"\n")
+    }
+}
+
+/// Lines, each as a row.
+#[derive(Drop)]
+pub(crate) struct RowsOf<'a, W>(pub(crate) &'a [W]);
+
+impl<W: Written> Written for RowsOf<'_, W> {
+    ghost text_of = { λ lines. rows W.text_of lines.0.now };
+
+    fn put_into(&self, text: &mut Vec<u8>) -> Result<(), NoMemory> {
+        put_rows(text, self.0)
+    }
 }

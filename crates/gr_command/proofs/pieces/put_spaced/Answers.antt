@@ -1,10 +1,23 @@
 use Rattle.gr_command.specs.Texts.{spaced}
-use Rattle.gr_command.proofs.Growing.{on_err, full_within}
+use Rattle.gr_command.proofs.Growing.{leads_on, leads_up, leads_short}
 use Rattle.gr_command.proofs.pieces.put_spaced.Goals as goal
 
-pub returns-in_err-put_after_space-clause-full : goal.returns-in_err-put_after_space-clause-full
-returns-in_err-put_after_space-clause-full g c =
+pub loop-item-init : goal.loop-item-init
+loop-item-init g c r d puts = puts
+
+pub loop-item-preserved : goal.loop-item-preserved
+loop-item-preserved g c =
     let loop = c.loop-item in
-    on_err c.from_residual.result
-    (full_within (λ x. spaced (g.W.Written.text_of x)) c.args.items.now loop.item-index c.item-item.result c.args.text.now loop.text
-    c.loop-item-test.true c.item-item.is loop.invariant.left loop.invariant.grows c.in_err-put_after_space.ensures.full)
+    leads_on (λ x. spaced (g.W.Written.text_of x)) c.args.items.now loop.item-index c.item-item.result c.loop-item-test.true c.item-item.is
+    loop.invariant c.in_ok-put_two.ensures
+
+pub returns : goal.returns
+returns g c =
+    let loop = c.loop-item in
+    leads_up (λ x. spaced (g.W.Written.text_of x)) c.args.items.now loop.item-index c.loop-item-test.false loop.invariant
+
+pub returns-in_err-put_two : goal.returns-in_err-put_two
+returns-in_err-put_two g c =
+    let loop = c.loop-item in
+    leads_short (λ x. spaced (g.W.Written.text_of x)) c.args.items.now loop.item-index c.item-item.result c.loop-item-test.true c.item-item.is
+    loop.invariant c.from_residual.ensures.0 c.in_err-put_two.ensures

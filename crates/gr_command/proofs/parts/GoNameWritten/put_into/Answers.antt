@@ -1,0 +1,7 @@
+use Rattle.gr_command.proofs.Growing.{puts_whole}
+use Rattle.gr_command.proofs.parts.GoNameWritten.put_into.Goals as goal
+
+pub returns : goal.returns
+returns c =
+    let told = c.print_go.ensures in
+    puts_whole c.print_go.result told.ok told.err told.full told.capacity
