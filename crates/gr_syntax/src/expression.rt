@@ -3,44 +3,19 @@
 ghost use Rattle.std.specs.Prelude.{◌≡◌, ◌+◌, ◌<◌, ◌≤◌, IfOk, ◌^◌, length};
 ghost use Rattle.gr_scan.specs.Tokens.{tokens_of};
 ghost use Rattle.gr_tree.specs.Exprs.{tree_of, trees_of, type_of};
-ghost use Rattle.gr_syntax.specs.Grammar.{level};
-ghost use Rattle.gr_syntax.specs.Reading.{joined, size_at, ends_at, exprs_at, arguments_at, call_at, close_at, make_at, named_at};
+ghost use Rattle.gr_syntax.specs.Reading.{size_at, ends_at, exprs_at, arguments_at, call_at, close_at, make_at, named_at};
 ghost use Rattle.gr_syntax.specs.Reading.{unit_at, paren_at, word_at, unary_at, type_at, expr_at};
 ghost use Rattle.gr_syntax.specs.Views.{Gives, Finds, found_of, AtMost, Shorter, NoLonger};
 
+use crate::joining::{join, precedence};
 use crate::look::{
     Found, ReadError, Tokens, abandon, after, binary, boxed, boxed_copy, copy, fitted, is_the_make,
     needed, next, unary,
 };
 use crate::types::type_tree;
 use gr_scan::token::{Kind, Mark};
-use gr_tree::{BinaryOp, Expr, TypeTree};
-use std::alloc::{AllocError, Global};
-
-/// How strongly an operator binds (Go: Operator precedence).
-fn precedence(op: BinaryOp) -> u32
-    ensures value { result ≡ level op }
-    ensures low { result ≤ 5 }
-{
-    match op {
-        BinaryOp::Multiply
-        | BinaryOp::Divide
-        | BinaryOp::Remainder
-        | BinaryOp::ShiftLeft
-        | BinaryOp::ShiftRight
-        | BinaryOp::BitAnd
-        | BinaryOp::AndNot => 5,
-        BinaryOp::Add | BinaryOp::Subtract | BinaryOp::BitOr | BinaryOp::BitXor => 4,
-        BinaryOp::Equal
-        | BinaryOp::NotEqual
-        | BinaryOp::Less
-        | BinaryOp::LessEqual
-        | BinaryOp::Greater
-        | BinaryOp::GreaterEqual => 3,
-        BinaryOp::LogicalAnd => 2,
-        BinaryOp::LogicalOr => 1,
-    }
-}
+use gr_tree::{Expr, TypeTree};
+use std::alloc::Global;
 
 /// A precedence above that of every binary operator: that of a unary operator's operand.
 const TIGHT: u32 = 6;
@@ -261,34 +236,6 @@ pub(crate) fn operand<'a, 't>(
         Some(rest) => unit(rest),
         None => word(alloc, below, tokens),
     }
-}
-
-/// Two operands joined by this operator.
-fn join<'a, 't>(
-    alloc: Global,
-    op: BinaryOp,
-    left: Found<'a, 't, Expr>,
-    right: Found<'a, 't, Expr>,
-) -> Result<Found<'a, 't, Expr>, AllocError>
-    requires left { left.height < 2 ^ 31 }
-    requires right { right.height < 2 ^ 31 }
-    ensures joined { IfOk result (λ f. found_of tree_of f
-        ≡ joined op (found_of tree_of left.entry) (found_of tree_of right.entry)) }
-    ensures rest { IfOk result (λ f. length f.rest.now ≡ length right.entry.rest.now) }
-{
-    let height = left.height.max(right.height) + 1;
-    let rest = right.rest;
-    let Ok(left) = boxed(alloc, left.value) else {
-        return abandon(right, AllocError);
-    };
-    let Ok(right) = boxed(alloc, right.value) else {
-        return abandon(left, AllocError);
-    };
-    Ok(Found {
-        value: Expr::Binary(op, left, right),
-        height,
-        rest,
-    })
 }
 
 /// An expression of at most this height, whose operators bind at least as strongly as `level`, by precedence climbing.

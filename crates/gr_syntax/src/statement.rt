@@ -1,27 +1,23 @@
-//! Reading statements, their lists and blocks, and the clauses of a select.
+//! Reading statements, their lists and blocks.
 
 ghost use Rattle.std.specs.Prelude.{◌+◌, ◌<◌, ◌≤◌, ◌^◌};
 ghost use Rattle.gr_scan.specs.Tokens.{tokens_of};
 ghost use Rattle.gr_tree.specs.Exprs.{Name};
 ghost use Rattle.gr_tree.specs.Statements.{if_of, statement_of, statements_of};
 ghost use Rattle.gr_syntax.specs.StatementReading.{name_open, labelled_at, list_at, block_at, else_at, if_at, for_at};
-ghost use Rattle.gr_syntax.specs.StatementReading.{clause_body_at, clauses_at, select_at, braced_at, open_at, keyed_at};
-ghost use Rattle.gr_syntax.specs.StatementReading.{statement_at};
-ghost use Rattle.gr_syntax.specs.CodeViews.{clauses_of};
+ghost use Rattle.gr_syntax.specs.StatementReading.{braced_at, open_at, keyed_at, statement_at};
 ghost use Rattle.gr_syntax.specs.StatementViews.{closed_of};
 ghost use Rattle.gr_syntax.specs.Views.{Finds, found_of, AtMost};
 
 use crate::action::{break_from, continue_from, go, returned, var};
-use crate::assembly::{
-    acts, block_stmt, for_stmt, if_else, if_else_if, if_stmt, plain, select_stmt,
-};
-use crate::communication::communication;
+use crate::assembly::{acts, block_stmt, for_stmt, if_else, if_else_if, if_stmt, plain};
 use crate::expression::expr;
 use crate::heading::{for_head, if_head, place};
 use crate::look::{Found, ReadError, Tokens, abandon, after, boxed, fitted, needed, push};
 use crate::opening::{Keyword, ends, first_keyword, past_semicolon, stops};
+use crate::selecting::select;
 use gr_scan::token::{Mark, Place};
-use gr_tree::{Clause, Expr, IfHead, Stmt};
+use gr_tree::{Expr, IfHead, Stmt};
 use std::alloc::Global;
 
 /// The statement after a label and its colon; it is of at most this height.
@@ -121,7 +117,7 @@ fn opened<'a, 't>(
 /// The statements up to a `}` or to the next clause of a select, each of at most this height.
 #[cycle(statement)]
 #[tactic(auto, unfolding(crate::specs::StatementReading::list_at))]
-fn list<'a, 't>(
+pub(crate) fn list<'a, 't>(
     alloc: Global,
     limit: u32,
     tokens: Tokens<'a, 't>,
@@ -291,86 +287,6 @@ fn looped<'a, 't>(
         value: for_stmt(place, head.value, body.value.0),
         height: head.height.max(body.height) + 1,
         rest: body.rest,
-    })
-}
-
-/// What a clause of a select does, from its colon on; its statements are of at most this height.
-#[cycle(statement)]
-fn clause_body<'a, 't>(
-    alloc: Global,
-    limit: u32,
-    tokens: Tokens<'a, 't>,
-) -> Result<Found<'a, 't, Vec<Stmt>>, ReadError>
-    requires { limit < 2 ^ 29 }
-    ensures gives { Finds (λ v. statements_of v.items) tokens.now result (clause_body_at (statement_at limit)) }
-    ensures fits { AtMost limit result }
-{
-    let (_, rest) = needed(Mark::Colon, tokens)?;
-    list(alloc, limit, rest)
-}
-
-/// The clauses of a select; what they wait for and their statements are of at most this height.
-#[cycle(statement)]
-#[tactic(auto, unfolding(crate::specs::StatementReading::clauses_at))]
-fn clauses<'a, 't>(
-    alloc: Global,
-    limit: u32,
-    tokens: Tokens<'a, 't>,
-) -> Result<Found<'a, 't, Vec<Clause>>, ReadError>
-    requires { limit < 2 ^ 29 }
-    ensures gives { Finds (λ v. clauses_of v.items) tokens.now result (clauses_at limit (statement_at limit)) }
-    ensures fits { AtMost limit result }
-{
-    let mut found = Found {
-        value: Vec::new(alloc),
-        height: 0,
-        rest: tokens,
-    };
-    loop {
-        if let Some(more) = after(Mark::Case, found.rest) {
-            let awaited = communication(alloc, limit, more)?;
-            let body = match clause_body(alloc, limit, awaited.rest) {
-                Ok(body) => body,
-                Err(fault) => return abandon(awaited, fault),
-            };
-            push(&mut found.value, Clause::Case(awaited.value, body.value))?;
-            found.height = found.height.max(awaited.height.max(body.height));
-            found.rest = body.rest;
-            continue;
-        }
-        let Some(more) = after(Mark::Default, found.rest) else {
-            return Ok(found);
-        };
-        let body = clause_body(alloc, limit, more)?;
-        push(&mut found.value, Clause::Default(body.value))?;
-        found.height = found.height.max(body.height);
-        found.rest = body.rest;
-    }
-}
-
-/// A select, after its keyword; its parts are of at most this height.
-#[cycle(statement)]
-#[tactic(auto, unfolding(crate::specs::StatementReading::select_at))]
-fn select<'a, 't>(
-    alloc: Global,
-    below: u32,
-    place: Place,
-    tokens: Tokens<'a, 't>,
-) -> Result<Found<'a, 't, Stmt>, ReadError>
-    requires { below < 2 ^ 29 }
-    ensures gives { Finds statement_of tokens.now result (select_at below (statement_at below) place) }
-    ensures fits { AtMost (below + 1) result }
-{
-    let (_, rest) = needed(Mark::LeftBrace, tokens)?;
-    let found = clauses(alloc, below, rest)?;
-    let (_, rest) = match needed(Mark::RightBrace, found.rest) {
-        Ok(past) => past,
-        Err(fault) => return abandon(found, fault),
-    };
-    Ok(Found {
-        value: select_stmt(place, found.value),
-        height: found.height + 1,
-        rest,
     })
 }
 
