@@ -42,10 +42,10 @@ longer n m k h = omega arith
 all_of : (had has : Option (List ℕ)) (text : List ℕ) (P : List ℕ → Type 0) → SourceRead had has text
     → (IsAtEnd has → P text) → (TEXT_LIMIT < length text → (all : List ℕ) → TEXT_LIMIT < length all → P all) → IfSome had P
 all_of None has text P h ends long = tt
-all_of (Some all) None text P h ends long = absurd h.0
-all_of (Some all) (Some rest) text P h ends long = elim h.1 [
-  | inl e ↦ rw (h.0 ∙ ap (λ t. text ++ t) e ∙ append-nil text) (ends e)
-  | inr more ↦ long more all (rw (h.0, length-append text rest) (longer TEXT_LIMIT (length text) (length rest) more))
+all_of (Some all) None text P h ends long = absurd h.taken
+all_of (Some all) (Some rest) text P h ends long = elim h.enough [
+  | inl e ↦ rw (h.taken ∙ ap (λ t. text ++ t) e ∙ append-nil text) (ends e)
+  | inr more ↦ long more all (rw (h.taken, length-append text rest) (longer TEXT_LIMIT (length text) (length rest) more))
 ]
 
 known : (had has : Option (List ℕ)) (text : List ℕ) → Consumes had has text → IsAtEnd has → IfSome had (λ all. all ≡ text)
@@ -56,9 +56,9 @@ known (Some all) (Some rest) text h e = h ∙ ap (λ t. text ++ t) e ∙ append-
 pub opened : (had has : Option (List ℕ)) (text : List ℕ) (program : Program) → SourceRead had has text → IsProgramOf text program → Opened had has program
 opened had has text program h is = record {
   text = text;
-  taken = h.0;
-  whole = elim h.1 [
-    | inl e ↦ known had has text h.0 e
+  taken = h.taken;
+  whole = elim h.enough [
+    | inl e ↦ known had has text h.taken e
     | inr long ↦ absurd (long_source text long program is)
   ];
   is_program = is;
@@ -68,7 +68,8 @@ pub unopened : (error : OpenError) (had has : Option (List ℕ)) (text : List �
     → (error ≡ opening.Scan scanning.TooLong None) ↔ (TEXT_LIMIT < length text) → Unopened error had has
 unopened error had has text h says when = record {
   text = text;
-  taken = h.0;
+  taken = h.taken;
+  bound = h.bound;
   refused = says;
   whole = all_of had has text (λ all. SaysWhy error all) h (λ e. says) (λ more all long. long_refused error all (when.1 more) long);
 }

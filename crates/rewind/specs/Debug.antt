@@ -1,5 +1,5 @@
 -- A session from its source to its last reply.
-use Rattle.std.specs.Prelude.{◌≡◌, ℕ, ◌<◌, List, [], length, Option, IfSome, ◌⊎◌}
+use Rattle.std.specs.Prelude.{◌≡◌, ℕ, ◌+◌, ◌<◌, ◌≤◌, List, [], length, Option, IfSome, ◌⊎◌}
 use Rattle.std.specs.Io.KnownBytes.{Keeps, Consumes, IsAtEnd}
 use Rattle.gr_scan.specs.declared.scan.TheConstants.{TEXT_LIMIT}
 use Rattle.gr_program.specs.Programs.{Program}
@@ -10,6 +10,7 @@ use Rattle.gr_share.specs.Source.{IsProgramOf}
 use Rattle.gr_share.specs.Refused.{SaysWhy}
 use Rattle.rewind.specs.declared.stream.ServeFault.{ServeFault}
 use Rattle.rewind.specs.declared.stream.ServeFault.TheVariants.{Read, Write, Memory}
+use Rattle.rewind.specs.declared.debug.TheConstants.{BLOCK}
 use Rattle.rewind.specs.declared.debug.DebugFault.{DebugFault}
 use Rattle.rewind.specs.declared.debug.DebugFault.TheVariants.{Source, Open, Serve, Threads}
 use Rattle.rewind.specs.Stream.{of_session}
@@ -17,9 +18,11 @@ use Rattle.rewind.specs.Served.{ServedAll}
 use Rattle.rewind.specs.Devices.{Change, Fails, NeverFails}
 use Rattle.rewind.specs.Fault.{Left, Blames}
 
--- these bytes of a source were read: all, or more than a text may have
-abbrev pub SourceRead : Option (List ℕ) → Option (List ℕ) → List ℕ → Type 0
-SourceRead had has text = Consumes had has text × (IsAtEnd has ⊎ (TEXT_LIMIT < length text))
+-- these bytes of a source were read: all, or more than a text may have, and at most a block more
+pub record SourceRead (had has : Option (List ℕ)) (text : List ℕ) : Type 0 where
+  pub taken : Consumes had has text
+  pub enough : IsAtEnd has ⊎ (TEXT_LIMIT < length text)
+  pub bound : length text ≤ TEXT_LIMIT + BLOCK
 
 -- the source gave a text, all that there was, whose program this is
 pub record Opened (had has : Option (List ℕ)) (program : Program) : Type 0 where
@@ -32,10 +35,11 @@ pub record Opened (had has : Option (List ℕ)) (program : Program) : Type 0 whe
 abbrev pub Accepted : Change → Type 0
 Accepted source = (program : Program) × Opened source.old.bytes source.new.bytes program
 
--- the source was not opened, and the error says why
+-- the source was not opened, and the error says why; of a source that is too long at most a block too much was read
 pub record Unopened (error : OpenError) (had has : Option (List ℕ)) : Type 0 where
   pub text : List ℕ
   pub taken : Consumes had has text
+  pub bound : length text ≤ TEXT_LIMIT + BLOCK
   pub refused : SaysWhy error text
   pub whole : IfSome had (λ all. SaysWhy error all)
 

@@ -33,7 +33,7 @@ pub enum DebugFault {
 // How many bytes of a source are read at once.
 const BLOCK: usize = 8192;
 
-// The bytes of the source; of a source that is too long, more than a text may have.
+// The bytes of the source; of a source that is too long, more than a text may have, and at most a block more.
 fn read_source<S: Read>(source: &mut Counted<S>, text: &mut Vec<u8>) -> Result<(), LineError>
     requires { length text.old.items ≡ 0 }
     ensures ok { OnOk result
@@ -104,8 +104,9 @@ pub fn check<S: Read>(alloc: Global, source: &mut Counted<S>) -> Result<(), Debu
 ///
 /// The session's memory is not given back: this is the last thing that a program does.
 ///
-/// After `Source` and `Open` no command was read and nothing was written; a source of more than 1,048,576 bytes is
-/// not opened. After `Serve` the session stands as `serve` says. The fault names the device that failed, if one did.
+/// After `Source` and `Open` no command was read and nothing was written. A source of more than 1,048,576 bytes is not opened,
+/// and at most 8,192 bytes more are read of it. After `Serve` the session stands as `serve` says. The fault names the device
+/// that failed, if one did.
 pub fn debug<S: Read, R: BufRead, W: Write>(
     alloc: Global,
     source: &mut Counted<S>,
