@@ -1,11 +1,11 @@
 -- Texts that get longer at their end.
 use Rattle.std.proofs.Common.{◌≡◌, ℕ, suc, ◌+◌, ◌<◌, ◌≤◌, List, [], ◌++◌, Vec, vec_capacity, length, take, drop, get_or, OnOk, OnErr, Ok, Err, Global}
-use Rattle.std.proofs.Common.{false, true, refl, sym, ap, ◌∙◌, append-nil, append_assoc, length-append, drop-cons, add-one, arith}
+use Rattle.std.proofs.Common.{refl, sym, ap, ◌∙◌, append-nil, append_assoc, length-append, drop-cons, add-one, arith}
 use Rattle.std.specs.List.{flat_map}
 use Rattle.std.specs.Result.{IsErr}
 use Rattle.std.specs.declared.result.Result.{Result}
 use Rattle.std.proofs.lemmas.List.{take_all, take-append-le, drop_all}
-use Rattle.std.proofs.lemmas.Result.{on_ok_weaker}
+use Rattle.std.proofs.lemmas.Result.{on_ok_weaker, on_err_weaker, IfOk-from_err}
 use Rattle.gr_base.specs.declared.memory.NoMemory.{NoMemory}
 use Rattle.gr_command.specs.Room.{Grows, IsFull, Puts}
 
@@ -25,17 +25,9 @@ grows_then a b c h k = record {
 pub cut_back : (a b : Vec ℕ Global) → Grows a b → take (length a.items) b.items ≡ a.items
 cut_back a b h = rw h.items (take-append-le (length a.items) a.items h.more (omega arith) ∙ take_all (length a.items) a.items (omega arith))
 
-never_ok : {T E : Type 0} (r : Result T E) (P : Type 0) → IsErr r → OnOk r P
-never_ok (Ok v) P is = absurd (let e : false ≡ true = is in cc)
-never_ok (Err e) P is = tt
-
 on_err : {T E P : Type 0} (r : Result T E) → P → OnErr r P
 on_err (Ok v) p = tt
 on_err (Err e) p = p
-
-on_err_weaker : {T E P Q : Type 0} (r : Result T E) → (P → Q) → OnErr r P → OnErr r Q
-on_err_weaker (Ok v) f p = tt
-on_err_weaker (Err e) f p = f p
 
 pub puts_all : {T E : Type 0} {v : T} {a b : Vec ℕ Global} {xs : List ℕ} → b.items ≡ a.items ++ xs → vec_capacity a ≤ vec_capacity b
     → Puts {T = T} {E = E} (Ok v) a b xs
@@ -46,7 +38,7 @@ puts_nothing a = puts_all (sym (append-nil a.items)) (omega arith)
 
 pub puts_none : {T E : Type 0} {r : Result T E} (a b : Vec ℕ Global) {xs : List ℕ} → IsErr r → b.items ≡ a.items → IsFull a xs
     → vec_capacity a ≤ vec_capacity b → Puts r a b xs
-puts_none {r} a b is items full capacity = record { ok = never_ok r _ is; full = on_err r full; grows = grows_same a b items capacity }
+puts_none {r} a b is items full capacity = record { ok = IfOk-from_err r _ is; full = on_err r full; grows = grows_same a b items capacity }
 
 -- a call that appends a piece, or leaves the text as it was
 pub puts_whole : {T E : Type 0} (r : Result T E) {a b : Vec ℕ Global} {xs : List ℕ} → OnOk r (b.items ≡ a.items ++ xs)
@@ -69,7 +61,7 @@ puts_then {r} {a} {b} {c} {xs} {ys} first rest =
 pub puts_within : {T E : Type 0} {e : E} {r : Result T E} {a b : Vec ℕ Global} {xs : List ℕ} (ys : List ℕ) → IsErr r
     → Puts {T = T} {E = E} (Err e) a b xs → Puts r a b (xs ++ ys)
 puts_within {r} {xs} ys is part = record {
-  ok = never_ok r _ is;
+  ok = IfOk-from_err r _ is;
   full = on_err r (omega (arith, part.full, length-append xs ys));
   grows = part.grows;
 }
