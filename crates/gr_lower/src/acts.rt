@@ -15,7 +15,8 @@ ghost use Rattle.gr_lower.specs.Headings.{ways_of};
 
 use crate::expressions::{lower_expr, lower_exprs, put};
 use crate::nesting::{Ways, leaving, turning};
-use crate::parts::{count, kept, kept_target, kept_targets, sum};
+use crate::parts::{abandon, kept, kept_sum, kept_target, kept_targets, push, sum};
+use crate::sizing::size_of_use;
 use gr_base::NoMemory;
 use gr_code::code::{Action, Ask, Instruction, Operand, Piece};
 use gr_program::program::{Opening, Printed};
@@ -66,8 +67,10 @@ fn perform_all(
         ++ performed (rules.operands_of (exprs_of exprs.now)) first (vec_len out.old) (action_of action)) }
     ensures grown { OnOk result (vec_len out.new ≡ vec_len out.old + (parts_in (rules.operands_of (exprs_of exprs.now)) + 1)) }
 {
-    let operands = lower_exprs(alloc, out, exprs, first)?;
-    perform(out, action, operands)
+    match lower_exprs(alloc, out, exprs, first) {
+        Ok(operands) => perform(out, action, operands),
+        Err(fault) => abandon(action, fault),
+    }
 }
 
 /// Writes the parts of one expression, and then what is done with what is left of it.
@@ -84,9 +87,42 @@ pub fn perform_one(
     ensures grown { OnOk result (vec_len out.new
         ≡ vec_len out.old + (parts_in (rules.one (rules.operand_of (expr_of expr.now))) + 1)) }
 {
-    let operand = lower_expr(alloc, out, expr, first)?;
-    let operands = single(alloc, operand)?;
-    perform(out, action, operands)
+    let operand = match lower_expr(alloc, out, expr, first) {
+        Ok(operand) => operand,
+        Err(fault) => return abandon(action, fault),
+    };
+    match single(alloc, operand) {
+        Ok(operands) => perform(out, action, operands),
+        Err(fault) => abandon(action, fault),
+    }
+}
+
+/// Writes the parts of two expressions, and answers what is left of them.
+fn lower_two(
+    alloc: Global,
+    out: &mut Vec<Instruction>,
+    channel: &Expr,
+    value: &Expr,
+    first: usize,
+) -> Result<Vec<Operand>, NoMemory>
+    ensures code { OnOk result (instructions_of out.new.items ≡ instructions_of out.old.items
+        ++ code_in (rules.two (rules.operand_of (expr_of channel.now)) (rules.operand_of (expr_of value.now))) first
+        (vec_len out.old)) }
+    ensures grown { OnOk result (vec_len out.new ≡ vec_len out.old
+        + parts_in (rules.two (rules.operand_of (expr_of channel.now)) (rules.operand_of (expr_of value.now)))) }
+    ensures value { IfOk result (λ xs. operands_of xs.items
+        ≡ left_in (rules.two (rules.operand_of (expr_of channel.now)) (rules.operand_of (expr_of value.now))) first) }
+{
+    let begins = out.len();
+    let channel = lower_expr(alloc, out, channel, first)?;
+    let next = match sum(first, out.len() - begins) {
+        Ok(next) => next,
+        Err(fault) => return abandon(channel, fault),
+    };
+    match lower_expr(alloc, out, value, next) {
+        Ok(value) => pair(alloc, channel, value),
+        Err(fault) => abandon(channel, fault),
+    }
 }
 
 /// Writes the parts of two expressions, and then what is done with what is left of them.
@@ -104,12 +140,10 @@ fn perform_two(
     ensures grown { OnOk result (vec_len out.new ≡ vec_len out.old
         + (parts_in (rules.two (rules.operand_of (expr_of channel.now)) (rules.operand_of (expr_of value.now))) + 1)) }
 {
-    let begins = out.len();
-    let channel = lower_expr(alloc, out, channel, first)?;
-    let next = sum(first, out.len() - begins)?;
-    let value = lower_expr(alloc, out, value, next)?;
-    let operands = pair(alloc, channel, value)?;
-    perform(out, action, operands)
+    match lower_two(alloc, out, channel, value, first) {
+        Ok(operands) => perform(out, action, operands),
+        Err(fault) => abandon(action, fault),
+    }
 }
 
 /// Writes what is done with no operands.
@@ -176,6 +210,15 @@ fn whole(
     }
 }
 
+/// The operands that take what this temporary and the next one hold.
+fn temporaries(alloc: Global, first: usize) -> Result<Vec<Operand>, NoMemory>
+    ensures { IfOk result (λ xs. operands_of xs.items ≡ rules.two (rules.Variable first) (rules.Variable (first + 1))) }
+{
+    let second = kept_sum(first, 1)?;
+    let first = kept(first)?;
+    pair(alloc, Operand::Variable(first), Operand::Variable(second))
+}
+
 /// Assigns what two temporaries hold.
 pub fn assign_pair(
     alloc: Global,
@@ -188,10 +231,10 @@ pub fn assign_pair(
         ++ spec.Perform (spec.Assigns targets.items on) (rules.two (rules.Variable first) (rules.Variable (first + 1))) ∷ []) }
     ensures grown { OnOk result (vec_len out.new ≡ vec_len out.old + 1) }
 {
-    let second = kept(sum(first, 1)?)?;
-    let first = kept(first)?;
-    let operands = pair(alloc, Operand::Variable(first), Operand::Variable(second))?;
-    perform(out, Action::Assign { targets, on }, operands)
+    match temporaries(alloc, first) {
+        Ok(operands) => perform(out, Action::Assign { targets, on }, operands),
+        Err(fault) => abandon(targets, fault),
+    }
 }
 
 fn two_targets(
@@ -211,7 +254,7 @@ fn two_targets(
 fn receive_two(
     alloc: Global,
     out: &mut Vec<Instruction>,
-    targets: Vec<Option<u32>>,
+    targets: (Option<usize>, Option<usize>),
     channel: &Expr,
     zero: Literal,
     first: usize,
@@ -221,13 +264,14 @@ fn receive_two(
         ++ (performed (rules.one (rules.operand_of (expr_of channel.now))) first (vec_len out.old)
         (spec.AssignsReceived (rules.value_of (literal_of zero)) first (first + 1)
         (vec_len out.old + parts_in (rules.one (rules.operand_of (expr_of channel.now))) + 1))
-        ++ spec.Perform (spec.Assigns targets.items on) (rules.two (rules.Variable first) (rules.Variable (first + 1))) ∷ [])) }
+        ++ spec.Perform (spec.Assigns (targets.0 ∷ targets.1 ∷ []) on)
+        (rules.two (rules.Variable first) (rules.Variable (first + 1))) ∷ [])) }
     ensures grown { OnOk result (vec_len out.new
         ≡ vec_len out.old + (parts_in (rules.one (rules.operand_of (expr_of channel.now))) + 2)) }
 {
     let value = kept(first)?;
-    let ok = kept(sum(first, 1)?)?;
-    let next = kept(sum(sum(out.len(), count(channel)?)?, 1)?)?;
+    let ok = kept_sum(first, 1)?;
+    let next = kept_sum(out.len(), size_of_use(channel)?)?;
     let action = Action::AssignReceived {
         zero,
         value,
@@ -235,6 +279,7 @@ fn receive_two(
         on: next,
     };
     perform_one(alloc, out, channel, first, action)?;
+    let targets = two_targets(alloc, targets.0, targets.1)?;
     assign_pair(alloc, out, targets, first, on)
 }
 
@@ -253,7 +298,7 @@ fn pieces(alloc: Global, values: &[Printed]) -> Result<Vec<Piece>, NoMemory>
     let mut found = Vec::new(alloc);
     for printed in values {
         let next = piece(alloc, printed)?;
-        found.push(next)?;
+        push(&mut found, next)?;
     }
     Ok(found)
 }
@@ -278,7 +323,7 @@ fn lower_printed(
             continue
         };
         let operand = lower_expr(alloc, out, value, next)?;
-        operands.push(operand)?;
+        push(&mut operands, operand)?;
     }
     Ok(operands)
 }
@@ -297,8 +342,10 @@ fn print(
         ≡ vec_len out.old + (parts_in (points.printed_operands (prints_of values.now)) + 1)) }
 {
     let pieces = pieces(alloc, values)?;
-    let operands = lower_printed(alloc, out, values, first)?;
-    perform(out, Action::Print { pieces, on }, operands)
+    match lower_printed(alloc, out, values, first) {
+        Ok(operands) => perform(out, Action::Print { pieces, on }, operands),
+        Err(fault) => abandon(pieces, fault),
+    }
 }
 
 /// A jump; one that leads nowhere is in no checked program.
@@ -336,10 +383,7 @@ pub fn lower_act(
             ok,
             channel,
             zero,
-        } => {
-            let targets = two_targets(alloc, *value, *ok)?;
-            receive_two(alloc, out, targets, channel, *zero, first, on)
-        }
+        } => { receive_two(alloc, out, (*value, *ok), channel, *zero, first, on) }
         Act::Update {
             variable,
             op,

@@ -11,7 +11,7 @@ ghost use Rattle.gr_lower.specs.StatementCode.{entry as spec_entry, into as spec
 ghost use Rattle.gr_lower.specs.TurnHeadings.{select_heading};
 
 use crate::expressions::{lower_expr, put};
-use crate::parts::{kept, sum};
+use crate::parts::{abandon, kept, kept_sum, push, sum};
 use crate::sizes::Sizes;
 use crate::sizing::count_cases;
 use gr_base::NoMemory;
@@ -33,7 +33,7 @@ fn into(targets: &[Option<usize>], first: usize) -> Result<Option<(u32, u32)>, N
     if targets.is_empty() {
         return Ok(None);
     }
-    Ok(Some((kept(first)?, kept(sum(first, 1)?)?)))
+    Ok(Some((kept(first)?, kept_sum(first, 1)?)))
 }
 
 /// The parts of the operands of a clause, the first with the temporary `next`, and the arm of the clause, which leads to `to`.
@@ -43,7 +43,7 @@ fn lower_arm(
     case: &Case,
     next: usize,
     first: usize,
-    to: u32,
+    to: usize,
 ) -> Result<Arm, NoMemory>
     ensures code { OnOk result ((others : Cases)
         → instructions_of out.new.items
@@ -58,18 +58,24 @@ fn lower_arm(
         → to ≡ spec_entry n begins on → arms (case_on case.now others) next first begins on
         ≡ arm_of a ∷ arms others (next + (vec_len out.new - vec_len out.old)) first (begins + n) on) }
 {
+    let to = kept(to)?;
     match case {
         Case::Default(_) => Ok(Arm::Default { on: to }),
         Case::Send { channel, value, .. } => {
             let start = out.len();
             let channel = lower_expr(alloc, out, channel, next)?;
-            let next = sum(next, out.len() - start)?;
-            let value = lower_expr(alloc, out, value, next)?;
-            Ok(Arm::Send {
-                channel,
-                value,
-                on: to,
-            })
+            let next = match sum(next, out.len() - start) {
+                Ok(next) => next,
+                Err(fault) => return abandon(channel, fault),
+            };
+            match lower_expr(alloc, out, value, next) {
+                Ok(value) => Ok(Arm::Send {
+                    channel,
+                    value,
+                    on: to,
+                }),
+                Err(fault) => abandon(channel, fault),
+            }
         }
         Case::Receive {
             targets,
@@ -77,8 +83,8 @@ fn lower_arm(
             zero,
             ..
         } => {
-            let channel = lower_expr(alloc, out, channel, next)?;
             let into = into(targets, first)?;
+            let channel = lower_expr(alloc, out, channel, next)?;
             let zero = *zero;
             Ok(Arm::Receive {
                 channel,
@@ -112,9 +118,9 @@ pub fn lower_arms(
     for case in cases {
         let next = sum(first, out.len() - start)?;
         let many = sizes.ask();
-        let to = kept(entry(many, place, on))?;
+        let to = entry(many, place, on);
         let arm = lower_arm(alloc, out, case, next, first, to)?;
-        found.push(arm)?;
+        push(&mut found, arm)?;
         let after = sum(place, many)?;
         place = after;
     }

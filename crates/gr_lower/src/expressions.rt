@@ -7,7 +7,7 @@ ghost use Rattle.gr_code.specs.CodeViews.{operand_of, operands_of, ask_of, instr
 ghost use Rattle.gr_code.specs.Passing.{parts, parts_in, with_decision};
 ghost use Rattle.gr_lower.specs.PartCode.{left as spec_left, left_in, code, code_in, left_binary, right_code};
 
-use crate::parts::{count, is_logic, kept, sum};
+use crate::parts::{abandon, count, is_logic, kept, kept_sum, push, sum};
 use gr_base::NoMemory;
 use gr_code::code::{Ask, Instruction, Operand};
 use gr_program::{Expr, Literal};
@@ -41,6 +41,16 @@ fn decided(alloc: Global, op: BinaryOp, slot: usize, right: Operand) -> Result<O
     Ok(Operand::Decided(op, kept(slot)?, Box::new(alloc, right)?))
 }
 
+/// The temporary of a part after those of its operands, and the instruction after it.
+fn numbers_of_part(first: usize, begins: usize, here: usize) -> Result<(u32, u32), NoMemory>
+    requires { begins ≤ here }
+    ensures { IfOk result (λ p. (p.0 ≡ first + (here - begins)) × (p.1 ≡ here + 1)) }
+{
+    let slot = kept_sum(first, here - begins)?;
+    let on = kept_sum(here, 1)?;
+    Ok((slot, on))
+}
+
 /// A part after those of its operands, which begin at an instruction, the first with the temporary `first`.
 fn part(
     out: &mut Vec<Instruction>,
@@ -55,8 +65,10 @@ fn part(
     ensures grown { OnOk result (vec_len out.new ≡ vec_len out.old + 1) }
     ensures value { IfOk result (λ x. operand_of x ≡ rules.Variable (first + (vec_len out.old - begins))) }
 {
-    let slot = kept(sum(first, out.len() - begins)?)?;
-    let on = kept(sum(out.len(), 1)?)?;
+    let (slot, on) = match numbers_of_part(first, begins, out.len()) {
+        Ok(numbers) => numbers,
+        Err(fault) => return abandon(ask, fault),
+    };
     put(
         out,
         Instruction::Part {
@@ -66,6 +78,15 @@ fn part(
         },
     )?;
     Ok(Operand::Variable(slot))
+}
+
+/// The temporary of a decision at `here`, where it leads when it settles, and where its right operand begins.
+fn numbers_of_decision(slot: usize, here: usize, passed: usize) -> Result<(u32, u32, u32), NoMemory>
+    ensures { IfOk result (λ p. (p.0 ≡ slot) × ((p.1 ≡ here + 1 + passed) × (p.2 ≡ here + 1))) }
+{
+    let right = sum(here, 1)?;
+    let settled = kept_sum(right, passed)?;
+    Ok((kept(slot)?, settled, kept(right)?))
 }
 
 /// The decision of `&&` or `||` before the parts of its right operand.
@@ -80,9 +101,10 @@ fn decide(
         ++ spec.Decide op (operand_of left) slot (vec_len out.old + 1 + passed) (vec_len out.old + 1) ∷ []) }
     ensures grown { OnOk result (vec_len out.new ≡ vec_len out.old + 1) }
 {
-    let right = sum(out.len(), 1)?;
-    let settled = kept(sum(right, passed)?)?;
-    let (slot, right) = (kept(slot)?, kept(right)?);
+    let (slot, settled, right) = match numbers_of_decision(slot, out.len(), passed) {
+        Ok(numbers) => numbers,
+        Err(fault) => return abandon(left, fault),
+    };
     put(
         out,
         Instruction::Decide {
@@ -119,8 +141,10 @@ pub fn lower_expr(
         }
         Expr::Binary(op, left, right) => {
             let left = lower_expr(alloc, out, left, first)?;
-            let next = sum(first, out.len() - begins)?;
-            lower_right(alloc, out, right, *op, left, next)
+            match sum(first, out.len() - begins) {
+                Ok(next) => lower_right(alloc, out, right, *op, left, next),
+                Err(fault) => abandon(left, fault),
+            }
         }
         Expr::Receive(channel, zero) => {
             let channel = lower_expr(alloc, out, channel, first)?;
@@ -178,10 +202,15 @@ fn lower_right(
         ≡ left_binary op (operand_of left) (parts (rules.operand_of (expr_of right.now))) next
         (spec_left (rules.operand_of (expr_of right.now)))) }
 {
-    let passed = count(right)?;
+    let passed = match count(right) {
+        Ok(passed) => passed,
+        Err(fault) => return abandon(left, fault),
+    };
     if passed == 0 || !is_logic(op) {
-        let right = lower_expr(alloc, out, right, next)?;
-        return binary(alloc, op, left, right);
+        return match lower_expr(alloc, out, right, next) {
+            Ok(right) => binary(alloc, op, left, right),
+            Err(fault) => abandon(left, fault),
+        };
     }
     decide(out, op, left, next, passed)?;
     let right = lower_expr(alloc, out, right, sum(next, 1)?)?;
@@ -206,7 +235,7 @@ pub fn lower_exprs(
     for expr in exprs {
         let next = sum(first, out.len() - begins)?;
         let operand = lower_expr(alloc, out, expr, next)?;
-        operands.push(operand)?;
+        push(&mut operands, operand)?;
     }
     Ok(operands)
 }

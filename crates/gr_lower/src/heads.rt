@@ -1,8 +1,9 @@
 //! The instructions of statements before those of their bodies.
-ghost use Rattle.std.specs.Prelude.{◌≡◌, ◌+◌, ◌++◌, IfOk, OnOk, vec_len};
+ghost use Rattle.std.specs.Prelude.{◌≡◌, ◌+◌, ◌++◌, ◌∷◌, [], IfOk, OnOk, vec_len};
 ghost use Rattle.gr_tree.specs.Statements.{optional};
 ghost use Rattle.gr_program.specs.Views.{expr_of, opening_of};
 ghost use Rattle.gr_rules.specs.Operands as rules;
+ghost use Rattle.gr_code.specs.Instructions as spec;
 ghost use Rattle.gr_code.specs.CodeViews.{action_of, instructions_of};
 ghost use Rattle.gr_code.specs.Passing.{parts_in};
 ghost use Rattle.gr_lower.specs.Sizes.{tested, opening_size, targets_size};
@@ -13,8 +14,8 @@ ghost use Rattle.gr_lower.specs.TurnHeadings.{turn_heading, range_heading};
 use crate::acts::{assign_pair, lower_opening, perform, perform_none, perform_one, single};
 use crate::choices::entry;
 use crate::nesting::Ways;
-use crate::parts::{count, kept, kept_target, kept_targets, sum};
-use crate::sizing::{count_tested, size_of_opening};
+use crate::parts::{abandon, kept, kept_sum, kept_target, kept_targets, sum};
+use crate::sizing::{size_of_opening, size_of_test, size_of_use};
 use gr_base::NoMemory;
 use gr_code::code::{Action, Instruction, Operand};
 use gr_program::program::Opening;
@@ -37,8 +38,10 @@ fn perform_tested(
     match condition {
         Some(condition) => perform_one(alloc, out, condition, first, action),
         None => {
-            let operands = single(alloc, Operand::Literal(Literal::Truth(true)))?;
-            perform(out, action, operands)
+            match single(alloc, Operand::Literal(Literal::Truth(true))) {
+                Ok(operands) => perform(out, action, operands),
+                Err(fault) => abandon(action, fault),
+            }
         }
     }
 }
@@ -62,14 +65,14 @@ pub fn head_if(
         (parts_in (rules.one (rules.operand_of (expr_of condition.now))) + 1))) }
 {
     let test = sum(out.len(), size_of_opening(init)?)?;
-    let body = sum(sum(test, count(condition)?)?, 1)?;
+    let body = sum(test, size_of_use(condition)?)?;
     let holds = kept(entry(sides.0, body, on))?;
     let fails = kept(entry(sides.1, sum(body, sides.0)?, on))?;
     lower_opening(alloc, out, init, first, test, ways)?;
     perform_one(alloc, out, condition, first, Action::Test { holds, fails })
 }
 
-/// A for before its body. The body and the post statement have this many instructions. Answers where a turn ends.
+/// A for before its body. The body and the post statement have this many instructions. Answers where a turn ends, and the test.
 pub fn head_for(
     alloc: Global,
     out: &mut Vec<Instruction>,
@@ -79,25 +82,45 @@ pub fn head_for(
     first: usize,
     on: usize,
     ways: &Ways,
-) -> Result<usize, NoMemory>
+) -> Result<(usize, usize), NoMemory>
     ensures code { OnOk result (instructions_of out.new.items ≡ instructions_of out.old.items
         ++ for_heading (optional opening_of init.now) (optional expr_of condition.now) sizes.0 sizes.1 first (vec_len out.old) on
         (ways_of ways.now)) }
     ensures grown { OnOk result (vec_len out.new
         ≡ vec_len out.old + (opening_size (optional opening_of init.now) +
         (parts_in (tested (optional expr_of condition.now)) + 1))) }
-    ensures value { IfOk result (λ n. n
+    ensures turn { IfOk result (λ p. p.0
         ≡ turn_of (optional opening_of init.now) (optional expr_of condition.now) sizes.0 sizes.1 (vec_len out.old)) }
+    ensures test { IfOk result (λ p. p.1 ≡ vec_len out.old + opening_size (optional opening_of init.now)) }
 {
     let test = sum(out.len(), size_of_opening(init)?)?;
-    let body = sum(sum(test, count_tested(condition)?)?, 1)?;
+    let body = sum(test, size_of_test(condition)?)?;
     let turn = entry(sizes.1, sum(body, sizes.0)?, test);
     let holds = kept(entry(sizes.0, body, turn))?;
     let fails = kept(on)?;
-    let action = Action::Test { holds, fails };
     lower_opening(alloc, out, init, first, test, ways)?;
-    perform_tested(alloc, out, condition, first, action)?;
-    Ok(turn)
+    perform_tested(alloc, out, condition, first, Action::Test { holds, fails })?;
+    Ok((turn, test))
+}
+
+/// Assigns what a temporary holds to a variable, if there is one.
+fn assign_one(
+    alloc: Global,
+    out: &mut Vec<Instruction>,
+    target: Option<usize>,
+    slot: u32,
+    on: usize,
+) -> Result<(), NoMemory>
+    ensures code { OnOk result (instructions_of out.new.items ≡ instructions_of out.old.items
+        ++ spec.Perform (spec.Assigns (target ∷ []) on) (rules.one (rules.Variable slot)) ∷ []) }
+    ensures grown { OnOk result (vec_len out.new ≡ vec_len out.old + 1) }
+{
+    let (target, on) = (kept_target(target)?, kept(on)?);
+    let targets = vec![in alloc; target]?;
+    match single(alloc, Operand::Variable(slot)) {
+        Ok(operands) => perform(out, Action::Assign { targets, on }, operands),
+        Err(fault) => abandon(targets, fault),
+    }
 }
 
 /// What a turn of a loop over a channel does before the body.
@@ -114,24 +137,17 @@ fn take_turn(
     ensures grown { OnOk result (vec_len out.new ≡ vec_len out.old + 3) }
 {
     let turn = out.len();
-    let slot = kept(sum(first, 1)?)?;
-    let body = kept(sum(turn, 1)?)?;
-    let after = kept(sum(turn, 2)?)?;
-    let begins = kept(entry(many, sum(turn, 3)?, turn))?;
-    let mut targets = Vec::new(alloc);
-    targets.push(kept_target(target)?)?;
+    let slot = kept_sum(first, 1)?;
+    let body = kept_sum(turn, 1)?;
+    let after = kept_sum(turn, 2)?;
+    let begins = entry(many, sum(turn, 3)?, turn);
     let channel = single(alloc, Operand::Variable(kept(first)?))?;
     perform(out, Action::Turn { slot, body, after }, channel)?;
-    let value = single(alloc, Operand::Variable(slot))?;
-    let on_body = Action::Assign {
-        targets,
-        on: begins,
-    };
-    perform(out, on_body, value)?;
+    assign_one(alloc, out, target, slot, begins)?;
     perform_none(alloc, out, Action::GoOn { on: kept(on)? })
 }
 
-/// A loop over a channel before its body, which has this many instructions.
+/// A loop over a channel before its body, which has this many instructions. Answers where a turn begins.
 pub fn head_range(
     alloc: Global,
     out: &mut Vec<Instruction>,
@@ -140,19 +156,21 @@ pub fn head_range(
     many: usize,
     first: usize,
     on: usize,
-) -> Result<(), NoMemory>
+) -> Result<usize, NoMemory>
     ensures code { OnOk result (instructions_of out.new.items ≡ instructions_of out.old.items
         ++ range_heading target (rules.operand_of (expr_of channel.now)) many first (vec_len out.old) on) }
     ensures grown { OnOk result (vec_len out.new
         ≡ vec_len out.old + (parts_in (rules.one (rules.operand_of (expr_of channel.now))) + 1 + 3)) }
+    ensures value { IfOk result (λ n. n ≡ vec_len out.old + (parts_in (rules.one (rules.operand_of (expr_of channel.now))) + 1)) }
 {
-    let turn = kept(sum(sum(out.len(), count(channel)?)?, 1)?)?;
+    let turn = sum(out.len(), size_of_use(channel)?)?;
     let action = Action::Range {
         slot: kept(first)?,
-        on: turn,
+        on: kept(turn)?,
     };
     perform_one(alloc, out, channel, first, action)?;
-    take_turn(alloc, out, target, many, first, on)
+    take_turn(alloc, out, target, many, first, on)?;
+    Ok(turn)
 }
 
 /// What a clause assigns before its statements.

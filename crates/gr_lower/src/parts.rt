@@ -1,5 +1,5 @@
 //! How many parts expressions have, and numbers as code keeps them.
-ghost use Rattle.std.specs.Prelude.{◌≡◌, ◌+◌, IfOk};
+ghost use Rattle.std.specs.Prelude.{◌≡◌, ◌+◌, ◌++◌, ◌∷◌, [], Err, IfOk, OnOk};
 ghost use Rattle.gr_program.specs.Views.{expr_of, exprs_of};
 ghost use Rattle.gr_rules.specs.Operands.{operand_of, operands_of};
 ghost use Rattle.gr_rules.specs.Parts.{is_logical};
@@ -22,6 +22,30 @@ pub fn kept(number: usize) -> Result<u32, NoMemory>
     ensures { IfOk result (λ n. n ≡ number) }
 {
     u32::try_from(number).map_err(|_| NoMemory)
+}
+
+/// The sum as code keeps it.
+pub fn kept_sum(a: usize, b: usize) -> Result<u32, NoMemory>
+    ensures { IfOk result (λ n. n ≡ a + b) }
+{
+    kept(sum(a, b)?)
+}
+
+/// This error; what was written for the code is dropped.
+///
+/// A proof sees what is dropped by this call as one value. Where `?` drops it, the proof takes it apart.
+pub fn abandon<V: Drop, T>(_written: V, error: NoMemory) -> Result<T, NoMemory>
+    ensures { result ≡ Err error }
+{
+    Err(error)
+}
+
+/// Adds a value to these.
+pub fn push<T: Drop>(values: &mut Vec<T>, value: T) -> Result<(), NoMemory>
+    ensures items { OnOk result (values.new.items ≡ values.old.items ++ (value ∷ [])) }
+{
+    values.push(value)?;
+    Ok(())
 }
 
 /// The number of a variable as code keeps it, if there is one.

@@ -6,8 +6,8 @@ ghost use Rattle.gr_program.specs.Views.{opening_of, stmt_of, stmts_of, case_on,
 ghost use Rattle.gr_lower.specs.Lines.{opening_lines, stmt_lines, stmts_lines, cases_lines};
 ghost use Rattle.gr_lower.specs.Lowered.{body_lines};
 
-use crate::parts::{count, kept, sum};
-use crate::sizing::{count_cases, count_tested, size_of_act, size_of_targets};
+use crate::parts::{kept, sum};
+use crate::sizing::{count_cases, size_of_act, size_of_targets, size_of_test, size_of_use};
 use gr_base::NoMemory;
 use gr_program::Stmt;
 use gr_program::program::{Case, Opening};
@@ -48,7 +48,7 @@ fn mark_stmt(lines: &mut Vec<u32>, stmt: &Stmt) -> Result<(), NoMemory>
             otherwise,
         } => {
             mark_opening(lines, init)?;
-            mark(lines, sum(count(condition)?, 1)?, place.line)?;
+            mark(lines, size_of_use(condition)?, place.line)?;
             mark_stmts(lines, body)?;
             mark_stmts(lines, otherwise)
         }
@@ -60,7 +60,7 @@ fn mark_stmt(lines: &mut Vec<u32>, stmt: &Stmt) -> Result<(), NoMemory>
             body,
         } => {
             mark_opening(lines, init)?;
-            mark(lines, sum(count_tested(condition)?, 1)?, place.line)?;
+            mark(lines, size_of_test(condition)?, place.line)?;
             mark_stmts(lines, body)?;
             mark_opening(lines, post)
         }
@@ -70,7 +70,7 @@ fn mark_stmt(lines: &mut Vec<u32>, stmt: &Stmt) -> Result<(), NoMemory>
             body,
             ..
         } => {
-            mark(lines, sum(count(channel)?, 1)?, place.line)?;
+            mark(lines, size_of_use(channel)?, place.line)?;
             mark(lines, 3, place.line)?;
             mark_stmts(lines, body)
         }

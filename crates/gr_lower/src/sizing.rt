@@ -3,7 +3,7 @@ ghost use Rattle.std.specs.Prelude.{◌≡◌, ◌+◌, ◌++◌, ◌∷◌, [],
 ghost use Rattle.gr_tree.specs.Statements.{optional};
 ghost use Rattle.gr_program.specs.Programs.{Cases};
 ghost use Rattle.gr_program.specs.Views.{expr_of, prints_of, act_of, opening_of, stmt_of, stmts_of, case_on, cases_of};
-ghost use Rattle.gr_rules.specs.Operands.{operand_of};
+ghost use Rattle.gr_rules.specs.Operands.{one, operand_of};
 ghost use Rattle.gr_rules.specs.Points.{printed_operands, case_operands};
 ghost use Rattle.gr_code.specs.Passing.{parts_in};
 ghost use Rattle.gr_lower.specs.Sizes.{whole_size as spec_whole, returned, tested, act_size, opening_size, targets_size, size};
@@ -17,13 +17,20 @@ use gr_program::program::{Case, Opening, Printed};
 use gr_program::{Act, Expr, Stmt};
 use std::alloc::Global;
 
+/// How many instructions use the value of an expression: those of its parts, and one.
+pub fn size_of_use(value: &Expr) -> Result<usize, NoMemory>
+    ensures { IfOk result (λ n. n ≡ parts_in (one (operand_of (expr_of value.now))) + 1) }
+{
+    sum(count(value)?, 1)
+}
+
 /// A call or a receive is over with its last part.
 fn whole_size(value: &Expr) -> Result<usize, NoMemory>
     ensures { IfOk result (λ n. n ≡ spec_whole (operand_of (expr_of value.now))) }
 {
     match value {
         Expr::Call(_, _) | Expr::Receive(_, _) => count(value),
-        _ => sum(count(value)?, 1),
+        _ => size_of_use(value),
     }
 }
 
@@ -47,14 +54,20 @@ pub fn count_printed(values: &[Printed]) -> Result<usize, NoMemory>
     Ok(found)
 }
 
-/// How many parts a condition has that may be missing.
-pub fn count_tested(condition: &Option<Expr>) -> Result<usize, NoMemory>
+fn count_tested(condition: &Option<Expr>) -> Result<usize, NoMemory>
     ensures { IfOk result (λ n. n ≡ parts_in (tested (optional expr_of condition.now))) }
 {
     match condition {
         Some(condition) => count(condition),
         None => Ok(0),
     }
+}
+
+/// How many instructions test a condition that may be missing.
+pub fn size_of_test(condition: &Option<Expr>) -> Result<usize, NoMemory>
+    ensures { IfOk result (λ n. n ≡ parts_in (tested (optional expr_of condition.now)) + 1) }
+{
+    sum(count_tested(condition)?, 1)
 }
 
 fn count_returned(value: &Option<Expr>) -> Result<usize, NoMemory>
@@ -73,9 +86,9 @@ pub fn size_of_act(act: &Act) -> Result<usize, NoMemory>
     match act {
         Act::Assign { values, .. } => sum(count_all(values)?, 1),
         Act::AssignReceive { channel, .. } => sum(count(channel)?, 2),
-        Act::Update { value, .. } => sum(count(value)?, 1),
+        Act::Update { value, .. } => size_of_use(value),
         Act::Eval(value) => whole_size(value),
-        Act::Close(channel) => sum(count(channel)?, 1),
+        Act::Close(channel) => size_of_use(channel),
         Act::Print(values) => sum(count_printed(values)?, 1),
         Act::Send { channel, value } => sum(sum(count(channel)?, count(value)?)?, 1),
         Act::Go { arguments, .. } => sum(count_all(arguments)?, 1),
@@ -101,6 +114,48 @@ pub fn size_of_targets(targets: &[Option<usize>]) -> usize
     if targets.is_empty() { 0 } else { 1 }
 }
 
+/// The size of the code of an if whose sides have these sizes.
+fn size_of_if(
+    init: &Option<Box<Opening>>,
+    condition: &Expr,
+    many: usize,
+    others: usize,
+) -> Result<usize, NoMemory>
+    ensures { IfOk result (λ n. n ≡ opening_size (optional opening_of init.now)
+        + (parts_in (one (operand_of (expr_of condition.now))) + 1) + many + others) }
+{
+    let heading = sum(size_of_opening(init)?, size_of_use(condition)?)?;
+    sum(sum(heading, many)?, others)
+}
+
+/// The size of the code of a for whose body has this size.
+fn size_of_for(
+    init: &Option<Box<Opening>>,
+    condition: &Option<Expr>,
+    post: &Option<Box<Opening>>,
+    many: usize,
+) -> Result<usize, NoMemory>
+    ensures { IfOk result (λ n. n ≡ opening_size (optional opening_of init.now)
+        + (parts_in (tested (optional expr_of condition.now)) + 1) + many + opening_size (optional opening_of post.now)) }
+{
+    let heading = sum(size_of_opening(init)?, size_of_test(condition)?)?;
+    sum(sum(heading, many)?, size_of_opening(post)?)
+}
+
+/// The size of the code of a loop over a channel whose body has this size.
+fn size_of_range(channel: &Expr, many: usize) -> Result<usize, NoMemory>
+    ensures { IfOk result (λ n. n ≡ parts_in (one (operand_of (expr_of channel.now))) + 1 + 3 + many) }
+{
+    sum(sum(size_of_use(channel)?, 3)?, many)
+}
+
+/// The size of the code of a select whose clauses have this size.
+fn size_of_select(cases: &[Case], many: usize) -> Result<usize, NoMemory>
+    ensures { IfOk result (λ n. n ≡ parts_in (case_operands (cases_of cases.now)) + 1 + many) }
+{
+    sum(sum(count_cases(cases)?, 1)?, many)
+}
+
 /// How many instructions a statement has. Notes the sizes that writing them asks for.
 #[cycle(sizing)]
 fn size_of(alloc: Global, sizes: &mut Sizes, stmt: &Stmt) -> Result<usize, NoMemory>
@@ -121,9 +176,7 @@ fn size_of(alloc: Global, sizes: &mut Sizes, stmt: &Stmt) -> Result<usize, NoMem
             let many = size_of_all(alloc, sizes, body)?;
             sizes.note(others)?;
             sizes.note(many)?;
-            let test = sum(count(condition)?, 1)?;
-            let heading = sum(size_of_opening(init)?, test)?;
-            sum(sum(heading, many)?, others)
+            size_of_if(init, condition, many, others)
         }
         Stmt::For {
             init,
@@ -134,18 +187,16 @@ fn size_of(alloc: Global, sizes: &mut Sizes, stmt: &Stmt) -> Result<usize, NoMem
         } => {
             let many = size_of_all(alloc, sizes, body)?;
             sizes.note(many)?;
-            let test = sum(count_tested(condition)?, 1)?;
-            let heading = sum(size_of_opening(init)?, test)?;
-            sum(sum(heading, many)?, size_of_opening(post)?)
+            size_of_for(init, condition, post, many)
         }
         Stmt::Range { channel, body, .. } => {
             let many = size_of_all(alloc, sizes, body)?;
             sizes.note(many)?;
-            sum(sum(count(channel)?, 4)?, many)
+            size_of_range(channel, many)
         }
         Stmt::Select { cases, .. } => {
             let many = size_of_cases(alloc, sizes, cases)?;
-            sum(sum(count_cases(cases)?, 1)?, many)
+            size_of_select(cases, many)
         }
     }
 }

@@ -12,7 +12,7 @@ use crate::acts::{lower_act, lower_opening};
 use crate::choices::{entry, head_select};
 use crate::heads::{head_for, head_if, head_range, take_received};
 use crate::nesting::{Way, Ways};
-use crate::parts::{count, sum};
+use crate::parts::sum;
 use crate::sizes::Sizes;
 use crate::sizing::{size_of_opening, size_of_targets};
 use gr_base::NoMemory;
@@ -59,11 +59,18 @@ fn lower_stmt(
             body,
             ..
         } => {
-            let opened = size_of_opening(init)?;
-            let test = sum(out.len(), opened)?;
             let many = sizes.ask();
             let after = size_of_opening(post)?;
-            let turn = head_for(alloc, out, init, condition, (many, after), first, on, ways)?;
+            let (turn, test) = head_for(
+                alloc,
+                out,
+                init,
+                condition,
+                (many, after),
+                first,
+                on,
+                ways,
+            )?;
             let again = Some(turn);
             let inner = Ways::Inside(Way { out: on, again }, &*ways);
             lower_stmts(alloc, out, sizes, body, first, turn, &inner)?;
@@ -76,9 +83,7 @@ fn lower_stmt(
             ..
         } => {
             let many = sizes.ask();
-            let parts = sum(count(channel)?, 1)?;
-            let turn = sum(out.len(), parts)?;
-            head_range(alloc, out, *target, channel, many, first, on)?;
+            let turn = head_range(alloc, out, *target, channel, many, first, on)?;
             let again = Some(turn);
             let inner = Ways::Inside(Way { out: on, again }, &*ways);
             let next = sum(first, 1)?;

@@ -45,7 +45,7 @@ loop-case-preserved c =
       value = λ more q.
           let before = c.loop-case.invariant.value more q in
           let s1 = c.ask-many.ensures one.0 (clause_sizes rest ++ more) (before.0 ∙ ap (λ l. clause_sizes l ++ more) m ∙ ap (λ l. l ++ more) (one.1 rest)) in
-          let to = c.in_ok-to.ensures ∙ c.entry.ensures in
+          let to = c.entry-to.ensures in
           let value = c.in_ok-arm.ensures.value rest many place a.on (one.1 rest ∙ ap (λ k. k ∷ clause_sizes rest) (sym s1.0)) to in (
             s1.1,
             ap (λ l. arms_of l ++ arms rest (a.first + (o' - b)) a.first after a.on) c.in_ok-push.ensures.items

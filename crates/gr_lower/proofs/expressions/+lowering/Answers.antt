@@ -43,21 +43,21 @@ lower_expr-returns-in_ok-arguments-in-Call-clause-value t c =
     ≡ d + parts_in es = omega (arith, c.len-begins.ensures, c.in_ok-arguments-in-Call.ensures.grown) in
     if_ok c.part-in-Call.result c.part-in-Call.ensures.value (λ x h. h ∙ ap operand.Variable n ∙ sym e)
 
-pub lower_expr-returns-in_ok-next-in-Binary-clause-code : goal.lower_expr-returns-in_ok-next-in-Binary-clause-code
-lower_expr-returns-in_ok-next-in-Binary-clause-code t c =
+pub lower_expr-returns-in-Ok-clause-code : goal.lower_expr-returns-in-Ok-clause-code
+lower_expr-returns-in-Ok-clause-code t c =
     let k = c.in-Binary in
     let a = operand.operand_of (expr_of c.deref-in-Binary.result.now) in
-    let b = operand.operand_of (expr_of c.deref-in-Binary-2.result.now) in
+    let b = operand.operand_of (expr_of c.deref-in-Ok.result.now) in
     let e = ap (λ x. operand.operand_of (expr_of x)) k.is
     ∙ ap (λ x. operand.Binary k.op (operand.operand_of (expr_of x)) (operand.operand_of (expr_of k.right.value))) (sym c.deref-in-Binary.ensures)
-    ∙ ap (λ x. operand.Binary k.op a (operand.operand_of (expr_of x))) (sym c.deref-in-Binary-2.ensures) in
+    ∙ ap (λ x. operand.Binary k.op a (operand.operand_of (expr_of x))) (sym c.deref-in-Ok.ensures) in
     on_ok c.lower_right.result c.lower_right.ensures.code
-    (binary_emits k.op (operand.operand_of (expr_of c.args.expr.now)) a b c.args.first (vec_len c.args.out.now) c.in_ok-next-in-Binary.next _
+    (binary_emits k.op (operand.operand_of (expr_of c.args.expr.now)) a b c.args.first (vec_len c.args.out.now) c.in-Ok.next _
     (operand_of c.in_ok-left-in-Binary.left)
     (instructions_of c.args.out.now.items) (instructions_of c.lower_expr-in-Binary.new.out.items) _ e c.in_ok-left-in-Binary.ensures.value
     (omega (
       arith,
-      c.in_ok-next-in-Binary.ensures,
+      c.in-Ok.ensures,
       c.len-begins.ensures,
       c.in_ok-left-in-Binary.ensures.grown,
     )) c.in_ok-left-in-Binary.ensures.grown c.in_ok-left-in-Binary.ensures.code)

@@ -26,8 +26,8 @@ mark_stmt-returns-in_ok-mark_stmts-in-If t c =
     let b = c.mark-in-If.new.lines.items in
     let d = c.mark_stmts-in-If.new.lines.items in
     let n = parts_in (one (operand_of (expr_of k.condition))) + 1 in
-    let eb = marked c.in_ok-sum-in-If.field-0 n k.place.line a b c.in_ok-mark-in-If.ensures
-    (omega (arith, c.in_ok-sum-in-If.ensures, c.in_ok-count-in-If.ensures)) in
+    let eb = marked c.in_ok-size_of_use-in-If.field-0 n k.place.line a b c.in_ok-mark-in-If.ensures
+    c.in_ok-size_of_use-in-If.ensures in
     let ed = c.in_ok-mark_stmts-in-If.ensures ∙ ap (λ l. b ++ stmts_lines (stmts_of l)) c.deref-in-If.ensures.value in
     let e = ap stmt_of k.is ∙ if_is k.place k.init k.condition k.body k.otherwise in
     on_ok c.mark_stmts-in-If-2.result c.mark_stmts-in-If-2.ensures
@@ -42,8 +42,8 @@ mark_stmt-returns-in_ok-mark_stmts-in-For t c =
     let b = c.mark-in-For.new.lines.items in
     let d = c.mark_stmts-in-For.new.lines.items in
     let n = parts_in (tested (optional expr_of k.condition)) + 1 in
-    let eb = marked c.in_ok-sum-in-For.field-0 n k.place.line a b c.in_ok-mark-in-For.ensures
-    (omega (arith, c.in_ok-sum-in-For.ensures, c.in_ok-count_tested-in-For.ensures)) in
+    let eb = marked c.in_ok-size_of_test-in-For.field-0 n k.place.line a b c.in_ok-mark-in-For.ensures
+    c.in_ok-size_of_test-in-For.ensures in
     let ed = c.in_ok-mark_stmts-in-For.ensures ∙ ap (λ l. b ++ stmts_lines (stmts_of l)) c.deref-in-For.ensures.value in
     let e = ap stmt_of k.is ∙ for_is k.place k.init k.condition k.post k.body in
     on_ok c.mark_opening-in-For-2.result c.mark_opening-in-For-2.ensures
@@ -56,8 +56,8 @@ mark_stmt-returns-in_ok-mark-in-Range-2 t c =
     let a = c.mark-in-Range.new.lines.items in
     let b = c.mark-in-Range-2.new.lines.items in
     let n = parts_in (one (operand_of (expr_of k.channel))) + 1 in
-    let ea = marked c.in_ok-sum-in-Range.field-0 n k.place.line pre a c.in_ok-mark-in-Range.ensures
-    (omega (arith, c.in_ok-sum-in-Range.ensures, c.in_ok-count-in-Range.ensures)) in
+    let ea = marked c.in_ok-size_of_use-in-Range.field-0 n k.place.line pre a c.in_ok-mark-in-Range.ensures
+    c.in_ok-size_of_use-in-Range.ensures in
     let e = ap stmt_of k.is ∙ range_is k.place k.target k.channel k.body in
     on_ok c.mark_stmts-in-Range.result c.mark_stmts-in-Range.ensures
     (λ h. three_more _ _ _ pre a b _ ea c.in_ok-mark-in-Range-2.ensures (h ∙ ap (λ l. b ++ stmts_lines (stmts_of l)) c.deref-in-Range.ensures.value)

@@ -21,8 +21,8 @@ size_of-returns-in-Block-clause-value t c =
     let e = ap (λ s. size (stmt_of s)) c.in-Block.is ∙ ap size (block_is c.in-Block.body) ∙ ap (λ l. size_in (stmts_of l)) (sym c.deref.ensures.value) in
     if_ok c.size_of_all.result c.size_of_all.ensures.value (λ n h. h ∙ sym e)
 
-pub size_of-returns-in_ok-sum-in-If-clause-noted : goal.size_of-returns-in_ok-sum-in-If-clause-noted
-size_of-returns-in_ok-sum-in-If-clause-noted t c =
+pub size_of-returns-in_ok-note-in-If-2-clause-noted : goal.size_of-returns-in_ok-note-in-If-2-clause-noted
+size_of-returns-in_ok-note-in-If-2-clause-noted t c =
     let k = c.in-If in
     let a = stmts_of k.body.items in
     let b = stmts_of k.otherwise.items in
@@ -36,32 +36,27 @@ size_of-returns-in_ok-sum-in-If-clause-noted t c =
     ∙ ap (λ l. size_in b ∷ l) n2 in
     let n4 = c.in_ok-note-in-If-2.ensures ∙ ap (λ m. m ∷ c.note.new.self) (c.in_ok-many-in-If.ensures.value ∙ ap size_in da)
     ∙ ap (λ l. size_in a ∷ l) n3 in
-    always_ok c.sum-in-If-3.result (n4 ∙ ap (λ s. asked s old) (sym e))
+    always_ok c.size_of_if.result (n4 ∙ ap (λ s. asked s old) (sym e))
 
-pub size_of-returns-in_ok-sum-in-If-clause-value : goal.size_of-returns-in_ok-sum-in-If-clause-value
-size_of-returns-in_ok-sum-in-If-clause-value t c =
+pub size_of-returns-in_ok-note-in-If-2-clause-value : goal.size_of-returns-in_ok-note-in-If-2-clause-value
+size_of-returns-in_ok-note-in-If-2-clause-value t c =
     let k = c.in-If in
     let e = ap (λ s. size (stmt_of s)) k.is ∙ ap size (if_is k.place k.init k.condition k.body k.otherwise) in
     let eb = ap (λ l. size_in (stmts_of l)) c.deref-in-If.ensures.value in
     let ea = ap (λ l. size_in (stmts_of l)) c.deref-in-If-2.ensures.value in
-    if_ok c.sum-in-If-3.result c.sum-in-If-3.ensures
+    if_ok c.size_of_if.result c.size_of_if.ensures
     (λ n h. omega (
       arith,
       h,
       e,
       ea,
       eb,
-      c.in_ok-count-in-If.ensures,
-      c.in_ok-test-in-If.ensures,
-      c.in_ok-size_of_opening-in-If.ensures,
-      c.in_ok-heading-in-If.ensures,
       c.in_ok-many-in-If.ensures.value,
-      c.in_ok-sum-in-If.ensures,
       c.in_ok-others-in-If.ensures.value,
     ))
 
-pub size_of-returns-in_ok-size_of_opening-in-For-2-clause-noted : goal.size_of-returns-in_ok-size_of_opening-in-For-2-clause-noted
-size_of-returns-in_ok-size_of_opening-in-For-2-clause-noted t c =
+pub size_of-returns-in_ok-note-in-For-clause-noted : goal.size_of-returns-in_ok-note-in-For-clause-noted
+size_of-returns-in_ok-note-in-For-clause-noted t c =
     let k = c.in-For in
     let old = c.args.sizes.now in
     let e = ap stmt_of k.is ∙ for_is k.place k.init k.condition k.post k.body in
@@ -69,30 +64,18 @@ size_of-returns-in_ok-size_of_opening-in-For-2-clause-noted t c =
     let n1 = c.in_ok-many-in-For.ensures.noted ∙ ap (λ l. asked_in l old) da in
     let n2 = c.in_ok-note-in-For.ensures ∙ ap (λ m. m ∷ c.size_of_all-in-For.new.sizes) (c.in_ok-many-in-For.ensures.value ∙ ap size_in da)
     ∙ ap (λ l. size_in (stmts_of k.body.items) ∷ l) n1 in
-    always_ok c.sum-in-For-4.result (n2 ∙ ap (λ s. asked s old) (sym e))
+    always_ok c.size_of_for.result (n2 ∙ ap (λ s. asked s old) (sym e))
 
-pub size_of-returns-in_ok-size_of_opening-in-For-2-clause-value : goal.size_of-returns-in_ok-size_of_opening-in-For-2-clause-value
-size_of-returns-in_ok-size_of_opening-in-For-2-clause-value t c =
+pub size_of-returns-in_ok-note-in-For-clause-value : goal.size_of-returns-in_ok-note-in-For-clause-value
+size_of-returns-in_ok-note-in-For-clause-value t c =
     let k = c.in-For in
     let e = ap (λ s. size (stmt_of s)) k.is ∙ ap size (for_is k.place k.init k.condition k.post k.body) in
     let e1 = ap (λ l. size_in (stmts_of l)) c.deref-in-For.ensures.value in
-    if_ok c.sum-in-For-4.result c.sum-in-For-4.ensures
-    (λ n h. omega (
-      arith,
-      h,
-      e,
-      e1,
-      c.in_ok-count_tested-in-For.ensures,
-      c.in_ok-test-in-For.ensures,
-      c.in_ok-size_of_opening-in-For.ensures,
-      c.in_ok-heading-in-For.ensures,
-      c.in_ok-many-in-For.ensures.value,
-      c.in_ok-sum-in-For.ensures,
-      c.in_ok-size_of_opening-in-For-2.ensures,
-    ))
+    if_ok c.size_of_for.result c.size_of_for.ensures
+    (λ n h. omega (arith, h, e, e1, c.in_ok-many-in-For.ensures.value))
 
-pub size_of-returns-in_ok-sum-in-Range-clause-noted : goal.size_of-returns-in_ok-sum-in-Range-clause-noted
-size_of-returns-in_ok-sum-in-Range-clause-noted t c =
+pub size_of-returns-in_ok-note-in-Range-clause-noted : goal.size_of-returns-in_ok-note-in-Range-clause-noted
+size_of-returns-in_ok-note-in-Range-clause-noted t c =
     let k = c.in-Range in
     let old = c.args.sizes.now in
     let e = ap stmt_of k.is ∙ range_is k.place k.target k.channel k.body in
@@ -100,33 +83,33 @@ size_of-returns-in_ok-sum-in-Range-clause-noted t c =
     let n1 = c.in_ok-many-in-Range.ensures.noted ∙ ap (λ l. asked_in l old) da in
     let n2 = c.in_ok-note-in-Range.ensures ∙ ap (λ m. m ∷ c.size_of_all-in-Range.new.sizes) (c.in_ok-many-in-Range.ensures.value ∙ ap size_in da)
     ∙ ap (λ l. size_in (stmts_of k.body.items) ∷ l) n1 in
-    always_ok c.sum-in-Range-2.result (n2 ∙ ap (λ s. asked s old) (sym e))
+    always_ok c.size_of_range.result (n2 ∙ ap (λ s. asked s old) (sym e))
 
-pub size_of-returns-in_ok-sum-in-Range-clause-value : goal.size_of-returns-in_ok-sum-in-Range-clause-value
-size_of-returns-in_ok-sum-in-Range-clause-value t c =
+pub size_of-returns-in_ok-note-in-Range-clause-value : goal.size_of-returns-in_ok-note-in-Range-clause-value
+size_of-returns-in_ok-note-in-Range-clause-value t c =
     let k = c.in-Range in
     let e = ap (λ s. size (stmt_of s)) k.is ∙ ap size (range_is k.place k.target k.channel k.body) in
     let e1 = ap (λ l. size_in (stmts_of l)) c.deref-in-Range.ensures.value in
-    if_ok c.sum-in-Range-2.result c.sum-in-Range-2.ensures
-    (λ n h. omega (arith, h, e, e1, c.in_ok-count-in-Range.ensures, c.in_ok-sum-in-Range.ensures, c.in_ok-many-in-Range.ensures.value))
+    if_ok c.size_of_range.result c.size_of_range.ensures
+    (λ n h. omega (arith, h, e, e1, c.in_ok-many-in-Range.ensures.value))
 
-pub size_of-returns-in_ok-sum-in-Select-clause-noted : goal.size_of-returns-in_ok-sum-in-Select-clause-noted
-size_of-returns-in_ok-sum-in-Select-clause-noted t c =
+pub size_of-returns-in_ok-many-in-Select-clause-noted : goal.size_of-returns-in_ok-many-in-Select-clause-noted
+size_of-returns-in_ok-many-in-Select-clause-noted t c =
     let k = c.in-Select in
     let old = c.args.sizes.now in
     let e = ap stmt_of k.is ∙ select_is k.place k.cases in
     let d = ap cases_of c.deref-in-Select.ensures.value in
-    always_ok c.sum-in-Select-2.result
+    always_ok c.size_of_select.result
     (c.in_ok-many-in-Select.ensures.noted ∙ ap (λ l. clause_sizes l ++ asked_among l old) d ∙ ap (λ s. asked s old) (sym e))
 
-pub size_of-returns-in_ok-sum-in-Select-clause-value : goal.size_of-returns-in_ok-sum-in-Select-clause-value
-size_of-returns-in_ok-sum-in-Select-clause-value t c =
+pub size_of-returns-in_ok-many-in-Select-clause-value : goal.size_of-returns-in_ok-many-in-Select-clause-value
+size_of-returns-in_ok-many-in-Select-clause-value t c =
     let k = c.in-Select in
     let e = ap (λ s. size (stmt_of s)) k.is ∙ ap size (select_is k.place k.cases) in
     let e1 = ap (λ l. size_among (cases_of l)) c.deref-in-Select.ensures.value in
     let e2 = ap (λ l. parts_in (case_operands (cases_of l))) c.deref-in-Select-2.ensures.value in
-    if_ok c.sum-in-Select-2.result c.sum-in-Select-2.ensures
-    (λ n h. omega (arith, h, e, e1, e2, c.in_ok-count_cases-in-Select.ensures, c.in_ok-sum-in-Select.ensures, c.in_ok-many-in-Select.ensures.value))
+    if_ok c.size_of_select.result c.size_of_select.ensures
+    (λ n h. omega (arith, h, e, e1, e2, c.in_ok-many-in-Select.ensures.value))
 
 pub size_of_case-returns-in-Default-clause-noted : goal.size_of_case-returns-in-Default-clause-noted
 size_of_case-returns-in-Default-clause-noted t c =

@@ -111,14 +111,14 @@ lower_stmt-returns-in_ok-lower_stmts-in-For t c =
     let r1 = c.in_ok-lower_stmts-in-For.ensures rest (s1.1 ∙ ap (λ l. asked_in l rest) (sym da)) in
     let h1 = c.in_ok-turn-in-For.ensures.code ∙ ap (λ n. pre ++ for_heading init test n c.in_ok-after-in-For.after d o on ways) s1.0
     ∙ ap (λ n. pre ++ for_heading init test (size_in a) n d o on ways) n2 in
-    let ht = c.in_ok-turn-in-For.ensures.value ∙ ap (λ n. turn_of init test n c.in_ok-after-in-For.after o) s1.0
+    let ht = c.in_ok-turn-in-For.ensures.turn ∙ ap (λ n. turn_of init test n c.in_ok-after-in-For.after o) s1.0
     ∙ ap (λ n. turn_of init test (size_in a) n o) n2 in
     let h2 = r1.1.0 ∙ ap (λ l. out1 ++ stmts_code l d o1 turn (way on (Some turn) ∷ ways)) da in (
       r1.0,
       (
-        for_emits k.place init test post a d o on ways o1 o2 turn c.in_ok-test-in-For.test pre out1 _ _ h1 h2 h
+        for_emits k.place init test post a d o on ways o1 o2 turn c.in_ok-turn-in-For.test pre out1 _ _ h1 h2 h
             (omega (arith, g1)) (omega (arith, g1, r1.1.1, ap size_in da)) ht
-            (omega (arith, c.in_ok-test-in-For.ensures, c.len.ensures, c.in_ok-opened-in-For.ensures))
+            c.in_ok-turn-in-For.ensures.test
             ∙ ap (λ s. pre ++ stmt_code s d o on ways) (sym e),
         omega (arith, g, r1.1.1, g1, ap size_in da, ap size e),
       ),
@@ -140,17 +140,17 @@ lower_stmt-returns-in_ok-next-in-Range t c =
     let turn = c.in_ok-turn-in-Range.turn in
     let e = ap stmt_of k.is ∙ range_is k.place k.target k.channel k.body in
     let da = ap stmts_of c.deref-in-Range.ensures.value in
-    let g1 = c.in_ok-head_range-in-Range.ensures.grown in
+    let g1 = c.in_ok-turn-in-Range.ensures.grown in
     on_ok c.lower_stmts-in-Range.result c.lower_stmts-in-Range.ensures
     (λ h rest q.
     let s1 = c.ask-many-in-Range.ensures (size_in a) (asked_in a rest) (q ∙ ap (λ s. asked s rest) e) in
     let r1 = h rest (s1.1 ∙ ap (λ l. asked_in l rest) (sym da)) in
-    let h1 = c.in_ok-head_range-in-Range.ensures.code ∙ ap (λ n. pre ++ range_heading k.target (rules.operand_of channel) n d o on) s1.0 in
+    let h1 = c.in_ok-turn-in-Range.ensures.code ∙ ap (λ n. pre ++ range_heading k.target (rules.operand_of channel) n d o on) s1.0 in
     let h2 = r1.1.0 ∙ ap (λ l. out1 ++ stmts_code l next o1 turn (way on (Some turn) ∷ ways)) da in (
       r1.0,
       (
         range_emits k.place k.target channel a d o on ways o1 next turn pre out1 _ h1 h2 (omega (arith, g1)) c.in_ok-next-in-Range.ensures
-            (omega (arith, c.in_ok-turn-in-Range.ensures, c.len-in-Range.ensures, c.in_ok-parts-in-Range.ensures, c.in_ok-count-in-Range.ensures))
+            c.in_ok-turn-in-Range.ensures.value
             ∙ ap (λ s. pre ++ stmt_code s d o on ways) (sym e),
         omega (arith, r1.1.1, g1, ap size_in da, ap size e),
       ),
