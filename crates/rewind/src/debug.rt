@@ -104,9 +104,9 @@ pub fn check<S: Read>(alloc: Global, source: &mut Counted<S>) -> Result<(), Debu
 ///
 /// The session's memory is not given back: this is the last thing that a program does.
 ///
-/// After `Source` and `Open` no command was read and nothing was written. A source of more than 1,048,576 bytes is not opened,
-/// and at most 8,192 bytes more are read of it. After `Serve` the session stands as `serve` says. The fault names the device
-/// that failed, if one did.
+/// After `Source` and `Open` no command was read and nothing was written. A source of more than 1,048,576 bytes is not opened.
+/// Where it is refused for that (`Open`), at most 8,192 bytes more were read of it. After `Serve` the session stands as `serve`
+/// says. The fault names the device that failed, if one did.
 pub fn debug<S: Read, R: BufRead, W: Write>(
     alloc: Global,
     source: &mut Counted<S>,
