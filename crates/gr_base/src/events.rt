@@ -7,7 +7,7 @@ use crate::names::GoName;
 use std::alloc::Global;
 
 /// What a step chooses. Only a step of a select chooses anything.
-#[derive(Clone, Copy, Debug, PartialEq, Eq)]
+#[derive(Clone, Copy, PartialEq, Eq)]
 pub enum Choice {
     /// No choice: the step is not one of a select.
     Plain,
@@ -20,7 +20,7 @@ pub enum Choice {
 }
 
 /// One step of one goroutine.
-#[derive(Debug, PartialEq, Eq, Drop)]
+#[derive(PartialEq, Eq, Drop)]
 pub struct Event {
     pub go: GoName,
     pub choice: Choice,

@@ -1,7 +1,7 @@
 //! What a step did.
 
 /// Why a program was stopped.
-#[derive(Clone, Copy, Debug, PartialEq, Eq)]
+#[derive(Clone, Copy, PartialEq, Eq)]
 pub enum Fault {
     DivideByZero,
     /// A shift by a negative count.
@@ -20,7 +20,7 @@ pub enum Fault {
 }
 
 /// What a step did.
-#[derive(Clone, Copy, Debug, PartialEq, Eq)]
+#[derive(Clone, Copy, PartialEq, Eq)]
 pub enum Kind {
     /// It did a statement, or an operand of one, that touches its own goroutine alone.
     Pure,

@@ -7,7 +7,7 @@ use crate::names::{ChName, GoName};
 use std::alloc::Global;
 
 /// A part of the state that steps read and write as a whole.
-#[derive(Debug, PartialEq, Eq, Hash, Drop)]
+#[derive(PartialEq, Eq, Hash, Drop)]
 pub enum Object {
     /// Whether the program runs, has ended, or has faulted.
     Run,

@@ -8,7 +8,7 @@ use crate::names::ChName;
 use std::alloc::Global;
 
 /// A value that a variable holds or a channel carries.
-#[derive(Debug, PartialEq, Eq, Drop)]
+#[derive(PartialEq, Eq, Drop)]
 pub enum Value {
     /// A value of type `int`.
     Int(i64),

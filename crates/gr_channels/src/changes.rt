@@ -7,7 +7,7 @@ use crate::waiter::Waiter;
 use gr_base::{GoName, Value};
 
 /// What a change of a channel took out, by which it is undone.
-#[derive(Debug, Drop)]
+#[derive(Drop)]
 pub enum ChanUndo {
     /// The first waiting receiver left.
     Handed(Waiter<()>),
@@ -40,7 +40,7 @@ pub enum ChanUndo {
 }
 
 /// The answer to a value that is offered for sending.
-#[derive(Debug, Drop)]
+#[derive(Drop)]
 pub enum Offered {
     /// The channel is closed: here is the value back.
     Closed(Value),
@@ -53,7 +53,7 @@ pub enum Offered {
 }
 
 /// The answer to one who wants to receive.
-#[derive(Debug, Drop)]
+#[derive(Drop)]
 pub enum Taken {
     /// The front item.
     Item(Value, ChanUndo),

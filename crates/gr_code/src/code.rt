@@ -5,7 +5,7 @@ use gr_program::program::Literal;
 use gr_tree::{BinaryOp, UnaryOp};
 
 /// An expression without calls, receives, `make`, `len` and `cap`.
-#[derive(Debug, Drop)]
+#[derive(Drop)]
 pub enum Operand {
     Literal(Literal),
     /// A variable or temporary, by its place in the frame.
@@ -17,7 +17,7 @@ pub enum Operand {
 }
 
 /// A part of a statement: what it asks for.
-#[derive(Debug, Drop)]
+#[derive(Drop)]
 pub enum Ask {
     /// A call of the function with a number.
     Call {
@@ -44,14 +44,14 @@ pub enum Ask {
 }
 
 /// What `println` prints at a place: the bytes of a string, or the next value.
-#[derive(Debug, Drop)]
+#[derive(Drop)]
 pub enum Piece {
     Text(Vec<u8>),
     Value,
 }
 
 /// What a statement does with its operands once all its parts are done, and the instruction with which it goes on.
-#[derive(Debug, Drop)]
+#[derive(Drop)]
 pub enum Action {
     /// Assigns the values; a target that is `None` is the blank identifier.
     Assign {
@@ -111,7 +111,7 @@ pub enum Action {
 }
 
 /// A clause of a select, and the instruction with which it goes on.
-#[derive(Debug, Drop)]
+#[derive(Drop)]
 pub enum Arm {
     Default {
         on: u32,
@@ -131,7 +131,7 @@ pub enum Arm {
 }
 
 /// One step of a goroutine.
-#[derive(Debug, Drop)]
+#[derive(Drop)]
 pub enum Instruction {
     /// A part of a statement. Its value goes to a temporary, unless the part is the whole statement.
     Part {
@@ -157,7 +157,7 @@ pub enum Instruction {
 }
 
 /// The code of a function. The cells of its frames are the variables, by their numbers, and then the temporaries.
-#[derive(Debug, Drop)]
+#[derive(Drop)]
 pub struct FunctionCode {
     /// The variables of the parameters; `None` for the blank identifier.
     pub parameters: Vec<Option<u32>>,
@@ -172,7 +172,7 @@ pub struct FunctionCode {
 }
 
 /// The code of a program.
-#[derive(Debug, Drop)]
+#[derive(Drop)]
 pub struct Code {
     /// The functions by their numbers.
     pub functions: Vec<FunctionCode>,

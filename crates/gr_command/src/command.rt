@@ -8,7 +8,7 @@ use gr_base::{ChName, GoName, NoMemory, StepId};
 use std::alloc::Global;
 
 /// What an asker may ask.
-#[derive(Debug, Drop)]
+#[derive(Drop)]
 pub enum Command {
     /// One step of the goroutine. At a select it takes the clause with this number, counted from 1, or the usual choice
     /// where no number is given.
@@ -81,7 +81,7 @@ impl Command {
 }
 
 /// What a line of a command stream says.
-#[derive(Debug, Drop)]
+#[derive(Drop)]
 pub enum Line {
     /// To ask the session this.
     Command(Command),

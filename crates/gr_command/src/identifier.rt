@@ -41,7 +41,7 @@ const KEYWORDS: [&[u8]; 25] = [
 ];
 
 /// An identifier of the language: letters, digits and `_`, with no digit first, and no keyword.
-#[derive(Debug, Drop)]
+#[derive(Drop)]
 pub struct Identifier {
     bytes: ArcSlice<u8>,
 }

@@ -5,7 +5,7 @@ use gr_base::{Fault, GoName, Kind, StepId, Value};
 use gr_channels::Waiter;
 
 /// Why a run ended.
-#[derive(Clone, Copy, Debug, PartialEq, Eq)]
+#[derive(Clone, Copy, PartialEq, Eq)]
 pub enum RunEnd {
     /// The program has ended.
     Ended,
@@ -24,7 +24,7 @@ pub enum RunEnd {
 }
 
 /// Whether a goroutine can take a step.
-#[derive(Clone, Copy, Debug, PartialEq, Eq)]
+#[derive(Clone, Copy, PartialEq, Eq)]
 pub enum Status {
     Ready,
     /// It waits on channels.
@@ -34,7 +34,7 @@ pub enum Status {
 }
 
 /// A frame as it is shown.
-#[derive(Debug, Drop)]
+#[derive(Drop)]
 pub struct FrameShown {
     /// The name of its function.
     pub function: Vec<u8>,
@@ -43,7 +43,7 @@ pub struct FrameShown {
 }
 
 /// A goroutine as it is shown.
-#[derive(Debug, Drop)]
+#[derive(Drop)]
 pub struct GoroutineShown {
     pub go: GoName,
     pub status: Status,
@@ -56,7 +56,7 @@ pub struct GoroutineShown {
 }
 
 /// A channel as it is shown.
-#[derive(Debug, Drop)]
+#[derive(Drop)]
 pub struct ChannelShown {
     pub capacity: u32,
     pub closed: bool,
@@ -69,7 +69,7 @@ pub struct ChannelShown {
 }
 
 /// What came of a command, or of a batch.
-#[derive(Debug, Drop)]
+#[derive(Drop)]
 pub enum Reply {
     /// The step was taken, and is of this kind.
     Stepped(StepId, Kind),

@@ -7,7 +7,7 @@ use std::alloc::Global;
 use std::marker::Model;
 
 /// Names of steps, in an order.
-#[derive(Debug, Drop)]
+#[derive(Drop)]
 pub struct StepList {
     ids: Vec<StepId>,
 }

@@ -7,7 +7,7 @@ use gr_base::{ChName, GoName, NoMemory, StepId};
 use std::alloc::Global;
 
 /// Which step is to be taken back.
-#[derive(Debug, Drop)]
+#[derive(Drop)]
 pub enum Target {
     Step(StepId),
     /// The step that started the goroutine.

@@ -11,7 +11,7 @@ use gr_tree::{BinaryOp, UnaryOp};
 const GREATEST: i128 = 0x8000_0000_0000_0000;
 
 /// An exact constant: a part of a constant expression.
-#[derive(Clone, Copy, Debug, PartialEq, Eq)]
+#[derive(Clone, Copy, PartialEq, Eq)]
 pub enum Constant {
     /// A whole number, which the functions of this crate make from -2^63 to 2^63.
     Whole(i128),

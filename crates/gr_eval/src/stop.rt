@@ -6,7 +6,7 @@ use gr_base::{Fault, NoMemory};
 use std::alloc::{AllocError, AllocFailed};
 
 /// Why an evaluation gave no value.
-#[derive(Clone, Copy, Debug, PartialEq, Eq)]
+#[derive(Clone, Copy, PartialEq, Eq)]
 pub enum Stop {
     /// The program stops with this fault.
     Fault(Fault),

@@ -27,7 +27,7 @@ use std::alloc::Global;
 use std::collections::VecDeque;
 
 /// What a name stands for in a call that has a value.
-#[derive(Clone, Copy, Debug, PartialEq, Eq)]
+#[derive(Clone, Copy, PartialEq, Eq)]
 pub enum Callee {
     /// The function with a number.
     Function(usize),

@@ -82,7 +82,7 @@ pub fn zero(of: &Type) -> Literal
 }
 
 /// What a call of a function takes and gives.
-#[derive(Debug, Drop)]
+#[derive(Drop)]
 pub struct Signature {
     pub name: Vec<u8>,
     /// The parameters' types, in order.

@@ -18,7 +18,7 @@ use std::alloc::Global;
 use std::mem;
 
 /// What arrives at a goroutine for its instruction.
-#[derive(Debug, Drop)]
+#[derive(Drop)]
 pub enum Arrival {
     /// The value of `len` or `cap`.
     Value(Value),
@@ -42,7 +42,7 @@ pub enum Arrival {
 }
 
 /// How a goroutine comes to an end.
-#[derive(Clone, Copy, Debug, PartialEq, Eq)]
+#[derive(Clone, Copy, PartialEq, Eq)]
 pub enum Halt {
     /// It returns from its outermost frame, or ends the program.
     Finished,

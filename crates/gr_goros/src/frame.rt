@@ -22,7 +22,7 @@ use std::marker::Model;
 use std::mem;
 
 /// A function that was called and has not returned.
-#[derive(Debug, Drop)]
+#[derive(Drop)]
 pub struct Frame {
     function: u32,
     /// The number of the next instruction.

@@ -11,7 +11,7 @@ use gr_base::{ChName, Value};
 use std::marker::Model;
 
 /// What a step did that wrote to cells.
-#[derive(Clone, Copy, Debug)]
+#[derive(Clone, Copy)]
 pub enum How {
     /// It went on.
     Went,
@@ -21,7 +21,7 @@ pub enum How {
 
 /// The variants of `GoUndo`, `Former` and `Status` in one enum, whose small parts stand beside its tag. One enum inside another
 /// would take eight bytes more.
-#[derive(Debug, Drop)]
+#[derive(Drop)]
 pub enum Packed {
     /// The frame stood there, and no cell was written to.
     Same(How, Spot),
@@ -49,7 +49,7 @@ pub enum Packed {
 }
 
 /// What a change of a goroutine replaced, in 24 bytes.
-#[derive(Debug, Drop)]
+#[derive(Drop)]
 pub struct KeptUndo {
     pub packed: Packed,
 }

@@ -6,7 +6,7 @@ ghost use Rattle.gr_goros.specs.Kinds.{kind_of};
 use gr_base::{Fault, Kind};
 
 /// The kind of a step that reaches no further than its goroutine. It takes two bytes, where any kind takes eight.
-#[derive(Clone, Copy, Debug)]
+#[derive(Clone, Copy)]
 pub enum LocalKind {
     Pure,
     Call,

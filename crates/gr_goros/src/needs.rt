@@ -27,7 +27,7 @@ use std::alloc::Global;
 
 /// A clause of a select. A channel that is `None` is nil. A value to send may be a fault, which stops the program only where
 /// the clause is chosen.
-#[derive(Debug, Drop)]
+#[derive(Drop)]
 pub enum Clause {
     Default,
     Send {
@@ -41,7 +41,7 @@ pub enum Clause {
 }
 
 /// What the next step of a goroutine asks for. A channel that is `None` is nil.
-#[derive(Debug, Drop)]
+#[derive(Drop)]
 pub enum Need {
     /// Nothing beyond the goroutine.
     Local,

@@ -11,7 +11,7 @@ use gr_base::{ChName, NoMemory, Value};
 use std::mem;
 
 /// What was in the cells of a frame to which a change wrote.
-#[derive(Debug, Drop)]
+#[derive(Drop)]
 pub enum Former {
     /// It wrote to none.
     Same,
@@ -32,28 +32,28 @@ pub enum Former {
 }
 
 /// Where a frame stands: the number of its function, and that of the next instruction there.
-#[derive(Clone, Copy, Debug)]
+#[derive(Clone, Copy)]
 pub struct Spot {
     pub function: u32,
     pub number: u32,
 }
 
 /// A frame before it went on in its function: the number of its next instruction, and what was in its cells.
-#[derive(Debug, Drop)]
+#[derive(Drop)]
 pub struct FrameUndo {
     pub number: u32,
     pub cells: Former,
 }
 
 /// A frame that returned, and its caller before it went on.
-#[derive(Debug, Drop)]
+#[derive(Drop)]
 pub struct Left {
     pub frame: Frame,
     pub caller: FrameUndo,
 }
 
 /// A goroutine before a partner met it.
-#[derive(Debug, Drop)]
+#[derive(Drop)]
 pub struct Met {
     pub status: Status,
     /// The number of the function of its innermost frame.
@@ -63,7 +63,7 @@ pub struct Met {
 
 /// What a change of a goroutine replaced, by which it is undone. Each step of its own keeps where the innermost frame stood, the
 /// number of its function beside the rest where that takes no more room.
-#[derive(Debug, Drop)]
+#[derive(Drop)]
 pub enum GoUndo {
     /// The innermost frame, of the function with a number, went on in a step.
     Went(u32, FrameUndo),

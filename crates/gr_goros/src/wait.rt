@@ -3,14 +3,14 @@
 use gr_base::ChName;
 
 /// What a goroutine waits for, with the number of the clause, counted from 1, where it waits in a select.
-#[derive(Debug, Drop)]
+#[derive(Drop)]
 pub enum Wait {
     Send(ChName, Option<u32>),
     Receive(ChName, Option<u32>),
 }
 
 /// What a goroutine does next.
-#[derive(Debug, Drop)]
+#[derive(Drop)]
 pub enum Status {
     /// It takes a step.
     Ready,

@@ -5,7 +5,7 @@ use gr_scan::token::Place;
 use gr_tree::{BinaryOp, UnaryOp};
 
 /// A value as it stands in a program.
-#[derive(Clone, Copy, Debug, PartialEq, Eq)]
+#[derive(Clone, Copy, PartialEq, Eq)]
 pub enum Literal {
     /// An `int`.
     Number(i64),
@@ -17,7 +17,7 @@ pub enum Literal {
 }
 
 /// An expression. The largest constant expressions are literals.
-#[derive(Debug, Drop)]
+#[derive(Drop)]
 pub enum Expr {
     Literal(Literal),
     /// A variable by its number.
@@ -39,7 +39,7 @@ pub enum Expr {
 }
 
 /// What `println` prints.
-#[derive(Debug, Drop)]
+#[derive(Drop)]
 pub enum Printed {
     /// A value.
     Value(Expr),
@@ -48,7 +48,7 @@ pub enum Printed {
 }
 
 /// What a statement does that has no statements in it. A target is a variable by its number; `None` is the blank identifier.
-#[derive(Debug, Drop)]
+#[derive(Drop)]
 pub enum Act {
     /// Assigns each value to the target at its place. A declaration is an assignment.
     Assign {
@@ -91,7 +91,7 @@ pub enum Act {
 }
 
 /// A statement in the heading of an if or a for. It lies on the heap, so that other statements take no room for it.
-#[derive(Debug, Drop)]
+#[derive(Drop)]
 pub struct Opening {
     /// Where its first token stands.
     pub place: Place,
@@ -100,7 +100,7 @@ pub struct Opening {
 
 /// A statement. Each place is that of its first token, so that no two statements of a program have the same.
 #[cycle(stmt)]
-#[derive(Debug, Drop)]
+#[derive(Drop)]
 pub enum Stmt {
     /// A statement with no statements in it.
     Act {
@@ -137,7 +137,7 @@ pub enum Stmt {
 
 /// A clause of a select.
 #[cycle(stmt)]
-#[derive(Debug, Drop)]
+#[derive(Drop)]
 pub enum Case {
     Default(Vec<Stmt>),
     Send {
@@ -155,7 +155,7 @@ pub enum Case {
 }
 
 /// A parameter of a function.
-#[derive(Debug, Drop)]
+#[derive(Drop)]
 pub struct Parameter {
     /// Its variable; `None` for the blank identifier.
     pub variable: Option<usize>,
@@ -163,14 +163,14 @@ pub struct Parameter {
 }
 
 /// A variable of a function.
-#[derive(Debug, Drop)]
+#[derive(Drop)]
 pub struct Variable {
     pub name: Vec<u8>,
     pub value_type: Type,
 }
 
 /// A function.
-#[derive(Debug, Drop)]
+#[derive(Drop)]
 pub struct Function {
     pub name: Vec<u8>,
     pub parameters: Vec<Parameter>,
@@ -183,7 +183,7 @@ pub struct Function {
 }
 
 /// The checked program of a file.
-#[derive(Debug, Drop)]
+#[derive(Drop)]
 pub struct Program {
     /// The functions by their numbers, in source order.
     pub functions: Vec<Function>,

@@ -8,7 +8,7 @@ use gr_tree::Direction;
 use std::alloc::{AllocError, Global};
 
 /// A type of a value.
-#[derive(Debug, Drop)]
+#[derive(Drop)]
 pub enum Type {
     /// `int`, of 64 bits.
     Int,

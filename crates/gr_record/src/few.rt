@@ -8,7 +8,7 @@ ghost use Rattle.gr_record.specs.Fews.{members};
 use std::slice;
 
 /// A list that takes no memory of its own for one thing.
-#[derive(Debug, Drop)]
+#[derive(Drop)]
 pub enum Few<T> {
     Empty,
     One(T),

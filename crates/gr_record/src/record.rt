@@ -15,7 +15,7 @@ use std::alloc::Global;
 use std::marker::Model;
 
 /// What a step did with a channel.
-#[derive(Debug, Drop)]
+#[derive(Drop)]
 pub enum Operation {
     SendsOn(ChName),
     ReceivesFrom(ChName),
@@ -40,7 +40,7 @@ impl Operation {
 }
 
 /// Parts of one channel, in the order of gate, head, tail and slot.
-#[derive(Clone, Copy, Debug, PartialEq, Eq)]
+#[derive(Clone, Copy, PartialEq, Eq)]
 pub enum Parts {
     Nothing,
     Gate,
@@ -55,7 +55,7 @@ pub enum Parts {
 }
 
 /// What a step touched of the channel with which it did something.
-#[derive(Clone, Copy, Debug)]
+#[derive(Clone, Copy)]
 pub struct Touched {
     /// What it read and did not write.
     pub read: Parts,
@@ -65,7 +65,7 @@ pub struct Touched {
 }
 
 /// What few steps reach.
-#[derive(Debug, Drop)]
+#[derive(Drop)]
 pub struct More {
     /// What it read and did not write beside its channel, but for whether the program runs.
     pub reads: Vec<Object>,
@@ -78,7 +78,7 @@ pub struct More {
 }
 
 /// What a step reached beyond its goroutine.
-#[derive(Debug, Drop)]
+#[derive(Drop)]
 pub struct Beyond {
     pub operation: Option<Operation>,
     /// What it touched of the channel of the operation.
@@ -107,14 +107,14 @@ impl Beyond {
 }
 
 /// What a step did with one channel, and what it touched of it.
-#[derive(Debug, Drop)]
+#[derive(Drop)]
 pub struct Contact {
     pub operation: Operation,
     pub touched: Touched,
 }
 
 /// What a step replaced and reached that communicated over one channel and met nobody.
-#[derive(Debug, Drop)]
+#[derive(Drop)]
 pub struct Passage {
     /// What it replaced in its goroutine.
     pub own: KeptUndo,
@@ -124,7 +124,7 @@ pub struct Passage {
 }
 
 /// What a step replaced and reached that communicated over one channel with a goroutine which waited for this alone.
-#[derive(Debug, Drop)]
+#[derive(Drop)]
 pub struct Exchange {
     pub passage: Passage,
     /// The goroutine that it met, with what it replaced there.
@@ -132,7 +132,7 @@ pub struct Exchange {
 }
 
 /// What a step replaced and reached that reached further.
-#[derive(Debug, Drop)]
+#[derive(Drop)]
 pub struct Further {
     /// What it replaced in its goroutine.
     pub own: KeptUndo,
@@ -190,7 +190,7 @@ impl Further {
 }
 
 /// How what a step did is kept, in 32 bytes and a box where there is need for one.
-#[derive(Debug, Drop)]
+#[derive(Drop)]
 pub enum Form {
     /// It reached no further than its goroutine: its kind, and what it replaced there.
     Alone(LocalKind, KeptUndo),
@@ -208,7 +208,7 @@ pub enum Form {
 }
 
 /// What a step did, and what it replaced.
-#[derive(Debug, Drop)]
+#[derive(Drop)]
 pub struct Change {
     pub form: Form,
 }
@@ -364,7 +364,7 @@ impl Touched {
 }
 
 /// A step that was taken, by which it can be taken back.
-#[derive(Debug, Drop)]
+#[derive(Drop)]
 pub struct Record {
     pub id: StepId,
     pub choice: Choice,

@@ -5,7 +5,7 @@ ghost use Rattle.std.specs.Prelude.{◌≡◌, ◌<◌, ◌-◌, ◌^◌, Some, 
 use std::marker::Model;
 
 /// The place of a slot of a channel, counted from 0, or none. It takes four bytes.
-#[derive(Clone, Copy, Debug)]
+#[derive(Clone, Copy)]
 pub struct SlotPlace {
     /// One more than the place, or 0 for none.
     number: u32,

@@ -7,7 +7,7 @@ use gr_base::Kind;
 use gr_step::Record;
 
 /// A step that was taken: its ordinal among the steps of its goroutine, from 1, and its kind.
-#[derive(Clone, Copy, Debug, PartialEq, Eq)]
+#[derive(Clone, Copy, PartialEq, Eq)]
 pub struct Stepped {
     pub ordinal: u64,
     pub kind: Kind,

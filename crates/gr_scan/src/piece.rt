@@ -11,7 +11,7 @@ use crate::scan::ScanError;
 use crate::token::Mark;
 
 /// What a piece of a text is.
-#[derive(Clone, Copy, Debug, PartialEq, Eq)]
+#[derive(Clone, Copy, PartialEq, Eq)]
 pub enum Piece {
     /// A space, a tab or a carriage return.
     Space,
@@ -34,7 +34,7 @@ pub enum Piece {
 }
 
 /// What a byte may begin.
-#[derive(Clone, Copy, Debug, PartialEq, Eq)]
+#[derive(Clone, Copy, PartialEq, Eq)]
 pub enum Class {
     Letter,
     Digit,

@@ -8,7 +8,7 @@ use crate::scan::ScanError;
 use std::alloc::{AllocError, Global};
 
 /// What a byte of a string literal is, after the opening quote.
-#[derive(Clone, Copy, Debug, PartialEq, Eq)]
+#[derive(Clone, Copy, PartialEq, Eq)]
 enum Part {
     /// A byte of the value.
     Byte(u8),

@@ -3,7 +3,7 @@ ghost use Rattle.std.specs.Prelude.{◌≡◌};
 ghost use Rattle.gr_scan.specs.Tokens.{place_of_span};
 
 /// A keyword, an operator or a punctuation mark (Go: Keywords, Operators and punctuation).
-#[derive(Clone, Copy, Debug, PartialEq, Eq)]
+#[derive(Clone, Copy, PartialEq, Eq)]
 pub enum Mark {
     Break,
     Case,
@@ -80,7 +80,7 @@ pub enum Mark {
 }
 
 /// What a token is.
-#[derive(Debug, Drop)]
+#[derive(Drop)]
 pub enum Kind<'a> {
     /// An identifier, where it stands in the text.
     Name(&'a [u8]),
@@ -92,7 +92,7 @@ pub enum Kind<'a> {
 }
 
 /// Where a token stands.
-#[derive(Clone, Copy, Debug, PartialEq, Eq)]
+#[derive(Clone, Copy, PartialEq, Eq)]
 pub struct Place {
     /// The number of bytes before the token.
     pub start: usize,
@@ -103,7 +103,7 @@ pub struct Place {
 }
 
 /// The place of a token in 32-bit numbers, as the token keeps it. No text is too long for them, and tokens are many.
-#[derive(Clone, Copy, Debug, PartialEq, Eq)]
+#[derive(Clone, Copy, PartialEq, Eq)]
 pub struct Span {
     /// The number of bytes before the token.
     pub start: u32,
@@ -114,7 +114,7 @@ pub struct Span {
 }
 
 /// A token of a text.
-#[derive(Debug, Drop)]
+#[derive(Drop)]
 pub struct Token<'a> {
     pub kind: Kind<'a>,
     pub span: Span,

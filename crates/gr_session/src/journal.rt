@@ -8,7 +8,7 @@ use gr_command::{Command, Reply};
 use gr_rollback::LocalRun;
 
 /// How far memory allowed a command to be carried out.
-#[derive(Clone, Copy, Debug, PartialEq, Eq)]
+#[derive(Clone, Copy, PartialEq, Eq)]
 pub enum Memory {
     /// To its end.
     Enough,
@@ -36,13 +36,13 @@ pub struct Entry {
 }
 
 /// An asker of a session: a number that `enrol` gave, from 1 to 1,000.
-#[derive(Clone, Copy, Debug, PartialEq, Eq)]
+#[derive(Clone, Copy, PartialEq, Eq)]
 pub struct DeskId {
     pub number: u32,
 }
 
 /// A receipt for what was asked: the journal keeps it.
-#[derive(Debug, Drop)]
+#[derive(Drop)]
 pub struct Receipt {
     /// The number of the entry, from 1.
     pub number: u64,

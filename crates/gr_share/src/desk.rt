@@ -11,7 +11,7 @@ use std::marker::{Model, PhantomData};
 use std::sync::Wait;
 
 /// What was asked of the session.
-#[derive(Debug, Drop)]
+#[derive(Drop)]
 pub enum Asked {
     Command(Command),
     /// This many steps of a goroutine, which a worker took on a copy, join the log.
@@ -19,7 +19,7 @@ pub enum Asked {
 }
 
 /// What was asked, and what came of it.
-#[derive(Debug, Drop)]
+#[derive(Drop)]
 pub struct Call {
     pub asked: Asked,
     pub receipt: Receipt,

@@ -6,7 +6,7 @@ use gr_tables::goroutines::Goroutines;
 use std::alloc::Global;
 
 /// Whether a program runs.
-#[derive(Clone, Copy, Debug, PartialEq, Eq)]
+#[derive(Clone, Copy, PartialEq, Eq)]
 pub enum Run {
     Live,
     Ended,

@@ -16,7 +16,7 @@ use std::alloc::{AllocError, AllocFailed, Global};
 pub(crate) type Tokens<'a, 't> = &'a [Token<'t>];
 
 /// Why reading stopped, and how many tokens were left there.
-#[derive(Debug, Drop)]
+#[derive(Drop)]
 pub(crate) enum ReadError {
     /// No file goes on with the first of them.
     Wrong { left: usize },

@@ -5,7 +5,7 @@ ghost use Rattle.std.specs.Prelude.{◌≡◌, ◌<◌, ◌^◌};
 use std::marker::Model;
 
 /// A touch of an object by the step at a place of the log, and whether the step wrote the object. It takes four bytes.
-#[derive(Clone, Copy, Debug, PartialEq, Eq)]
+#[derive(Clone, Copy, PartialEq, Eq)]
 pub struct Touch {
     /// Twice the place in the log, counted from 0, and one more where the step wrote the object.
     number: u32,

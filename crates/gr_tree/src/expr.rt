@@ -1,7 +1,7 @@
 //! Types and expressions.
 
 /// A unary operator (Go: Operators).
-#[derive(Clone, Copy, Debug, PartialEq, Eq)]
+#[derive(Clone, Copy, PartialEq, Eq)]
 pub enum UnaryOp {
     Plus,
     Negate,
@@ -14,7 +14,7 @@ pub enum UnaryOp {
 }
 
 /// A binary operator (Go: Operators).
-#[derive(Clone, Copy, Debug, PartialEq, Eq)]
+#[derive(Clone, Copy, PartialEq, Eq)]
 pub enum BinaryOp {
     Multiply,
     Divide,
@@ -41,7 +41,7 @@ pub enum BinaryOp {
 }
 
 /// What may be done with a channel of a type (Go: Channel types).
-#[derive(Clone, Copy, Debug, PartialEq, Eq)]
+#[derive(Clone, Copy, PartialEq, Eq)]
 pub enum Direction {
     /// `chan T`
     Both,
@@ -52,7 +52,7 @@ pub enum Direction {
 }
 
 /// A type as it is written. Parentheses stay in the tree, since they count for its height.
-#[derive(Debug, Drop)]
+#[derive(Drop)]
 pub enum TypeTree {
     Name(Vec<u8>),
     /// `struct{}`
@@ -63,7 +63,7 @@ pub enum TypeTree {
 
 /// An expression. Parentheses stay in the tree, since they count for its height. The callee of a call, and the type of a make
 /// with a size, lie on the heap. So other expressions take no room for them.
-#[derive(Debug, Drop)]
+#[derive(Drop)]
 pub enum Expr {
     /// A whole number, at most 2^63.
     Number(u64),

@@ -5,14 +5,14 @@ use crate::stmt::Stmt;
 use gr_scan::token::Place;
 
 /// Parameters of one type.
-#[derive(Debug, Drop)]
+#[derive(Drop)]
 pub struct Group {
     pub names: Vec<Vec<u8>>,
     pub type_tree: TypeTree,
 }
 
 /// A function.
-#[derive(Debug, Drop)]
+#[derive(Drop)]
 pub struct Func {
     /// Where `func` stands.
     pub place: Place,
@@ -25,7 +25,7 @@ pub struct Func {
 }
 
 /// A file.
-#[derive(Debug, Drop)]
+#[derive(Drop)]
 pub struct File {
     /// Where `package` stands.
     pub place: Place,

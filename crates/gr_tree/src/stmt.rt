@@ -4,7 +4,7 @@ use crate::expr::{BinaryOp, Expr, TypeTree};
 use gr_scan::token::Place;
 
 /// A simple statement (Go: Statements), without its place.
-#[derive(Debug, Drop)]
+#[derive(Drop)]
 pub enum Simple {
     /// An expression as a statement.
     Eval(Expr),
@@ -23,7 +23,7 @@ pub enum Simple {
 }
 
 /// What a statement does that has no statements in it.
-#[derive(Debug, Drop)]
+#[derive(Drop)]
 pub enum Action {
     Simple(Simple),
     /// `var x, y T`
@@ -41,21 +41,21 @@ pub enum Action {
 
 /// A simple statement in the heading of an if or a for, and where its first token stands. It lies on the heap, so that other
 /// statements take no room for it.
-#[derive(Debug, Drop)]
+#[derive(Drop)]
 pub struct Header {
     pub place: Place,
     pub simple: Simple,
 }
 
 /// What stands between `if` and its block.
-#[derive(Debug, Drop)]
+#[derive(Drop)]
 pub struct IfHead {
     pub init: Option<Box<Header>>,
     pub condition: Expr,
 }
 
 /// What each value of a range is given to.
-#[derive(Debug, Drop)]
+#[derive(Drop)]
 pub enum RangeTarget {
     Nothing,
     /// `x = range`
@@ -65,7 +65,7 @@ pub enum RangeTarget {
 }
 
 /// What stands between `for` and its block.
-#[derive(Debug, Drop)]
+#[derive(Drop)]
 pub enum ForHead {
     /// The statement before the loop, the condition, and the statement after each turn.
     Loop(Option<Box<Header>>, Option<Expr>, Option<Box<Header>>),
@@ -74,7 +74,7 @@ pub enum ForHead {
 }
 
 /// What a clause of a select waits for (Go: Select statements).
-#[derive(Debug, Drop)]
+#[derive(Drop)]
 pub enum Communication {
     /// `c <- e`: the channel, and the value.
     Send(Expr, Expr),
@@ -88,7 +88,7 @@ pub enum Communication {
 
 /// A statement. Each place is that of the statement's first token.
 #[cycle(statement)]
-#[derive(Debug, Drop)]
+#[derive(Drop)]
 pub enum Stmt {
     /// A statement with no statements in it.
     Act(Place, Action),
@@ -109,7 +109,7 @@ pub enum Stmt {
 
 /// A clause of a select.
 #[cycle(statement)]
-#[derive(Debug, Drop)]
+#[derive(Drop)]
 pub enum Clause {
     Default(Vec<Stmt>),
     Case(Communication, Vec<Stmt>),

@@ -24,7 +24,7 @@ pub enum LabelError {
 }
 
 /// A label that doesn't fit, and where it stands.
-#[derive(Clone, Copy, Debug, PartialEq, Eq)]
+#[derive(Clone, Copy, PartialEq, Eq)]
 pub struct UnfitLabel {
     pub place: Place,
     pub fault: LabelError,

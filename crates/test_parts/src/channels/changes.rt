@@ -189,7 +189,9 @@ pub(super) fn take_back(rt: &impl Abort, channel: &mut Channel, undo: ChanUndo, 
 {
     if let Err((kept, _)) = channel.undo(undo) {
         show(rt, channel, before);
-        channel.undo(kept).expect(rt, "memory to go back");
+        let Ok(()) = channel.undo(kept) else {
+            panic!(rt; "no memory to go back");
+        };
     }
 }
 
