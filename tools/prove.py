@@ -7,7 +7,8 @@ Each crate is proved once those below it are, beside others where there are proc
 Leaves the program as PROGRAM, and what the toolchain says in make.log beside it. What is proved already stays proved.
 
 The toolchain keeps a crate and all below it to itself while it proves one. So crates that are proved side by side have a
-room each: a folder with a copy of the sources, to which the libraries below are lent.
+room each: a folder with a copy of the sources, to which the libraries below are lent. No file of a room changes, so the stamp
+of a crate is made once for each command there.
 """
 import functools
 import os
@@ -25,6 +26,7 @@ import kit
 JOBS_OF_THE_FIRST = 2
 STANDS_BACK = 10
 MOST_ROOMS = 4
+RT = f"{kit.ROOT}/tools/rt_once.py"
 # The minutes of a crate whose time bench/GATE.md does not tell.
 UNTOLD = 0.1
 # The memory for which there may be a room: two jobs of some 2.3 GB.
@@ -90,7 +92,7 @@ class Check:
         self.crate, self.room = crate, room
         self.said = tempfile.TemporaryFile("w+", encoding="utf-8", errors="replace")
         room.take_in(crate)
-        words = ["rt", "lib", "--jobs", str(jobs)]
+        words = [RT, "lib", "--jobs", str(jobs)]
         if not leads:
             words = ["nice", "-n", str(STANDS_BACK), *words]
         self.process = subprocess.Popen(words, cwd=room.folder(crate), stdin=subprocess.DEVNULL, stdout=self.said,
@@ -162,12 +164,14 @@ def memory():
     return os.sysconf("SC_PAGE_SIZE") * os.sysconf("SC_PHYS_PAGES")
 
 
-def run(program, words, log):
-    """Whether the toolchain proves the program and runs it well."""
+def run(program, room, words, log):
+    """Whether the toolchain proves the program in the room, and runs it well."""
     log.write(f"rt run in {program.folder}\n")
     log.flush()
-    said = subprocess.run(["rt", "run", "--", *words], cwd=program.folder, stdin=subprocess.DEVNULL, stdout=log,
+    room.take_in(program)
+    said = subprocess.run([RT, "run", "--", *words], cwd=room.folder(program), stdin=subprocess.DEVNULL, stdout=log,
                           stderr=subprocess.STDOUT)
+    room.give_back(program)
     return said.returncode == 0
 
 
@@ -179,9 +183,9 @@ def prove_all(program, words, processors, log):
         rooms = [Room(f"{place}/{number}") for number in range(count)]
         prover = Prover([it for it in crates if not it.is_built()], rooms, processors, log)
         prover.prove()
-    print(f"the program: {program.name} ({prover.minutes()} so far)", flush=True)
-    if not run(program, words, log):
-        kit.fail(f"{program.name} is not proved: see {log.name}")
+        print(f"the program: {program.name} ({prover.minutes()} so far)", flush=True)
+        if not run(program, rooms[0], words, log):
+            kit.fail(f"{program.name} is not proved: see {log.name}")
     print(f"proved in {prover.minutes()}")
 
 
