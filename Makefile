@@ -11,8 +11,8 @@ RT = $(if $(HAS_RT),rt,$(error rewind: 'rt' is not on the path: install the Ratt
 NEEDS_RT = @: $(RT)
 
 .DEFAULT_GOAL := $(if $(HAS_RT),all,help)
-.PHONY: all help quick quick-page demo test gate edits words command-line-test bench replay second-opinion hostile times gate-times dap-test page page-test vsix dist quick-dist dist-check \
-	page-pictures install uninstall clean
+.PHONY: all help quick quick-page demo test gate edits words command-line-test bench replay second-opinion hostile times gate-times make-times \
+	dap-test page page-test vsix dist quick-dist dist-check page-pictures install uninstall clean
 
 ## Use it
 
@@ -137,6 +137,10 @@ gate-times: ## the gate in a fresh clone, with the processor minutes of each cra
 	$(NEEDS_RT)
 	mkdir -p bin
 	tools/gate.py --table bench/GATE.md --log bin/gate.log
+
+make-times: ## make in a fresh clone, with its slowest functions: bench/MAKE.md (as long)
+	$(NEEDS_RT)
+	tools/make_times.py --table bench/MAKE.md
 
 ## Make again what is made
 
