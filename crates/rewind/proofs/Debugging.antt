@@ -1,5 +1,5 @@
 -- From a source to the fault of its session.
-use Rattle.std.proofs.Common.{◌≡◌, ◌↔◌, ℕ, ◌<◌, ◌≤◌, List, [], ◌++◌, length, refl, sym, subst, ap, ◌∙◌, IfSome, inl, inr, None, Some, append-nil, length-append, ◌+◌, arith}
+use Rattle.std.proofs.Common.{◌≡◌, ◌↔◌, ℕ, ◌<◌, ◌≤◌, List, [], ◌++◌, length, refl, sym, subst, ap, ◌∙◌, IfSome, inl, inr, None, Some, append-nil, length-append, length-take, take, ◌+◌, arith}
 use Rattle.std.specs.declared.option.Option.{Option}
 use Rattle.std.specs.Io.KnownBytes.{Consumes, IsAtEnd}
 use Rattle.gr_scan.specs.declared.scan.ScanError.TheVariants as scanning
@@ -19,7 +19,7 @@ use Rattle.rewind.specs.Devices.{Device, Change, Fails}
 use Rattle.rewind.specs.Fault.{Left}
 use Rattle.rewind.specs.Stream.{of_session}
 use Rattle.rewind.specs.Served.{Served, ServedPart}
-use Rattle.rewind.specs.Debug.{SourceRead, Opened, Unopened, Stopped, SourceLeft, DebugLeft, BlamesSource, BlamesDevice}
+use Rattle.rewind.specs.Debug.{SourceRead, ReadInPart, Opened, Unopened, Stopped, SourceLeft, DebugLeft, BlamesSource, BlamesDevice}
 use Rattle.rewind.proofs.Known.{Keeps-refl}
 use Rattle.rewind.proofs.Legal.{legal_empty, legal_answered}
 
@@ -57,6 +57,7 @@ pub opened : (had has : Option (List ℕ)) (text : List ℕ) (program : Program)
 opened had has text program h is = record {
   text = text;
   taken = h.taken;
+  bound = h.bound;
   whole = elim h.enough [
     | inl e ↦ known had has text h.taken e
     | inr long ↦ absurd (long_source text long program is)
@@ -74,14 +75,25 @@ unopened error had has text h says when = record {
   whole = all_of had has text (λ all. SaysWhy error all) h (λ e. says) (λ more all long. long_refused error all (when.1 more) long);
 }
 
+-- a text that may still grow, and some bytes of a block
+pub one_block_more : (text block : List ℕ) (n limit most : ℕ) → length text ≤ limit → length block ≤ most → length (text ++ take n block) ≤ limit + most
+one_block_more text block n limit most few short =
+    let one = length-take n block in
+    let both = length-append text (take n block) in
+    omega (arith, one, both, few, short)
+
+-- a source that was opened was read in part
+pub read_in_part : {had has : Option (List ℕ)} {program : Program} → Opened had has program → ReadInPart had has
+read_in_part o = record { text = o.text; taken = o.taken; bound = o.bound }
+
 -- without a session nothing was done
 pub unserved : (fault : DebugFault) (source : Change) (reader writer : Device) → SourceLeft fault source
     → DebugLeft fault source (record { old = reader; new = reader }) (record { old = writer; new = writer })
-unserved Source source reader writer h = (Keeps-refl reader.bytes, Keeps-refl writer.bytes)
+unserved Source source reader writer h = (h, (Keeps-refl reader.bytes, Keeps-refl writer.bytes))
 unserved (Open error) source reader writer h = (h, (Keeps-refl reader.bytes, Keeps-refl writer.bytes))
 unserved (Serve Read) source reader writer h = absurd h
 unserved (Serve Write) source reader writer h = absurd h
-unserved (Serve Memory) source reader writer h = inl (Keeps-refl reader.bytes, Keeps-refl writer.bytes)
+unserved (Serve Memory) source reader writer h = inl (h, (Keeps-refl reader.bytes, Keeps-refl writer.bytes))
 unserved Threads source reader writer h = absurd h
 
 -- a fault of the source names no device but the source

@@ -79,9 +79,9 @@ blamed program (Err fault) source reader writer never h = stream_blamed fault so
 
 -- without a session nothing was done
 pub unshared : (fault : DebugFault) (source : Change) (reader writer : Device) → SourceLeft fault source → BesideLeft fault source (still reader) (still writer)
-unshared Source source reader writer h = (Keeps-refl reader.bytes, Keeps-refl writer.bytes)
+unshared Source source reader writer h = (h, (Keeps-refl reader.bytes, Keeps-refl writer.bytes))
 unshared (Open error) source reader writer h = (h, (Keeps-refl reader.bytes, Keeps-refl writer.bytes))
 unshared (Serve Read) source reader writer h = absurd h
 unshared (Serve Write) source reader writer h = absurd h
-unshared (Serve Memory) source reader writer h = inl (Keeps-refl reader.bytes, Keeps-refl writer.bytes)
+unshared (Serve Memory) source reader writer h = inl (h, (Keeps-refl reader.bytes, Keeps-refl writer.bytes))
 unshared Threads source reader writer h = absurd h

@@ -11,7 +11,7 @@ use Rattle.rewind.specs.declared.debug.DebugFault.{DebugFault}
 use Rattle.rewind.specs.declared.debug.DebugFault.TheVariants.{Source, Open, Serve, Threads}
 use Rattle.rewind.specs.Devices.{Change, NeverFails}
 use Rattle.rewind.specs.Fault.{Blames}
-use Rattle.rewind.specs.Debug.{Opened, Unopened, NothingDone}
+use Rattle.rewind.specs.Debug.{Opened, Unopened, NothingDone, NeverServed}
 use Rattle.rewind.specs.Stream.{of_desk}
 use Rattle.rewind.specs.Clients.{StreamEnds}
 use Rattle.rewind.specs.DeskStreams.{Serves, Leaves}
@@ -96,9 +96,9 @@ pub record LeftWith (fault : DebugFault) (source reader writer : Change) : Type 
 
 -- what a fault leaves: where there is no session, nothing was done
 abbrev pub BesideLeft : DebugFault → (source reader writer : Change) → Type 0
-BesideLeft Source source reader writer = NothingDone reader writer
+BesideLeft Source source reader writer = NeverServed source reader writer
 BesideLeft (Open error) source reader writer = Unopened error source.old.bytes source.new.bytes × NothingDone reader writer
 BesideLeft (Serve Read) source reader writer = LeftWith (Serve Read) source reader writer
 BesideLeft (Serve Write) source reader writer = LeftWith (Serve Write) source reader writer
-BesideLeft (Serve Memory) source reader writer = NothingDone reader writer ⊎ LeftWith (Serve Memory) source reader writer
+BesideLeft (Serve Memory) source reader writer = NeverServed source reader writer ⊎ LeftWith (Serve Memory) source reader writer
 BesideLeft Threads source reader writer = LeftWith Threads source reader writer

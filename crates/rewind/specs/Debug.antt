@@ -24,10 +24,17 @@ pub record SourceRead (had has : Option (List ℕ)) (text : List ℕ) : Type 0 w
   pub enough : IsAtEnd has ⊎ (TEXT_LIMIT < length text)
   pub bound : length text ≤ TEXT_LIMIT + BLOCK
 
+-- of a source no more was read than a text may have, and a block
+pub record ReadInPart (had has : Option (List ℕ)) : Type 0 where
+  pub text : List ℕ
+  pub taken : Consumes had has text
+  pub bound : length text ≤ TEXT_LIMIT + BLOCK
+
 -- the source gave a text, all that there was, whose program this is
 pub record Opened (had has : Option (List ℕ)) (program : Program) : Type 0 where
   pub text : List ℕ
   pub taken : Consumes had has text
+  pub bound : length text ≤ TEXT_LIMIT + BLOCK
   pub whole : IfSome had (λ all. all ≡ text)
   pub is_program : IsProgramOf text program
 
@@ -79,19 +86,23 @@ BlamesDevice Threads source reader writer = NeverFails source × (NeverFails rea
 
 -- why there is no session: the source failed, it was not opened, or the program is out of memory
 abbrev pub SourceLeft : DebugFault → Change → Type 0
-SourceLeft Source source = Unit {0}
+SourceLeft Source source = ReadInPart source.old.bytes source.new.bytes
 SourceLeft (Open error) source = Unopened error source.old.bytes source.new.bytes
 SourceLeft (Serve Read) source = ⊥
 SourceLeft (Serve Write) source = ⊥
-SourceLeft (Serve Memory) source = Unit {0}
+SourceLeft (Serve Memory) source = ReadInPart source.old.bytes source.new.bytes
 SourceLeft Threads source = ⊥
+
+-- the source was read in part, no command was read, and nothing was written
+abbrev pub NeverServed : (source reader writer : Change) → Type 0
+NeverServed source reader writer = ReadInPart source.old.bytes source.new.bytes × NothingDone reader writer
 
 -- what a fault leaves: where there is no session, nothing was done; else the stream was left
 abbrev pub DebugLeft : DebugFault → (source reader writer : Change) → Type 0
-DebugLeft Source source reader writer = NothingDone reader writer
+DebugLeft Source source reader writer = NeverServed source reader writer
 DebugLeft (Open error) source reader writer =
     Unopened error source.old.bytes source.new.bytes × NothingDone reader writer
 DebugLeft (Serve Read) source reader writer = Stopped Read source reader writer
 DebugLeft (Serve Write) source reader writer = Stopped Write source reader writer
-DebugLeft (Serve Memory) source reader writer = NothingDone reader writer ⊎ Stopped Memory source reader writer
+DebugLeft (Serve Memory) source reader writer = NeverServed source reader writer ⊎ Stopped Memory source reader writer
 DebugLeft Threads source reader writer = ⊥

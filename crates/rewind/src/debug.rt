@@ -1,8 +1,8 @@
 //! A session from its source to its last reply.
-ghost use Rattle.std.specs.Prelude.{◌≡◌, [], length, IfOk, OnOk, IfErr, IsErrOf};
+ghost use Rattle.std.specs.Prelude.{◌≡◌, [], length, IfOk, OnOk, OnErr, IfErr, IsErrOf};
 ghost use Rattle.gr_program.specs.Views.{program_of};
 ghost use Rattle.rewind.specs.Devices.{change, device_of, Fails, NeverFails};
-ghost use Rattle.rewind.specs.Debug.{SourceRead, Opened, Accepted, SourceLeft, Debugged, DebugLeft, BlamesSource, BlamesDevice};
+ghost use Rattle.rewind.specs.Debug.{SourceRead, ReadInPart, Opened, Accepted, SourceLeft, Debugged, DebugLeft, BlamesSource, BlamesDevice};
 
 use crate::counted::{Counted, LineError};
 use crate::stream::{ServeFault, serve};
@@ -38,6 +38,7 @@ fn read_source<S: Read>(source: &mut Counted<S>, text: &mut Vec<u8>) -> Result<(
     requires { length text.old.items ≡ 0 }
     ensures ok { OnOk result
         (SourceRead (S.remaining (device_of source.old)) (S.remaining (device_of source.new)) text.new.items) }
+    ensures part { OnErr result (ReadInPart (S.remaining (device_of source.old)) (S.remaining (device_of source.new))) }
     ensures same { OnOk result (NeverFails (change S.remaining source.old source.new)) }
     ensures read { IsErrOf result LineError.Read → Fails (change S.remaining source.old source.new) }
     ensures memory { IsErrOf result LineError.Memory → NeverFails (change S.remaining source.old source.new) }
@@ -105,8 +106,8 @@ pub fn check<S: Read>(alloc: Global, source: &mut Counted<S>) -> Result<(), Debu
 /// The session's memory is not given back: this is the last thing that a program does.
 ///
 /// After `Source` and `Open` no command was read and nothing was written. A source of more than 1,048,576 bytes is not opened.
-/// Where it is refused for that (`Open`), at most 8,192 bytes more were read of it. After `Serve` the session stands as `serve`
-/// says. The fault names the device that failed, if one did.
+/// Of no source are more than 8,192 bytes read beyond that. After `Serve` the session stands as `serve` says. The fault names the
+/// device that failed, if one did.
 pub fn debug<S: Read, R: BufRead, W: Write>(
     alloc: Global,
     source: &mut Counted<S>,

@@ -1,5 +1,7 @@
 use Rattle.rewind.specs.Devices.{change, known}
-use Rattle.rewind.proofs.Debugging.{source_blamed}
+use Rattle.rewind.specs.declared.stream.ServeFault.TheVariants.{Memory}
+use Rattle.rewind.specs.declared.debug.DebugFault.TheVariants.{Serve}
+use Rattle.rewind.proofs.Debugging.{read_in_part, source_blamed}
 use Rattle.rewind.proofs.Sharing.{unshared}
 use Rattle.rewind.proofs.workers.debug_beside.Goals as goal
 
@@ -12,3 +14,8 @@ pub returns-in-Err-clause-blames : goal.returns-in-Err-clause-blames
 returns-in-Err-clause-blames g c =
     source_blamed c.in-Err.fault (change g.S.Read.remaining c.args.source.now c.open_source.new.source)
     (known g.R.Read.remaining c.args.reader.now) (known g.W.Write.contents c.args.writer.now) c.in-Err.ensures.err c.in-Err.ensures.source
+
+pub returns-in_default-clause-err : goal.returns-in_default-clause-err
+returns-in_default-clause-err g c =
+    unshared (Serve Memory) (change g.S.Read.remaining c.args.source.now c.open_source.new.source)
+    (known g.R.Read.remaining c.args.reader.now) (known g.W.Write.contents c.args.writer.now) (read_in_part c.in-Ok.ensures.program)
