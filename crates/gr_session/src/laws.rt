@@ -1,6 +1,6 @@
 //! What holds of journals and of batches: laws, on functions that do nothing.
 
-ghost use Rattle.std.specs.Prelude.{◌≡◌, ◌<◌, ℕ, List};
+ghost use Rattle.std.specs.Prelude.{◌≡◌, ◌<◌, ◌≤◌, ℕ, List};
 ghost use Rattle.gr_program.specs.Programs.{Program};
 ghost use Rattle.gr_command.specs.Replies.{Said};
 ghost use Rattle.gr_laws.specs.Reached.{IsRun};
@@ -37,10 +37,10 @@ pub fn law_of_journals()
         → IsRun p u.log u.state }
 {}
 
-/// A batch need not be stale if its goroutine is as it was lent, and its limit was what the workers may take. So it need not be
-/// stale if nothing happened between lease and commit.
+/// A batch need not be stale if its goroutine is as it was lent, and its limit is at most what the workers may take. So it need
+/// not be stale if nothing happened between lease and commit.
 pub fn law_of_batches()
-    ensures { (p : Program) (s : Contents) (lent led : LentCopy) (grant : ℕ)
-        → IsAsLentIn (loan_of lent) p s → 0 < grant → IsBatch grant lent led
+    ensures { (p : Program) (s : Contents) (lent led : LentCopy) (grant limit : ℕ)
+        → IsAsLentIn (loan_of lent) p s → 0 < grant → limit ≤ grant → IsBatch limit lent led
         → ¬ MustBeStale p s grant (loan_of led) }
 {}
