@@ -4,7 +4,7 @@ ghost use Rattle.std.specs.Prelude.{IfOk, IfSome, OnErr, IsErrOf, IsTrue};
 ghost use mathlib.Core.List.{IsPrefix};
 ghost use Rattle.gr_program.specs.Views.{program_of};
 ghost use Rattle.gr_command.specs.Replies.{said_of};
-ghost use Rattle.gr_session.specs.declared.TheConstants.{ASKER_LIMIT};
+ghost use Rattle.gr_session.specs.declared.TheConstants.{ASKER_LIMIT, JOURNAL_LIMIT};
 ghost use Rattle.gr_session.specs.Copies.{loan_of};
 ghost use Rattle.gr_session.specs.Entries.{InItsWorld};
 ghost use Rattle.gr_session.specs.Granting.{CanLend, IsTurnDue};
@@ -137,6 +137,7 @@ impl<B: Room> Locked<B> {
         ensures entry { IfOk result (λ c. EntersCall (program_of self.old.session.program) number (Asked.Command command)
             self.old.session.journal self.new.session.journal c.receipt.number (said_of c.receipt.reply)) }
         ensures full { IsErrOf result AskRefused.JournalFull → FullFor B.program seat.old.me.0 }
+        ensures limit { IsErrOf result AskRefused.JournalFull ↔ (length self.old.session.journal ≡ JOURNAL_LIMIT) }
         ensures err { OnErr result ((seat.new.me.0 ≡ seat.old.me.0) × (self.new ≡ self.old)) }
     {
         tie.compare(&mut self.keeper, seat);

@@ -1,4 +1,5 @@
-use Rattle.std.proofs.Common.{◌≡◌, [], ◌∷◌, ◌++◌, ap, sym, subst, ◌∙◌, arith}
+use Rattle.std.proofs.Common.{◌≡◌, ◌↔◌, [], ◌∷◌, ◌++◌, length, Err, ap, sym, subst, ◌∙◌, arith}
+use Rattle.std.specs.Prelude.{IsErrOf}
 use mathlib.Core.List.{IsPrefix}
 use Rattle.gr_program.specs.declared.program.Program.{Program}
 use Rattle.gr_program.specs.Programs.{Program as Pure}
@@ -6,12 +7,14 @@ use Rattle.gr_program.specs.Views.{program_of}
 use Rattle.gr_command.specs.declared.command.Command.{Command as Wanted}
 use Rattle.gr_command.specs.Replies.{said_of}
 use Rattle.gr_share.specs.Lines.{Line}
+use Rattle.gr_session.specs.declared.TheConstants.{JOURNAL_LIMIT}
 use Rattle.gr_session.specs.declared.journal.AskRefused.TheVariants.{JournalFull}
 use Rattle.gr_session.specs.Entries.{EntersCommand}
 use Rattle.gr_share.specs.Calls.{EntersCall}
 use Rattle.gr_share.specs.declared.desk.Asked.TheVariants.{Command}
 use Rattle.gr_share.specs.declared.desk.Call.{Call}
 use Rattle.gr_share.specs.declared.views.View.{View}
+use Rattle.gr_share.specs.Seats.{Held}
 use Rattle.gr_share.specs.Ties.{asked, keeping, told, FullFor}
 use Rattle.gr_share.proofs.Answering.{begins_on, tells_on, full_on, handed_on, rises_on}
 use Rattle.gr_share.proofs.locked.Locked.ask.Goals as goal
@@ -61,3 +64,10 @@ returns-in-Err-clause-full g c = λ e.
     let begins : IsPrefix v.calls (asked v.asker log) = c.compare.ensures.begins in
     subst (λ (q : Pure). FullFor q v) c.self.invariant.3
     (full_on s v.asker log v c.self.invariant.2 c.journal.ensures.legal (c.in-Err.ensures.full.0 (handed_on c.in-Err.why JournalFull e)) begins)
+
+pub returns-in-Err-clause-limit : goal.returns-in-Err-clause-limit
+returns-in-Err-clause-limit g c =
+    subst (λ (h : Held). IsErrOf {T = Call} (Err c.in-Err.why) JournalFull ↔ (length h.session.journal ≡ JOURNAL_LIMIT)) c.self.view_is (
+      λ e. c.in-Err.ensures.full.0 (handed_on c.in-Err.why JournalFull e),
+      λ full. handed_on c.in-Err.why JournalFull (c.in-Err.ensures.full.1 full),
+    )
