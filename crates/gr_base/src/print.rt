@@ -187,7 +187,7 @@ pub fn print_kind(text: &mut Vec<u8>, kind: Kind) -> Result<(), NoMemory>
     }
 }
 
-// The fault's name.
+/// The fault's name.
 fn fault_name(fault: Fault) -> &'static [u8]
     ensures { result.now ≡ fault_text fault }
 {
@@ -204,7 +204,7 @@ fn fault_name(fault: Fault) -> &'static [u8]
     }
 }
 
-// Appends the piece.
+/// Appends the piece.
 fn append(text: &mut Vec<u8>, piece: &[u8]) -> Result<(), NoMemory>
     ensures ok { OnOk result (text.new.items ≡ text.old.items ++ piece.now) }
     ensures err { OnErr result (text.new.items ≡ text.old.items) }
@@ -215,7 +215,7 @@ fn append(text: &mut Vec<u8>, piece: &[u8]) -> Result<(), NoMemory>
     Ok(())
 }
 
-// Appends both pieces or none.
+/// Appends both pieces or none.
 fn append_both(text: &mut Vec<u8>, first: &[u8], second: &[u8]) -> Result<(), NoMemory>
     ensures ok { OnOk result (text.new.items ≡ text.old.items ++ (first.now ++ second.now)) }
     ensures err { OnErr result (text.new.items ≡ text.old.items) }
@@ -231,7 +231,7 @@ fn append_both(text: &mut Vec<u8>, first: &[u8], second: &[u8]) -> Result<(), No
     Ok(())
 }
 
-// Appends the mark and the number in decimal, or nothing.
+/// Appends the mark and the number in decimal, or nothing.
 fn append_count(text: &mut Vec<u8>, mark: &[u8], n: u64) -> Result<(), NoMemory>
     ensures ok { OnOk result (text.new.items ≡ text.old.items ++ (mark.now ++ decimal n)) }
     ensures err { OnErr result (text.new.items ≡ text.old.items) }

@@ -59,7 +59,7 @@ pub fn read_step(alloc: Global, text: &[u8]) -> Result<Option<StepId>, NoMemory>
     Ok(Some(StepId { go, n }))
 }
 
-// What stands before and after the first mark. Without a mark nothing stands after it.
+/// What stands before and after the first mark. Without a mark nothing stands after it.
 fn parts(text: &[u8], mark: u8) -> (&[u8], &[u8])
     ensures before { result.0.now ≡ before_first (λ b. b == mark) text.now }
     ensures after { result.1.now ≡ after_first (λ b. b == mark) text.now }
@@ -70,7 +70,7 @@ fn parts(text: &[u8], mark: u8) -> (&[u8], &[u8])
     }
 }
 
-// Where the first mark stands.
+/// Where the first mark stands.
 fn first_place(text: &[u8], mark: u8) -> Option<usize>
     ensures place { result ≡ position (λ b. b == mark) text.now }
     ensures bound { IfSome result (λ at. at < length text.now) }
@@ -78,7 +78,7 @@ fn first_place(text: &[u8], mark: u8) -> Option<usize>
     text.iter().position(|byte| *byte == mark)
 }
 
-// The goroutine with the counts that the text spells, with a dot between two of them.
+/// The goroutine with the counts that the text spells, with a dot between two of them.
 fn read_counts(alloc: Global, text: &[u8]) -> Result<Option<GoName>, NoMemory>
     ensures named { IfOk result (λ name. name ≡ counts_from 0 text.now) }
     ensures memory { OnErr result (IsSome (counts_from 0 text.now)) }
@@ -109,7 +109,7 @@ fn read_counts(alloc: Global, text: &[u8]) -> Result<Option<GoName>, NoMemory>
     Ok(Some(GoName::from_counts(counts)?))
 }
 
-// The text spells counts, with a dot between two of them.
+/// The text spells counts, with a dot between two of them.
 fn spells_counts(text: &[u8]) -> bool
     ensures { result ≡ is_some (counts_from 0 text.now) }
 {
@@ -130,7 +130,7 @@ fn spells_counts(text: &[u8]) -> bool
     count > 0
 }
 
-// The number from 1 to `largest` that the digits spell, if they spell one with no leading zero.
+/// The number from 1 to `largest` that the digits spell, if they spell one with no leading zero.
 fn read_count(largest: u64, digits: &[u8]) -> Option<u64>
     ensures value { result ≡ count_from (largest + 1) 0 digits.now }
     ensures range { IfSome result (λ n. n ≤ largest) }
@@ -142,7 +142,7 @@ fn read_count(largest: u64, digits: &[u8]) -> Option<u64>
     if count == 0 { None } else { Some(count) }
 }
 
-// The number with one more digit, if it is then from 1 to `largest`.
+/// The number with one more digit, if it is then from 1 to `largest`.
 fn push_digit(largest: u64, n: u64, byte: u8) -> Option<u64>
     ensures value { result ≡ with_digit (largest + 1) n byte }
     ensures range { IfSome result (λ longer. longer ≤ largest) }

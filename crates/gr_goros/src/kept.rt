@@ -112,7 +112,7 @@ fn unpack_frame(how: How, spot: Spot, cells: Former) -> GoUndo
 }
 
 impl KeptUndo {
-    /// The same in fewer bytes.
+    /// What undoes a change, in fewer bytes.
     pub fn new(undo: GoUndo) -> KeptUndo
         ensures { result ≡ undo }
     {

@@ -14,7 +14,7 @@ use gr_goros::{KeptUndo, Status};
 use gr_pool::Pool;
 use gr_step::{Change, Form, Record, Store};
 
-// Whether a goroutine is there, and ready.
+/// Whether a goroutine is there, and ready.
 #[inline(always)]
 fn is_ready(store: &Store, go: &GoName) -> bool
     ensures { IsTrue result ↔ IsReadyIn (contents_at store.now) go.now }

@@ -32,7 +32,7 @@ pub enum OpenError {
     Memory,
 }
 
-// Where the token of this index begins; after the last, where the text ends.
+/// Where the token of this index begins; after the last, where the text ends.
 fn token_position(text: &[u8], tokens: &[Token], index: usize) -> Position
     ensures { result ≡ spec.token_position text.now (tokens_of tokens.now) index }
 {
@@ -74,7 +74,7 @@ fn check_error(text: &[u8], error: CheckError) -> OpenError
     OpenError::Check(error, at)
 }
 
-// The file of a source. Its tokens are let go.
+/// The file of a source. Its tokens are let go.
 fn read_file(alloc: Global, text: &[u8]) -> Result<File, OpenError>
     ensures file { IfOk result (λ file. IsFileOf text.now (file_of file)) }
     ensures none { IfErr result (λ e. SaysWhy e text.now) }
@@ -91,7 +91,7 @@ fn read_file(alloc: Global, text: &[u8]) -> Result<File, OpenError>
     }
 }
 
-// The program of a source.
+/// The program of a source.
 fn read_program(alloc: Global, text: &[u8]) -> Result<Program, OpenError>
     ensures program { IfOk result (λ p. IsProgramOf text.now (program_of p)) }
     ensures none { IfErr result (λ e. SaysWhy e text.now) }

@@ -19,7 +19,7 @@ use gr_command::{Reply, RunEnd};
 use gr_rollback::{LOG_LIMIT, Run};
 use std::alloc::Global;
 
-// The goroutine whose turn it is, or else why no more steps are taken: the first reason that holds, in the order of `RunEnd`.
+/// The goroutine whose turn it is, or else why no more steps are taken: the first reason that holds, in the order of `RunEnd`.
 fn next_turn(debuggee: &Debuggee, wanted: u64, taken: u64) -> Result<&GoName, RunEnd>
     requires { IsDebuggee debuggee.now }
     ensures turn { (p : Program) → (w : World p) → Stands p w debuggee.now → IfOk result (λ go. HasTurn p w wanted taken go.now) }
@@ -50,7 +50,7 @@ fn next_turn(debuggee: &Debuggee, wanted: u64, taken: u64) -> Result<&GoName, Ru
     }
 }
 
-// Takes the next step of the round robin, where this many are wanted and this many were taken. Refused, nothing has changed.
+/// Takes the next step of the round robin, where this many are wanted and this many were taken. Refused, nothing has changed.
 fn take_turn(alloc: Global, debuggee: &mut Debuggee, wanted: u64, taken: u64) -> Result<(), RunEnd>
     requires { IsDebuggee debuggee.old }
     ensures more { OnOk result (¬ (taken ≡ wanted)) }

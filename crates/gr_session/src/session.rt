@@ -69,7 +69,7 @@ impl Model for Session {
 }
 
 impl Session {
-    // A session of a checked program with an empty journal and no asker.
+    /// A session of a checked program with an empty journal and no asker.
     pub(crate) fn new(alloc: Global, program: Program) -> Result<Session, NoMemory>
         requires { IsChecked (program_of program) }
         ensures program { IfOk result (λ s. program_of s.program ≡ program_of program) }

@@ -66,7 +66,7 @@ impl<B: Room> Desk<B> {
     ghost use Rattle.gr_share.specs.Calls.{EndsAs, Asked as AskedBy, Gains, WasFull};
     ghost use Rattle.gr_share.specs.Finding.{Looks, LendsOf};
 
-    // Asks a command, whose receipt is then the last one that is kept.
+    /// Asks a command, whose receipt is then the last one that is kept.
     pub(crate) fn enter<R: Wait>(
         &mut self,
         rt: &R,
@@ -103,7 +103,7 @@ impl<B: Room> Desk<B> {
         }
     }
 
-    // Commits a batch, whose receipt is then the last one that is kept.
+    /// Commits a batch, whose receipt is then the last one that is kept.
     pub(crate) fn commit<R: Wait>(
         &mut self,
         rt: &R,
@@ -140,7 +140,7 @@ impl<B: Room> Desk<B> {
         }
     }
 
-    // Waits until there is something to do. In the same hold of the lock it is lent the goroutine at the place, or takes a turn.
+    /// Waits until there is something to do. In the same hold of the lock it is lent the goroutine at the place, or takes a turn.
     pub(crate) fn look<R: Wait>(
         &mut self,
         rt: &R,
@@ -168,7 +168,7 @@ impl<B: Room> Desk<B> {
         }
     }
 
-    // The last receipt.
+    /// The last receipt.
     pub(crate) fn last(&self) -> &Receipt
         requires { 0 < length self.now.calls }
         ensures { (before : _) (call : _) → self.now.calls ≡ before ++ call ∷ [] → result.now ≡ call.receipt }

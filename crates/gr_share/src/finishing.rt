@@ -29,7 +29,7 @@ pub struct Unfinished<B: Room> {
     pub workers: Vec<Worker<B>>,
 }
 
-// Whether the word is 0 for each desk: then the entries of each are its calls.
+/// Whether the word is 0 for each desk: then the entries of each are its calls.
 fn settle_desks<B: Room>(locked: &mut Locked<B>, tie: &Tie, desks: &mut [Desk<B>]) -> bool
     requires { tie.now.table.shared.table_id ≡ B.table }
     ensures same { (locked.new ≡ locked.old) × (desks.new ≡ desks.old) }
@@ -87,7 +87,7 @@ fn is_seat<B: Room>(number: u32, desks: &[Desk<B>], workers: &[Worker<B>]) -> bo
     is_worker(number, workers)
 }
 
-// Whether the seats of all numbers after the first and up to the last are there.
+/// Whether the seats of all numbers after the first and up to the last are there.
 fn are_all<B: Room>(first: u32, last: u32, desks: &[Desk<B>], workers: &[Worker<B>]) -> bool
     ensures { IsTrue result → AreAll first last desks.now workers.now }
 {

@@ -72,7 +72,7 @@ impl<B: Room> Model for Locked<B> {
 }
 
 impl<B: Room> Locked<B> {
-    // A further asker, with its seat.
+    /// A further asker, with its seat.
     pub(crate) fn enrol(&mut self, tie: &Tie) -> Result<(DeskId, Pass), EnrolRefused>
         requires { tie.now.table.shared.table_id ≡ B.table }
         ensures desk { IfOk result (λ d. (1 ≤ d.0.number) × (d.1.table_id ≡ B.table) × (d.1.me.0 ≡ asking d.0.number [])) }
@@ -94,7 +94,7 @@ impl<B: Room> Locked<B> {
         }
     }
 
-    // A further asker for a worker, with its seat and its place among the workers, from 1.
+    /// A further asker for a worker, with its seat and its place among the workers, from 1.
     pub(crate) fn enrol_worker(&mut self, tie: &Tie) -> Result<(DeskId, Pass, u32), EnrolRefused>
         requires { tie.now.table.shared.table_id ≡ B.table }
         ensures desk { IfOk result (λ d. (1 ≤ d.0.number) × (d.1.table_id ≡ B.table) × (d.1.me.0 ≡ asking d.0.number [])) }
@@ -116,7 +116,7 @@ impl<B: Room> Locked<B> {
         }
     }
 
-    // Asks a command for an asker, whose seat takes the call. The call keeps a copy of the command.
+    /// Asks a command for an asker, whose seat takes the call. The call keeps a copy of the command.
     pub(crate) fn ask<R: Wait>(
         &mut self,
         rt: &R,
@@ -155,7 +155,7 @@ impl<B: Room> Locked<B> {
         }
     }
 
-    // Commits a batch for an asker, whose seat takes the call. The call keeps a copy of the goroutine's name.
+    /// Commits a batch for an asker, whose seat takes the call. The call keeps a copy of the goroutine's name.
     pub(crate) fn commit<R: Wait>(
         &mut self,
         rt: &R,
@@ -193,8 +193,8 @@ impl<B: Room> Locked<B> {
         }
     }
 
-    // Lends the goroutine at the place among those that can be lent, to take at most as many steps as the grant and the log have
-    // room for.
+    /// Lends the goroutine at the place among those that can be lent, to take at most as many steps as the grant and the log have
+    /// room for.
     fn lease(&self, alloc: Global, place: u32) -> Result<Option<(Lease, usize)>, NoMemory>
         ensures own { IfOk result (λ o. IfSome o (λ l. (loan_of l.0.copy).program ≡ B.program)) }
         ensures limit { IfOk result (λ o. IfSome o (λ l. Lends B.program self.now.session.journal place l.0 l.1)) }
@@ -209,7 +209,7 @@ impl<B: Room> Locked<B> {
         }
     }
 
-    // What there is to do for a worker, whose seat takes the call of a turn. There is nothing once the workers are to end.
+    /// What there is to do for a worker, whose seat takes the call of a turn. There is nothing once the workers are to end.
     pub(crate) fn find<R: Wait>(
         &mut self,
         rt: &R,
@@ -239,7 +239,7 @@ impl<B: Room> Locked<B> {
         }
     }
 
-    // Whether the word is 0: then the desk's entries are its calls.
+    /// Whether the word is 0: then the desk's entries are its calls.
     pub(crate) fn settle(&mut self, tie: &Tie, desk: &mut Desk<B>) -> bool
         requires { tie.now.table.shared.table_id ≡ B.table }
         ensures same { (self.new ≡ self.old) × (desk.new ≡ desk.old) }
@@ -250,7 +250,7 @@ impl<B: Room> Locked<B> {
         tie.settle(&mut desk.seat)
     }
 
-    // How many askers there are.
+    /// How many askers there are.
     pub(crate) fn askers(&self) -> u32
         ensures { result ≡ self.now.session.askers }
     {
@@ -272,7 +272,7 @@ impl<B: Room> Locked<B> {
         session
     }
 
-    // Whether a worker has to wait: the workers are not to end, no goroutine can be lent, and no turn is due.
+    /// Whether a worker has to wait: the workers are not to end, no goroutine can be lent, and no turn is due.
     pub(crate) fn is_idle(&self) -> bool
         ensures { IsTrue result ↔ ((self.now.closed ≡ false)
             × InItsWorld (program_of self.now.session.program) self.now.session.journal

@@ -108,7 +108,7 @@ impl<B: Room> Shared<B> {
         }
     }
 
-    // Waits for the lock.
+    /// Waits for the lock.
     pub(crate) fn hold<R: Wait>(&self, rt: &R) -> MutexGuard<'_, Locked<B>> {
         for _ in 0..TRIES {
             if let Some(locked) = self.lock.try_lock() {

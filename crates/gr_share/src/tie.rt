@@ -20,7 +20,7 @@ pub(crate) struct Tie {
 }
 
 impl Tie {
-    // A table for a session, with the session's seat.
+    /// A table for a session, with the session's seat.
     pub(crate) fn new(alloc: Global, session: &Session) -> Result<(Tie, Pass), AllocError>
         ensures table { IfOk result (λ t. t.1.table_id ≡ t.0.table.shared.table_id) }
         ensures keeper { IfOk result (λ t. t.1.me.0 ≡ keeping (older_lines 1 session.now.journal) session.now.askers) }
@@ -30,7 +30,7 @@ impl Tie {
         Ok((Tie { table }, keeper))
     }
 
-    // A seat for the next asker.
+    /// A seat for the next asker.
     pub(crate) fn open(&self, keeper: &mut Pass) -> Pass
         requires table { keeper.old.table_id ≡ self.now.table.shared.table_id }
         requires keeper { keeper.old.me.0.keeps ≡ true }
@@ -40,7 +40,7 @@ impl Tie {
         self.table.shared.split_seat::<Opens>(keeper)
     }
 
-    // The asker is one of the session's, and its calls are entries.
+    /// The asker is one of the session's, and its calls are entries.
     pub(crate) fn compare(&self, keeper: &mut Pass, desk: &mut Pass)
         requires tables { (keeper.old.table_id ≡ self.now.table.shared.table_id)
             × (desk.old.table_id ≡ self.now.table.shared.table_id) }
@@ -56,7 +56,7 @@ impl Tie {
         self.table.shared.load::<Compares>(keeper, 0);
     }
 
-    // The session's seat takes an entry.
+    /// The session's seat takes an entry.
     pub(crate) fn enter<R: Wait>(&self, rt: &R, keeper: &mut Pass, asker: u32, call: &Call)
         requires table { keeper.old.table_id ≡ self.now.table.shared.table_id }
         requires keeper { keeper.old.me.0.keeps ≡ true }
@@ -76,7 +76,7 @@ impl Tie {
         }
     }
 
-    // An asker is shown the journal.
+    /// An asker is shown the journal.
     pub(crate) fn show(&self, keeper: &mut Pass, desk: &mut Pass)
         requires tables { (keeper.old.table_id ≡ self.now.table.shared.table_id)
             × (desk.old.table_id ≡ self.now.table.shared.table_id) }
@@ -89,7 +89,7 @@ impl Tie {
         self.table.shared.join_seat::<Hears>(desk, note);
     }
 
-    // An asker's seat takes its call.
+    /// An asker's seat takes its call.
     pub(crate) fn take<R: Wait>(&self, rt: &R, desk: &mut Pass, asker: u32, call: &Call)
         requires table { desk.old.table_id ≡ self.now.table.shared.table_id }
         requires desk { (0 < asker) × (desk.old.me.0.asker ≡ asker) }
@@ -110,7 +110,7 @@ impl Tie {
         }
     }
 
-    // Whether the word is 0: then the asker's lines of the journal that it was shown are calls of it.
+    /// Whether the word is 0: then the asker's lines of the journal that it was shown are calls of it.
     pub(crate) fn settle(&self, desk: &mut Pass) -> bool
         requires table { desk.old.table_id ≡ self.now.table.shared.table_id }
         requires desk { 0 < desk.old.me.0.asker }
@@ -121,7 +121,7 @@ impl Tie {
         self.table.shared.load::<Settles>(desk, 0) == 0
     }
 
-    // Both seats take a line: the session's as an entry, the asker's as a call.
+    /// Both seats take a line: the session's as an entry, the asker's as a call.
     pub(crate) fn give<R: Wait>(
         &self,
         rt: &R,

@@ -16,7 +16,7 @@ impl<B: Room> Worker<B> {
     ghost use Rattle.gr_share.specs.Works.{Lends};
     ghost use Rattle.gr_share.specs.Finding.{WorksOnce};
 
-    // Takes steps on the copy, without the lock, and commits them. It tells whether it may go on.
+    /// Takes steps on the copy, without the lock, and commits them. It tells whether it may go on.
     fn take_steps<R: Wait, G: Gate>(
         &mut self,
         rt: &R,
@@ -44,7 +44,7 @@ impl<B: Room> Worker<B> {
         }
     }
 
-    // Looks for something to do, and does it. It tells whether it may go on.
+    /// Looks for something to do, and does it. It tells whether it may go on.
     fn act<R: Wait, G: Gate>(&mut self, rt: &R, alloc: Global, shared: &Shared<B>, gate: &G) -> bool
         ensures works { WorksOnce B.program self.old.place self.old.seat self.new.seat }
         ensures place { self.new.place ≡ self.old.place }

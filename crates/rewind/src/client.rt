@@ -42,14 +42,14 @@ pub(crate) trait Client {
         ensures fixed { fixed self.new ≡ fixed self.old };
 }
 
-// Appends the bytes.
+/// Appends the bytes.
 fn put(text: &mut Vec<u8>, bytes: &[u8]) -> Result<(), NoMemory>
     ensures { OnOk result (text.new.items ≡ text.old.items ++ bytes.now) }
 {
     Ok(text.extend_from_slice(bytes)?)
 }
 
-// Appends the text of what came of a command.
+/// Appends the text of what came of a command.
 pub(crate) fn put_answer(
     text: &mut Vec<u8>,
     asked: Result<&Receipt, AskRefused>,
@@ -63,7 +63,7 @@ pub(crate) fn put_answer(
     }
 }
 
-// Answers one line, and puts the text of the answer into `text`, which is empty.
+/// Answers one line, and puts the text of the answer into `text`, which is empty.
 fn answer<C: Client>(
     alloc: Global,
     client: &mut C,
@@ -84,7 +84,7 @@ fn answer<C: Client>(
     }
 }
 
-// Answers one line, and writes the answer. Its text replaces what `text` held. Whether the line was `quit`.
+/// Answers one line, and writes the answer. Its text replaces what `text` held. Whether the line was `quit`.
 fn serve_line<C: Client, W: Write>(
     alloc: Global,
     client: &mut C,

@@ -58,7 +58,7 @@ fn workers_argument<'a>(alloc: Global) -> Arg<'a>
         .help(WORKERS_HELP)
 }
 
-// The command before its arguments.
+/// The command before its arguments.
 fn bare_command<'a>(alloc: Global) -> Command<'a>
     ensures { app_of result ≡ bare_line }
 {
@@ -86,7 +86,7 @@ fn rewind_command<'a>(alloc: Global) -> Result<Command<'a>, AllocError>
     with_argument(with_explain, workers_argument(alloc))
 }
 
-// The number of workers that a text gives.
+/// The number of workers that a text gives.
 fn count(text: &str) -> Option<u32>
     ensures count { result ≡ count_in text.now }
     ensures few { IfSome result (λ n. n ≤ WORKER_LIMIT) }
@@ -101,7 +101,7 @@ fn count(text: &str) -> Option<u32>
     }
 }
 
-// A session over a file, without workers or with as many as a text gives.
+/// A session over a file, without workers or with as many as a text gives.
 fn debugs<'a>(file: &'a str, workers: Option<&str>) -> Option<Settings<'a>>
     ensures asked { option_map asked_of result ≡ session_over file.entry.now (option_map (λ text. text.now) workers.entry) }
     ensures few { IfSome result HasFewWorkers }
@@ -113,7 +113,7 @@ fn debugs<'a>(file: &'a str, workers: Option<&str>) -> Option<Settings<'a>>
     Some(Settings::Debug { file, workers })
 }
 
-// What has no use for workers.
+/// What has no use for workers.
 fn alone<'a>(settings: Settings<'a>, workers: Option<&str>) -> Option<Settings<'a>>
     requires { HasFewWorkers settings }
     ensures asked { option_map asked_of result
@@ -126,7 +126,7 @@ fn alone<'a>(settings: Settings<'a>, workers: Option<&str>) -> Option<Settings<'
     }
 }
 
-// What was found on a command line, if that is just one thing.
+/// What was found on a command line, if that is just one thing.
 fn asked<'a>(matches: &ArgMatches<'a>) -> Option<Settings<'a>>
     ensures asked { option_map asked_of result ≡ the_one (first_value (found_of matches.now) (codes "FILE"))
         (first_value (found_of matches.now) (codes "check")) (first_value (found_of matches.now) (codes "explain"))
@@ -156,7 +156,7 @@ fn matches<'a>(alloc: Global, words: &'a [&'a str]) -> Result<ArgMatches<'a>, Er
     command.try_get_matches_from(words)
 }
 
-// The message where not just one thing is asked.
+/// The message where not just one thing is asked.
 fn unclear(alloc: Global, nothing: bool) -> Error {
     let (kind, message) = if nothing {
         (ErrorKind::MissingRequiredArgument, NOTHING_ASKED)

@@ -58,7 +58,7 @@ impl<T> Counted<T> {
         self.inner
     }
 
-    // Counts a failure.
+    /// Counts a failure.
     fn fail(&mut self)
         ensures inner { device_of self.new ≡ device_of self.old }
         ensures failures { failures_of self.new ≡ one_more (failures_of self.old) }
@@ -98,14 +98,14 @@ impl<R: Read> Counted<R> {
     }
 }
 
-// The error of a device that is interrupted each time.
+/// The error of a device that is interrupted each time.
 fn interrupted() -> io::Error
     ensures { error_kind result ≡ ErrorKind.TimedOut }
 {
     io::Error::from(ErrorKind::TimedOut)
 }
 
-// Reads into these bytes, and tells how many came: none at the end. Tries again where the read was interrupted.
+/// Reads into these bytes, and tells how many came: none at the end. Tries again where the read was interrupted.
 fn read_some<R: Read>(reader: &mut R, bytes: &mut [u8]) -> io::Result<usize>
     requires { 0 < length bytes.old }
     ensures bound { IfOk result (λ count. count ≤ length bytes.new) }
@@ -147,7 +147,7 @@ impl<W: Write> Counted<W> {
     }
 }
 
-// Some of the bytes, tried again where the write was interrupted. That no byte was taken is a failure.
+/// Some of the bytes, tried again where the write was interrupted. That no byte was taken is a failure.
 fn put_some<W: Write>(writer: &mut W, bytes: &[u8]) -> io::Result<usize>
     ensures ok { IfOk result (λ n. Appends (W.contents writer.old) (W.contents writer.new) (take n bytes.now)) }
     ensures count { IfOk result (λ n. (0 < n) × (n ≤ length bytes.now)) }
@@ -168,7 +168,7 @@ fn put_some<W: Write>(writer: &mut W, bytes: &[u8]) -> io::Result<usize>
     Err(interrupted())
 }
 
-// All the bytes, or a beginning of them.
+/// All the bytes, or a beginning of them.
 fn put_all<W: Write>(writer: &mut W, bytes: &[u8]) -> io::Result<()>
     ensures ok { OnOk result (Appends (W.contents writer.old) (W.contents writer.new) bytes.now) }
     ensures err { OnErr result (Begins (W.contents writer.old) (W.contents writer.new) bytes.now) }
@@ -194,7 +194,7 @@ pub(crate) enum LineError {
     Memory,
 }
 
-// The bytes before the first newline, and the rest.
+/// The bytes before the first newline, and the rest.
 fn split_line(bytes: &[u8]) -> (&[u8], &[u8])
     ensures cut { bytes.now ≡ result.0.now ++ result.1.now }
     ensures plain { Plain result.0.now }
@@ -208,7 +208,7 @@ fn split_line(bytes: &[u8]) -> (&[u8], &[u8])
     (bytes, b"")
 }
 
-// Appends bytes of a line. Of a line over the limit one byte more than that is kept.
+/// Appends bytes of a line. Of a line over the limit one byte more than that is kept.
 fn keep(line: &mut Vec<u8>, bytes: &[u8]) -> Result<(), NoMemory>
     requires { length line.old.items ≤ LINE_LIMIT + 1 }
     ensures { OnOk result (line.new.items ≡ take (LINE_LIMIT + 1) (line.old.items ++ bytes.now)) }
@@ -218,7 +218,7 @@ fn keep(line: &mut Vec<u8>, bytes: &[u8]) -> Result<(), NoMemory>
     Ok(line.extend_from_slice(&bytes[..count])?)
 }
 
-// What ended the line of these bytes, which the rest followed at once, and how many bytes are read with that.
+/// What ended the line of these bytes, which the rest followed at once, and how many bytes are read with that.
 fn end_after(bytes: &[u8], rest: &[u8]) -> (Option<LineEnd>, usize)
     requires { BeginsNewline rest.now }
     ensures bound { result.1 ≤ length (bytes.now ++ rest.now) }
@@ -234,8 +234,8 @@ fn end_after(bytes: &[u8], rest: &[u8]) -> (Option<LineEnd>, usize)
     (None, bytes.len())
 }
 
-// Reads the bytes of a line that the reader gives at once. Tells what ended the line, if it has ended. An interrupted read gives
-// no byte.
+/// Reads the bytes of a line that the reader gives at once. Tells what ended the line, if it has ended. An interrupted read gives
+/// no byte.
 fn read_part<R: BufRead>(reader: &mut R, line: &mut Vec<u8>) -> Result<Option<LineEnd>, LineError>
     requires { length line.old.items ≤ LINE_LIMIT + 1 }
     ensures ok { IfOk result (λ end. Comes (R.remaining reader.old) (R.remaining reader.new) line.old.items line.new.items end) }
@@ -261,7 +261,7 @@ fn read_part<R: BufRead>(reader: &mut R, line: &mut Vec<u8>) -> Result<Option<Li
 }
 
 impl<R: BufRead> Counted<R> {
-    // Reads on in a line. Tells what ended it, if it has ended.
+    /// Reads on in a line. Tells what ended it, if it has ended.
     fn read_on(&mut self, line: &mut Vec<u8>) -> Result<Option<LineEnd>, LineError>
         requires { length line.old.items ≤ LINE_LIMIT + 1 }
         ensures ok { IfOk result (λ end. Comes (R.remaining (device_of self.old)) (R.remaining (device_of self.new))

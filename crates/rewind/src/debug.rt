@@ -33,7 +33,7 @@ pub enum DebugFault {
 // How many bytes of a source are read at once.
 const BLOCK: usize = 8192;
 
-// The bytes of the source; of a source that is too long, more than a text may have, and at most a block more.
+/// The bytes of the source; of a source that is too long, more than a text may have, and at most a block more.
 fn read_source<S: Read>(source: &mut Counted<S>, text: &mut Vec<u8>) -> Result<(), LineError>
     requires { length text.old.items ≡ 0 }
     ensures ok { OnOk result
@@ -58,7 +58,7 @@ fn read_source<S: Read>(source: &mut Counted<S>, text: &mut Vec<u8>) -> Result<(
     Ok(())
 }
 
-// A session of the source's program.
+/// A session of the source's program.
 pub(crate) fn open_source<S: Read>(
     alloc: Global,
     source: &mut Counted<S>,

@@ -33,7 +33,7 @@ impl<R, S> Prompted<R, S> {
 impl<R: Read, S: Write> Read for Prompted<R, S> {
     ghost remaining = { λ prompted. R.remaining (reader_of prompted) };
 
-    // What the screen can't show is left out.
+    /// What the screen can't show is left out.
     fn read(&mut self, buf: &mut [u8]) -> io::Result<usize> {
         let _ = self.screen.write_all(self.due.as_bytes());
         self.due = "";
@@ -82,7 +82,7 @@ pub fn show_meaning<S: Write>(screen: &mut S, code: &[u8]) {
     }
 }
 
-// Shows what a line means that tells a refusal.
+/// Shows what a line means that tells a refusal.
 fn show_line<S: Write>(screen: &mut S, line: &LineStart) {
     let start = line.bytes.as_slice();
     match start {
@@ -94,7 +94,7 @@ fn show_line<S: Write>(screen: &mut S, line: &LineStart) {
     }
 }
 
-// Shows what each line means that ends in these bytes.
+/// Shows what each line means that ends in these bytes.
 fn show_lines<S: Write>(screen: &mut S, line: &mut LineStart, bytes: &[u8]) {
     for byte in bytes {
         if *byte == b'\n' {

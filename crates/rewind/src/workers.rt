@@ -83,7 +83,7 @@ impl<'a, 'r, 'w, B: Room, T: Wait, R: BufRead, W: Write> Task for Stream<'a, 'r,
     }
 }
 
-// Serves a desk, if the workers have started.
+/// Serves a desk, if the workers have started.
 fn serve_if<B: Room, T: Wait, R: BufRead, W: Write>(
     rt: &T,
     alloc: Global,
@@ -103,7 +103,7 @@ fn serve_if<B: Room, T: Wait, R: BufRead, W: Write>(
     }
 }
 
-// Serves a desk, in one clause.
+/// Serves a desk, in one clause.
 fn serve<B: Room, T: Wait, R: BufRead, W: Write>(
     rt: &T,
     alloc: Global,
@@ -121,12 +121,12 @@ fn serve<B: Room, T: Wait, R: BufRead, W: Write>(
     }
 }
 
-// Ties a reference that came back, for the borrow checker, to the one that was lent.
+/// Ties a reference that came back, for the borrow checker, to the one that was lent.
 fn reclaim<T>(lent: &mut T)
     ensures { lent.new ≡ lent.old }
 {}
 
-// Seats for this many workers.
+/// Seats for this many workers.
 fn seats<B: Room, T: Wait>(
     rt: &T,
     alloc: Global,
@@ -145,8 +145,8 @@ fn seats<B: Room, T: Wait>(
     Ok(workers)
 }
 
-// Does the task while the workers work, each on a thread of its own. Then it tells them to end, and waits for them. The task
-// learns whether all of them could be started. The answer is what came of the task, and how many were started.
+/// Does the task while the workers work, each on a thread of its own. Then it tells them to end, and waits for them. The task
+/// learns whether all of them could be started. The answer is what came of the task, and how many were started.
 #[tactic(auto, using(crate::proofs::Lent::session_send))]
 fn beside<B: Room + Send + Sync, T: Threads + Wait + Sync, J: Task + Drop>(
     rt: &T,
@@ -184,7 +184,7 @@ fn beside<B: Room + Send + Sync, T: Threads + Wait + Sync, J: Task + Drop>(
     )
 }
 
-// Serves a desk beside the workers. Where a thread could not be started, nothing was read or written.
+/// Serves a desk beside the workers. Where a thread could not be started, nothing was read or written.
 fn serve_among<B: Room + Send + Sync, T: Threads + Wait + Sync, R: BufRead, W: Write>(
     rt: &T,
     alloc: Global,
@@ -217,7 +217,7 @@ fn serve_among<B: Room + Send + Sync, T: Threads + Wait + Sync, R: BufRead, W: W
     }
 }
 
-// A list with room for one desk.
+/// A list with room for one desk.
 fn room_for_desk<B: Room>(alloc: Global) -> Result<Vec<Desk<B>>, NoMemory>
     ensures empty { IfOk result (λ desks. (desks.items ≡ []) × (vec_len desks ≡ 0)) }
     ensures room { IfOk result (λ desks. 1 ≤ vec_capacity desks) }
@@ -229,8 +229,8 @@ fn room_for_desk<B: Room>(alloc: Global) -> Result<Vec<Desk<B>>, NoMemory>
     }
 }
 
-// Ends the sharing. Whether all seats were there: then each desk's entries are its calls. The session's memory is not given back:
-// this is the last thing that a program does.
+/// Ends the sharing. Whether all seats were there: then each desk's entries are its calls. The session's memory is not given
+/// back: this is the last thing that a program does.
 fn settle<B: Room>(shared: Shared<B>, desks: Vec<Desk<B>>, workers: Vec<Worker<B>>) -> bool
     ensures { IsTrue result → Settled B.program desks.items }
 {
@@ -247,7 +247,7 @@ fn settle<B: Room>(shared: Shared<B>, desks: Vec<Desk<B>>, workers: Vec<Worker<B
     }
 }
 
-// Ends the sharing once a stream was served.
+/// Ends the sharing once a stream was served.
 fn ended<B: Room>(
     shared: Shared<B>,
     desks: Vec<Desk<B>>,
@@ -269,8 +269,8 @@ fn ended<B: Room>(
     }
 }
 
-// Serves one desk of the session, beside this many workers. In the end the workers are told to end and waited for, and the
-// session is shared no more.
+/// Serves one desk of the session, beside this many workers. In the end the workers are told to end and waited for, and the
+/// session is shared no more.
 fn serve_beside<B: Room + Send + Sync, T: Threads + Wait + Sync, R: BufRead, W: Write>(
     rt: &T,
     alloc: Global,

@@ -25,14 +25,14 @@ fn tell(rt: &HostRuntime, words: &str) {
     let _ = rt.stderr().write_all(words.as_bytes());
 }
 
-// Tells what the code of a refused source means.
+/// Tells what the code of a refused source means.
 fn tell_refusal(rt: &HostRuntime, fault: &DebugFault) {
     if let Some(code) = refusal_code(fault) {
         show_meaning(&mut rt.stderr(), code);
     }
 }
 
-// Why a file was not read.
+/// Why a file was not read.
 fn words_of_unread(rt: &HostRuntime, file: &str) -> &'static str {
     match File::open(rt, file) {
         Err(error) => match error.kind() {
@@ -47,7 +47,7 @@ fn words_of_unread(rt: &HostRuntime, file: &str) -> &'static str {
     }
 }
 
-// What is to be said of a file that is empty, or no UTF-8.
+/// What is to be said of a file that is empty, or no UTF-8.
 fn words_of_text(rt: &HostRuntime, file: &str) -> Option<&'static str> {
     // What is no plain file may not be there a second time.
     if !fs::metadata(rt, file).ok()?.is_file() {

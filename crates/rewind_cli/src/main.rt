@@ -28,12 +28,12 @@ use std::{env, io};
 
 const MEMORY: DebugFault = DebugFault::Serve(ServeFault::Memory);
 
-// Whether a person reads what is told.
+/// Whether a person reads what is told.
 fn is_at_terminal(rt: &HostRuntime) -> bool {
     rt.stdin().is_terminal() && rt.stderr().is_terminal()
 }
 
-// Tells a fault on standard error: its line, and plain words at a terminal.
+/// Tells a fault on standard error: its line, and plain words at a terminal.
 fn fail(rt: &HostRuntime, fault: &DebugFault, file: &str) -> ExitCode {
     let mut line = Vec::new(rt.alloc());
     if report(fault, file, &mut line).is_ok() {
@@ -45,7 +45,7 @@ fn fail(rt: &HostRuntime, fault: &DebugFault, file: &str) -> ExitCode {
     ExitCode::from(exit_status(fault))
 }
 
-// Tells what `clap` says of the command line: its help on standard output, a mistake on standard error.
+/// Tells what `clap` says of the command line: its help on standard output, a mistake on standard error.
 fn refuse(rt: &HostRuntime, error: &Error) -> ExitCode {
     if error.kind() == ErrorKind::OutOfMemory {
         return fail(rt, &MEMORY, "");
@@ -54,13 +54,13 @@ fn refuse(rt: &HostRuntime, error: &Error) -> ExitCode {
     ExitCode::from(if error.use_stderr() { 2 } else { 0 })
 }
 
-// Refuses a command line, in these words.
+/// Refuses a command line, in these words.
 fn refuse_with(rt: &HostRuntime, words: &str) -> ExitCode {
     let _ = rt.stderr().write_all(words.as_bytes());
     ExitCode::from(2)
 }
 
-// Serves a session over a source, beside this many workers.
+/// Serves a session over a source, beside this many workers.
 fn debug_with<T: Threads + Wait + Sync, S: Read, R: BufRead, W: Write>(
     rt: &HostRuntime,
     threads: &T,
@@ -76,7 +76,7 @@ fn debug_with<T: Threads + Wait + Sync, S: Read, R: BufRead, W: Write>(
     }
 }
 
-// Debugs the program in a file, with a prompt and plain words at a terminal.
+/// Debugs the program in a file, with a prompt and plain words at a terminal.
 fn debug_file<T: Threads + Wait + Sync>(
     rt: &HostRuntime,
     threads: &T,
@@ -103,7 +103,7 @@ fn debug_file<T: Threads + Wait + Sync>(
     }
 }
 
-// Tells whether the program in a file is accepted.
+/// Tells whether the program in a file is accepted.
 fn check_file(rt: &HostRuntime, file: &str) -> io::Result<ExitCode> {
     let Ok(opened) = File::open(rt, file) else {
         return Ok(fail(rt, &DebugFault::Source, file));
@@ -115,7 +115,7 @@ fn check_file(rt: &HostRuntime, file: &str) -> io::Result<ExitCode> {
     }
 }
 
-// Tells what a code means.
+/// Tells what a code means.
 fn explain_code(rt: &HostRuntime, code: &str) -> ExitCode {
     let Some(page) = explain(code.as_bytes()) else {
         return refuse_with(rt, STRANGE_CODE);
@@ -126,7 +126,7 @@ fn explain_code(rt: &HostRuntime, code: &str) -> ExitCode {
     }
 }
 
-// The runtime has threads in `main` alone, so it comes twice.
+/// The runtime has threads in `main` alone, so it comes twice.
 fn run<T: Threads + Wait + Sync>(rt: &HostRuntime, threads: &T) -> io::Result<ExitCode> {
     let words: Vec<String> = match env::args(rt) {
         Ok(words) => words.collect(rt.alloc())?,
