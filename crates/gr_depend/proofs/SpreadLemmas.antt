@@ -8,7 +8,7 @@ use Rattle.gr_causal.specs.Dependence.{hits}
 use Rattle.gr_record.specs.declared.record.Record.{Record}
 use Rattle.gr_record.specs.Conflicts.{conflict_of}
 use Rattle.gr_touches.specs.declared.lanes.Lanes.{Lanes}
-use Rattle.gr_touches.specs.declared.marks.Direction.TheVariants.{Later}
+use Rattle.gr_touches.specs.declared.marks.LogSide.TheVariants.{Later}
 use Rattle.gr_touches.specs.declared.marks.Origin.{Origin}
 use Rattle.gr_touches.specs.Lists.{list_numbered}
 use Rattle.gr_touches.specs.Marks as marks
@@ -127,7 +127,7 @@ dependent_at rs k r h = go rs k h ∙ (let e : suc k ≡ k + 1 = omega arith in 
 
 module _ (rs : List Record) (at : ℕ) where
   abbrev pub from : ℕ → Origin
-  from k = record { direction = Later; place = k; base = at }
+  from k = record { side = Later; place = k; base = at }
 
   -- the first step is marked, and all that conflict with it
   pub spread_start : (m n : List Bool) → at < length rs → length n ≡ length m → 0 < length m → has_mark m 0 ≡ true → ((j : ℕ) → (j ≡ 0 → ⊥) → has_mark m j ≡ false)

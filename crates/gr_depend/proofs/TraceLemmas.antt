@@ -4,7 +4,7 @@ use Rattle.std.proofs.lemmas.List.{drop_more, drop_all, length-set}
 use Rattle.gr_causal.specs.Dependence.{hits, causes}
 use Rattle.gr_record.specs.declared.record.Record.{Record}
 use Rattle.gr_record.specs.Conflicts.{conflict_of}
-use Rattle.gr_touches.specs.declared.marks.Direction.TheVariants.{Earlier}
+use Rattle.gr_touches.specs.declared.marks.LogSide.TheVariants.{Earlier}
 use Rattle.gr_touches.specs.declared.marks.Origin.{Origin}
 use Rattle.gr_touches.specs.declared.lanes.Lanes.{Lanes}
 use Rattle.gr_touches.specs.declared.marks.Wanted.{Wanted}
@@ -19,7 +19,7 @@ or_false false = refl
 
 module _ (rs : List Record) (end : ℕ) where
   abbrev pub until : ℕ → Origin
-  until k = record { direction = Earlier; place = k; base = 0 }
+  until k = record { side = Earlier; place = k; base = 0 }
 
   pub traced_start : (m n : List Bool) → end < length rs → length n ≡ length m → length m ≡ end + 1 → has_mark m end ≡ true
       → ((j : ℕ) → (j ≡ end → ⊥) → has_mark m j ≡ false) → Marks (until end) (conflict_at rs end) m n → IsTraced rs end end n

@@ -11,7 +11,7 @@ ghost use Rattle.gr_touches.specs.Walks.{AreWalked, HasMarks};
 
 use crate::log::Log;
 use gr_base::NoMemory;
-use gr_touches::{Direction, Origin, Wanted};
+use gr_touches::{LogSide, Origin, Wanted};
 use std::alloc::Global;
 
 /// This many marks, none of them set.
@@ -72,7 +72,7 @@ impl Log {
     {
         marks[0] = true;
         let first = Origin {
-            direction: Direction::Later,
+            side: LogSide::Later,
             place: at,
             base: at,
         };
@@ -82,7 +82,7 @@ impl Log {
                 continue;
             }
             let origin = Origin {
-                direction: Direction::Later,
+                side: LogSide::Later,
                 place,
                 base: at,
             };
@@ -99,7 +99,7 @@ impl Log {
     {
         marks[at] = true;
         let first = Origin {
-            direction: Direction::Earlier,
+            side: LogSide::Earlier,
             place: at,
             base: 0,
         };
@@ -111,7 +111,7 @@ impl Log {
                 continue;
             }
             let origin = Origin {
-                direction: Direction::Earlier,
+                side: LogSide::Earlier,
                 place: left,
                 base: 0,
             };

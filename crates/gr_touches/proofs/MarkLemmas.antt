@@ -5,7 +5,7 @@ use Rattle.std.proofs.lemmas.Bool.{cases_Bool}
 use Rattle.std.proofs.lemmas.Bool.Decides.{nat_tests}
 use Rattle.std.proofs.lemmas.List.{take_more, drop_more}
 use Rattle.gr_touches.specs.declared.touch.Touch.{Touch}
-use Rattle.gr_touches.specs.declared.marks.Direction.TheVariants.{Later, Earlier}
+use Rattle.gr_touches.specs.declared.marks.LogSide.TheVariants.{Later, Earlier}
 use Rattle.gr_touches.specs.declared.marks.Origin.{Origin}
 use Rattle.gr_touches.specs.declared.marks.Wanted.{Wanted}
 use Rattle.gr_touches.specs.Marks.{takes, wanted, hits, is_on, is_beyond, IsAscending, InReach, has_mark, Marks}
@@ -19,16 +19,16 @@ true_lt a b h = grind (arith, nat_tests)
 not_equal : (a b : ℕ) → (a ≡ b → ⊥) → (a == b) ≡ false
 not_equal a b h = elim (cases_Bool (a == b)) [ inl t ↦ absurd (h (eqb-true a b t)) | inr f ↦ f ]
 
-pub later_than : (o : Origin) (p : ℕ) → o.direction ≡ Later → o.place < p → is_beyond o p ≡ true
+pub later_than : (o : Origin) (p : ℕ) → o.side ≡ Later → o.place < p → is_beyond o p ≡ true
 later_than o p e h = ap (λ s. is_on s o.place p) e ∙ lt_true o.place p h
 
-pub earlier_than : (o : Origin) (p : ℕ) → o.direction ≡ Earlier → p < o.place → is_beyond o p ≡ true
+pub earlier_than : (o : Origin) (p : ℕ) → o.side ≡ Earlier → p < o.place → is_beyond o p ≡ true
 earlier_than o p e h = ap (λ s. is_on s o.place p) e ∙ lt_true p o.place h
 
-is_later : (o : Origin) (p : ℕ) → o.direction ≡ Later → is_beyond o p ≡ true → o.place < p
+is_later : (o : Origin) (p : ℕ) → o.side ≡ Later → is_beyond o p ≡ true → o.place < p
 is_later o p e h = true_lt o.place p (sym (ap (λ s. is_on s o.place p) e) ∙ h)
 
-is_earlier : (o : Origin) (p : ℕ) → o.direction ≡ Earlier → is_beyond o p ≡ true → p < o.place
+is_earlier : (o : Origin) (p : ℕ) → o.side ≡ Earlier → is_beyond o p ≡ true → p < o.place
 is_earlier o p e h = true_lt p o.place (sym (ap (λ s. is_on s o.place p) e) ∙ h)
 
 pub reach_at : (o : Origin) (n : ℕ) (ts : List Touch) (i : ℕ) (d : Touch) → InReach o n ts → i < length ts → is_beyond o (slice_index_or ts i d).place ≡ true
@@ -106,14 +106,14 @@ module _ (o : Origin) (which : Wanted) (ts : List Touch) (i : ℕ) (d : Touch) (
   abbrev t : Touch
   t = slice_index_or ts i d
 
-  pub later_done : o.direction ≡ Later → IsAscending 0 ts → t.place ≤ o.place → Marks o (hits which (drop (i + 1) ts)) a b → Marks o (hits which ts) a b
+  pub later_done : o.side ≡ Later → IsAscending 0 ts → t.place ≤ o.place → Marks o (hits which (drop (i + 1) ts)) a b → Marks o (hits which ts) a b
   later_done side up le marks j h =
       marks j h ∙ ap (λ x. has_mark a j || x)
       (guarded (is_beyond o (o.base + j)) _ _
       (λ e. let low = is_later o (o.base + j) side e in let s : i + 1 ≡ suc i = omega arith in
       ap (λ n. hits which (drop n ts) (o.base + j)) s ∙ cut_later which 0 ts i d o.place (o.base + j) up w le low))
 
-  pub earlier_done : o.direction ≡ Earlier → IsAscending 0 ts → o.place ≤ t.place → Marks o (hits which (take i ts)) a b → Marks o (hits which ts) a b
+  pub earlier_done : o.side ≡ Earlier → IsAscending 0 ts → o.place ≤ t.place → Marks o (hits which (take i ts)) a b → Marks o (hits which ts) a b
   earlier_done side up le marks j h =
       marks j h ∙ ap (λ x. has_mark a j || x)
       (guarded (is_beyond o (o.base + j)) _ _

@@ -2,8 +2,8 @@
 use Rattle.std.specs.Prelude.{◌≡◌, ◌<◌, ◌≤◌, ◌+◌, ◌||◌, ◌&&◌, ◌==◌, ℕ, suc, Bool, true, false, nat_lt, List, [], ◌∷◌, length, filter, slice_index_or}
 use Rattle.std.specs.List.{list_any}
 use Rattle.gr_touches.specs.declared.touch.Touch.{Touch}
-use Rattle.gr_touches.specs.declared.marks.Direction.{Direction}
-use Rattle.gr_touches.specs.declared.marks.Direction.TheVariants.{Later, Earlier}
+use Rattle.gr_touches.specs.declared.marks.LogSide.{LogSide}
+use Rattle.gr_touches.specs.declared.marks.LogSide.TheVariants.{Later, Earlier}
 use Rattle.gr_touches.specs.declared.marks.Wanted.{Wanted}
 use Rattle.gr_touches.specs.declared.marks.Wanted.TheVariants.{All, Writes}
 use Rattle.gr_touches.specs.declared.marks.Origin.{Origin}
@@ -22,12 +22,12 @@ abbrev pub hits : Wanted → List Touch → ℕ → Bool
 hits which ts p = list_any (λ t. t.place == p) (wanted which ts)
 
 -- whether the place p is on that side of the place q
-abbrev pub is_on : Direction → ℕ → ℕ → Bool
+abbrev pub is_on : LogSide → ℕ → ℕ → Bool
 is_on Later q p = nat_lt q p
 is_on Earlier q p = nat_lt p q
 
 abbrev pub is_beyond : Origin → ℕ → Bool
-is_beyond origin p = is_on origin.direction origin.place p
+is_beyond origin p = is_on origin.side origin.place p
 
 -- the places ascend, from this one at least
 abbrev pub IsAscending : ℕ → List Touch → Type 0

@@ -15,7 +15,7 @@ pub mod touch;
 mod walking;
 
 pub use lanes::Lanes;
-pub use marks::{Direction, Origin, Wanted};
+pub use marks::{LogSide, Origin, Wanted};
 pub use object_ref::ObjectRef;
 pub use objects::{TouchedObjects, reads, writes};
 pub use touch::Touch;

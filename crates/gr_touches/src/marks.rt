@@ -7,7 +7,7 @@ use crate::touch::Touch;
 
 /// A side of a place of the log.
 #[derive(Clone, Copy)]
-pub enum Direction {
+pub enum LogSide {
     Later,
     Earlier,
 }
@@ -15,7 +15,7 @@ pub enum Direction {
 /// Where marks begin, and which touches are in reach: those on one side of a place of the log.
 #[derive(Clone, Copy)]
 pub struct Origin {
-    pub direction: Direction,
+    pub side: LogSide,
     pub place: usize,
     /// The place of the first mark.
     pub base: usize,
@@ -56,7 +56,7 @@ fn mark(marks: &mut [bool], base: usize, touch: Touch, wanted: Wanted)
 
 /// Sets the marks of the wanted touches later than a place.
 fn mark_later(marks: &mut [bool], origin: Origin, touches: &[Touch], wanted: Wanted)
-    requires later { origin.direction ≡ Direction.Later }
+    requires later { origin.side ≡ LogSide.Later }
     requires ascending { IsAscending 0 touches.now }
     requires reach { InReach origin (length marks.old) touches.now }
     ensures { Marks origin (hits wanted touches.now) marks.old marks.new }
@@ -75,7 +75,7 @@ fn mark_later(marks: &mut [bool], origin: Origin, touches: &[Touch], wanted: Wan
 
 /// Sets the marks of the wanted touches earlier than a place.
 fn mark_earlier(marks: &mut [bool], origin: Origin, touches: &[Touch], wanted: Wanted)
-    requires earlier { origin.direction ≡ Direction.Earlier }
+    requires earlier { origin.side ≡ LogSide.Earlier }
     requires ascending { IsAscending 0 touches.now }
     requires reach { InReach origin (length marks.old) touches.now }
     ensures { Marks origin (hits wanted touches.now) marks.old marks.new }
@@ -96,8 +96,8 @@ pub(crate) fn mark_list(marks: &mut [bool], origin: Origin, touches: &[Touch], w
     requires reach { InReach origin (length marks.old) touches.now }
     ensures { Marks origin (hits wanted touches.now) marks.old marks.new }
 {
-    match origin.direction {
-        Direction::Later => mark_later(marks, origin, touches, wanted),
-        Direction::Earlier => mark_earlier(marks, origin, touches, wanted),
+    match origin.side {
+        LogSide::Later => mark_later(marks, origin, touches, wanted),
+        LogSide::Earlier => mark_earlier(marks, origin, touches, wanted),
     }
 }
