@@ -11,10 +11,11 @@ ghost use Rattle.gr_lower.specs.StatementCode.{performed, targets_code};
 ghost use Rattle.gr_lower.specs.Headings.{ways_of, if_heading, turn_of, for_heading};
 ghost use Rattle.gr_lower.specs.TurnHeadings.{turn_heading, range_heading};
 
-use crate::acts::{assign_pair, lower_opening, perform, perform_none, perform_one, single};
+use crate::acts::{assign_pair, lower_opening};
 use crate::choices::entry;
 use crate::nesting::Ways;
 use crate::parts::{abandon, kept, kept_sum, kept_target, kept_targets, sum};
+use crate::performing::{perform, perform_none, perform_one, single};
 use crate::sizing::{size_of_opening, size_of_test, size_of_use};
 use gr_base::NoMemory;
 use gr_code::code::{Action, Instruction, Operand};

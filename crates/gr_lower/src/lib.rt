@@ -10,6 +10,7 @@ pub mod laws;
 mod lowering;
 mod nesting;
 mod parts;
+mod performing;
 mod placing;
 mod sizes;
 mod sizing;

@@ -6,10 +6,10 @@ ghost use Rattle.gr_rules.specs.Frames.{variable_of};
 ghost use Rattle.gr_code.specs.CodeViews.{instructions_of, function_code_of, program_code_of};
 ghost use Rattle.gr_lower.specs.Lowered.{body_code, lowered_function, lowered};
 
-use crate::acts::perform_none;
 use crate::frames::cells_of;
 use crate::nesting::Ways;
 use crate::parts::{kept, kept_target};
+use crate::performing::perform_none;
 use crate::placing::lines_of;
 use crate::sizes::Sizes;
 use crate::sizing::size_of_all;
