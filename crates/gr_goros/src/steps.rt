@@ -104,7 +104,8 @@ impl Goroutine {
         requires right { ¬ (printing (program_code_of code.now) self.old.content line.items self.old.content.frames ≡ wrong) }
         requires counted { self.old.content.steps + 1 < 2 ^ 64 }
         ensures step { IfOk result (λ r.
-            IsStep r (printing (program_code_of code.now) self.old.content line.items self.old.content.frames) self.old self.new) }
+            IsStep r (printing (program_code_of code.now) self.old.content line.items
+            self.old.content.frames) self.old self.new) }
         ensures err { OnErr result (self.new ≡ self.old) }
     {
         self.text.push(line)?;

@@ -56,7 +56,14 @@ impl Model for Session {
 
     ghost Value = { Seen };
 
-    ghost coded = { Prim.hlevel (codes, store.the_row.coded, expr.the_row.coded, stmt.the_row.coded, types.the_row.coded, operands.the_row.coded) };
+    ghost coded = { Prim.hlevel (
+      codes,
+      store.the_row.coded,
+      expr.the_row.coded,
+      stmt.the_row.coded,
+      types.the_row.coded,
+      operands.the_row.coded,
+    ) };
 
     ghost view = { λ s. record {
       program = program_held (store_in s.debuggee);

@@ -61,7 +61,14 @@ impl<B: Room> Model for Locked<B> {
 
     ghost Value = { Held };
 
-    ghost coded = { Prim.hlevel (codes, sessions.the_row.coded, expr.the_row.coded, stmt.the_row.coded, types.the_row.coded, operands.the_row.coded) };
+    ghost coded = { Prim.hlevel (
+      codes,
+      sessions.the_row.coded,
+      expr.the_row.coded,
+      stmt.the_row.coded,
+      types.the_row.coded,
+      operands.the_row.coded,
+    ) };
 
     ghost view = { λ s. record { session = s.session; workers = s.workers; closed = s.closed } };
 

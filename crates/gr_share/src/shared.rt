@@ -38,7 +38,14 @@ impl Model for Opened {
 
     ghost Value = { Named };
 
-    ghost coded = { Prim.hlevel (codes, sessions.the_row.coded, expr.the_row.coded, stmt.the_row.coded, types.the_row.coded, operands.the_row.coded) };
+    ghost coded = { Prim.hlevel (
+      codes,
+      sessions.the_row.coded,
+      expr.the_row.coded,
+      stmt.the_row.coded,
+      types.the_row.coded,
+      operands.the_row.coded,
+    ) };
 
     ghost view = { λ o. record { table = o.tie.table.shared.table_id; session = o.session } };
 

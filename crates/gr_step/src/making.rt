@@ -271,7 +271,8 @@ impl Objects {
     ) -> Result<Change, NoMemory>
         requires { At (CanArrive (program_code_of listing.now.code.value) (arrivals.Value (Int (pos count))))
             (seen_at self.old.goroutines number) }
-        ensures ok { IfOk result (λ change. (change.kind ≡ kinds.Length) × (change.beyond ≡ option_map (λ f. f.value.beyond) further)
+        ensures ok { IfOk result (λ change. (change.kind ≡ kinds.Length)
+            × (change.beyond ≡ option_map (λ f. f.value.beyond) further)
             × ChangesObjects (ChangesBy number
             (Arrives (program_code_of listing.now.code.value)
             (arrivals.Value (Int (pos count))) change.own)) self.old.run self.old self.new) }

@@ -52,7 +52,8 @@ fn told_with(
     met: (GoName, GoUndo),
     channels: Few<(ChName, ChanUndo)>,
 ) -> Change
-    ensures { (operation : attempts.Operation) (reads writes : List Object) → IsReached operation reads writes further.value.beyond
+    ensures { (operation : attempts.Operation) (reads writes : List Object)
+        → IsReached operation reads writes further.value.beyond
         → Tells result kind (Some operation) reads writes own (met ∷ []) (members channels) }
 {
     let (go, undo) = met;

@@ -1,7 +1,7 @@
 //! The step of a goroutine that comes to wait (Go: Send statements, Receive operator, Select statements).
 
-ghost use Rattle.std.specs.Prelude.{◌≡◌, ◌^◌, ◌≤◌, ◌∷◌, [], ◌++◌, true, false, Some, None, option_map, map, length, vec_len, vec_capacity};
-ghost use Rattle.std.specs.Prelude.{IfOk, IfErr, OnOk, OnErr, IsOk, List, Option};
+ghost use Rattle.std.specs.Prelude.{◌≡◌, ◌^◌, ◌≤◌, ◌∷◌, [], ◌++◌, true, false, Some, None, option_map, map, length};
+ghost use Rattle.std.specs.Prelude.{IfOk, IfErr, OnOk, OnErr, IsOk, List, Option, vec_len, vec_capacity};
 ghost use Rattle.gr_base.specs.declared.events.Choice.TheVariants as choices;
 ghost use Rattle.gr_base.specs.declared.kinds.Kind.TheVariants as kinds;
 ghost use Rattle.gr_rules.specs.Outcomes.{gives, faults};

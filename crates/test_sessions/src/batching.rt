@@ -23,7 +23,7 @@ const ENDING: &[u8] =
 const COUNTING: &[u8] =
     b"package main\nfunc spin(n int) { for i := 0; i < n; i++ { } }\nfunc main() {\n\tgo spin(200)\n\tselect {}\n}\n";
 
-/// A goroutine that has the length of a buffer in a temporary when it is lent, and does not need it any more when it is lent again.
+/// A goroutine that has the length of a buffer in a temporary when it is lent. When it is lent again, it needs that no more.
 const MEASURING: &[u8] =
     b"package main\nfunc work(c chan int, x int) {\n\ty := len(c) + x\n\tfor y < 9 {\n\t\ty++\n\t}\n}\nfunc main() {\n\tc := make(chan int, 1)\n\tgo work(c, 1)\n\tselect {}\n}\n";
 
