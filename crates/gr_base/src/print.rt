@@ -13,10 +13,12 @@ use crate::names::{ChName, GoName, StepId};
 use crate::values::Value;
 use itoa::{Buffer, write_digits};
 
-/// How many counts a short name of a goroutine has at most.
+/// How many counts a short name of a goroutine has at most. A longer one takes five levels of goroutines, each started by the
+/// one above it.
 const SHORT_DEPTH: usize = 4;
 
-/// Room for the text of a step of a goroutine with a short name.
+/// Room for the text of a step of a goroutine with a short name: `g0`, and at most 21 bytes for each of five numbers with its
+/// mark.
 const SHORT_SIZE: usize = 128;
 
 /// Appends the goroutine's name, as `g0.2.1`.

@@ -9,7 +9,7 @@ use crate::seen::{Scalar, Seen};
 use gr_base::{Fault, Value};
 use gr_tree::{BinaryOp, UnaryOp};
 
-/// The unary operator on a value that it is for.
+/// The unary operator on a value that it is for. The crates above do not call it: it is for users of the library.
 pub fn apply(op: UnaryOp, value: Value) -> Value
     requires { rules.apply op value ≢ wrong }
     ensures { rules.apply op value ≡ gives result }

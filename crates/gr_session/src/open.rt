@@ -80,6 +80,7 @@ fn read_file(alloc: Global, text: &[u8]) -> Result<File, OpenError>
     ensures none { IfErr result (λ e. SaysWhy e text.now) }
     ensures too_long { IsErrOf result (OpenError.Scan ScanError.TooLong None) ↔ (TEXT_LIMIT < length text.now) }
 {
+    // brings the law to the prover
     one_list();
     let tokens = match scan(alloc, text) {
         Ok(tokens) => tokens,
@@ -97,6 +98,7 @@ fn read_program(alloc: Global, text: &[u8]) -> Result<Program, OpenError>
     ensures none { IfErr result (λ e. SaysWhy e text.now) }
     ensures too_long { IsErrOf result (OpenError.Scan ScanError.TooLong None) ↔ (TEXT_LIMIT < length text.now) }
 {
+    // brings the laws to the prover
     one_list();
     one_tree();
     let file = read_file(alloc, text)?;

@@ -17,6 +17,7 @@ fn step_asked_for<'a>(debuggee: &'a Debuggee, target: &'a Target) -> Option<&'a 
     requires { IsDebuggee debuggee.now }
     ensures { (p : Program) → (w : World p) → Stands p w debuggee.now → option_copied result ≡ step_asked p w.log target.now }
 {
+    // brings the laws to the prover
     law_of_history();
     law_of_assignments();
     let log = debuggee.machine.log();

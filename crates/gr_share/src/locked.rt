@@ -206,6 +206,7 @@ impl<B: Room> Locked<B> {
         ensures own { IfOk result (λ o. IfSome o (λ l. (loan_of l.0.copy).program ≡ B.program)) }
         ensures limit { IfOk result (λ o. IfSome o (λ l. Lends B.program self.now.session.journal place l.0 l.1)) }
     {
+        // brings the law to the prover
         law_of_journals();
         match self.session.lease(alloc, place)? {
             Some(lease) => {
@@ -285,6 +286,7 @@ impl<B: Room> Locked<B> {
             × InItsWorld (program_of self.now.session.program) self.now.session.journal
             (λ w. ¬ CanLend (program_of self.now.session.program) w × ¬ IsTurnDue (program_of self.now.session.program) w)) }
     {
+        // brings the law to the prover
         law_of_journals();
         if self.closed || self.session.can_lend() {
             return false;

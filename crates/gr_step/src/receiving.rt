@@ -27,7 +27,8 @@ use gr_record::Listing;
 use gr_record::record::{Change, Contact, Operation};
 
 impl Objects {
-    /// Takes the front item, where nobody waits to send. Refused, nothing has changed.
+    /// Takes the front item, where nobody waits to send. The zero value serves only to compare the clauses with those of the
+    /// rules. Refused, nothing has changed.
     pub(crate) fn take_item(
         &mut self,
         meeting: &Meeting<'_>,
@@ -59,8 +60,8 @@ impl Objects {
         self.pass(meeting.turn, passes, kind, passage, Some(undo))
     }
 
-    /// Takes the front item, into whose place the value of the first goroutine that waits to send moves up. Refused, nothing has
-    /// changed.
+    /// Takes the front item, into whose place the value of the first goroutine that waits to send moves up. The zero value
+    /// serves only to compare the clauses with those of the rules. Refused, nothing has changed.
     pub(crate) fn move_up(&mut self, meeting: &Meeting<'_>, zero: Value) -> Result<Change, NoMemory>
         requires may { MayMeet meeting.now self.old }
         requires sound { MayTry meeting.now self.old (to_receive meeting.now zero) }
@@ -99,7 +100,8 @@ impl Objects {
         self.exchange(meeting.turn, prepared, undo, crossing)
     }
 
-    /// Takes the value of the first goroutine that waits to send, where there is no item. Refused, nothing has changed.
+    /// Takes the value of the first goroutine that waits to send, where there is no item. The zero value serves only to compare
+    /// the clauses with those of the rules. Refused, nothing has changed.
     pub(crate) fn meet(&mut self, meeting: &Meeting<'_>, zero: Value) -> Result<Change, NoMemory>
         requires may { MayMeet meeting.now self.old }
         requires sound { MayTry meeting.now self.old (to_receive meeting.now zero) }

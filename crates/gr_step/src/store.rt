@@ -229,7 +229,7 @@ impl Store {
     }
 
     /// What the next step of a goroutine asks for. There is none where the program does not run, or the goroutine is not there or
-    /// not ready.
+    /// not ready. The crates above do not call it: it is for users of the library.
     pub fn need(&self, go: &GoName) -> Result<Option<Need>, NoMemory>
         requires { IsRun self.now }
         ensures { IfOk result (λ o. MatchOption o (¬ IsUp (contents_at self.now) go.now)
@@ -238,7 +238,8 @@ impl Store {
         self.objects.need(&self.listing, go)
     }
 
-    /// The clauses that a goroutine may pick, by their numbers from 1: none, where it does not stand ready at a select.
+    /// The clauses that a goroutine may pick, by their numbers from 1: none, where it does not stand ready at a select. The
+    /// crates above do not call it: it is for users of the library.
     pub fn ready_cases(&self, go: &GoName) -> Result<Vec<u32>, NoMemory>
         requires { IsRun self.now }
         ensures { IfOk result (λ cases. cases.items ≡ ready_clauses (program_at self.now) (state_at self.now) go.now) }
@@ -247,7 +248,8 @@ impl Store {
     }
 
     /// The choice of a goroutine where none is asked for. At a select that is the lowest clause that can proceed, else the
-    /// default clause, else to wait. It takes no memory, and is refused only at a select of 2^32 clauses or more.
+    /// default clause, else to wait. It takes no memory, and is refused only at a select of 2^32 clauses or more. The crates
+    /// above do not call it: it is for users of the library.
     pub fn usual_choice(&self, go: &GoName) -> Result<Choice, NoMemory>
         requires { IsRun self.now }
         ensures choice { IfOk result (λ choice. choice ≡ usual_by_rules (program_at self.now) (state_at self.now) go.now) }
@@ -301,7 +303,8 @@ impl Store {
         &self.listing.code
     }
 
-    /// How many steps were taken; it stays at the greatest number of 64 bits.
+    /// How many steps were taken; it stays at the greatest number of 64 bits. What takes steps back leaves it as it is, so it
+    /// shows that nothing is replayed. The crates above do not call it: it is for users of the library.
     pub fn taken(&self) -> u64
         ensures { result ≡ taken_at self.now }
     {

@@ -221,7 +221,8 @@ impl Objects {
         Ok(Change::waits_to_send(slot, channel, spot))
     }
 
-    /// Begins to wait to receive from a channel. Refused, nothing has changed.
+    /// Begins to wait to receive from a channel. The zero value serves only to compare the clauses with those of the rules.
+    /// Refused, nothing has changed.
     fn wait_for_sender(
         &mut self,
         turn: &Turn<'_>,
@@ -272,7 +273,8 @@ impl Objects {
         }
     }
 
-    /// Begins to wait to receive, on nil forever. Refused, nothing has changed.
+    /// Begins to wait to receive, on nil forever. The zero value serves only to compare the clauses with those of the rules.
+    /// Refused, nothing has changed.
     fn begin_to_receive(
         &mut self,
         turn: &Turn<'_>,

@@ -7,7 +7,7 @@ use gr_base::GoName;
 use std::array;
 use std::cell::Cell;
 
-/// How many guesses are kept.
+/// How many guesses are kept: 2 KiB of them, and a power of two, so that a class is a kind and the low bits of a count.
 const GUESSES: usize = 256;
 
 /// How many classes there are for each count. There are fewer kinds of objects.

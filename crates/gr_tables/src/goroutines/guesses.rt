@@ -6,7 +6,7 @@ use gr_base::GoName;
 use std::array;
 use std::cell::Cell;
 
-/// How many guesses are kept.
+/// How many guesses are kept: 2 KiB of them, and a power of two, so that a class is the low bits of a count.
 const GUESSES: usize = 256;
 
 /// For each last count of a name the number of the goroutine that was found last.
