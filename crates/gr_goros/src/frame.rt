@@ -102,7 +102,7 @@ impl Frame {
     }
 
     /// The number of the next instruction.
-    pub fn pc(&self) -> usize
+    pub(crate) fn pc(&self) -> usize
         ensures { result ≡ self.now.number }
     {
         self.pc as usize
