@@ -1,15 +1,18 @@
 #!/usr/bin/env python3
-"""Counts the lines of the definitions that docs/THEOREMS.md lists under 'What to read'.
+"""Counts the lines of the definitions that docs/THEOREMS.md lists under 'What to read', and finds those that are missing there.
 
     tools/reading.py [--check]
 
 Writes the last column of that table anew: the lines of the named modules without imports, comments and empty lines.
-With --check it changes nothing, and tells each number that is not right. It tells, and changes nothing, where a row has another form or
-names a module that is not there.
+With --check it changes nothing, and tells each number that is not right. It tells, and changes nothing, where a row has
+another form or names a module that is not there. It always tells which modules the table lacks of those that the
+promises above it need (tools/cited.py has the rule), and which of its modules no promise needs.
 """
 import os
 import re
 import sys
+
+import cited
 
 TOP = os.path.dirname(os.path.dirname(os.path.abspath(__file__)))
 PAGE = os.path.join(TOP, "docs", "THEOREMS.md")
@@ -75,15 +78,28 @@ def differences(lines):
             yield f"{place}: '{what}' has {told}, and its modules have {right} lines (tools/reading.py)"
 
 
+def strangers(lines):
+    """What to tell of each module that is needed and not listed, or listed and not needed."""
+    needed = cited.needed(lines)
+    listed = {it for _, row in rows(lines) for it in modules_of(row[2])}
+    for crate, module in sorted(needed.keys() - listed):
+        why = needed[crate, module]
+        yield f"docs/THEOREMS.md: the table 'To believe' lacks {module} of {crate}: a promise needs its {why}"
+    for crate, module in sorted(listed - needed.keys()):
+        yield f"docs/THEOREMS.md: no promise above needs {module} of {crate}, which is in the table 'To believe'"
+
+
 def main():
     with open(PAGE, encoding="utf-8") as file:
         lines = file.read().split("\n")
     wrong = list(faults(lines))
-    if not wrong and "--check" in sys.argv[1:]:
-        wrong = list(differences(lines))
-    elif not wrong:
-        with open(PAGE, "w", encoding="utf-8") as file:
-            file.write("\n".join(map(counted, lines)))
+    if not wrong:
+        wrong = list(strangers(lines))
+        if "--check" in sys.argv[1:]:
+            wrong += differences(lines)
+        else:
+            with open(PAGE, "w", encoding="utf-8") as file:
+                file.write("\n".join(map(counted, lines)))
     for line in wrong:
         print(line)
     return 1 if wrong else 0

@@ -1,4 +1,4 @@
--- What the checker finds of an expression, as functions. No clause of the whole checker speaks of them.
+-- What the checker finds of an expression, as functions, on which the law `found_programs` rests.
 use Rattle.std.specs.Prelude.{ℕ, ℤ, Bool, true, false, List, [], ◌∷◌, Option, Some, None, if◌then◌else◌, nat_eq, codes}
 use Rattle.std.specs.Cmp.Lexicographic.{pointwise}
 use Rattle.gr_tree.specs.declared.expr.Direction.{Direction}

@@ -1,4 +1,4 @@
--- What the checker finds of a file, as functions. It is a stepping stone of the proofs: no public clause speaks of it.
+-- What the checker finds of a file, as functions: the law `found_programs` compares it with the judgement.
 use Rattle.std.specs.Prelude.{ℕ, Bool, true, false, List, [], ◌∷◌, ◌++◌, Option, Some, None, codes}
 use Rattle.gr_scan.specs.declared.token.Place.{Place}
 use Rattle.gr_tree.specs.Files as files

@@ -1,4 +1,4 @@
--- What the checker finds of a statement, as functions. It is a stepping stone of the proofs: no public clause speaks of it.
+-- What the checker finds of a statement, as functions, on which the law `found_programs` rests.
 use Rattle.std.specs.Prelude.{ℕ, pos, List, [], ◌∷◌, map, Option, Some, None, codes}
 use Rattle.std.proofs.Common.{cond}
 use Rattle.gr_tree.specs.declared.expr.Direction.{Direction}
