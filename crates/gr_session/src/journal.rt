@@ -63,7 +63,7 @@ pub enum AskRefused {
 pub enum EnrolRefused {
     /// E1: there are 1,000 askers.
     Full,
-    /// E2: a growth was refused.
+    /// E2: a growth was refused. No call answers it, since an asker takes no memory.
     NoMemory,
 }
 

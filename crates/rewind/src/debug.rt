@@ -82,7 +82,8 @@ pub(crate) fn open_source<S: Read>(
     }
 }
 
-/// Reads the source, and tells whether it is accepted: whether it has a program. A refusal is the one that `debug` tells.
+/// Reads the source, and tells whether it is accepted: whether it has a program. A refusal says why it has none, in the sense of
+/// `Session::open`; so does one of `debug`.
 pub fn check<S: Read>(alloc: Global, source: &mut Counted<S>) -> Result<(), DebugFault>
     ensures ok { OnOk result (Accepted (change S.remaining source.old source.new)) }
     ensures err { IfErr result (λ fault. SourceLeft fault (change S.remaining source.old source.new)) }
