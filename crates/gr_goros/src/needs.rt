@@ -1,6 +1,7 @@
 //! What the next step of a goroutine asks for.
 
-ghost use Rattle.std.specs.Prelude.{◌≡◌, false, IfOk, IfErr, MatchOption};
+ghost use Rattle.std.specs.Prelude.{◌≡◌, false, Some, option_copied, IfOk, IfErr, IfSome, MatchOption};
+ghost use Rattle.gr_base.specs.declared.values.Value.TheVariants.{Chan};
 ghost use Rattle.gr_program.specs.TypeViews.{literal_of};
 ghost use Rattle.gr_rules.specs.Outcomes.{gives, wrong};
 ghost use Rattle.gr_rules.specs.Operands.{value_of};
@@ -111,6 +112,35 @@ pub fn value_of_literal(literal: Literal) -> Value
     }
 }
 
+/// The channel that the operand is, where that stands in a cell and is not nil.
+fn channel_held<'a>(cells: &'a [Option<Value>], operand: &Operand) -> Option<&'a ChName>
+    ensures { IfSome (option_copied result) (λ c. rules.evaluate cells.now (operand_of operand.now) ≡ gives (Chan (Some c))) }
+{
+    let Operand::Variable(cell) = operand else {
+        return None;
+    };
+    match cells.get(*cell as usize) {
+        Some(Some(Value::Chan(Some(name)))) => Some(name),
+        _ => None,
+    }
+}
+
+/// The value of an operand that mostly is a channel in a cell, which is looked for first. Errors: those of `evaluate`.
+fn evaluate_channel(
+    alloc: Global,
+    cells: &[Option<Value>],
+    operand: &Operand,
+) -> Result<Value, Stop>
+    requires { ¬ (rules.evaluate cells.now (operand_of operand.now) ≡ wrong) }
+    ensures ok { IfOk result (λ v. rules.evaluate cells.now (operand_of operand.now) ≡ gives v) }
+    ensures stop { IfErr result (λ e. Stops e (rules.evaluate cells.now (operand_of operand.now))) }
+{
+    if let Some(name) = channel_held(cells, operand) {
+        return Ok(Value::Chan(Some(name.copy(alloc)?)));
+    }
+    evaluate(alloc, cells, operand)
+}
+
 /// The channel that an operand is.
 fn channel(
     alloc: Global,
@@ -121,7 +151,7 @@ fn channel(
     ensures ok { IfOk result (λ c. one_channel cells.now (operand_of operand.now) ≡ gives c) }
     ensures stop { IfErr result (λ e. Stops e (one_channel cells.now (operand_of operand.now))) }
 {
-    Ok(as_channel(evaluate(alloc, cells, operand)?))
+    Ok(as_channel(evaluate_channel(alloc, cells, operand)?))
 }
 
 /// The channel that the one operand is.
@@ -134,7 +164,10 @@ fn only_channel(
     ensures ok { IfOk result (λ c. channel_of cells.now (operands_of operands.now) ≡ gives c) }
     ensures stop { IfErr result (λ e. Stops e (channel_of cells.now (operands_of operands.now))) }
 {
-    Ok(as_channel(only(alloc, cells, operands)?))
+    match operands {
+        [operand] => channel(alloc, cells, operand),
+        _ => Ok(as_channel(only(alloc, cells, operands)?)),
+    }
 }
 
 /// The value of a clause that sends, or its fault.
@@ -252,7 +285,7 @@ fn need_of_send(alloc: Global, frame: &Frame, operands: &[Operand], on: u32) -> 
     let [channel, value] = operands else {
         return need_of_values(alloc, frame, operands, on);
     };
-    let channel = evaluate(alloc, frame.cells(), channel)?;
+    let channel = evaluate_channel(alloc, frame.cells(), channel)?;
     let value = evaluate(alloc, frame.cells(), value)?;
     Ok(Need::Send {
         channel: as_channel(channel),
