@@ -155,8 +155,8 @@ module _ (p : Program) (s t : Contents) (r : Record) (is : IsRecord p s r t) whe
   pub own_was_ready : IsReadyIn s r.id.go
   own_was_ready = own_is_ready (frame_in p) p (event_of r) s t is.takes.report is.takes.steps
 
-  -- its goroutine is ready after it, where the step reached no further and left its status as it was
-  pub own_stays_ready : r.change.beyond ≡ None → KeepsStatus r.change.own → IsReadyIn t r.id.go
+  -- its goroutine is ready after it, where the step neither met nor started it and left its status as it was
+  pub own_stays_ready : is_among r.id.go (others_of r.change) ≡ false → KeepsStatus r.change.own → IsReadyIn t r.id.go
   own_stays_ready = stays_ready r.id.go r.change s t own_was_ready is.takes.back is.takes.fits
 
   pub only_these : OnlyThese r s t

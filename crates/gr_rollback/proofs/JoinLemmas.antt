@@ -52,7 +52,7 @@ module _ (p : Program) (w : Past p) (old : Course) (s : Holds p w old) (r : Reco
   settled =
       subst (λ ns. Settles (r.id.go ∷ ns) (contents_at q) old.pool old.pool) (sym (no_others r.change taken.alone))
       (settles_still (contents_at q) r.id.go old.pool
-      (own_stays_ready p (contents_at old.store) (contents_at q) r here taken.alone taken.keeps)
+      (own_stays_ready p (contents_at old.store) (contents_at q) r here (ap (is_among r.id.go) (no_others r.change taken.alone)) taken.keeps)
       (own_in_pool p w old s r (contents_at q) here).1)
 
   followed : Follows r (contents_at q) old.pool old.pool

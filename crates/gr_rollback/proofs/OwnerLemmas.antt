@@ -123,18 +123,25 @@ met_was_there n c t q can among other =
     (or_right (same_go q n) (is_among q (names_met (beyond [] (λ b. members b.met) c))) among) in
     (there.0, ap (λ b. if b then None else go_back (goroutines_changed n c) q (t.goroutines q)) other ∙ there.1)
 
--- a goroutine that was ready is so after a step that reached no further and left its status as it was
-pub stays_ready : (n : List ℕ) (c : Effect) (s t : Contents) → IsReadyIn s n → taken_back n c t ≡ s → CanGoBack n c t → c.beyond ≡ None
-    → KeepsStatus c.own → IsReadyIn t n
-stays_ready n c s t was back can alone keeps =
+-- a goroutine that was ready is so after a step that neither met nor started it and left its status as it was
+pub stays_ready : (n : List ℕ) (c : Effect) (s t : Contents) → IsReadyIn s n → taken_back n c t ≡ s → CanGoBack n c t
+    → is_among n (others_of c) ≡ false → KeepsStatus c.own → IsReadyIn t n
+stays_ready n c s t was back can apart keeps =
     let there = own_is_there n c t can in
     let undone_is : Some (undone c.own there.0) ≡ Some was.goroutine =
-    sym (ap (go_undone c.own) there.1) ∙ sym (own_alone (t.goroutines n)) ∙ ap (λ (x : Contents). x.goroutines n) back ∙ was.there in
+    sym (ap (go_undone c.own) there.1) ∙ sym (own_apart (t.goroutines n)) ∙ ap (λ (x : Contents). x.goroutines n) back ∙ was.there in
     record {
       goroutine = there.0;
       there = there.1;
       is_ready = sym (keeps there.0) ∙ ap (λ (g : CodeGoroutine). g.status) (some_inj undone_is) ∙ was.is_ready;
     }
   where
-    own_alone : (x : Option CodeGoroutine) → (if is_go n (begun_by c) then None else go_back (goroutines_changed n c) n x) ≡ go_undone c.own x
-    own_alone x = rw (alone, go_self n) refl
+    met : List (List ℕ × GoUndo)
+    met = beyond [] (λ b. members b.met) c
+
+    both : (is_among n (map (λ u. u.0) met) ≡ false) × (is_among n (option_to_list (begun_by c)) ≡ false)
+    both = neither (is_among n (map (λ u. u.0) met)) (is_among n (option_to_list (begun_by c)))
+        (sym (list_any-append (same_go n) (map (λ u. u.0) met) (option_to_list (begun_by c))) ∙ apart)
+
+    own_apart : (x : Option CodeGoroutine) → (if is_go n (begun_by c) then None else go_back (goroutines_changed n c) n x) ≡ go_undone c.own x
+    own_apart x = rw (begun_else (begun_by c) n both.1, go_self n) (ap (go_undone c.own) (back_else met n x both.0))

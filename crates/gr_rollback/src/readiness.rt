@@ -1,8 +1,9 @@
 //! Which goroutines are ready, kept in a pool beside the store.
 
-ghost use Rattle.std.specs.Prelude.{◌≡◌, ◌∷◌, [], None, true, ◌↔◌, IsTrue, OnOk, option_copied};
+ghost use Rattle.std.specs.Prelude.{◌≡◌, ◌∷◌, [], false, true, ◌↔◌, IsTrue, OnOk, option_copied};
 ghost use Rattle.std.specs.Option.{option_to_list};
 ghost use Rattle.gr_pool.specs.Goroutines.{is_among};
+ghost use Rattle.gr_rules.specs.States.{same_go};
 ghost use Rattle.gr_step.specs.Records.{begun_by};
 ghost use Rattle.gr_step.specs.Stores.{contents_at};
 ghost use Rattle.gr_rollback.specs.Readiness.{IsReadyIn, KeepsStatus, KnowsReady, KnowsThere, Settles, KnowsMore, AllKnown};
@@ -12,7 +13,7 @@ use crate::bringing::{Prior, prior_to};
 use gr_base::{GoName, NoMemory};
 use gr_goros::{KeptUndo, Status};
 use gr_pool::Pool;
-use gr_step::{Change, Form, Record, Store};
+use gr_step::{Change, Exchange, Form, Record, Store};
 
 /// Whether a goroutine is there, and ready.
 #[inline(always)]
@@ -52,7 +53,7 @@ fn settle_own(pool: &mut Pool, store: &Store, go: &GoName)
     pool.remove(go);
 }
 
-/// Makes the goroutine of a step unready where it is so in the store. The step reached no further than the goroutine, which was
+/// Makes the goroutine of a step unready where it is so in the store. The step neither met nor started that goroutine, which was
 /// ready; what the step replaced tells of most that it is ready still.
 fn settle_alone(pool: &mut Pool, store: &Store, go: &GoName, own: &KeptUndo)
     requires own { is_among go.now pool.old.ready ≡ true }
@@ -63,6 +64,24 @@ fn settle_alone(pool: &mut Pool, store: &Store, go: &GoName, own: &KeptUndo)
         return;
     }
     settle_own(pool, store, go);
+}
+
+/// Settles the goroutine of a step, which was ready, and the one that it met. What the step replaced in its own goroutine tells of
+/// most that it is ready still.
+fn settle_both(pool: &mut Pool, store: &Store, go: &GoName, exchange: &Exchange)
+    requires own { is_among go.now pool.old.ready ≡ true }
+    requires ready { same_go go.now exchange.now.met.0 ≡ false → KeepsStatus exchange.now.passage.own
+        → IsReadyIn (contents_at store.now) go.now }
+    requires met { is_among exchange.now.met.0 pool.old.known ≡ true }
+    ensures { Settles (go.now ∷ exchange.now.met.0 ∷ []) (contents_at store.now) pool.old pool.new }
+{
+    let (partner, _) = &exchange.met;
+    if go == partner {
+        settle_own(pool, store, go);
+    } else {
+        settle_alone(pool, store, go, &exchange.passage.own);
+    }
+    settle(pool, store, partner);
 }
 
 /// Settles each of the goroutines that a step met.
@@ -139,10 +158,10 @@ pub(crate) fn settle_again(pool: &mut Pool, store: &Store, step: &Record)
 }
 
 /// Brings the pool to what is ready after a step, whose goroutine was ready; those that it met and started are known. Where the
-/// step reached no further than its goroutine, and that is ready still, the pool stays. It takes no memory.
+/// step met and started nobody, and its goroutine is ready still, the pool stays. It takes no memory.
 pub(crate) fn settle_taken(pool: &mut Pool, store: &Store, step: &Record)
     requires own { is_among step.now.id.go pool.old.ready ≡ true }
-    requires ready { step.now.change.beyond ≡ None → KeepsStatus step.now.change.own
+    requires ready { is_among step.now.id.go (others_of step.now.change) ≡ false → KeepsStatus step.now.change.own
         → IsReadyIn (contents_at store.now) step.now.id.go }
     requires met { AllKnown (met_by step.now.change) pool.old }
     requires child { AllKnown (option_to_list (begun_by step.now.change)) pool.old }
@@ -150,10 +169,11 @@ pub(crate) fn settle_taken(pool: &mut Pool, store: &Store, step: &Record)
 {
     match step.change.form() {
         Form::Alone(_, own) => settle_alone(pool, store, &step.id.go, own),
-        Form::WaitsToSend(_, _, _) | Form::WaitsToReceive(_, _, _) | Form::Passes(_, _) => {
+        Form::WaitsToSend(_, _, _) | Form::WaitsToReceive(_, _, _) => {
             settle_own(pool, store, &step.id.go)
         }
-        Form::Exchanges(_, _) => settle_further(pool, store, step),
+        Form::Passes(_, passage) => settle_alone(pool, store, &step.id.go, &passage.own),
+        Form::Exchanges(_, exchange) => settle_both(pool, store, &step.id.go, exchange),
         Form::Further(_, _) => settle_further(pool, store, step),
     }
 }

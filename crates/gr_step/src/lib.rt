@@ -35,7 +35,7 @@ mod waking;
 
 pub use gr_goros::{Frame, GoUndo, Goroutine, Need, Status};
 pub use gr_record::Record;
-pub use gr_record::record::{Beyond, Change, Form};
+pub use gr_record::record::{Beyond, Change, Exchange, Form};
 pub use leasing::{LentCopy, LocalRun};
 pub use objects::Run;
 pub use refusal::StepRefused;

@@ -1,4 +1,4 @@
-use Rattle.std.proofs.Common.{◌≡◌, true, ◌∷◌, None, inl, inr, refl, sym, ap, subst, ◌∙◌}
+use Rattle.std.proofs.Common.{◌≡◌, true, false, ◌∷◌, None, inl, inr, refl, sym, ap, subst, ◌∙◌}
 use Rattle.std.proofs.lemmas.Result.{err_from_is_err_and}
 use Rattle.gr_pool.specs.Goroutines.{is_among}
 use Rattle.gr_rules.specs.Steps.{refusal}
@@ -87,7 +87,7 @@ settle_taken-requires-clause-ready c =
     let r = c.in_ok-step.step in
     let after = contents_at c.step_meant.new.self in
     let last = last_same (records_of c.enter-entered.new.log) (records_of c.args.self.now.log) r c.in-Some.last.now c.in_default.ensures.ok c.in-Some.ensures in
-    subst (λ (q : Record). q.change.beyond ≡ None → KeepsStatus q.change.own → IsReadyIn after q.id.go) (sym last)
+    subst (λ (q : Record). is_among q.id.go (others_of q.change) ≡ false → KeepsStatus q.change.own → IsReadyIn after q.id.go) (sym last)
     (own_stays_ready p (contents_at c.args.self.now.store) after r c.in_ok-step.ensures.step)
 
 pub settle_taken-requires-clause-met : goal.settle_taken-requires-clause-met
