@@ -1,11 +1,13 @@
 //! What a change of a goroutine replaced, by which it is undone.
 
-ghost use Rattle.std.specs.Prelude.{◌≡◌, ◌≤◌, ◌+◌, IfErr, OnErr, OnOk, IsOk};
-ghost use Rattle.gr_goros.specs.Undoing.{Fits, entered, front, need, undone};
+ghost use Rattle.std.specs.Prelude.{◌≡◌, ◌≤◌, ◌<◌, ◌+◌, IfErr, IsFalse, IsTrue, OnErr, OnOk, IsOk};
+ghost use Rattle.gr_goros.specs.Undoing.{Fits, at_spot, before_step, entered, front, need, on_innermost, undone};
 ghost use Rattle.gr_goros.specs.Views.{lines_of};
 
+use crate::cells::put;
 use crate::frame::Frame;
 use crate::goroutine::Goroutine;
+use crate::kept::{How, KeptUndo, Packed};
 use crate::wait::Status;
 use gr_base::{ChName, NoMemory, Value};
 use std::mem;
@@ -126,6 +128,58 @@ impl Goroutine {
         }
         self.undo_step(undo);
         Ok(())
+    }
+
+    /// Takes a change back as it is kept, as `undo` does. A step over whole numbers is looked for first, since most steps are such.
+    pub fn undo_kept(&mut self, undo: KeptUndo) -> Result<(), (KeptUndo, NoMemory)>
+        requires { Fits undo self.old.content }
+        ensures ok { OnOk result (self.new.content ≡ undone undo self.old.content) }
+        ensures err { OnErr result (self.new.content ≡ self.old.content) }
+        ensures undo_returned { IfErr result (λ e. e.0 ≡ undo) }
+        ensures err_room { OnErr result (self.old.room ≤ self.new.room) }
+        ensures succeeds { need undo ≤ self.old.room → IsOk result }
+        ensures spends { OnOk result (self.old.room + entered undo ≤ self.new.room + need undo) }
+    {
+        if self.undo_ints(&undo) {
+            return Ok(());
+        }
+        match self.undo(undo.get()) {
+            Ok(()) => Ok(()),
+            Err((undo, error)) => Err((KeptUndo::new(undo), error)),
+        }
+    }
+
+    /// Takes a step back that replaced a number or wrote to no cell, if the change is that of such a step. Else nothing has
+    /// changed.
+    fn undo_ints(&mut self, undo: &KeptUndo) -> bool
+        requires { Fits undo.now self.old.content }
+        ensures back { IsTrue result → self.new.content ≡ undone undo.now self.old.content }
+        ensures room { self.new.room ≡ self.old.room }
+        ensures needs { IsTrue result → (need undo.now ≡ 0) × (entered undo.now ≡ 0) }
+        ensures otherwise { IsFalse result → self.new.content ≡ self.old.content }
+    {
+        match &undo.packed {
+            Packed::Same(How::Went, spot) => {
+                self.step_back_to(*spot);
+                true
+            }
+            Packed::Int(How::Went, spot, slot, n) => {
+                put(&mut self.top.cells, *slot as usize, Some(Value::Int(*n)));
+                self.step_back_to(*spot);
+                true
+            }
+            _ => false,
+        }
+    }
+
+    /// Stands where it stood, before a step of its own.
+    fn step_back_to(&mut self, spot: Spot)
+        requires { 0 < self.old.content.steps }
+        ensures content { self.new.content ≡ before_step self.old.content (on_innermost (at_spot spot) self.old.content.frames) }
+        ensures room { self.new.room ≡ self.old.room }
+    {
+        self.top.stand_at(spot);
+        self.steps -= 1;
     }
 
     /// Takes a change back, for which there is room.

@@ -17,7 +17,8 @@ ghost use Rattle.gr_step.specs.Unstepping.{GoBack, after_back, IsForgotten, IsUn
 use crate::objects::{Objects, Run};
 use gr_base::{ChName, GoName, Kind, NoMemory};
 use gr_channels::ChanUndo;
-use gr_goros::{GoUndo, KeptUndo, Spot};
+use gr_goros::kept::Packed;
+use gr_goros::{KeptUndo, Spot};
 use gr_record::Few;
 use gr_record::record::{Beyond, Change, Exchange, Form, Further, More, Passage};
 use gr_tables::channels::Channels;
@@ -28,8 +29,8 @@ use gr_tables::goroutines::Goroutines;
 fn undo_at(
     goroutines: &mut Goroutines,
     name: &GoName,
-    undo: GoUndo,
-) -> Result<(), (GoUndo, NoMemory)>
+    undo: KeptUndo,
+) -> Result<(), (KeptUndo, NoMemory)>
     requires { GoesFit ((name.now, undo) ∷ []) (goroutines_of goroutines.old) }
     ensures ok { OnOk result (GoBack ((name.now, undo) ∷ []) goroutines.old goroutines.new) }
     ensures err { OnErr result (goroutines_of goroutines.new ≡ goroutines_of goroutines.old) }
@@ -39,7 +40,7 @@ fn undo_at(
     let Some(number) = goroutines.number(name) else {
         unreachable!()
     };
-    goroutines.undo(number, undo)
+    goroutines.undo_kept(number, undo)
 }
 
 /// Takes changes of goroutines back, the last first. None of them needs a frame to come back.
@@ -50,7 +51,7 @@ fn undo_each(goroutines: &mut Goroutines, undos: Vec<(GoName, KeptUndo)>)
 {
     let mut undos = undos;
     while let Some((name, undo)) = undos.pop() {
-        undo_at(goroutines, &name, undo.get()).unwrap();
+        undo_at(goroutines, &name, undo).unwrap();
     }
 }
 
@@ -62,7 +63,7 @@ fn undo_all(goroutines: &mut Goroutines, undos: Few<(GoName, KeptUndo)>)
 {
     match undos {
         Few::Empty => {}
-        Few::One((name, undo)) => undo_at(goroutines, &name, undo.get()).unwrap(),
+        Few::One((name, undo)) => undo_at(goroutines, &name, undo).unwrap(),
         Few::Many(undos) => undo_each(goroutines, undos),
     }
 }
@@ -143,9 +144,9 @@ impl Objects {
         ensures succeeds { HasRoom go.now change self.old → IsOk result }
     {
         match change.form {
-            Form::Alone(kind, own) => match undo_at(&mut self.goroutines, go, own.get()) {
+            Form::Alone(kind, own) => match undo_at(&mut self.goroutines, go, own) {
                 Ok(()) => Ok(()),
-                Err((own, error)) => Err((Change::alone(kind, KeptUndo::new(own)), error)),
+                Err((own, error)) => Err((Change::alone(kind, own), error)),
             },
             Form::WaitsToSend(_, channel, spot) => {
                 self.take_wait_back(go, &channel, ChanUndo::ParkedSender, spot);
@@ -182,7 +183,7 @@ impl Objects {
         }
         let Passage { own, contact, undo } = Box::into_inner(passage);
         put_one_back(&mut self.channels, contact.operation.channel(), undo);
-        undo_at(&mut self.goroutines, go, own.get()).unwrap();
+        undo_at(&mut self.goroutines, go, own).unwrap();
         Ok(())
     }
 
@@ -208,12 +209,12 @@ impl Objects {
         let Exchange { passage, met } = Box::into_inner(exchange);
         let Passage { own, contact, undo } = passage;
         put_one_back(&mut self.channels, contact.operation.channel(), undo);
-        self.take_both_back(go, own.get(), met);
+        self.take_both_back(go, own, met);
         Ok(())
     }
 
     /// Takes changes of a goroutine and of the one that it met back. Neither needs a frame to come back.
-    fn take_both_back(&mut self, go: &GoName, own: GoUndo, met: (GoName, KeptUndo))
+    fn take_both_back(&mut self, go: &GoName, own: KeptUndo, met: (GoName, KeptUndo))
         requires fits { GoesFit ((go.now, own) ∷ met ∷ []) (goroutines_of self.old.goroutines) }
         requires frames { NeedNoFrame ((go.now, own) ∷ met ∷ []) }
         ensures goroutines { GoBack ((go.now, own) ∷ met ∷ []) self.old.goroutines self.new.goroutines }
@@ -235,7 +236,8 @@ impl Objects {
         ensures run { self.new.run ≡ self.old.run }
     {
         self.channels.put_back(channel, undo);
-        undo_at(&mut self.goroutines, go, GoUndo::Parked(spot)).unwrap();
+        let packed = Packed::Parked(spot);
+        undo_at(&mut self.goroutines, go, KeptUndo { packed }).unwrap();
     }
 
     /// Takes back what a step did that reached beyond its goroutine. Refused, nothing has changed.
@@ -257,13 +259,13 @@ impl Objects {
             return Err((Change { form }, error));
         }
         let Further { own, beyond } = Box::into_inner(further);
-        self.take_rest_back(go, own.get(), beyond);
+        self.take_rest_back(go, own, beyond);
         Ok(())
     }
 
     /// Takes back what a step did that reached beyond its goroutine, where no frame has to come back, and there is room for the
     /// rest.
-    fn take_rest_back(&mut self, go: &GoName, own: GoUndo, beyond: Beyond)
+    fn take_rest_back(&mut self, go: &GoName, own: KeptUndo, beyond: Beyond)
         requires fits { GoesFit ((go.now, own) ∷ members beyond.met) (goroutines_of self.old.goroutines) }
         requires frames { NeedNoFrame ((go.now, own) ∷ members beyond.met) }
         requires channels { ChansFit (members beyond.channels) (contents_of self.old.channels) }

@@ -67,6 +67,22 @@ impl Goroutines {
         goroutine.undo(undo)
     }
 
+    /// Takes a kept change of the goroutine with a number back, as `Goroutine::undo_kept` does. It takes memory only where there is no
+    /// room; refused, no content has changed, and the change is handed back.
+    pub fn undo_kept(&mut self, number: usize, undo: KeptUndo) -> Result<(), (KeptUndo, NoMemory)>
+        requires { At (λ g. Fits undo g.content) (seen_at self.old number) }
+        ensures ok { OnOk result (ChangesBy number (TakenBack undo) self.old self.new) }
+        ensures err { OnErr result (KeepsContents self.old self.new) }
+        ensures returned { IfErr result (λ e. e.0 ≡ undo) }
+        ensures succeeds { At (λ g. need undo ≤ g.room) (seen_at self.old number) → IsOk result }
+    {
+        let slot = self.map.get_index_mut(number).unwrap();
+        let Some(goroutine) = slot else {
+            unreachable!()
+        };
+        goroutine.undo_kept(undo)
+    }
+
     /// What arrives takes the goroutine with a number past its instruction, as `Goroutine::deliver` does. Refused, no content
     /// has changed.
     pub fn deliver(

@@ -6,7 +6,7 @@ use Rattle.gr_step.proofs.UnstepLemmas.{last_fits, last_needs_none, first_need_n
 use Rattle.gr_step.proofs.unstepping.undo_each.Goals as goal
 
 pub undo_at-requires : goal.undo_at-requires
-undo_at-requires c = rw c.get.ensures (
+undo_at-requires c = (
   last_fits c.loop-name.undos.items c.pop.new.self.items c.in-Some.name c.in-Some.undo c.in-Some.ensures.items
       (goroutines_of c.loop-name.goroutines) c.loop-name.invariant.fits,
   tt,
@@ -16,7 +16,7 @@ pub unwrap-requires : goal.unwrap-requires
 unwrap-requires c =
     let none = last_needs_none c.loop-name.undos.items c.pop.new.self.items c.in-Some.name c.in-Some.undo c.in-Some.ensures.items
     c.loop-name.invariant.frames in
-    c.undo_at.ensures.succeeds (rw c.get.ensures (omega (arith, none)))
+    c.undo_at.ensures.succeeds (omega (arith, none))
 
 pub loop-name-preserved : goal.loop-name-preserved
 loop-name-preserved c =
@@ -27,7 +27,7 @@ loop-name-preserved c =
     let new = goroutines_of c.undo_at.new.goroutines in
     let back : (q : List ℕ) → new q ≡ go_back ((c.in-Some.name, c.in-Some.undo) ∷ []) q (old q) =
     subst (λ r. OnOk r ((q : List ℕ) → new q ≡ go_back ((c.in-Some.name, c.in-Some.undo) ∷ []) q (old q))) c.unwrap.ensures
-    (rw c.get.ensures at c.undo_at.ensures.ok) in
+    c.undo_at.ensures.ok in
     record {
       back = λ q. first_back undos rest c.in-Some.name c.in-Some.undo are old new back q ∙ c.loop-name.invariant.back q;
       fits = first_fit undos rest c.in-Some.name c.in-Some.undo are old new back c.loop-name.invariant.fits;

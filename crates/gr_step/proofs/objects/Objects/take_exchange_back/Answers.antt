@@ -12,7 +12,7 @@ returns-clause-back c =
     ≡ listed (channel_in c.args.exchange.value.passage.contact.operation) c.args.exchange.value.passage.undo =
     ap (λ k. listed k c.into_inner-passage.result.passage.undo) c.channel.ensures
     ∙ ap (λ (e : Exchange). listed (channel_in e.passage.contact.operation) e.passage.undo) is in
-    let own : c.get.result ≡ c.args.exchange.value.passage.own = c.get.ensures ∙ ap (λ (e : Exchange). e.passage.own) is in
+    let own : c.into_inner-passage.result.passage.own ≡ c.args.exchange.value.passage.own = ap (λ (e : Exchange). e.passage.own) is in
     exchange_taken c.args.go.now c.args.kind c.args.exchange.value.passage.own c.args.exchange.value c.args.self.now c.make_room.new.channels
     c.take_both_back.new.self
     (rw (own, ap (λ (e : Exchange). e.met) is) at c.take_both_back.ensures.goroutines) c.make_room.ensures.contents

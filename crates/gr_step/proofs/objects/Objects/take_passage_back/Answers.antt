@@ -11,7 +11,7 @@ returns-clause-back c =
     ≡ listed (channel_in c.args.passage.value.contact.operation) c.args.passage.value.undo =
     ap (λ k. listed k c.into_inner-own.result.undo) c.channel.ensures
     ∙ ap (λ (p : Passage). listed (channel_in p.contact.operation) p.undo) c.into_inner-own.ensures in
-    let own : c.get.result ≡ c.args.passage.value.own = c.get.ensures ∙ ap (λ (p : Passage). p.own) c.into_inner-own.ensures in
+    let own : c.into_inner-own.result.own ≡ c.args.passage.value.own = ap (λ (p : Passage). p.own) c.into_inner-own.ensures in
     passage_taken c.args.go.now c.args.kind c.args.passage.value.own c.args.passage.value c.args.self.now c.make_room.new.channels
     (record (c.args.self.now) { goroutines = c.undo_at.new.goroutines; channels = c.put_one_back.new.channels })
     (rw (c.unwrap.ensures, own) at c.undo_at.ensures.ok) c.make_room.ensures.contents
