@@ -52,6 +52,7 @@ pub enum Halt {
 
 impl Goroutine {
     /// Goes on past its instruction with what arrives. Refused, nothing has changed.
+    #[inline(always)]
     pub fn deliver(
         &mut self,
         alloc: Global,
@@ -103,6 +104,7 @@ impl Goroutine {
     }
 
     /// Goes on past its communication by a step of its partner. Refused, nothing has changed.
+    #[inline(always)]
     fn be_met(
         &mut self,
         alloc: Global,

@@ -175,7 +175,7 @@ impl Frame {
     }
 
     /// Goes on with a value in a cell. Refused, nothing has changed.
-    #[inline]
+    #[inline(always)]
     pub(crate) fn keep(
         &mut self,
         alloc: Global,
@@ -194,6 +194,7 @@ impl Frame {
 
     /// Goes on with the value of its part, which is kept nowhere where the part is the whole statement. Refused, nothing has
     /// changed.
+    #[inline(always)]
     pub(crate) fn keep_part(
         &mut self,
         alloc: Global,
@@ -234,6 +235,7 @@ impl Frame {
     }
 
     /// Goes on with a value that was received, and with whether it was sent. Refused, nothing has changed.
+    #[inline(never)]
     pub(crate) fn keep_received(
         &mut self,
         alloc: Global,
@@ -277,6 +279,7 @@ impl Frame {
     }
 
     /// Goes on with the value of its part. Refused, nothing has changed.
+    #[inline(always)]
     pub(crate) fn resume(
         &mut self,
         alloc: Global,

@@ -113,6 +113,7 @@ fn unpack_frame(how: How, spot: Spot, cells: Former) -> GoUndo
 
 impl KeptUndo {
     /// What undoes a change, in fewer bytes.
+    #[inline(always)]
     pub fn new(undo: GoUndo) -> KeptUndo
         ensures { result ≡ undo }
     {

@@ -15,6 +15,7 @@ use std::alloc::Global;
 
 impl Frame {
     /// Goes on past its communication, with what that got. Refused, nothing has changed.
+    #[inline(always)]
     #[tactic(auto, using(crate::proofs::CodeLemmas::found_arm, crate::proofs::CodeLemmas::no_arm))]
     pub(crate) fn pass(
         &mut self,
@@ -44,6 +45,7 @@ impl Frame {
     }
 
     /// Goes on past a receive that is a part. Refused, nothing has changed.
+    #[inline(always)]
     fn pass_part(
         &mut self,
         alloc: Global,
@@ -64,6 +66,7 @@ impl Frame {
     }
 
     /// Goes on past a statement that sends or receives. Refused, nothing has changed.
+    #[inline(always)]
     fn pass_action(
         &mut self,
         alloc: Global,
@@ -89,6 +92,7 @@ impl Frame {
     }
 
     /// Goes on past a clause of a select. Refused, nothing has changed.
+    #[inline(never)]
     fn pass_arm(
         &mut self,
         alloc: Global,

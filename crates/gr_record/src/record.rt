@@ -167,6 +167,7 @@ impl Passage {
 
 impl Exchange {
     /// What a step will reach that meets this goroutine, before it replaces anything.
+    #[inline(always)]
     pub fn new(alloc: Global, contact: Contact, partner: GoName) -> Result<Box<Exchange>, NoMemory>
         ensures contact { IfOk result (λ exchange. exchange.value.passage.contact ≡ contact) }
         ensures partner { IfOk result (λ exchange. exchange.value.met.0 ≡ partner) }
@@ -252,6 +253,7 @@ impl Change {
     }
 
     /// What a step did of this kind that communicated over a channel, met nobody, and replaced this in the channel.
+    #[inline(always)]
     pub fn passed(kind: Kind, own: GoUndo, passage: Box<Passage>, undo: Option<ChanUndo>) -> Change
         ensures { result ≡ record { kind = kind; own = own; beyond = Some (reached_on passage.value.contact undo) } }
     {
@@ -264,6 +266,7 @@ impl Change {
     }
 
     /// What a step did of this kind that met a goroutine over a channel, and replaced this in both goroutines and the channel.
+    #[inline(always)]
     pub fn exchanged(
         kind: Kind,
         own: GoUndo,

@@ -93,6 +93,7 @@ fn gates_too(alloc: Global, channels: &[ChName]) -> Result<Option<Box<More>>, No
 
 /// What a step reached that met a goroutine which waited for this alone, by what it did with a channel and touched of it, before
 /// it changes anything.
+#[inline(always)]
 pub(crate) fn exchange(
     alloc: Global,
     contact: Contact,

@@ -36,6 +36,7 @@ use gr_tables::channels::Channels;
 use std::alloc::Global;
 
 /// The change of a step that met nobody, with its change of the channel, if there was one.
+#[inline(always)]
 fn told(kind: Kind, own: GoUndo, passage: Box<Passage>, undo: Option<ChanUndo>) -> Change
     ensures { (operation : attempts.Operation) (reads writes : List Object)
         → IsReached operation reads writes (reached_by_passage passage.value)
@@ -62,6 +63,7 @@ fn told_with(
 }
 
 /// The change of a step that met one goroutine, which waited for this alone, with its change of the channel.
+#[inline(always)]
 fn told_alone(
     kind: Kind,
     own: GoUndo,
@@ -133,6 +135,7 @@ pub(crate) struct Prepared {
 }
 
 /// A goroutine with this status is made ready for a communication on a channel, where it waits for more things.
+#[inline(never)]
 fn prepare_selecting(
     alloc: Global,
     contact: Contact,
@@ -156,6 +159,7 @@ fn prepare_selecting(
 }
 
 /// A goroutine with this status is made ready for a communication on a channel.
+#[inline(always)]
 fn prepare_partner(
     alloc: Global,
     contact: Contact,
@@ -185,6 +189,7 @@ pub(crate) struct Crossing {
 
 impl Objects {
     /// Makes all ready for a communication on a channel with a goroutine that waits there.
+    #[inline(always)]
     pub(crate) fn prepare(
         &self,
         operation: Operation,
@@ -208,6 +213,7 @@ impl Objects {
 
     /// The goroutine with a number goes past its communication and meets nobody, after a change of its channel in the same
     /// step, if there was one. Refused, that change is taken back.
+    #[inline(always)]
     pub(crate) fn pass(
         &mut self,
         turn: &Turn<'_>,
@@ -245,6 +251,7 @@ impl Objects {
     }
 
     /// What arrives takes two goroutines past their communication, one after the other. Refused, neither has changed.
+    #[inline(always)]
     fn both_arrive(
         &mut self,
         turn: &Turn<'_>,
@@ -280,6 +287,7 @@ impl Objects {
 
     /// The goroutine with a number goes past its communication, and so does its partner, which waits for more things, after a
     /// change of their channel. Refused, that change is taken back.
+    #[inline(never)]
     fn exchange_with_more(
         &mut self,
         turn: &Turn<'_>,
@@ -324,6 +332,7 @@ impl Objects {
 
     /// The goroutine with a number goes past its communication, and so does its partner, which waits for this alone, after a
     /// change of their channel. Refused, that change is taken back.
+    #[inline(always)]
     fn exchange_alone(
         &mut self,
         turn: &Turn<'_>,
@@ -362,6 +371,7 @@ impl Objects {
 
     /// The goroutine with a number goes past its communication, with all made ready for that, and its partner too, after a change
     /// of their channel. Refused, that change is taken back.
+    #[inline(always)]
     pub(crate) fn exchange(
         &mut self,
         turn: &Turn<'_>,

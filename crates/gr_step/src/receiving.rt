@@ -62,6 +62,7 @@ impl Objects {
 
     /// Takes the front item, into whose place the value of the first goroutine that waits to send moves up. The zero value
     /// serves only to compare the clauses with those of the rules. Refused, nothing has changed.
+    #[inline(never)]
     pub(crate) fn move_up(&mut self, meeting: &Meeting<'_>, zero: Value) -> Result<Change, NoMemory>
         requires may { MayMeet meeting.now self.old }
         requires sound { MayTry meeting.now self.old (to_receive meeting.now zero) }
@@ -141,6 +142,7 @@ impl Objects {
     }
 
     /// Receives the zero value of a closed channel that is empty. Refused, nothing has changed.
+    #[inline(never)]
     pub(crate) fn receive_zero(
         &mut self,
         meeting: &Meeting<'_>,

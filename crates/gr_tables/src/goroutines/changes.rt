@@ -85,6 +85,7 @@ impl Goroutines {
 
     /// What arrives takes the goroutine with a number past its instruction, as `Goroutine::deliver` does. Refused, no content
     /// has changed.
+    #[inline(always)]
     pub fn deliver(
         &mut self,
         number: usize,
