@@ -1,25 +1,30 @@
 #!/usr/bin/env python3
-"""Whether the example sessions show each command, kind of step, fault, end of a run and refusal.
+"""Whether the example sessions show each form of a command, kind of step, fault, end of a run and refusal.
 
     tests/shown.py [PROGRAM]      (PROGRAM is not used)
 
-The codes are those of words/codes.txt, the commands those of words/commands.txt, and the sessions those of
-crates/sessions/data. A line that begins with FAILED names what no session shows; the last line is `N passed, M failed`.
+The codes are those of words/codes.txt, the forms of commands those of words/commands.txt, and the sessions those of
+crates/sessions/data. A form is shown where a command of that form is answered `ok`: each can be. A line that begins with
+FAILED names what no session shows; the last line is `N passed, M failed`.
 """
 import glob
 import os
 import re
 import sys
 
+sys.dont_write_bytecode = True
+
+from second import replies  # noqa: E402
+
 TOP = os.path.dirname(os.path.dirname(os.path.abspath(__file__)))
 SESSIONS = os.path.join(TOP, "crates", "sessions", "data")
 # What comes only where memory is refused, a device fails, threads can't start, for a source of 1 MiB, or after millions of
-# commands or goroutines.
-NEVER = {"S7", "S8", "P4", "C11", "N6", "B6", "Q1", "Q2", "E1", "E2", "NameCount", "read", "write", "threads", "memory"}
+# goroutines.
+NEVER = {"S7", "S8", "P4", "C11", "N6", "B6", "Q2", "E1", "E2", "NameCount", "read", "write", "threads", "memory"}
 
 
 def read(path):
-    with open(path, encoding="utf-8", errors="replace") as file:
+    with open(path, encoding="latin-1", newline="\n") as file:
         return file.read()
 
 
@@ -34,33 +39,51 @@ def codes():
             yield section, line
 
 
-def commands():
-    """The first word of each command, and the second one of each form of `back`."""
+def forms():
+    """The forms of the commands: each stands between the marks of a line that begins with one."""
     text = read(os.path.join(TOP, "words", "commands.txt"))
-    return sorted(set(re.findall(r"^`(back (?:go|send|recv|var)|[a-z]+)\b", text, re.M)))
+    return [form for line in text.splitlines() if line.startswith("`") for form in re.findall(r"`([^`]+)`", line)]
 
 
-def is_shown(section, code, replies):
-    """Whether a reply of some session has the code."""
-    forms = {
+def answered():
+    """Each command of the sessions, its words apart by one space, with the last line of its reply."""
+    for path in glob.glob(f"{SESSIONS}/*.script"):
+        for line, reply in replies(read(path).split("\n"), read(path[:-len("script")] + "expect")):
+            yield " ".join(line.split()), reply[-1]
+
+
+def is_shown(section, code, text):
+    """Whether some reply in this text has the code."""
+    patterns = {
         "sources": rf"^rewind: {code}\b",
         "replies": rf"^no {code}\b",
         "kinds": rf"\bg0[.\d]*#\d+ {code}\b",
         "faults": rf"\bfault {code}\b",
         "ends": rf"^ok \d+ {code}\b",
     }
-    return section in forms and re.search(forms[section], replies, re.M)
+    return section in patterns and re.search(patterns[section], text, re.M)
+
+
+def pattern(word):
+    """What stands in a command for a word of its form: itself if it has small letters, else any word; some for two dots."""
+    return ".+" if word == ".." else word if word.islower() else r"\S+"
+
+
+def is_answered(form, done):
+    """Whether one of these commands has the form."""
+    whole = re.compile(" ".join(map(pattern, form.split())))
+    return any(whole.fullmatch(command) for command in done)
 
 
 def main():
-    replies = "\n".join(read(it) for it in glob.glob(f"{SESSIONS}/*.expect"))
-    asked = "\n".join(read(it) for it in glob.glob(f"{SESSIONS}/*.script"))
-    failed = [f"{section}: {code}" for section, code in codes() if code not in NEVER and not is_shown(section, code, replies)]
-    failed += [f"command: {word}" for word in commands() if not re.search(rf"^{word}\b", asked, re.M)]
+    text = "\n".join(read(it) for it in glob.glob(f"{SESSIONS}/*.expect"))
+    done = [command for command, reply in answered() if reply.split()[0] == "ok"]
+    wanted = [(section, code) for section, code in codes() if code not in NEVER]
+    failed = [f"{section}: {code}" for section, code in wanted if not is_shown(section, code, text)]
+    failed += [f"command: {form}" for form in forms() if not is_answered(form, done)]
     for it in failed:
         print(f"FAILED no session shows {it}")
-    total = sum(1 for _, code in codes() if code not in NEVER) + len(commands())
-    print(f"{total - len(failed)} passed, {len(failed)} failed")
+    print(f"{len(wanted) + len(forms()) - len(failed)} passed, {len(failed)} failed")
     return 1 if failed else 0
 
 
