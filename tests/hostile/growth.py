@@ -1,12 +1,13 @@
 #!/usr/bin/env python3
 """Each growth inside one call refused in turn: what stands after it, and the same call made again with memory.
 
-    tests/hostile/growth.py [PROGRAM] [--jobs N] [--rest R] [--commands C] [--workers W]
-        (bin/rewind, all processors, R = 1, all commands, W = 0)
+    tests/hostile/growth.py [PROGRAM] [--jobs N] [--rest R] [--short S] [--workers W]
+        (bin/rewind, all processors, R = 1, S = 0, W = 0)
 
-Every command of the example sessions, and of `kinds`, which has a step of every kind, is one case: its k-th growth is refused,
-for k = 1, 2, .. until it meets none, and with `--rest 1` once more with all growths after that in the same command. Either the
-program ends with `rewind: memory`, and the replies up to there went out. Or the command is refused:
+Every command of the example sessions, and of `kinds`, which has nearly every kind of step, is one case: its k-th growth is
+refused, for k = 1, 2, .. until it meets none, and with `--rest 1` once more with all growths after that in the same command.
+With `--short 1` the cases are the commands in SHORT. Each of those names a refusal, which must come of one of its growths at
+least. Either the program ends with `rewind: memory`, and the replies up to there went out. Or the command is refused:
 
 - `no N6`, `no Q2` and `no B6 0`: nothing is changed, and the same command gives what it gives with memory;
 - `no B6 K IDS` of `back`: IDS is an end of what goes, the log lacks just these, and the same `back` takes the others;
@@ -18,7 +19,7 @@ text, the log, the console, `redo` and a `run`; where a part is done, of a sessi
 Opening each example is a case too: it ends in `S8`, `P4`, `C11` or `rewind: memory`, or a refusal cannot be told. With workers
 it also ends in `rewind: threads`, where a thread is not started.
 
-With workers a desk answers the commands, and no step is granted. Sessions that grant steps are left out.
+With workers a desk answers the commands, and no step is granted. A session's commands from its first grant on are left out.
 """
 import re
 import sys
@@ -30,8 +31,27 @@ from program import (
 UNCHANGED = (b"no N6", b"no Q2", b"no B6 0")
 MEMORY = (3, b"rewind: memory\n")
 NO_THREAD = (3, b"rewind: threads\n")
-# The commands of a short run, those that change a session first.
-WORDS = (b"run", b"back", b"redo", b"order", b"undo", b"step", b"deps", b"causes", b"log", b"console", b"show", b"chan", b"text")
+# Lines of sessions, each with what it does, and with the refusal that must come of one growth in it at least.
+SHORT = {
+    "kinds": {
+        1: ("step: make", "no N6"), 4: ("step: length", "no N6"), 6: ("step: call", "no N6"), 7: ("step: return", "no N6"),
+        8: ("step: pure", "no N6"), 9: ("step: go", "no N6"), 15: ("step: default", "no N6"), 17: ("step: buffer", "no N6"),
+        18: ("step: send-wait", "no N6"), 19: ("step: take", "no N6"), 23: ("step: recv-wait", "no N6"),
+        24: ("step: hand", "no N6"), 28: ("step: select-wait", "no N6"), 29: ("step: meet", "no N6"),
+        32: ("step: closed", "no N6"), 45: ("step: pick", "no N6"), 53: ("step: fault CloseOfClosed", "no N6"),
+        57: ("deps", "no Q2"), 58: ("causes", "no Q2"), 59: ("show", "no Q2"), 63: ("text", "no Q2"),
+        64: ("console", "no Q2"), 65: ("log", "no Q2"), 67: ("undo", "no B6 0"), 75: ("back go", "no B6 0"),
+        77: ("back send", "no B6 0"), 79: ("back recv", "no B6 0"), 81: ("back var", "no B6 0"), 84: ("redo", "no B6 K"),
+        87: ("break", "no Q2"), 90: ("run", "ok K memory"),
+    },
+    "hand_over": {8: ("step: exit", "no N6")},
+    # Two receivers wait, and a select on three channels.
+    "close_undone_with_its_queues": {16: ("step: close", "no N6"), 20: ("undo", "no B6 0")},
+    "select_meets_select": {12: ("back STEP", "no B6 0")},
+    "order_of_independent_prints": {6: ("order", "no B6 0")},
+    # The value goes back into a buffer that a later send has filled as far as its memory goes. The print is back before that.
+    "receive_goes_back_and_fills_the_buffer": {11: ("chan", "no Q2"), 12: ("back STEP", "no B6 K")},
+}
 OPENING = (b"rewind: S8\n", b"rewind: P4\n", b"rewind: C11\n")
 
 
@@ -153,6 +173,9 @@ def of_command(part):
                 tally.note((case.kind(), "FAILED"), "%s, line %d, growth %d%s: %s: %s" % (
                     name, at + 1, growth, " and all after it" * rest, wrong, cut(case.command, 60)))
     tally.note((case.kind(), "commands"))
+    wanted = SHORT.get(name, {}).get(at + 1)
+    if wanted and not tally.ends[wanted]:
+        tally.note((case.kind(), "FAILED"), "%s, line %d: '%s' was never told '%s'" % (name, at + 1, *wanted))
     return tally
 
 
@@ -195,14 +218,6 @@ def session(name):
         return source.read(), script.read().split(b"\n")[:-1]
 
 
-def one_of_each(commands):
-    """The last command of each word, those that do most first."""
-    found = {}
-    for name, at in commands:
-        found[session(name)[1][at].split()[0]] = (name, at)
-    return [found[word] for word in WORDS if word in found]
-
-
 def tell_table(tally):
     """The growths refused in each call, by what became of them."""
     rows = defaultdict(Counter)
@@ -214,20 +229,22 @@ def tell_table(tally):
         print("| %s | %d | %d | %s |" % (kind, cases, sum(ends.values()), ", ".join("%s %d" % end for end in ends.most_common())))
 
 
-def names_of_sessions():
-    """The sessions; with workers those that grant no steps."""
-    names = sessions() + ["kinds"]
-    grants = [name for name in names if any(line.split()[0] in (b"free", b"turn") for line in session(name)[1])]
-    return [name for name in names if not (settings.workers and name in grants)]
+def count_of(name):
+    """How many commands of a session are cases: with workers those before its first grant."""
+    lines = session(name)[1]
+    grants = [at for at, line in enumerate(lines) if line.split()[0] in (b"free", b"turn")]
+    return grants[0] if settings.workers and grants else len(lines)
+
+
+def cases():
+    """The commands to refuse growths in, each by its session and its place there."""
+    counts = {name: count_of(name) for name in (SHORT if settings.short else [*sessions(), "kinds"])}
+    return [(name, at) for name, count in counts.items() for at in range(count) if not settings.short or at + 1 in SHORT[name]]
 
 
 def main():
-    names = names_of_sessions()
-    commands = [(name, at) for name in names for at in range(len(session(name)[1]))]
-    if settings.commands:
-        commands = one_of_each(commands)[:settings.commands]
-    tally = in_parts(settings.jobs, of_command, commands)
-    if not settings.commands:
+    tally = in_parts(settings.jobs, of_command, cases())
+    if not settings.short:
         tally.add(in_parts(settings.jobs, of_opening, examples()))
     tell_table(tally)
     for failure in tally.failures[:20]:
@@ -237,6 +254,6 @@ def main():
     return tally.close(refused)
 
 
-settings, library = given("Each growth refused.", rest=1, commands=0, workers=0), Preloaded()
+settings, library = given("Each growth refused.", rest=1, short=0, workers=0), Preloaded()
 if __name__ == "__main__":
     sys.exit(main())
