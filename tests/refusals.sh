@@ -1,23 +1,41 @@
 #!/usr/bin/env bash
-# Refuses each growth in the tests of channels that go on after a refusal (crates/test_parts/src/channels/refusals.rt):
-# run K refuses the K-th growth of each of these tests, and each is to pass. It proves nothing.
+# Refuses each growth in the tests of channels that go on after a refusal (crates/test_parts/src/channels/refusals.rt). The tests
+# are built once, without proofs. Of each test the K-th growth is refused, for K = 1, 2, .. until it meets none, and the test
+# must pass. The last line is `N passed, M failed`.
 #
-#     tests/refusals.sh [FIRST [LAST]]      (1 and the number of growths of the longest test)
+#     tests/refusals.sh
 set -eu
-crate=$(cd "$(dirname "${BASH_SOURCE[0]}")/../crates/test_parts" && pwd)
-first=${1:-1}
-last=${2:-36}
-log=$(mktemp)
-trap 'rm -f "$log"' EXIT
-cd "$crate"
-for growth in $(seq "$first" "$last"); do
-  # The other tests give up at a refusal, so the status tells nothing.
-  rt try --test --fail-alloc "$growth" >"$log" 2>&1 || true
-  passed=$(grep -c '^test channels::refusals::.* \.\.\. ok$' "$log" || true)
-  if [ "$passed" -ne 4 ]; then
-    cat "$log"
-    echo "growth $growth refused: $passed of 4 tests passed"
-    exit 1
-  fi
-  echo "growth $growth refused: all passed"
+top=$(cd "$(dirname "${BASH_SOURCE[0]}")/.." && pwd)
+work=$(mktemp -d)
+trap 'rm -rf "$work"' EXIT
+passed=0
+failed=0
+
+# Refuses each growth of one test, and counts.
+refuse_all() {
+  local growth=1 growths=1 said counted
+  while [ "$growth" -le "$growths" ]; do
+    if said=$(REFUSE_LINE=0 REFUSE_AT=$growth REFUSE_COUNT=1 LD_PRELOAD=$work/faults.so "$work/tests" "$1" 2>&1); then
+      passed=$((passed + 1))
+    else
+      failed=$((failed + 1))
+      printf 'FAILED %s, growth %s refused:\n%s\n' "$1" "$growth" "$said"
+    fi
+    # A test that is aborted does not tell how many there were.
+    counted=$(sed -n 's/.*growths \([0-9]*\)$/\1/p' <<<"$said")
+    growths=${counted:-$growths}
+    growth=$((growth + 1))
+  done
+  echo "$1: $growths growths"
+}
+
+"$top/tools/quick_module.py" --tests test_parts "$work/tests.bc"
+"$top/tools/quick_program.py" "$work/tests.bc" "$work/tests"
+cc -O2 -shared -fPIC -o "$work/faults.so" "$top/tests/hostile/faults.c" -ldl
+for name in $("$work/tests" --list | sed -n 's/^\(channels::refusals::.*\): test$/\1/p'); do
+  refuse_all "$name"
 done
+# Without a test there is nothing to pass.
+[ "$passed" -gt 0 ] || failed=$((failed + 1))
+echo "$passed passed, $failed failed"
+[ "$failed" -eq 0 ]

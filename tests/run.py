@@ -30,6 +30,7 @@ PARTS = {
     "growth": ["tests/hostile/growth.py", "PROGRAM", "--short", "1", "--jobs", "1"],
     "growth of desks": ["tests/hostile/growth.py", "PROGRAM", "--short", "1", "--jobs", "1", "--workers", "1"],
     "growth of workers": ["tests/hostile/beside.py", "PROGRAM"],
+    "growth of channels": ["tests/refusals.sh"],
     "test_parts": ["tests/crate.py", "test_parts"],
     "devices": ["tests/hostile/devices.py", "PROGRAM", "--sessions", "1", "--jobs", "1"],
     "documents": ["tests/documents.py", "PROGRAM"],
