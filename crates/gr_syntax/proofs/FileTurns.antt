@@ -18,6 +18,7 @@ use Rattle.gr_syntax.specs.Reading.{ReadError, Found, ◌>>=◌, Go, turned, loo
 use Rattle.gr_syntax.specs.FileReading.{groups_turn, function_at, functions_more, functions_from, functions_turn}
 use Rattle.gr_syntax.proofs.Groups.{Groups, groups_step}
 use Rattle.gr_syntax.proofs.Turns.{tokens_length}
+use Rattle.gr_syntax.proofs.WrittenTypes.{type_sound, type_shrinks}
 use Rattle.gr_syntax.proofs.Functions.{function_sound, function_shrunk, functions_step}
 
 -- what a look-up that is only tested says
@@ -81,6 +82,9 @@ module _ (h : ℕ) (fs : Found (List Function)) where
 pub functions_push : (fs : List code_func.Func) (f : code_func.Func) → functions_of (fs ++ (f ∷ [])) ≡ functions_of fs ++ (function_of f ∷ [])
 functions_push [] f = refl
 functions_push (g ∷ fs) f = ap (λ r. function_of g ∷ r) (functions_push fs f)
+
+pub type_shorter : (h : ℕ) (ts rest : List Token) (t : WrittenType) (k : ℕ) → type_at h (tokens_of ts) ≡ Ok (t, k, tokens_of rest) → length rest < length ts
+type_shorter h ts rest t k q = omega (arith, tokens_length ts, tokens_length rest, type_shrinks (type_sound h (tokens_of ts) (t, k, tokens_of rest) q).tree)
 
 pub function_shorter : (h : ℕ) (ts rest : List Token) (f : Function) (k : ℕ) → function_at h (tokens_of ts) ≡ Ok (f, k, tokens_of rest) → length rest < length ts
 function_shorter h ts rest f k q = omega (arith, tokens_length ts, tokens_length rest, function_shrunk (function_sound h (tokens_of ts) (f, k, tokens_of rest) q).spelled)

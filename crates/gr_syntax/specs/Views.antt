@@ -40,10 +40,6 @@ AtMost limit result = IfOk result (λ f. f.height ≤ limit)
 abbrev pub Shorter : {X : Type 0} → List Token → Result (code.Found X) code_fault.ReadError → Type 0
 Shorter tokens result = IfOk result (λ f. length f.rest.now < length tokens)
 
--- no more tokens are left after it than these
-abbrev pub NoLonger : {X : Type 0} → List Token → Result (code.Found X) code_fault.ReadError → Type 0
-NoLonger tokens result = IfOk result (λ f. length f.rest.now ≤ length tokens)
-
 -- the first token and the others
 abbrev pub Splits : Option (Bor Token × Bor (List Token)) → List Tok → Type 0
 Splits (Some p) ts = ts ≡ token_of p.0.now ∷ tokens_of p.1.now

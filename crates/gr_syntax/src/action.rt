@@ -4,7 +4,7 @@ ghost use Rattle.std.specs.Prelude.{◌≡◌, ◌<◌, ◌≤◌, IfOk, ◌^◌
 ghost use Rattle.gr_tree.specs.Exprs.{names_of, type_of};
 ghost use Rattle.gr_tree.specs.Statements.{Break, Continue, act_of};
 ghost use Rattle.gr_syntax.specs.SimpleReading.{var_typed, var_after, var_at, go_at, return_at, jump_at};
-ghost use Rattle.gr_syntax.specs.Views.{Finds, AtMost, NoLonger};
+ghost use Rattle.gr_syntax.specs.Views.{Finds, AtMost};
 
 use crate::expression::{arguments, expr, exprs};
 use crate::look::{
@@ -31,7 +31,6 @@ fn typed<'a, 't>(
     ensures gives { Finds act_of tokens.now result
         (λ ts. var_typed limit (names_of names.items) (type_of type_tree, height, ts)) }
     ensures fits { AtMost limit result }
-    ensures rest { NoLonger tokens.now result }
 {
     let Some(rest) = after(Mark::Assign, tokens) else {
         if height + 1 > limit {
@@ -69,7 +68,6 @@ fn declared<'a, 't>(
     requires { limit < 2 ^ 30 }
     ensures gives { Finds act_of tokens.now result (var_after limit (names_of names.items)) }
     ensures fits { AtMost limit result }
-    ensures rest { NoLonger tokens.now result }
 {
     let Some(rest) = after(Mark::Assign, tokens) else {
         let found = type_tree(alloc, limit, tokens)?;
@@ -77,7 +75,7 @@ fn declared<'a, 't>(
     };
     let values = exprs(alloc, limit, false, rest)?;
     if values.height + 1 > limit {
-        return Err(ReadError::TooHigh { left: rest.len() });
+        return abandon(values, ReadError::TooHigh { left: rest.len() });
     }
     Ok(Found {
         value: Action::VarValues(names, None, values.value),
@@ -96,7 +94,6 @@ pub(crate) fn var<'a, 't>(
     requires { limit < 2 ^ 30 }
     ensures gives { Finds act_of tokens.now result (var_at limit) }
     ensures fits { AtMost limit result }
-    ensures rest { NoLonger tokens.now result }
 {
     let names = names(alloc, tokens)?;
     declared(alloc, limit, names.value, names.rest)
@@ -112,7 +109,6 @@ pub(crate) fn go<'a, 't>(
     requires { limit < 2 ^ 30 }
     ensures gives { Finds act_of tokens.now result (go_at limit) }
     ensures fits { AtMost limit result }
-    ensures rest { NoLonger tokens.now result }
 {
     let (function, rest) = name(tokens)?;
     if is_the_make(function) {
@@ -121,10 +117,13 @@ pub(crate) fn go<'a, 't>(
     let (_, rest) = needed(Mark::LeftParen, rest)?;
     let arguments = arguments(alloc, limit, rest)?;
     if arguments.height + 2 > limit {
-        return Err(ReadError::TooHigh { left: rest.len() });
+        return abandon(arguments, ReadError::TooHigh { left: rest.len() });
     }
+    let Ok(function) = copy(alloc, function) else {
+        return abandon(arguments, ReadError::Memory);
+    };
     Ok(Found {
-        value: Action::Go(copy(alloc, function)?, arguments.value),
+        value: Action::Go(function, arguments.value),
         height: arguments.height + 2,
         rest: arguments.rest,
     })
@@ -141,7 +140,6 @@ pub(crate) fn returned<'a, 't>(
     requires positive { 0 < limit }
     ensures gives { Finds act_of tokens.now result (return_at limit) }
     ensures fits { AtMost limit result }
-    ensures rest { NoLonger tokens.now result }
 {
     if ends(tokens) {
         return Ok(Found {
@@ -169,7 +167,6 @@ pub(crate) fn break_from<'a, 't>(
 ) -> Result<Found<'a, 't, Action>, ReadError>
     ensures gives { Finds act_of tokens.now result (jump_at Break) }
     ensures high { IfOk result (λ f. f.height ≡ 1) }
-    ensures rest { NoLonger tokens.now result }
 {
     let Some((label, rest)) = first_name(tokens) else {
         return Ok(Found {
@@ -193,7 +190,6 @@ pub(crate) fn continue_from<'a, 't>(
 ) -> Result<Found<'a, 't, Action>, ReadError>
     ensures gives { Finds act_of tokens.now result (jump_at Continue) }
     ensures high { IfOk result (λ f. f.height ≡ 1) }
-    ensures rest { NoLonger tokens.now result }
 {
     let Some((label, rest)) = first_name(tokens) else {
         return Ok(Found {

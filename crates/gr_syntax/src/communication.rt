@@ -40,7 +40,10 @@ fn receive<'a, 't>(
     }
     if let Some(rest) = after(Mark::LeftParen, tokens) {
         let inner = receive(alloc, limit - 1, rest)?;
-        let (_, rest) = needed(Mark::RightParen, inner.rest)?;
+        let (_, rest) = match needed(Mark::RightParen, inner.rest) {
+            Ok(past) => past,
+            Err(fault) => return abandon(inner, fault),
+        };
         return Ok(Found {
             value: Expr::Paren(boxed(alloc, inner.value)?),
             height: inner.height + 1,

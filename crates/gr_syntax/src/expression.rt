@@ -1,16 +1,16 @@
 //! Reading expressions, by precedence.
 
-ghost use Rattle.std.specs.Prelude.{◌≡◌, ◌+◌, ◌<◌, ◌≤◌, IfOk, ◌^◌, length};
+ghost use Rattle.std.specs.Prelude.{◌≡◌, ◌+◌, ◌<◌, ◌≤◌, IfOk, ◌^◌};
 ghost use Rattle.gr_scan.specs.Tokens.{tokens_of};
 ghost use Rattle.gr_tree.specs.Exprs.{tree_of, trees_of, type_of};
 ghost use Rattle.gr_syntax.specs.Reading.{size_at, ends_at, exprs_at, arguments_at, call_at, close_at, make_at, named_at};
 ghost use Rattle.gr_syntax.specs.Reading.{unit_at, paren_at, word_at, unary_at, type_at, expr_at};
-ghost use Rattle.gr_syntax.specs.Views.{Gives, Finds, found_of, AtMost, Shorter, NoLonger};
+ghost use Rattle.gr_syntax.specs.Views.{Gives, Finds, found_of, AtMost};
 
 use crate::joining::{join, precedence};
 use crate::look::{
     Found, ReadError, Tokens, abandon, after, binary, boxed, boxed_copy, copy, fitted, is_the_make,
-    needed, next, unary,
+    needed, next, push, unary,
 };
 use crate::types::type_tree;
 use gr_scan::token::{Kind, Mark};
@@ -25,7 +25,6 @@ const TIGHT: u32 = 6;
 fn unit<'a, 't>(tokens: Tokens<'a, 't>) -> Result<Found<'a, 't, Expr>, ReadError>
     ensures gives { Finds tree_of tokens.now result unit_at }
     ensures fits { IfOk result (λ f. f.height ≡ 1) }
-    ensures shorter { Shorter tokens.now result }
 {
     let (_, rest) = needed(Mark::LeftBrace, tokens)?;
     let (_, rest) = needed(Mark::RightBrace, rest)?;
@@ -42,7 +41,6 @@ fn unit<'a, 't>(tokens: Tokens<'a, 't>) -> Result<Found<'a, 't, Expr>, ReadError
 #[tactic(auto, unfolding(crate::specs::Reading::close_at))]
 fn close<'a, 't>(tokens: Tokens<'a, 't>) -> Result<Tokens<'a, 't>, ReadError>
     ensures gives { Gives (λ rest. tokens_of rest.now) result (close_at (tokens_of tokens.now)) }
-    ensures shorter { IfOk result (λ rest. length rest.now < length tokens.now) }
 {
     if let Some(rest) = after(Mark::Comma, tokens) {
         let (_, rest) = needed(Mark::RightParen, rest)?;
@@ -65,7 +63,6 @@ fn sized<'a, 't>(
     requires fits { made.height ≤ below }
     ensures gives { Finds tree_of tokens.now result (size_at (expr_at below) (found_of type_of made.entry)) }
     ensures fits { AtMost (below + 1) result }
-    ensures shorter { Shorter tokens.now result }
 {
     let size = match expr(alloc, 1, below, tokens) {
         Ok(size) => size,
@@ -100,7 +97,6 @@ fn make<'a, 't>(
     requires { below < 2 ^ 31 }
     ensures gives { Finds tree_of tokens.now result (make_at (type_at below) (expr_at below)) }
     ensures fits { AtMost (below + 1) result }
-    ensures shorter { Shorter tokens.now result }
 {
     let made = type_tree(alloc, below, tokens)?;
     let Some(rest) = after(Mark::Comma, made.rest) else {
@@ -136,7 +132,6 @@ fn named<'a, 't>(
     requires { below < 2 ^ 31 }
     ensures gives { Finds tree_of tokens.now result (named_at (type_at below) (expr_at below) name.now) }
     ensures fits { AtMost (below + 1) result }
-    ensures shorter { NoLonger tokens.now result }
 {
     let Some(rest) = after(Mark::LeftParen, tokens) else {
         return Ok(Found {
@@ -149,8 +144,11 @@ fn named<'a, 't>(
         return make(alloc, below, rest);
     }
     let passed = arguments(alloc, below, rest)?;
+    let Ok(function) = boxed_copy(alloc, name) else {
+        return abandon(passed, ReadError::Memory);
+    };
     Ok(Found {
-        value: Expr::Call(boxed_copy(alloc, name)?, passed.value),
+        value: Expr::Call(function, passed.value),
         height: passed.height + 1,
         rest: passed.rest,
     })
@@ -167,7 +165,6 @@ fn word<'a, 't>(
     requires { below < 2 ^ 31 }
     ensures gives { Finds tree_of tokens.now result (word_at (type_at below) (expr_at below)) }
     ensures fits { AtMost (below + 1) result }
-    ensures shorter { Shorter tokens.now result }
 {
     let left = tokens.len();
     let Some((token, rest)) = next(tokens) else {
@@ -197,10 +194,12 @@ fn paren<'a, 't>(
     requires { below < 2 ^ 31 }
     ensures gives { Finds tree_of tokens.now result (paren_at (expr_at below)) }
     ensures fits { AtMost (below + 1) result }
-    ensures shorter { Shorter tokens.now result }
 {
     let inner = expr(alloc, 1, below, tokens)?;
-    let (_, rest) = needed(Mark::RightParen, inner.rest)?;
+    let (_, rest) = match needed(Mark::RightParen, inner.rest) {
+        Ok(past) => past,
+        Err(fault) => return abandon(inner, fault),
+    };
     Ok(Found {
         value: Expr::Paren(boxed(alloc, inner.value)?),
         height: inner.height + 1,
@@ -219,7 +218,6 @@ pub(crate) fn operand<'a, 't>(
     requires { below < 2 ^ 31 }
     ensures gives { Finds tree_of tokens.now result (unary_at (type_at below) (expr_at below)) }
     ensures fits { AtMost (below + 1) result }
-    ensures shorter { Shorter tokens.now result }
 {
     if let Some(rest) = after(Mark::LeftParen, tokens) {
         return paren(alloc, below, rest);
@@ -251,7 +249,6 @@ pub(crate) fn expr<'a, 't>(
     requires level { 0 < level }
     ensures gives { Finds tree_of tokens.now result (expr_at limit level) }
     ensures fits { AtMost limit result }
-    ensures shorter { Shorter tokens.now result }
 {
     if limit == 0 {
         return Err(ReadError::TooHigh { left: tokens.len() });
@@ -265,7 +262,10 @@ pub(crate) fn expr<'a, 't>(
         if left.height > below {
             return abandon(left, ReadError::TooHigh { left: tokens.len() });
         }
-        let right = expr(alloc, precedence(op) + 1, below, rest)?;
+        let right = match expr(alloc, precedence(op) + 1, below, rest) {
+            Ok(right) => right,
+            Err(fault) => return abandon(left, fault),
+        };
         let joined = join(alloc, op, left, right)?;
         left = joined;
     }
@@ -296,7 +296,6 @@ pub(crate) fn exprs<'a, 't>(
     requires { limit < 2 ^ 31 }
     ensures gives { Finds (λ v. trees_of v.items) tokens.now result (exprs_at (expr_at limit) trailing) }
     ensures fits { AtMost limit result }
-    ensures shorter { Shorter tokens.now result }
 {
     let mut found = Found {
         value: Vec::new(alloc),
@@ -304,8 +303,11 @@ pub(crate) fn exprs<'a, 't>(
         rest: tokens,
     };
     loop {
-        let next = expr(alloc, 1, limit, found.rest)?;
-        found.value.push(next.value)?;
+        let next = match expr(alloc, 1, limit, found.rest) {
+            Ok(next) => next,
+            Err(fault) => return abandon(found, fault),
+        };
+        push(&mut found.value, next.value)?;
         found.height = found.height.max(next.height);
         found.rest = next.rest;
         let Some(more) = after(Mark::Comma, found.rest) else {
@@ -337,7 +339,6 @@ pub(crate) fn arguments<'a, 't>(
     requires { limit < 2 ^ 31 }
     ensures gives { Finds (λ v. trees_of v.items) tokens.now result (arguments_at (expr_at limit)) }
     ensures fits { AtMost limit result }
-    ensures shorter { Shorter tokens.now result }
 {
     if let Some(rest) = after(Mark::RightParen, tokens) {
         return Ok(Found {
@@ -347,7 +348,10 @@ pub(crate) fn arguments<'a, 't>(
         });
     }
     let listed = exprs(alloc, limit, true, tokens)?;
-    let (_, rest) = needed(Mark::RightParen, listed.rest)?;
+    let (_, rest) = match needed(Mark::RightParen, listed.rest) {
+        Ok(past) => past,
+        Err(fault) => return abandon(listed, fault),
+    };
     Ok(Found {
         value: listed.value,
         height: listed.height,

@@ -7,9 +7,9 @@ ghost use Rattle.gr_tree.specs.Statements.{optional};
 ghost use Rattle.gr_tree.specs.Files.{groups_of, function_of, functions_of, file_of};
 ghost use Rattle.gr_syntax.specs.FileReading.{groups_at, parameters_at, result_at, function_at, functions_more, functions_at};
 ghost use Rattle.gr_syntax.specs.FileReading.{file_at};
-ghost use Rattle.gr_syntax.specs.Views.{Gives, Finds, Shorter, NoLonger};
+ghost use Rattle.gr_syntax.specs.Views.{Gives, Finds};
 
-use crate::look::{Found, ReadError, Tokens, after, copy, name, names, needed};
+use crate::look::{Found, ReadError, Tokens, abandon, after, copy, name, names, needed, push};
 use crate::statement::block;
 use crate::types::type_tree;
 use gr_scan::token::Mark;
@@ -29,8 +29,7 @@ fn groups<'a, 't>(
     tokens: Tokens<'a, 't>,
 ) -> Result<Found<'a, 't, Vec<Group>>, ReadError>
     requires { limit < 2 ^ 29 }
-    ensures gives { Finds (λ v. groups_of v.items) tokens.now result (groups_at limit) }
-    ensures shorter { Shorter tokens.now result }
+    ensures { Finds (λ v. groups_of v.items) tokens.now result (groups_at limit) }
 {
     let mut found = Found {
         value: Vec::new(alloc),
@@ -63,8 +62,7 @@ fn parameters<'a, 't>(
     tokens: Tokens<'a, 't>,
 ) -> Result<Found<'a, 't, Vec<Group>>, ReadError>
     requires { limit < 2 ^ 29 }
-    ensures gives { Finds (λ v. groups_of v.items) tokens.now result (parameters_at limit) }
-    ensures shorter { Shorter tokens.now result }
+    ensures { Finds (λ v. groups_of v.items) tokens.now result (parameters_at limit) }
 {
     let (_, rest) = needed(Mark::LeftParen, tokens)?;
     if let Some(rest) = after(Mark::RightParen, rest) {
@@ -91,8 +89,7 @@ fn result<'a, 't>(
     tokens: Tokens<'a, 't>,
 ) -> Result<Found<'a, 't, Option<TypeTree>>, ReadError>
     requires { limit < 2 ^ 29 }
-    ensures gives { Finds (optional type_of) tokens.now result (result_at limit) }
-    ensures shorter { NoLonger tokens.now result }
+    ensures { Finds (optional type_of) tokens.now result (result_at limit) }
 {
     if after(Mark::LeftBrace, tokens).is_some() {
         return Ok(Found {
@@ -122,12 +119,21 @@ fn function<'a, 't>(
     let (place, rest) = needed(Mark::Func, tokens)?;
     let (func_name, rest) = name(rest)?;
     let parameters = parameters(alloc, limit, rest)?;
-    let result = result(alloc, limit, parameters.rest)?;
-    let block = block(alloc, limit, result.rest)?;
+    let result = match result(alloc, limit, parameters.rest) {
+        Ok(result) => result,
+        Err(fault) => return abandon(parameters, fault),
+    };
+    let block = match block(alloc, limit, result.rest) {
+        Ok(block) => block,
+        Err(fault) => return abandon((parameters, result), fault),
+    };
+    let Ok(name) = copy(alloc, func_name) else {
+        return abandon((parameters, result, block), ReadError::Memory);
+    };
     let (body, end) = block.value;
     let value = Func {
         place,
-        name: copy(alloc, func_name)?,
+        name,
         parameters: parameters.value,
         result: result.value,
         body,
@@ -157,8 +163,11 @@ fn functions<'a, 't>(
     };
     while !found.rest.is_empty() {
         let next = function(alloc, limit, found.rest)?;
-        let (_, more) = needed(Mark::Semicolon, next.rest)?;
-        found.value.push(next.value)?;
+        let (_, more) = match needed(Mark::Semicolon, next.rest) {
+            Ok(past) => past,
+            Err(fault) => return abandon((found, next), fault),
+        };
+        push(&mut found.value, next.value)?;
         found.rest = more;
     }
     Ok(found)
@@ -173,9 +182,12 @@ pub(crate) fn file(alloc: Global, tokens: Tokens<'_, '_>) -> Result<File, ReadEr
     let (package, rest) = name(rest)?;
     let (_, rest) = needed(Mark::Semicolon, rest)?;
     let functions = functions(alloc, LIMIT, rest)?;
+    let Ok(package) = copy(alloc, package) else {
+        return abandon(functions, ReadError::Memory);
+    };
     Ok(File {
         place,
-        package: copy(alloc, package)?,
+        package,
         funcs: functions.value,
     })
 }

@@ -1,12 +1,12 @@
 //! Reading simple statements.
 
-ghost use Rattle.std.specs.Prelude.{[], ◌<◌, ◌≤◌, IfSome, ◌^◌, length};
+ghost use Rattle.std.specs.Prelude.{[], ◌<◌, ◌≤◌, ◌^◌};
 ghost use Rattle.gr_scan.specs.Tokens.{tokens_of};
 ghost use Rattle.gr_tree.specs.Exprs.{Name, tree_of, names_of};
 ghost use Rattle.gr_tree.specs.Statements.{simple_of};
 ghost use Rattle.gr_syntax.specs.SimpleReading.{up_to, define_at, values_at, names_from, update_at, alone_at, sent_at, joined_at};
 ghost use Rattle.gr_syntax.specs.SimpleReading.{simple_named, simple_after};
-ghost use Rattle.gr_syntax.specs.Views.{Finds, Continues, AtMost, Shorter, NoLonger, Sees};
+ghost use Rattle.gr_syntax.specs.Views.{Finds, Continues, AtMost, Sees};
 
 use crate::expression::{expr, exprs};
 use crate::look::{Found, ReadError, Tokens, abandon, after, fitted, names, needed};
@@ -19,7 +19,6 @@ use std::alloc::Global;
 #[tactic(auto, unfolding(crate::specs::SimpleReading::define_at))]
 fn define<'a, 't>(may_define: bool, tokens: Tokens<'a, 't>) -> Option<Tokens<'a, 't>>
     ensures value { Sees result (define_at may_define (tokens_of tokens.now)) }
-    ensures shorter { IfSome result (λ rest. length rest.now < length tokens.now) }
 {
     if may_define {
         after(Mark::Define, tokens)
@@ -40,12 +39,11 @@ fn values<'a, 't>(
     requires { limit < 2 ^ 30 }
     ensures gives { Finds simple_of tokens.now result (values_at limit may_define (names_of names.items)) }
     ensures fits { AtMost limit result }
-    ensures shorter { Shorter tokens.now result }
 {
     if let Some(rest) = define(may_define, tokens) {
         let values = exprs(alloc, limit, false, rest)?;
         if values.height + 1 > limit {
-            return Err(ReadError::TooHigh { left: rest.len() });
+            return abandon(values, ReadError::TooHigh { left: rest.len() });
         }
         return Ok(Found {
             value: Simple::Define(fitted(names), values.value),
@@ -56,7 +54,7 @@ fn values<'a, 't>(
     let (_, rest) = needed(Mark::Assign, tokens)?;
     let values = exprs(alloc, limit, false, rest)?;
     if values.height + 1 > limit {
-        return Err(ReadError::TooHigh { left: rest.len() });
+        return abandon(values, ReadError::TooHigh { left: rest.len() });
     }
     Ok(Found {
         value: Simple::Assign(fitted(names), values.value),
@@ -73,7 +71,6 @@ fn names_from<'a, 't>(
     tokens: Tokens<'a, 't>,
 ) -> Result<Found<'a, 't, Vec<Vec<u8>>>, ReadError>
     ensures gives { Finds (λ v. names_of v.items) tokens.now result (names_from first.items) }
-    ensures shorter { Shorter tokens.now result }
 {
     let others = names(alloc, tokens)?;
     let mut value = others.value;
@@ -97,7 +94,6 @@ fn update<'a, 't>(
     requires { limit < 2 ^ 30 }
     ensures gives { Finds simple_of tokens.now result (update_at limit name.items op) }
     ensures fits { AtMost limit result }
-    ensures shorter { Shorter tokens.now result }
 {
     let value = expr(alloc, 1, limit, tokens)?;
     if value.height + 1 > limit {
@@ -116,7 +112,6 @@ fn alone<'a, 't>(limit: u32, value: Found<'a, 't, Expr>) -> Result<Found<'a, 't,
     requires fits { value.height ≤ limit }
     ensures gives { Continues simple_of value.entry result (alone_at limit) }
     ensures fits { AtMost limit result }
-    ensures rest { NoLonger value.entry.rest.now result }
 {
     if value.height + 1 > limit {
         let left = value.rest.len();
@@ -141,7 +136,6 @@ fn send<'a, 't>(
     requires fits { height ≤ limit }
     ensures gives { Finds simple_of tokens.now result (sent_at limit (tree_of channel, height, [])) }
     ensures fits { AtMost limit result }
-    ensures rest { NoLonger tokens.now result }
 {
     let value = match expr(alloc, 1, limit, tokens) {
         Ok(value) => value,
@@ -166,7 +160,6 @@ fn leaf<'a, 't>(
 ) -> Result<Found<'a, 't, Simple>, ReadError>
     ensures gives { Finds simple_of tokens.now result (λ ts. up_to limit (simple_of value, 1, ts)) }
     ensures fits { AtMost limit result }
-    ensures rest { NoLonger tokens.now result }
 {
     if limit == 0 {
         return abandon(value, ReadError::TooHigh { left: tokens.len() });
@@ -190,10 +183,8 @@ fn joined<'a, 't>(
     tokens: Tokens<'a, 't>,
 ) -> Result<Found<'a, 't, Simple>, ReadError>
     requires limit { limit < 2 ^ 30 }
-    requires rest { length tokens.now < length from.now }
     ensures gives { Finds simple_of tokens.now result (joined_at limit may_define name.items joint (tokens_of from.now)) }
     ensures fits { AtMost limit result }
-    ensures rest { NoLonger from.now result }
 {
     match joint {
         Joint::Comma => {
@@ -222,7 +213,6 @@ fn named<'a, 't>(
     ensures gives { Finds simple_of tokens.now result
         (λ ts. simple_named limit may_define (Name name.items, height, ts) name.items) }
     ensures fits { AtMost limit result }
-    ensures rest { NoLonger tokens.now result }
 {
     match first_joint(tokens) {
         Some((joint, rest)) => joined(alloc, limit, may_define, name, joint, tokens, rest),
@@ -249,7 +239,6 @@ pub(crate) fn simple<'a, 't>(
     requires fits { first.height ≤ limit }
     ensures gives { Continues simple_of first.entry result (simple_after limit may_define) }
     ensures fits { AtMost limit result }
-    ensures rest { NoLonger first.entry.rest.now result }
 {
     let Found {
         value,

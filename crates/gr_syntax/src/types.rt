@@ -3,9 +3,9 @@
 ghost use Rattle.std.specs.Prelude.{◌≡◌, ◌+◌, ◌<◌, IfOk, ◌^◌};
 ghost use Rattle.gr_tree.specs.Exprs.{type_of};
 ghost use Rattle.gr_syntax.specs.Reading.{channel_at, both_at, paren_type_at, plain_type_at, type_at};
-ghost use Rattle.gr_syntax.specs.Views.{Finds, AtMost, Shorter};
+ghost use Rattle.gr_syntax.specs.Views.{Finds, AtMost};
 
-use crate::look::{Found, ReadError, Tokens, after, boxed, copy, name, needed};
+use crate::look::{Found, ReadError, Tokens, abandon, after, boxed, copy, name, needed};
 use gr_scan::token::Mark;
 use gr_tree::{Direction, TypeTree};
 use std::alloc::Global;
@@ -18,7 +18,6 @@ fn plain_type<'a, 't>(
 ) -> Result<Found<'a, 't, TypeTree>, ReadError>
     ensures gives { Finds type_of tokens.now result plain_type_at }
     ensures fits { IfOk result (λ f. f.height ≡ 1) }
-    ensures shorter { Shorter tokens.now result }
 {
     if let Some(rest) = after(Mark::Struct, tokens) {
         let (_, rest) = needed(Mark::LeftBrace, rest)?;
@@ -49,7 +48,6 @@ fn channel<'a, 't>(
     requires { below < 2 ^ 31 }
     ensures gives { Finds type_of tokens.now result (channel_at (type_at below) direction) }
     ensures fits { AtMost (below + 1) result }
-    ensures shorter { Shorter tokens.now result }
 {
     let element = type_tree(alloc, below, tokens)?;
     Ok(Found {
@@ -70,10 +68,12 @@ fn paren_type<'a, 't>(
     requires { below < 2 ^ 31 }
     ensures gives { Finds type_of tokens.now result (paren_type_at (type_at below)) }
     ensures fits { AtMost (below + 1) result }
-    ensures shorter { Shorter tokens.now result }
 {
     let inner = type_tree(alloc, below, tokens)?;
-    let (_, rest) = needed(Mark::RightParen, inner.rest)?;
+    let (_, rest) = match needed(Mark::RightParen, inner.rest) {
+        Ok(past) => past,
+        Err(fault) => return abandon(inner, fault),
+    };
     Ok(Found {
         value: TypeTree::Paren(boxed(alloc, inner.value)?),
         height: inner.height + 1,
@@ -92,7 +92,6 @@ pub(crate) fn type_tree<'a, 't>(
     requires { limit < 2 ^ 31 }
     ensures gives { Finds type_of tokens.now result (type_at limit) }
     ensures fits { AtMost limit result }
-    ensures shorter { Shorter tokens.now result }
 {
     if limit == 0 {
         return Err(ReadError::TooHigh { left: tokens.len() });

@@ -41,12 +41,11 @@ invariant-expr-loop-op l = record {
 abbrev pub decreases-expr-loop-op : goal.decreases-expr-loop-op
 decreases-expr-loop-op l = length l.left.rest.now
 
-abbrev pub invariant-exprs-loop-found : goal.invariant-exprs-loop-found
-invariant-exprs-loop-found l = record {
+abbrev pub invariant-exprs-loop-next : goal.invariant-exprs-loop-next
+invariant-exprs-loop-next l = record {
   gives : loop (exprs_turn (expr_at l.limit) l.trailing) (trees_of l.found.value.items, l.found.height, tokens_of l.found.rest.now) ≡ exprs_at (expr_at l.fn.limit) l.fn.trailing (tokens_of l.fn.tokens);
   fits : l.found.height ≤ l.limit;
-  shorter : length l.found.rest.now ≤ length l.fn.tokens;
 }
 
-abbrev pub decreases-exprs-loop-found : goal.decreases-exprs-loop-found
-decreases-exprs-loop-found l = length l.found.rest.now
+abbrev pub decreases-exprs-loop-next : goal.decreases-exprs-loop-next
+decreases-exprs-loop-next l = length l.found.rest.now

@@ -7,24 +7,24 @@ use Rattle.gr_syntax.specs.Reading.{Found}
 use Rattle.gr_syntax.specs.Views.{found_of}
 use Rattle.gr_syntax.proofs.Groups.{Groups}
 use Rattle.gr_syntax.proofs.Turns.{fails_on}
-use Rattle.gr_syntax.proofs.FileTurns.{is_there, is_none, groups_unnamed, groups_untyped, groups_last, groups_trail, groups_go, groups_push}
+use Rattle.gr_syntax.proofs.FileTurns.{is_there, is_none, groups_unnamed, groups_untyped, groups_last, groups_trail, groups_go, groups_push, type_shorter}
 use Rattle.gr_syntax.proofs.function.groups.Goals as goal
 
-pub returns-in_err-names-clause-gives : goal.returns-in_err-names-clause-gives
-returns-in_err-names-clause-gives c =
+pub returns-in_err-names : goal.returns-in_err-names
+returns-in_err-names c =
     let gs : Found Groups = (groups_of c.loop-found.found.value.items, 0, tokens_of c.loop-found.found.rest.now) in
     let p = err_from_is_err_and c.from_residual.result c.from_residual.ensures.1 in
     rw (p.1, p.2) (fails_on c.in_err-names.field-0.0 _ _ (λ d e. sym c.loop-found.invariant.gives ∙ groups_unnamed c.args.limit gs d e) c.in_err-names.ensures.gives)
 
-pub returns-in_err-type_tree-clause-gives : goal.returns-in_err-type_tree-clause-gives
-returns-in_err-type_tree-clause-gives c =
+pub returns-in_err-type_tree : goal.returns-in_err-type_tree
+returns-in_err-type_tree c =
     let gs : Found Groups = (groups_of c.loop-found.found.value.items, 0, tokens_of c.loop-found.found.rest.now) in
     let xs = found_of (λ v. names_of v.items) c.in_ok-names.names in
     let p = err_from_is_err_and c.from_residual-in_err-type_tree.result c.from_residual-in_err-type_tree.ensures.1 in
     rw (p.1, p.2) (fails_on c.in_err-type_tree.field-0.0 _ _ (λ d e. sym c.loop-found.invariant.gives ∙ groups_untyped c.args.limit gs xs d c.in_ok-names.ensures.gives e) c.in_err-type_tree.ensures.gives)
 
-pub returns-in_default-clause-gives : goal.returns-in_default-clause-gives
-returns-in_default-clause-gives c =
+pub returns-in_default : goal.returns-in_default
+returns-in_default c =
     let gs : Found Groups = (groups_of c.loop-found.found.value.items, 0, tokens_of c.loop-found.found.rest.now) in
     let xs = found_of (λ v. names_of v.items) c.in_ok-names.names in
     let t = found_of type_of c.in_ok-type_tree.type_tree in
@@ -35,8 +35,8 @@ returns-in_default-clause-gives c =
     let z = c.loop-found.invariant.low in
     cc
 
-pub returns-then-is_some-clause-gives : goal.returns-then-is_some-clause-gives
-returns-then-is_some-clause-gives c =
+pub returns-then-is_some : goal.returns-then-is_some
+returns-then-is_some c =
     let gs : Found Groups = (groups_of c.loop-found.found.value.items, 0, tokens_of c.loop-found.found.rest.now) in
     let xs = found_of (λ v. names_of v.items) c.in_ok-names.names in
     let t = found_of type_of c.in_ok-type_tree.type_tree in
@@ -58,4 +58,13 @@ loop-found-preserved c =
     let p = groups_push c.loop-found.found.value.items (record { names = c.in_ok-names.names.value; type_tree = c.in_ok-type_tree.type_tree.value }) in
     let q = c.loop-found.invariant.gives in
     let r = c.in_ok-push.ensures.items in
-    record { gives = cc; low = c.loop-found.invariant.low; shorter = omega (arith, c.loop-found.invariant.shorter, c.in_ok-names.ensures.shorter, c.in_ok-type_tree.ensures.shorter, c.in-Some.ensures.shorter) }
+    record { gives = cc; low = c.loop-found.invariant.low }
+
+pub loop-found-smaller : goal.loop-found-smaller
+loop-found-smaller c =
+    omega (
+      arith,
+      c.in_ok-names.ensures.shorter,
+      type_shorter c.args.limit c.in_ok-names.names.rest.now c.in_ok-type_tree.type_tree.rest.now (type_of c.in_ok-type_tree.type_tree.value) c.in_ok-type_tree.type_tree.height c.in_ok-type_tree.ensures.gives,
+      c.in-Some.ensures.shorter,
+    )

@@ -1,4 +1,4 @@
-use Rattle.std.proofs.Common.{◌≡◌, ◌≤◌, length}
+use Rattle.std.proofs.Common.{◌≡◌, length}
 use Rattle.gr_scan.specs.Tokens.{tokens_of}
 use Rattle.gr_tree.specs.Files.{groups_of}
 use Rattle.gr_syntax.specs.Reading.{loop}
@@ -9,7 +9,6 @@ abbrev pub invariant-loop-found : goal.invariant-loop-found
 invariant-loop-found l = record {
   gives : loop (groups_turn l.limit) (groups_of l.found.value.items, 0, tokens_of l.found.rest.now) ≡ groups_at l.fn.limit (tokens_of l.fn.tokens);
   low : l.found.height ≡ 0;
-  shorter : length l.found.rest.now ≤ length l.fn.tokens;
 }
 
 abbrev pub decreases-loop-found : goal.decreases-loop-found
