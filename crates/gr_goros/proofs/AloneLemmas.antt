@@ -1,5 +1,5 @@
 -- What goes on by itself, by its operands.
-use Rattle.std.proofs.Common.{◌≡◌, ℕ, ◌≤◌, Bool, true, false, not, ◌&&◌, List, [], ◌∷◌, length, reverse, arith, Option, Some, None, refl, sym, ap, ◌∙◌}
+use Rattle.std.proofs.Common.{◌≡◌, ℕ, ◌<◌, ◌≤◌, get_or, Bool, true, false, not, ◌&&◌, List, [], ◌∷◌, length, reverse, arith, Option, Some, None, refl, sym, ap, ◌∙◌}
 use Rattle.std.proofs.Math.Dec.{eqb-suc-zero, leb-suc-suc}
 use Rattle.std.proofs.lemmas.List.{length-reverse}
 use Rattle.std.specs.Prelude.{slice_get, nat_eq, nat_le}
@@ -254,6 +254,13 @@ module _ (f : CodeFrame) (x : ℕ) (op : BinaryOp) (on : ℕ) (e : Operand) wher
       (λ v. comes_then caller deepest true (written (slice_get f.cells x) x v f.cells) _ (sure_written (slice_get f.cells x) x v f.cells) (λ cells. refl))
       (λ w. right (update_is ∙ w))
       ∙ ap (stays caller deepest) (sym update_is)
+
+-- the operands, where there is one
+pub only_operand : (os : List code.Operand) (a : code.Operand) → 1 ≤ length os → length os < 2 → a ≡ get_or os 0 a
+    → operands_of os ≡ also (operand_of a) nothing
+only_operand [] a h k e = absurd (omega (arith, h))
+only_operand (b ∷ []) a h k e = ap (λ a. also (operand_of a) nothing) (sym e)
+only_operand (b ∷ c ∷ os) a h k e = absurd (omega (arith, k))
 
 -- an assignment with an operator wants one operand
 module _ (f : CodeFrame) (x : ℕ) (op : BinaryOp) (on : ℕ) (caller deepest : Bool) where

@@ -58,7 +58,6 @@ fn depth_above(below: usize) -> Depth
 
 impl Frame {
     /// Whether an assignment with an operator goes on.
-    #[tactic(auto, using(crate::proofs::AloneLemmas::update_right, crate::proofs::AloneLemmas::update_stays, crate::proofs::AloneLemmas::update_none, crate::proofs::AloneLemmas::update_many))]
     fn updates(
         &self,
         variable: u32,

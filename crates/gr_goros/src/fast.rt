@@ -158,7 +158,6 @@ impl Frame {
 
     /// Takes the step of a statement with one operand, if it is one over whole numbers.
     #[inline(always)]
-    #[tactic(auto, using(crate::proofs::TaskLemmas::updated_is))]
     fn step_with_one(&mut self, action: &Action, operand: &Operand) -> Option<IntChange>
         requires { ¬ (performed self.old (action_of action.now) (also (operand_of operand.now) nothing) ≡ wrong) }
         ensures counts { ChangesInts result

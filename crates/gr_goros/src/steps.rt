@@ -58,7 +58,6 @@ impl Goroutine {
 impl Goroutine {
     /// Takes the next step, of whatever kind. Refused, nothing has changed.
     #[inline(never)]
-    #[tactic(auto, using(crate::proofs::CallLemmas::local_is))]
     fn take_task(&mut self, alloc: Global, code: &Code) -> Result<(LocalKind, GoUndo), NoMemory>
         requires right { ¬ (local (program_code_of code.now) self.old.content ≡ wrong) }
         requires here { is_local_now (program_code_of code.now) self.old.content ≡ true }

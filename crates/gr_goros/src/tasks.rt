@@ -116,7 +116,6 @@ impl Frame {
     }
 
     /// What a statement comes to, as `task` does.
-    #[tactic(auto, using(crate::proofs::TaskLemmas::updated_is))]
     fn perform(
         &mut self,
         alloc: Global,
