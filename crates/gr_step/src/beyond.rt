@@ -134,6 +134,14 @@ pub(crate) fn reached_with(
     Further::new(alloc, beyond)
 }
 
+/// Puts a value in a place.
+#[inline(always)]
+fn put<T: Drop>(place: &mut T, value: T)
+    ensures { place.new ≡ value }
+{
+    *place = value;
+}
+
 /// What a step reached, with its changes of goroutines and of channels.
 pub(crate) fn with_changes(
     further: Box<Further>,
@@ -143,8 +151,8 @@ pub(crate) fn with_changes(
     ensures { result.value.beyond ≡ record (further.value.beyond) { met = met; channels = channels } }
 {
     let mut further = further;
-    further.beyond.met = met;
-    further.beyond.channels = channels;
+    put(&mut further.beyond.met, met);
+    put(&mut further.beyond.channels, channels);
     further
 }
 

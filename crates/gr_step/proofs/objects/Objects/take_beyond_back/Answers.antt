@@ -1,4 +1,4 @@
-use Rattle.std.proofs.Common.{◌≡◌, ◌∙◌, refl, ap}
+use Rattle.std.proofs.Common.{◌≡◌, refl, ap}
 use Rattle.gr_record.specs.declared.record.Further.{Further}
 use Rattle.gr_record.specs.declared.record.Form.TheVariants as forms
 use Rattle.gr_record.specs.Effects.{effect_in}
