@@ -6,6 +6,7 @@
 Each test runs `PROGRAM --workers N FILE` and asks until what is wanted comes, for at most ten seconds. A line that begins with
 FAILED tells a difference; the last line is `N passed, M failed`.
 """
+import glob
 import os
 import subprocess
 import sys
@@ -28,7 +29,15 @@ func main() {
 """
 # One goroutine that takes 6,004 steps by itself, which are many batches.
 COUNTING = SPINNING.replace("spin(9)", "spin(3000)", 1).replace("\tgo spin(9)\n", "")
+SESSIONS = os.path.join(os.path.dirname(os.path.dirname(os.path.abspath(__file__))), "crates", "sessions", "data")
 SECONDS = 10
+
+
+def output(program, words, script):
+    """What the program writes for these commands, and its exit status."""
+    how = {"input": script, "stdout": subprocess.PIPE, "stderr": subprocess.PIPE, "errors": "surrogateescape", "timeout": SECONDS}
+    ended = subprocess.run([program, *words], text=True, **how)
+    return ended.stdout, ended.stderr, ended.returncode
 
 
 class Session:
@@ -109,7 +118,31 @@ def ends_beside_idle_workers(program):
     return Session(program, SPINNING, 64).close() == 0
 
 
-TESTS = (takes_what_is_granted, takes_no_step_without_a_grant, stops_at_the_grant, takes_batches, ends_beside_idle_workers)
+def has_a_grant(script):
+    return any(line.split()[:1] == ["free"] for line in script.splitlines())
+
+
+def idle_workers_change_no_reply(program):
+    """Beside four workers, each example session without a grant has the output that it has alone."""
+    differ = []
+    for path in sorted(glob.glob(f"{SESSIONS}/*.script")):
+        source = path.removesuffix(".script") + ".go"
+        with open(path, encoding="utf-8", errors="surrogateescape") as file:
+            script = file.read()
+        if not has_a_grant(script):
+            outputs = [output(program, words, script) for words in ([source], ["--workers", "4", source])]
+            differ += [path] * (outputs[0] != outputs[1])
+    return not differ
+
+
+TESTS = (
+    takes_what_is_granted,
+    takes_no_step_without_a_grant,
+    stops_at_the_grant,
+    takes_batches,
+    ends_beside_idle_workers,
+    idle_workers_change_no_reply,
+)
 
 
 def main():

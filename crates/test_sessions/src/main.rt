@@ -7,10 +7,6 @@ mod batching;
 #[cfg(test)]
 mod callers;
 #[cfg(test)]
-mod debugger;
-#[cfg(test)]
-mod devices;
-#[cfg(test)]
 mod lines;
 #[cfg(test)]
 mod looking;

@@ -5,11 +5,8 @@ ghost use Rattle.gr_program.specs.Views.{program_of};
 
 use crate::batching::{SPINNING, STARTED};
 use crate::callers::Errand;
-use crate::debugger::show_session;
 use crate::meeting::Hold;
 use crate::scenes::{Outcome, Scene, play};
-use rewind::counted::Counted;
-use rewind::workers::debug_beside;
 use rewind::{EnrolRefused, Opened, Room, Session, Shared};
 use std::alloc::Global;
 use std::marker::Brand;
@@ -18,12 +15,6 @@ use std::sync::Wait;
 use std::thread::Threads;
 
 const PRINTING: &[u8] = b"package main\nfunc main() { println(-9223372036854775808) }\n";
-
-const HANDING: &[u8] =
-    b"package main\nfunc send(c chan int) {\n\tc <- 7\n}\nfunc main() {\n\tc := make(chan int)\n\tgo send(c)\n\tprintln(<-c)\n}\n";
-
-const HANDED: &[u8] =
-    b"step g0\nstep g0\nstep g0\nstep g0\nstep g0.1\nstep g0.1\nstep g0\nstep g0\ncauses g0#4\nback g0.1#1\nshow g0\nconsole\n";
 
 /// What a scene is to come to; `None` is for what its schedule decides.
 #[derive(Clone, Copy)]
@@ -246,24 +237,4 @@ fn there_are_a_thousand_askers(rt: HostRuntime) {
     let session = Session::open(rt.alloc(), SPINNING).expect(&rt, "a session");
     let opened = Opened::new(rt.alloc(), session).expect(&rt, "memory for a table");
     seats_given::<Brand, _>(&rt, rt.alloc(), opened);
-}
-
-/// What is written beside this many workers.
-fn written_beside<T: Threads + Wait + Abort + Sync>(
-    rt: &T,
-    alloc: Global,
-    workers: u32,
-) -> Vec<u8> {
-    let mut source = Counted::new(HANDING);
-    let mut reader = Counted::new(HANDED);
-    let mut writer = Counted::new(Vec::new(alloc));
-    let served = debug_beside(rt, alloc, workers, &mut source, &mut reader, &mut writer);
-    served.expect(rt, "a session");
-    writer.into_inner()
-}
-
-#[test]
-fn idle_workers_change_no_reply(rt: HostRuntime) {
-    let beside = written_beside(&rt, rt.alloc(), 4);
-    show_session(&rt, rt.alloc(), HANDING, HANDED, beside.as_slice(), b"");
 }
