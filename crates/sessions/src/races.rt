@@ -1,27 +1,16 @@
-//! Desks and workers that race: `test_races DESKS WORKERS COMMANDS RACES FILE..`. In each race over a Go file this many desks
-//! and workers share a session, each on a thread of its own. Each desk asks this many commands that change a session: in every
-//! other race they are drawn at random, and in the others they come in turn. When all have ended, a fresh session takes the kept
-//! steps once more. Both sessions have to answer alike about each goroutine, about what it printed and about each channel.
-//!
-//! For each file it writes how many races ended so and how many commands got an entry, and what came of each race on standard
-//! error.
-//!
-//! Exit status: 0; 1 where a session differs, memory ran out, or the words are not these.
-#![tactic(auto)]
+//! Desks and workers that race over Go files. In each race they share a session, each on a thread of its own. Each desk asks
+//! this many commands that change a session: in every other race they are drawn at random, and in the others they come in turn.
+//! When all have ended, a fresh session takes the kept steps once more. Both sessions have to answer alike about each goroutine,
+//! about what it printed and about each channel.
 
-mod chance;
-mod race;
-mod replay;
-
+use crate::race::{Load, Raced, race_all};
+use crate::retaken::replay;
 use gr_share::{Opened, Session};
-use race::{Load, Raced, race_all};
-use replay::replay;
 use std::alloc::Global;
 use std::marker::Brand;
-use std::process::ExitCode;
 use std::sync::Wait;
 use std::thread::Threads;
-use std::{env, fs, io};
+use std::{fs, io};
 
 /// What came of a race, where the session that was shared and a fresh one tell the same.
 #[derive(Clone, Copy)]
@@ -120,10 +109,14 @@ fn settings(desks: &str, workers: &str, commands: &str, races: &str) -> Option<(
     Some((races.parse().ok()?, load))
 }
 
-fn run<T: Threads + Wait + Sync>(rt: &HostRuntime, threads: &T) -> io::Result<ExitCode> {
-    let words: Vec<String> = env::args(rt)?.collect(rt.alloc())?;
-    let [_, desks, workers, commands, races, files @ ..] = words.as_slice() else {
-        return Ok(ExitCode::from(1));
+/// Has callers race over each file. Answers whether all was as it should be: with no words it is, and with wrong ones it is not.
+pub fn are_alike<T: Threads + Wait + Sync>(
+    rt: &HostRuntime,
+    threads: &T,
+    words: &[String],
+) -> io::Result<bool> {
+    let [desks, workers, commands, races, files @ ..] = words else {
+        return Ok(words.is_empty());
     };
     let Some((races, load)) = settings(
         desks.as_str(),
@@ -131,17 +124,13 @@ fn run<T: Threads + Wait + Sync>(rt: &HostRuntime, threads: &T) -> io::Result<Ex
         commands.as_str(),
         races.as_str(),
     ) else {
-        return Ok(ExitCode::from(1));
+        return Ok(false);
     };
-    let mut status = 0;
+    let mut alike = true;
     for file in files {
         if !tell(rt, threads, file.as_str(), races, load)? {
-            status = 1;
+            alike = false;
         }
     }
-    Ok(ExitCode::from(status))
-}
-
-fn main(rt: HostRuntime) -> io::Result<ExitCode> {
-    run(&rt, &rt)
+    Ok(alike)
 }
