@@ -123,10 +123,10 @@ IS_QUICK = $(filter rewind-quick,$(notdir $(REWIND)))
 page-test: browser-needs other-browsers $(if $(IS_QUICK),quick-page,page) ## the page: types, style, modules, all of it in Chromium, and sessions in Firefox and WebKitGTK (5 minutes)
 	page/test.sh bin/rewind$(if $(IS_QUICK),-quick).html
 
-hostile: $(REWIND) bin/test_races ## hostile sources and commands, failing devices, refused memory, races (6 processor minutes)
+hostile: $(REWIND) bin/sessions ## hostile sources and commands, failing devices, refused memory, races (6 processor minutes)
 	tests/hostile/all.sh $(REWIND)
 
-bench: bin/rewind bin/bench_channels bin/bench_front ## times of steps, rollback, workers, channels and the front, into bench/RESULTS.md (minutes; BASELINE=PROGRAM compares)
+bench: bin/rewind ## times of steps, rollback, workers, channels and the front, into bench/RESULTS.md (minutes; BASELINE=PROGRAM compares)
 	bench/results.py $(if $(BASELINE),--baseline $(BASELINE))
 
 times: ## how long demo, quick, quick-page and test take on two processors, in fresh clones (15 minutes)
@@ -159,10 +159,9 @@ help: ## lists these targets
 		printf "  make %-18s %s\n", name, $$0 }' $(firstword $(MAKEFILE_LIST))
 
 # A program that is proved is run once, in its crate's folder, with words that it takes.
-RUN_bench_front := check 1 data/two_functions.go
-RUN_test_races := 2 1 100 10 data/relay.go
+RUN_sessions := 2 1 100 10 data/races/relay.go
 
-bin/bench_channels bin/bench_front bin/test_races: FORCE
+bin/sessions: FORCE
 	$(NEEDS_RT)
 	tools/prove.py $(notdir $@) $@ $(RUN_$(notdir $@))
 

@@ -1,46 +1,61 @@
 #!/usr/bin/env python3
-"""The time of an offer or a take and its undoing, at a capacity of 1 and of 1,000,000.
+"""The time of a step over a channel and its undoing, with few items in its buffer and with many.
 
-    bench/channels.py [PROGRAM]      (bin/bench_channels)
+    bench/channels.py [PROGRAM]      (bin/rewind)
 
-At each capacity 1,000,000 values pass through a channel, by fills and emptyings in turn, and all is undone again.
-Prints the processor time of a change with its undoing, and the ratio, which is to be at most 2: the capacity and the
-number of items do not count, but for what the memory of a large buffer costs. The time of starting the program is
-measured apart and taken off.
+A goroutine sends to a buffer of 1,000,000 places and receives from it by turns, once with no other item in the buffer, and
+once with 100,000. Prints the processor time of such a step with its undoing by `back`, and the ratio, which is to be at
+most 2: the number of items does not count. What comes before is measured apart and taken off.
 """
-import resource
-import subprocess
+import os
 import sys
+import tempfile
 
-CAPACITIES = (1, 1_000_000)
-VALUES = 1_000_000
-ROUNDS = 5
+from core import least
+
+ITEMS = 100_000
+# What a first loop does as often: nothing, or it fills the buffer.
+CASES = {0: "_ = i", ITEMS: "c <- i"}
+# A `make`, the start of the loop, three steps each time, and the last test.
+BEFORE = 2 + 3 * ITEMS + 1
+STEPS = 600_000
 LIMIT = 2.0
+SOURCE = """package main
+
+func main() {
+	c := make(chan int, 1000000)
+	for i := 0; i < %d; i++ {
+		%s
+	}
+	for {
+		c <- 1
+		<-c
+	}
+}
+"""
 
 
-def processor_time(command):
-    before = resource.getrusage(resource.RUSAGE_CHILDREN)
-    printed = subprocess.run(command, stdout=subprocess.PIPE, check=True, text=True).stdout
-    after = resource.getrusage(resource.RUSAGE_CHILDREN)
-    return after.ru_utime + after.ru_stime - before.ru_utime - before.ru_stime, printed
-
-
-def least(program, capacity, values):
-    runs = [processor_time([program, str(capacity), str(values)]) for _ in range(ROUNDS)]
-    wanted = "%d values passed by %d changes; when all are undone, 0\n" % (values, 2 * values)
-    assert all(printed == wanted for _, printed in runs), runs[0][1]
-    return min(time for time, _ in runs)
+def seconds(program, what):
+    """The processor seconds of a step over the channel and its undoing."""
+    with tempfile.NamedTemporaryFile("w", suffix=".go") as file:
+        file.write(SOURCE % (ITEMS, what))
+        file.flush()
+        first = f"run {BEFORE}\n".encode()
+        before, _ = least([program, file.name], first)
+        script = first + f"run {STEPS}\nback g0#{BEFORE + 1}\n".encode()
+        after, replies = least([program, file.name], script)
+    if not replies.splitlines()[-1].startswith(b"ok %d " % STEPS):
+        sys.exit(f"channels: {STEPS} steps are not taken back: {replies.splitlines()[-1][:100]!r}")
+    return (after - before) / STEPS
 
 
 def main():
-    program = sys.argv[1] if len(sys.argv) > 1 else "bin/bench_channels"
-    each = []
-    for capacity in CAPACITIES:
-        starting = least(program, capacity, 0)
-        each.append((least(program, capacity, VALUES) - starting) / (2 * VALUES) * 1e6)
-        print("capacity %9d: %.3f microseconds a change and its undoing" % (capacity, each[-1]))
+    program = sys.argv[1] if len(sys.argv) > 1 else "bin/rewind"
+    each = [seconds(os.path.abspath(program), what) for what in CASES.values()]
+    for items, time in zip(CASES, each):
+        print(f"beside {items:,} items: {time * 1e6:.3f} microseconds a step and its undoing")
     ratio = each[1] / each[0]
-    print("ratio: %.2f (at most %.1f)" % (ratio, LIMIT))
+    print(f"ratio: {ratio:.2f} (at most {LIMIT:.1f})")
     return 0 if ratio <= LIMIT else 1
 
 

@@ -1,22 +1,20 @@
 #!/usr/bin/env python3
-"""The time of scanning, parsing and checking sources of 128 KiB and of 1 MiB.
+"""The time of checking sources of 128 KiB and of 1 MiB.
 
-    bench/front.py [PROGRAM]      (bin/bench_front)
+    bench/front.py [PROGRAM]      (bin/rewind)
 
 Three kinds of source: wide (thousands of functions, and of variables in one scope), deep (blocks and parentheses, 90
-levels of each) and mixed (all forms of statements). Prints for each the MiB a second of each stage and of the three
-together, and the ratio of the times of the two sizes, which is to be at most 10 where the text is 8 times as long. Each
-run is one round in a process of its own, as a session opens its program once; the time of starting the program and
-reading the file is measured apart and taken off.
+levels of each) and mixed (all forms of statements). Prints for each the MiB a second of `--check`, and the ratio of the
+times of the two sizes, which is to be at most 10 where the text is 8 times as long. The time of starting the program is
+measured apart and taken off.
 """
 import os
-import resource
-import subprocess
 import sys
 import tempfile
 
+from core import once
+
 SIZES = (128 * 1024, 1024 * 1024)
-STAGES = ("scan", "parse", "check")
 REPEATS = 15
 LIMIT = 10.0
 
@@ -94,45 +92,25 @@ outer:
     return filled(size, piece)
 
 
-def processor_time(command):
-    before = resource.getrusage(resource.RUSAGE_CHILDREN)
-    subprocess.run(command, stdout=subprocess.DEVNULL, check=True)
-    after = resource.getrusage(resource.RUSAGE_CHILDREN)
-    return after.ru_utime + after.ru_stime - before.ru_utime - before.ru_stime
-
-
-def least(program, stage, rounds, file):
-    return min(processor_time([program, stage, str(rounds), file]) for _ in range(REPEATS))
-
-
-def stage_times(program, text):
-    """The seconds that a round takes up to each stage."""
-    with tempfile.TemporaryDirectory() as folder:
-        file = os.path.join(folder, "program.go")
-        with open(file, "w") as f:
-            f.write(text)
-        starting = least(program, "scan", 0, file)
-        return [least(program, stage, 1, file) - starting for stage in STAGES]
-
-
-def tell(kind, text, times):
-    mebibytes = len(text) / 2**20
-    own = [times[0], times[1] - times[0], times[2] - times[1]]
-    speeds = ", ".join("%s %.1f" % (stage, mebibytes / max(own[k], 1e-9)) for k, stage in enumerate(STAGES))
-    print("%-5s %4d KiB: %s MiB/s; together %.1f MiB/s" % (kind, len(text) // 1024, speeds, mebibytes / times[2]))
+def least(program, text):
+    """The least processor seconds of a check of this text."""
+    with tempfile.NamedTemporaryFile("w", suffix=".go") as file:
+        file.write(text)
+        file.flush()
+        return min(once([program, "--check", file.name], b"")[0] for _ in range(REPEATS))
 
 
 def main():
-    program = sys.argv[1] if len(sys.argv) > 1 else "bin/bench_front"
+    program = os.path.abspath(sys.argv[1] if len(sys.argv) > 1 else "bin/rewind")
+    starting = least(program, "package main\n" + MAIN)
     worst = 0.0
     for kind in (wide, deep, mixed):
-        together = []
+        times = []
         for size in SIZES:
             text = kind(size)
-            times = stage_times(program, text)
-            tell(kind.__name__, text, times)
-            together.append(times[2])
-        ratio = together[1] / together[0]
+            times.append(least(program, text) - starting)
+            print("%-5s %4d KiB: %.1f MiB/s" % (kind.__name__, len(text) // 1024, len(text) / 2**20 / times[-1]))
+        ratio = times[1] / times[0]
         print("%-5s ratio: %.2f (at most %.1f)" % (kind.__name__, ratio, LIMIT))
         worst = max(worst, ratio)
     return 0 if worst <= LIMIT else 1

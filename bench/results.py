@@ -3,8 +3,8 @@
 
     bench/results.py [--out FILE] [--only BENCH] [--baseline PROGRAM]      (bench/RESULTS.md, all benches)
 
-Takes bin/rewind, bin/bench_channels and bin/bench_front. Figures depend on what else the machine does: leave it alone. With
-`--baseline` it is compared with another program that takes the same commands, too.
+Takes bin/rewind. Figures depend on what else the machine does: leave it alone. With `--baseline` it is compared with another
+program that takes the same commands, too.
 """
 import argparse
 import os
@@ -16,10 +16,8 @@ HERE = os.path.dirname(os.path.abspath(__file__))
 TOP = os.path.dirname(HERE)
 sys.path.append(f"{TOP}/tools")
 from figures import origin, told  # noqa: E402
-BENCHES = {
-    "steps": "rewind", "core": "rewind", "instructions": "rewind", "opening": "rewind", "rollback": "rewind", "workers": "rewind",
-    "channels": "bench_channels", "front": "bench_front", "baseline": "rewind",
-}
+BENCHES = ("steps", "core", "instructions", "opening", "rollback", "workers", "channels", "front", "baseline")
+PROGRAM = f"{TOP}/bin/rewind"
 HEAD = """# Measurements
 
 Written by `make bench`. Times are of processors and not by the clock, but for those of `opening` and `workers`. The rows of `instructions` say how many a step takes, and in which crate. Where the machine is shared with others, the times of two runs may differ by a half, and the counts do not.
@@ -57,12 +55,8 @@ def row(bench, line):
 
 
 def rows(bench, *before):
-    """The rows of a bench, which may end with a status of 1 where a limit is missed, and none where its program is missing. It is
-    given these words before its program."""
-    if not os.access(f"{TOP}/bin/{BENCHES[bench]}", os.X_OK):
-        print(f"results: there is no bin/{BENCHES[bench]}, so {bench} is left out")
-        return [], 1
-    done = subprocess.run([f"{HERE}/{bench}.py", *before, f"{TOP}/bin/{BENCHES[bench]}"], stdout=subprocess.PIPE, text=True)
+    """The rows of a bench, which may end with a status of 1 where a limit is missed. It is given these words before its program."""
+    done = subprocess.run([f"{HERE}/{bench}.py", *before, PROGRAM], stdout=subprocess.PIPE, text=True)
     print(done.stdout, end="", flush=True)
     found = [row(bench, line) for line in done.stdout.splitlines()]
     return [(bench, *it) for it in found if it], done.returncode
@@ -74,6 +68,8 @@ def main():
     parser.add_argument("--only", choices=BENCHES)
     parser.add_argument("--baseline", metavar="PROGRAM")
     asked = parser.parse_args()
+    if not os.access(PROGRAM, os.X_OK):
+        sys.exit("results: there is no bin/rewind: run make first")
     text, status = [], 0
     for bench in [asked.only] if asked.only else BENCHES:
         if bench == "baseline" and not asked.baseline:
@@ -82,7 +78,7 @@ def main():
         text += ["| %s | %s | %s |\n" % it for it in found]
         status = status or missed
     with open(asked.out, "w", encoding="utf-8") as file:
-        file.write(HEAD % origin(Program=told(f"{TOP}/bin/rewind", "--version")) + "".join(text))
+        file.write(HEAD % origin(Program=told(PROGRAM, "--version")) + "".join(text))
     return status
 
 
