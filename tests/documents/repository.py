@@ -76,7 +76,7 @@ def crates():
 @functools.lru_cache(maxsize=None)
 def session_names():
     """The names of the example sessions."""
-    return sorted(os.path.basename(it)[:-3] for it in files() if it.startswith(SESSIONS + "/") and it.endswith(".go"))
+    return sorted(os.path.basename(it)[:-3] for it in files() if os.path.dirname(it) == SESSIONS and it.endswith(".go"))
 
 
 @functools.lru_cache(maxsize=None)

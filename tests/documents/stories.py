@@ -135,5 +135,5 @@ def check(checks, program):
     check_table(checks, document)
     for section, blocks in stories_of(document):
         check_story(checks, document, section, blocks)
-    count = f"{len(repository.session_names())} sessions are as expected\n"
-    checks.same("crates/sessions/stdout:1", "the number of sessions", count, repository.read("crates/sessions/stdout"))
+    count = f"{len(repository.session_names())} sessions are as expected"
+    checks.same("crates/sessions/stdout:1", "the number of sessions", count, repository.read("crates/sessions/stdout").splitlines()[0])
