@@ -10,11 +10,6 @@ ls -d /usr/share/emacs/site-lisp/elpa-src/dap-mode-* >/dev/null 2>&1 || missing=
 [ -e /usr/share/nodejs/@vscode/debugprotocol ] || missing="$missing node-vscode-debugprotocol"
 [ -n "$missing" ] || exit 0
 
-as_root() {
-  if [ "$(id -u)" = 0 ]; then "$@"; else sudo -n "$@"; fi
-}
-
 echo "editors: installing$missing"
-as_root apt-get -qq update
 # shellcheck disable=SC2086
-DEBIAN_FRONTEND=noninteractive as_root apt-get -qq install -y --no-install-recommends $missing
+exec "$(dirname "$0")/../tools/packages.sh" $missing

@@ -20,19 +20,11 @@ missing_of() {
   done
 }
 
-# Never asks for a password.
-as_root() {
-  if [ "$(id -u)" = 0 ]; then "$@"; else sudo -n "$@"; fi
-}
-
-apt() {
-  as_root apt-get -qq -o DPkg::Lock::Timeout=60 -o Acquire::http::Timeout=20 -o Acquire::https::Timeout=20 "$@"
-}
-
 missing=$(missing_of "$@")
 [ -n "$missing" ] || exit 0
 echo "page: installing$missing"
-{ apt update && apt install -y --no-install-recommends $missing; } </dev/null >/dev/null 2>&1
+# shellcheck disable=SC2086
+"$(dirname "$0")/../tools/packages.sh" $missing
 missing=$(missing_of "$@")
 [ -n "$missing" ] || exit 0
 echo "rewind: the page needs what could not be installed here: 'apt-get install$missing'" >&2

@@ -21,28 +21,27 @@ from rewind_shell.interpreter import python_with  # noqa: E402
 MODULES = ["mypy", "pytest", "prompt_toolkit"]
 PACKAGES = ["mypy", "python3-pytest", "python3-prompt-toolkit"]
 OLDEST = "3.9"
-INSTALL = 200
+INSTALL = 500
 SECONDS = 300
 
 
 def install():
-    """Installs the packages of Debian, where that can be done."""
-    for words in (["apt-get", "update"], ["apt-get", "install", "-y", *PACKAGES]):
-        try:
-            how = {"stdin": subprocess.DEVNULL, "capture_output": True, "timeout": INSTALL}
-            if subprocess.run(words, env={**os.environ, "DEBIAN_FRONTEND": "noninteractive"}, **how).returncode:
-                return
-        except (OSError, subprocess.SubprocessError):
-            return
+    """Installs the packages of Debian, where that can be done, and answers what was said where it cannot."""
+    words = [os.path.join(TOP, "tools", "packages.sh"), *PACKAGES]
+    try:
+        done = subprocess.run(words, stdin=subprocess.DEVNULL, stdout=subprocess.PIPE, stderr=subprocess.STDOUT, text=True, timeout=INSTALL)
+    except (OSError, subprocess.SubprocessError) as error:
+        return str(error)
+    return (done.stdout.strip().splitlines() or ["nothing was said"])[-1]
 
 
 def python_for_tests():
-    """The Python that has what the tests want: this one, or that of the system; none where it can't be had."""
-    found = python_with(*MODULES)
+    """The Python that has what the tests want, this one or that of the system, and what installing said where neither has."""
+    found, said = python_with(*MODULES), ""
     if found is None:
-        install()
+        said = install()
         found = python_with(*MODULES)
-    return found
+    return found, said
 
 
 def run(words, program):
@@ -90,9 +89,9 @@ def main():
         print("tests: name a program, as tests/clients.py bin/rewind", file=sys.stderr)
         sys.exit(2)
     program = os.path.abspath(sys.argv[1])
-    python = python_for_tests()
+    python, said = python_for_tests()
     if python is None:
-        print(("FAILED" if "CI" in os.environ else "skipped") + " clients: they want %s of Debian" % ", ".join(PACKAGES))
+        print(("FAILED" if "CI" in os.environ else "skipped") + " clients: they want %s of Debian (%s)" % (", ".join(PACKAGES), said))
         print("0 passed, 1 failed" if "CI" in os.environ else "0 passed, 0 failed, 1 skipped")
         sys.exit(1 if "CI" in os.environ else 0)
     passed, failed = types(python, program)

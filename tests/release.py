@@ -131,7 +131,7 @@ def check_page(it):
 def why_not():
     """Why the page cannot be tried here, or nothing."""
     ran = subprocess.run([f"{TOP}/page/needs.sh", "chromium", "nodejs"], capture_output=True, text=True)
-    return ran.stderr.strip().removeprefix("rewind: ") if ran.returncode else None
+    return ran.stderr.strip().splitlines()[-1].removeprefix("rewind: ") if ran.returncode else None
 
 
 def checks(folder, work, is_skipped):
