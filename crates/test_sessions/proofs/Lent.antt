@@ -1,2 +1,2 @@
 -- That a session may be lent to threads.
-pub use Rattle.rewind.proofs.Crossing.{session_send}
+pub use Rattle.gr_share.proofs.Crossing.{session_send}

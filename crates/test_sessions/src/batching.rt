@@ -4,7 +4,7 @@ ghost use Rattle.std.specs.Prelude.{◌≤◌};
 
 use crate::lines::{command, text_of};
 use gr_command::Reply;
-use rewind::{Batch, DeskId, Open, Session, run_batch};
+use gr_share::{Batch, DeskId, Open, Session, run_batch};
 use std::alloc::Global;
 use std::process::Abort;
 

@@ -2,38 +2,13 @@
 
 use crate::lines::{command, text_of};
 use crate::meeting::{Door, Meeting};
-use rewind::counted::Counted;
-use rewind::desk::serve_desk;
-use rewind::stream::ServeFault;
-use rewind::{Desk, Room, Shared, Worker, worker};
+use gr_share::{Desk, Room, Shared, Worker, worker};
 use std::alloc::Global;
-use std::io::{ErrorKind, Write};
 use std::process::Abort;
 use std::sync::Wait;
+use std::thread;
 use std::thread::Threads;
 use std::time::{Clock, Duration};
-use std::{io, thread};
-
-/// Takes as many bytes as there is room, and then fails.
-#[derive(Drop)]
-struct Full {
-    room: usize,
-}
-
-impl Write for Full {
-    fn write(&mut self, buf: &[u8]) -> io::Result<usize> {
-        if self.room == 0 {
-            return Err(io::Error::from(ErrorKind::Other));
-        }
-        let taken = buf.len().min(self.room);
-        self.room -= taken;
-        Ok(taken)
-    }
-
-    fn flush(&mut self) -> io::Result<()> {
-        Ok(())
-    }
-}
 
 /// What a desk does on its thread.
 #[derive(Clone, Copy)]
@@ -48,8 +23,6 @@ pub(crate) enum Errand {
     Close,
     /// Takes the first step, and asks what it printed.
     See,
-    /// Serves a stream whose writer fails in the second reply.
-    Break,
 }
 
 /// One who calls. A desk has its errand, and counts the replies that the errand asks for. A worker works at most this often.
@@ -170,18 +143,6 @@ fn see<B: Room, T: Wait + Abort>(
     step.saturating_add(text)
 }
 
-fn serve_in_vain<B: Room, T: Wait + Abort>(
-    rt: &T,
-    alloc: Global,
-    shared: &Shared<B>,
-    desk: &mut Desk<B>,
-) -> u64 {
-    let mut lines = Counted::new(b"step g0\nundo\nundo\n".as_slice());
-    let mut full = Counted::new(Full { room: 16 });
-    let served = serve_desk(rt, alloc, shared, desk, &mut lines, &mut full);
-    u64::from(matches!(served, Err(ServeFault::Write)))
-}
-
 /// Does an errand, and counts the replies that it asks for.
 fn run<B: Room, T: Wait + Clock + Abort>(
     rt: &T,
@@ -201,7 +162,6 @@ fn run<B: Room, T: Wait + Clock + Abort>(
             0
         }
         Errand::See => see(rt, alloc, shared, desk),
-        Errand::Break => serve_in_vain(rt, alloc, shared, desk),
     }
 }
 

@@ -2,7 +2,7 @@
 
 use crate::batching::Asking;
 use gr_base::{ChName, GoName, Object};
-use rewind::Session;
+use gr_share::Session;
 use std::alloc::Global;
 use std::process::Abort;
 

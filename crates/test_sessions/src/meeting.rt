@@ -1,6 +1,6 @@
 //! Where threads wait for each other.
 
-use rewind::{Gate, Receipt};
+use gr_share::{Gate, Receipt};
 use std::sync::atomic::{AtomicU64, Ordering};
 use std::thread;
 use std::time::{Clock, Duration};

@@ -5,7 +5,7 @@ ghost use Rattle.gr_program.specs.Views.{program_of};
 use crate::callers::{Caller, Errand, call_at_once, reply};
 use crate::meeting::{Hold, Meeting};
 use gr_command::Reply;
-use rewind::{Desk, Finished, Opened, Room, Session, Shared, Unfinished, Worker, finish};
+use gr_share::{Desk, Finished, Opened, Room, Session, Shared, Unfinished, Worker, finish};
 use std::alloc::Global;
 use std::marker::Brand;
 use std::process::Abort;

@@ -7,7 +7,7 @@ use crate::batching::{SPINNING, STARTED};
 use crate::callers::Errand;
 use crate::meeting::Hold;
 use crate::scenes::{Outcome, Scene, play};
-use rewind::{EnrolRefused, Opened, Room, Session, Shared};
+use gr_share::{EnrolRefused, Opened, Room, Session, Shared};
 use std::alloc::Global;
 use std::marker::Brand;
 use std::process::Abort;
@@ -79,7 +79,7 @@ const SPUN: Wanted = Wanted {
     ..ANYTHING
 };
 
-const ACTS: [Act; 9] = [
+const ACTS: [Act; 8] = [
     Act {
         name: "two desks ask a hundred times each",
         scene: Scene {
@@ -102,18 +102,6 @@ const ACTS: [Act; 9] = [
         },
         wanted: Wanted {
             answers: 2,
-            ..ANYTHING
-        },
-    },
-    Act {
-        name: "a desk whose writer fails ends alone",
-        scene: Scene {
-            errands: &[Errand::Break, Errand::Hundred],
-            ..EMPTY
-        },
-        wanted: Wanted {
-            answers: 101,
-            entries: Some(102),
             ..ANYTHING
         },
     },

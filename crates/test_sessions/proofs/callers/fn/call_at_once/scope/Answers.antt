@@ -1,13 +1,13 @@
 use denote.Param.Send.{IsSend, IsSync, sendable}
 use Rattle.std.proofs.Crossing.{crosses}
 use Rattle.atomic_table.proofs.shared.Seat.TheSendSync as seat
-use Rattle.rewind.proofs.CallSendSync as call
-use Rattle.rewind.proofs.DeskSendSync as desk
-use Rattle.rewind.proofs.WorkerSendSync as worker
-use Rattle.rewind.proofs.TieSendSync as tie
-use Rattle.rewind.specs.LockedContracts as Locked
-use Rattle.rewind.specs.SharedContracts as Shared
-use Rattle.rewind.proofs.Crossing.{session_send}
+use Rattle.gr_share.proofs.desk.Call.TheSendSync as call
+use Rattle.gr_share.proofs.desk.Desk.TheSendSync as desk
+use Rattle.gr_share.proofs.desk.Worker.TheSendSync as worker
+use Rattle.gr_share.proofs.tie.Tie.TheSendSync as tie
+use Rattle.gr_share.specs.contracts.locked.Locked as Locked
+use Rattle.gr_share.specs.contracts.shared.Shared as Shared
+use Rattle.gr_share.proofs.Crossing.{session_send}
 use Rattle.test_sessions.proofs.meeting.Meeting.TheSendSync as meeting
 use Rattle.test_sessions.specs.contracts.meeting.Meeting as Meeting
 use Rattle.test_sessions.specs.contracts.callers.Caller as Caller
