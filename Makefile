@@ -3,8 +3,9 @@
 PREFIX ?= /usr/local
 # The program that tests take: bin/rewind (proved) or bin/rewind-quick.
 REWIND ?= bin/rewind
-# Checks side by side: as many as processors. None was seen to take more than 5.5 GB. With less memory: make gate RT_JOBS=2.
-RT_JOBS ?= $(shell nproc)
+# Checks side by side: one fewer than processors, and at least two. None was seen to take more than 5.5 GB. With less memory:
+# make gate RT_JOBS=2.
+RT_JOBS ?= $(shell n=$$(nproc); echo $$((n > 3 ? n - 1 : 2)))
 
 HAS_RT := $(shell command -v rt)
 RT = $(if $(HAS_RT),rt,$(error rewind: 'rt' is not on the path: install the Rattle toolchain first (README.md, 'How to build it')))
@@ -98,7 +99,7 @@ uninstall: ## removes what install installed
 test: bin/rewind-quick ## every test, without proofs (7 minutes on two processors)
 	tests/run.py bin/rewind-quick
 
-gate: ## the gate: each proof from nothing, edits that must be refused, all tests and programs (an hour and a half on four processors)
+gate: ## the gate: each proof from nothing, edits that must be refused, all tests and programs (under two hours on four processors)
 	RT_JOBS=$(RT_JOBS) $(RT) ci
 
 edits: ## the edits that must be refused and that the gate leaves out (hours; CRATE=NAME for one crate)
