@@ -2,24 +2,51 @@
 
 use crate::orders::is_replayed;
 use crate::session::{output, output_of_desk};
+use std::fs::DirEntry;
 use std::sync::Wait;
 use std::thread::Threads;
 use std::{fs, io};
 
-/// Whether a session and a desk both give this output.
-fn both_give<T: Threads + Wait + Sync>(
-    rt: &HostRuntime,
-    threads: &T,
-    file: &str,
-    source: &[u8],
-    script: &[u8],
-    expected: &[u8],
-) -> bool {
-    let alone = output(rt.alloc(), file, source, script);
-    let shared = output_of_desk(threads, rt.alloc(), file, source, script);
-    match (alone, shared) {
-        (Ok(alone), Ok(shared)) => alone.as_slice() == expected && shared.as_slice() == expected,
-        _ => false,
+/// A session and what it has to give.
+#[derive(Drop)]
+pub struct Example {
+    pub source: Vec<u8>,
+    pub script: Vec<u8>,
+    expected: Vec<u8>,
+}
+
+/// The file of a session that has this ending.
+pub fn part(rt: &HostRuntime, name: &str, ending: &str) -> io::Result<Vec<u8>> {
+    let file = format!(in rt.alloc(); "{name}.{ending}")?;
+    fs::read(rt, file.as_str())
+}
+
+impl Example {
+    fn read(rt: &HostRuntime, name: &str) -> io::Result<Example> {
+        let source = part(rt, name, "go")?;
+        let script = part(rt, name, "script").unwrap_or(Vec::new(rt.alloc()));
+        let expected = part(rt, name, "expect")?;
+        Ok(Example {
+            source,
+            script,
+            expected,
+        })
+    }
+
+    /// Whether a session and a desk both give what is expected.
+    fn is_given<T: Threads + Wait + Sync>(
+        &self,
+        rt: &HostRuntime,
+        threads: &T,
+        file: &str,
+    ) -> bool {
+        let (source, script) = (self.source.as_slice(), self.script.as_slice());
+        let alone = output(rt.alloc(), file, source, script);
+        let shared = output_of_desk(threads, rt.alloc(), file, source, script);
+        match (alone, shared) {
+            (Ok(alone), Ok(shared)) => alone == self.expected && shared == self.expected,
+            _ => false,
+        }
     }
 }
 
@@ -29,32 +56,25 @@ fn is_expected<T: Threads + Wait + Sync>(
     threads: &T,
     name: &str,
 ) -> io::Result<bool> {
+    let example = Example::read(rt, name)?;
     let file = format!(in rt.alloc(); "{name}.go")?;
-    let source = fs::read(rt, file.as_str())?;
-    let script = match fs::read(rt, format!(in rt.alloc(); "{name}.script")?.as_str()) {
-        Ok(script) => script,
-        Err(_) => Vec::new(rt.alloc()),
-    };
-    let expected = fs::read(rt, format!(in rt.alloc(); "{name}.expect")?.as_str())?;
-    if !both_give(
-        rt,
-        threads,
-        file.as_str(),
-        source.as_slice(),
-        script.as_slice(),
-        expected.as_slice(),
-    ) {
-        return Ok(false);
+    Ok(example.is_given(rt, threads, file.as_str()) && is_replayed(rt, name, &example)?)
+}
+
+/// The name of the session whose source a file of the folder is.
+fn name_of(rt: &HostRuntime, file: io::Result<DirEntry>) -> io::Result<Option<String>> {
+    match file?.file_name().strip_suffix(".go") {
+        Some(name) => Ok(Some(String::from_str(rt.alloc(), name)?)),
+        None => Ok(None),
     }
-    is_replayed(rt, name, source.as_slice(), script.as_slice())
 }
 
 /// The names of the sessions, in order.
 fn sessions(rt: &HostRuntime) -> io::Result<Vec<String>> {
     let mut names = Vec::new(rt.alloc());
-    for entry in fs::read_dir(rt, ".")? {
-        if let Some(name) = entry?.file_name().strip_suffix(".go") {
-            names.push(String::from_str(rt.alloc(), name)?)?;
+    for file in fs::read_dir(rt, ".")? {
+        if let Some(name) = name_of(rt, file)? {
+            names.push(name)?;
         }
     }
     names.sort()?;

@@ -1,9 +1,10 @@
 //! The steps that a session keeps, taken once more in fresh sessions.
 
+use crate::examples::{Example, part};
 use crate::session::output;
 use gr_base::NoMemory;
 use std::alloc::Global;
-use std::{fs, io};
+use std::io;
 
 /// What takes the steps of a session once more: in the order of its log, and in two others that respect dependence.
 const ORDERS: [&str; 3] = ["again", "other", "another"];
@@ -27,17 +28,18 @@ fn answers(
 
 /// Whether the steps that a session keeps answer its queries alike in each of these orders. A session without queries has
 /// nothing to compare.
-pub fn is_replayed(rt: &HostRuntime, name: &str, source: &[u8], script: &[u8]) -> io::Result<bool> {
-    let Ok(queries) = fs::read(rt, format!(in rt.alloc(); "{name}.queries")?.as_str()) else {
+pub fn is_replayed(rt: &HostRuntime, name: &str, example: &Example) -> io::Result<bool> {
+    let Ok(queries) = part(rt, name, "queries") else {
         return Ok(true);
     };
+    let (source, script) = (example.source.as_slice(), example.script.as_slice());
     let Ok(expected) = answers(rt.alloc(), source, script, queries.as_slice()) else {
         return Ok(false);
     };
     for order in ORDERS {
-        let steps = fs::read(rt, format!(in rt.alloc(); "{name}.{order}")?.as_str())?;
+        let steps = part(rt, name, order)?;
         match answers(rt.alloc(), source, steps.as_slice(), queries.as_slice()) {
-            Ok(found) if found.as_slice() == expected.as_slice() => {}
+            Ok(found) if found == expected => {}
             _ => return Ok(false),
         }
     }
