@@ -135,6 +135,16 @@ def idle_workers_change_no_reply(program):
     return not differ
 
 
+def ends_where_its_writer_fails(program):
+    """Beside workers a session ends at the first reply that cannot be written, and its workers with it."""
+    with tempfile.NamedTemporaryFile("w", suffix=".go") as source, open("/dev/full", "w", encoding="utf-8") as full:
+        source.write(SPINNING)
+        source.flush()
+        how = {"input": "step g0\nundo\n", "stdout": full, "stderr": subprocess.PIPE, "timeout": SECONDS}
+        ended = subprocess.run([program, "--workers", "2", source.name], text=True, **how)
+    return (ended.returncode, ended.stderr) == (3, "rewind: write\n")
+
+
 TESTS = (
     takes_what_is_granted,
     takes_no_step_without_a_grant,
@@ -142,6 +152,7 @@ TESTS = (
     takes_batches,
     ends_beside_idle_workers,
     idle_workers_change_no_reply,
+    ends_where_its_writer_fails,
 )
 
 

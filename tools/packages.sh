@@ -10,7 +10,7 @@ as_root() {
 
 apt() {
   DEBIAN_FRONTEND=noninteractive as_root apt-get -qq -o DPkg::Lock::Timeout=60 -o Acquire::http::Timeout=20 \
-    -o Acquire::https::Timeout=20 "$@" </dev/null 2>&1
+    -o Acquire::https::Timeout=20 "$@" </dev/null 2>&1 9>&-
 }
 
 exec 9>"$top/bin/packages.lock"
