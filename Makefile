@@ -124,7 +124,7 @@ IS_QUICK = $(filter rewind-quick,$(notdir $(REWIND)))
 page-test: browser-needs other-browsers $(if $(IS_QUICK),quick-page,page) ## the page: types, style, modules, all of it in Chromium, and sessions in Firefox and WebKitGTK (5 minutes)
 	page/test.sh bin/rewind$(if $(IS_QUICK),-quick).html
 
-hostile: $(REWIND) bin/sessions ## hostile sources and commands, failing devices, refused memory, races (6 processor minutes)
+hostile: $(REWIND) bin/races ## hostile sources and commands, failing devices, refused memory, races (6 processor minutes)
 	tests/hostile/all.sh $(REWIND)
 
 bench: bin/rewind ## times of steps, rollback, workers, channels and the front, into bench/RESULTS.md (minutes; BASELINE=PROGRAM compares)
@@ -160,9 +160,9 @@ help: ## lists these targets
 		printf "  make %-18s %s\n", name, $$0 }' $(firstword $(MAKEFILE_LIST))
 
 # A program that is proved is run once, in its crate's folder, with words that it takes.
-RUN_sessions := 2 1 100 10 data/races/relay.go
+RUN_races := 2 1 100 10 data/relay.go
 
-bin/sessions: FORCE
+bin/races: FORCE
 	$(NEEDS_RT)
 	tools/prove.py $(notdir $@) $@ $(RUN_$(notdir $@))
 

@@ -1,9 +1,9 @@
 #!/usr/bin/env python3
 """Runs the tests of one crate as `rt try` builds them, without proofs.
 
-    tests/crate.py test_parts|test_sessions|sessions
+    tests/crate.py test_parts|test_sessions|races
 
-`sessions` is a program: it races two desks and four workers twice over each of four sources, once with commands that are drawn.
+`races` is a program: it races two desks and four workers twice over each of four sources, once with commands that are drawn.
 """
 import glob
 import os
@@ -17,21 +17,21 @@ RACE = ["2", "4", "1000", "2"]
 
 
 def words_of(crate):
-    if crate != "sessions":
+    if crate != "races":
         return ["rt", "try", "--test"]
-    return ["rt", "try", "--", *RACE, *sorted(glob.glob("data/races/*.go"))]
+    return ["rt", "try", "--", *RACE, *sorted(glob.glob("data/*.go"))]
 
 
 def results(crate, text):
     """The names of what ran, each with whether it passed."""
-    if crate != "sessions":
+    if crate != "races":
         return [(name, end == "ok") for name, end in re.findall(r"^test (\S+) \.\.\. (\w+)", text, re.M)]
     return [(name, have == of) for name, have, of in re.findall(r"^(\S+\.go): (\d+) of (\d+) alike", text, re.M)]
 
 
 def main():
     if len(sys.argv) != 2 or not os.path.isdir(f"{TOP}/crates/{sys.argv[1]}"):
-        print("tests: name one of the crates test_parts, test_sessions, sessions", file=sys.stderr)
+        print("tests: name one of the crates test_parts, test_sessions, races", file=sys.stderr)
         sys.exit(2)
     crate = sys.argv[1]
     os.chdir(f"{TOP}/crates/{crate}")

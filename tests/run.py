@@ -23,7 +23,7 @@ COUNTS = re.compile(r"(\d+) passed, (\d+) failed(?:, (\d+) skipped)?")
 PARTS = {
     "test_sessions": ["tests/crate.py", "test_sessions"],
     "page": ["tests/page.py", "PROGRAM"],
-    "races": ["tests/crate.py", "sessions"],
+    "races": ["tests/crate.py", "races"],
     "clients": ["tests/clients.py", "PROGRAM"],
     "model": ["tests/second.py", "--seconds", "60", "--sessions", "100000", "PROGRAM"],
     "replay": ["tests/replay.py", "PROGRAM", "--sessions", "100000", "--seconds", "60", "--jobs", "1"],

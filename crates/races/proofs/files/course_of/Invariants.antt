@@ -1,5 +1,5 @@
 use Rattle.gr_program.specs.Views.{program_of}
-use Rattle.sessions.proofs.races.course_of.Given as goal
+use Rattle.races.proofs.files.course_of.Given as goal
 
 -- the session that was just opened
 abbrev pub ghosts-race_all : goal.ghosts-race_all

@@ -8,8 +8,8 @@ use Rattle.gr_share.proofs.tie.Tie.TheSendSync as tie
 use Rattle.gr_share.specs.contracts.locked.Locked as Locked
 use Rattle.gr_share.specs.contracts.shared.Shared as Shared
 use Rattle.gr_share.proofs.Crossing.{session_send}
-use Rattle.sessions.specs.contracts.race.Caller as Caller
-use Rattle.sessions.proofs.race.fn.call_at_once.scope.Goals as goal
+use Rattle.races.specs.contracts.race.Caller as Caller
+use Rattle.races.proofs.race.fn.call_at_once.scope.Goals as goal
 
 pub spawn-requires-send-F : goal.spawn-requires-send-F
 spawn-requires-send-F g c = λ κs within.

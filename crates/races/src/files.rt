@@ -1,7 +1,4 @@
-//! Desks and workers that race over Go files. In each race they share a session, each on a thread of its own. Each desk asks
-//! this many commands that change a session: in every other race they are drawn at random, and in the others they come in turn.
-//! When all have ended, a fresh session takes the kept steps once more. Both sessions have to answer alike about each goroutine,
-//! about what it printed and about each channel.
+//! Races over Go files, and what is reported of them.
 
 use crate::race::{Load, Raced, race_all};
 use crate::retaken::replay;
@@ -109,14 +106,14 @@ fn settings(desks: &str, workers: &str, commands: &str, races: &str) -> Option<(
     Some((races.parse().ok()?, load))
 }
 
-/// Has callers race over each file. Answers whether all was as it should be: with no words it is, and with wrong ones it is not.
+/// Has callers race over each file. Answers whether all was as it should be: with wrong words it is not.
 pub fn are_alike<T: Threads + Wait + Sync>(
     rt: &HostRuntime,
     threads: &T,
     words: &[String],
 ) -> io::Result<bool> {
     let [desks, workers, commands, races, files @ ..] = words else {
-        return Ok(words.is_empty());
+        return Ok(false);
     };
     let Some((races, load)) = settings(
         desks.as_str(),
