@@ -336,10 +336,7 @@ impl Change {
 fn wrote_line(own: &KeptUndo) -> bool
     ensures { result ≡ is_printed own.now }
 {
-    match &own.packed {
-        Packed::Printed(_) => true,
-        _ => false,
-    }
+    matches!(&own.packed, Packed::Printed(_))
 }
 
 impl Touched {
