@@ -1,6 +1,6 @@
-//! The channels of waits.
+//! The channels of waits, and their queues that a goroutine leaves.
 
-ghost use Rattle.std.specs.Prelude.{◌≡◌, [], ◌∷◌, if◌then◌else◌, List, IfOk, IsTrue};
+ghost use Rattle.std.specs.Prelude.{◌≡◌, [], ◌∷◌, if◌then◌else◌, List, IfOk, IsTrue, OnErr, OnOk};
 ghost use Rattle.std.specs.List.{list_any};
 ghost use Rattle.gr_rules.specs.Operators.{same_channel};
 ghost use Rattle.gr_rules.specs.Actors.{channels_but as ruled};
@@ -8,10 +8,17 @@ ghost use Rattle.gr_rules.specs.Goroutines.{channel_of as channel_ruled};
 ghost use Rattle.gr_rules.specs.Goroutines.{Wait as WaitSeen, waiting};
 ghost use Rattle.gr_refine.specs.Partners.{waits_in};
 ghost use Rattle.gr_goros.specs.Views.{status_of, wait_of, waits_of};
+ghost use Rattle.gr_record.specs.Fews.{members};
+ghost use Rattle.gr_tables.specs.NamedChannels.{contents_of, rooms_of, withdrawn, ChansFit, HasRooms};
+ghost use Rattle.gr_tables.specs.NamedChannels.{Follows, MoreAtGates, TookBack};
 ghost use Rattle.gr_step.specs.Preparing.{AreToLeave};
 
-use gr_base::{ChName, NoMemory};
+use crate::unstepping::put_back;
+use gr_base::{ChName, GoName, NoMemory};
+use gr_channels::ChanUndo;
 use gr_goros::{Status, Wait};
+use gr_record::Few;
+use gr_tables::channels::Channels;
 use std::alloc::Global;
 use std::slice;
 
@@ -163,4 +170,32 @@ pub(crate) fn still_to_leave(
             Ok(Vec::new(alloc))
         }
     }
+}
+
+/// A goroutine leaves the queues of the channels of these names, after a change of a channel in the same step. Refused, that
+/// change is taken back.
+pub(crate) fn leave_after(
+    channels: &mut Channels,
+    alloc: Global,
+    change: (ChName, ChanUndo),
+    names: &[ChName],
+    go: &GoName,
+) -> Result<Few<(ChName, ChanUndo)>, NoMemory>
+    requires fits { ChansFit (change ∷ []) (contents_of channels.old) }
+    requires room { HasRooms (change ∷ []) (rooms_of channels.old) }
+    ensures contents { OnOk result (contents_of channels.new ≡ withdrawn go.now names.now (contents_of channels.old)) }
+    ensures back { IfOk result (λ undos. Follows (change ∷ []) (members undos) channels.old channels.new) }
+    ensures gates { IfOk result (λ undos. MoreAtGates names.now (change ∷ []) (members undos)) }
+    ensures err { OnErr result (TookBack (change ∷ []) channels.old channels.new) }
+{
+    if names.is_empty() {
+        return Ok(Few::One(change));
+    }
+    let Ok(mut done) = Vec::with_capacity(alloc, names.len() + 1) else {
+        put_back(channels, Few::One(change));
+        return Err(NoMemory);
+    };
+    done.push_reserved(change);
+    let done = channels.withdraw_after(done, names, go)?;
+    Ok(Few::of_many(done))
 }

@@ -9,8 +9,7 @@ ghost use Rattle.gr_refine.specs.Partners.{is_waiting};
 ghost use Rattle.gr_code.specs.CodeViews.{program_code_of};
 ghost use Rattle.gr_goros.specs.Views.{arrival_of, status_of};
 ghost use Rattle.gr_record.specs.Fews.{members};
-ghost use Rattle.gr_tables.specs.NamedChannels.{contents_of, rooms_of, withdrawn, ChansFit, HasRooms, TookBack, Follows};
-ghost use Rattle.gr_tables.specs.NamedChannels.{MoreAtGates, listed};
+ghost use Rattle.gr_tables.specs.NamedChannels.{TookBack, listed};
 ghost use Rattle.gr_tables.specs.NamedGoroutines.{At, goroutines_of, name_at, seen_at, CanArrive, Arrives, ChangesBy};
 ghost use Rattle.gr_tables.specs.NamedGoroutines.{KeepsContents};
 ghost use Rattle.gr_record.specs.Effects.{reached_by_passage};
@@ -23,7 +22,7 @@ ghost use Rattle.gr_step.specs.Preparing.{IsPartner, IsSelecting, MayExchange};
 ghost use Rattle.gr_step.specs.Stepping.{event_for, code_for};
 
 use crate::beyond::{exchange, reached_with, with_changes};
-use crate::channels_named::{others_awaited, still_to_leave, waits_alone};
+use crate::channels_named::{leave_after, others_awaited, still_to_leave, waits_alone};
 use crate::objects::Objects;
 use crate::turn::Turn;
 use crate::unstepping::{put_back, put_one_back};
@@ -32,7 +31,6 @@ use gr_channels::ChanUndo;
 use gr_goros::{Arrival, GoUndo, KeptUndo, Status};
 use gr_record::Few;
 use gr_record::record::{Change, Contact, Exchange, Further, Operation, Passage, Touched};
-use gr_tables::channels::Channels;
 use std::alloc::Global;
 
 /// The change of a step that met nobody, with its change of the channel, if there was one.
@@ -77,34 +75,6 @@ fn told_alone(
         ((channel_in exchange.value.passage.contact.operation, undo) ∷ []) }
 {
     Change::exchanged(kind, own, exchange, met, undo)
-}
-
-/// A goroutine leaves the queues of the channels of these names, after a change of a channel in the same step. Refused, that
-/// change is taken back.
-fn leave_after(
-    channels: &mut Channels,
-    alloc: Global,
-    change: (ChName, ChanUndo),
-    names: &[ChName],
-    go: &GoName,
-) -> Result<Few<(ChName, ChanUndo)>, NoMemory>
-    requires fits { ChansFit (change ∷ []) (contents_of channels.old) }
-    requires room { HasRooms (change ∷ []) (rooms_of channels.old) }
-    ensures contents { OnOk result (contents_of channels.new ≡ withdrawn go.now names.now (contents_of channels.old)) }
-    ensures back { IfOk result (λ undos. Follows (change ∷ []) (members undos) channels.old channels.new) }
-    ensures gates { IfOk result (λ undos. MoreAtGates names.now (change ∷ []) (members undos)) }
-    ensures err { OnErr result (TookBack (change ∷ []) channels.old channels.new) }
-{
-    if names.is_empty() {
-        return Ok(Few::One(change));
-    }
-    let Ok(mut done) = Vec::with_capacity(alloc, names.len() + 1) else {
-        put_back(channels, Few::One(change));
-        return Err(NoMemory);
-    };
-    done.push_reserved(change);
-    let done = channels.withdraw_after(done, names, go)?;
-    Ok(Few::of_many(done))
 }
 
 /// A goroutine that waits for more than the communication in which a step meets it.

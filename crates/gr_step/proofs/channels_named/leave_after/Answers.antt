@@ -1,6 +1,6 @@
 use Rattle.std.proofs.Common.{◌≡◌, ◌∷◌, [], ◌++◌, ap, ◌∙◌}
 use Rattle.gr_tables.proofs.Withdrawals.{none_after, none_at_gate}
-use Rattle.gr_step.proofs.partners.leave_after.Goals as goal
+use Rattle.gr_step.proofs.channels_named.leave_after.Goals as goal
 
 pub returns-then-is_empty-clause-back : goal.returns-then-is_empty-clause-back
 returns-then-is_empty-clause-back c = none_after (c.args.change ∷ []) c.args.channels.now
