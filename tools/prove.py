@@ -22,10 +22,11 @@ import time
 import kit
 
 # The fewest jobs of the check on which most depends, and how far others stand back behind it. A third of a check can't be shared
-# among jobs, and each job reads the libraries for itself.
+# among jobs, and each job reads the libraries for itself. Beside three others a check takes up to twice its time, and what
+# stands beside the longest chain is done long before its end.
 JOBS_OF_THE_FIRST = 2
 STANDS_BACK = 10
-MOST_ROOMS = 4
+MOST_ROOMS = 3
 RT = f"{kit.ROOT}/tools/rt_once.py"
 # The minutes of a crate whose time bench/GATE.md does not tell.
 UNTOLD = 0.1
