@@ -21,11 +21,12 @@ import time
 
 import kit
 
-# The fewest jobs of the check on which most depends, and how far others stand back behind it. A third of a check can't be shared
-# among jobs, and each job reads the libraries for itself. Beside three others a check takes up to twice its time, and what
-# stands beside the longest chain is done long before its end.
+# The jobs of the check on which most depends; each other check has one. Each job reads the libraries for itself, so a crate near
+# the top takes as long with four jobs as with one.
 JOBS_OF_THE_FIRST = 2
+# How far other checks stand back behind the first one.
 STANDS_BACK = 10
+# Beside three others a check takes up to twice its time, and what stands beside the longest chain is done long before its end.
 MOST_ROOMS = 3
 RT = f"{kit.ROOT}/tools/rt_once.py"
 # The minutes of a crate whose time bench/GATE.md does not tell.
@@ -131,8 +132,7 @@ class Prover:
         """Begins a check. The crate with the longest chain above it, of those that wait or run, leads."""
         others = [*self.waiting, *(it.crate for it in self.running)]
         leads = all(self.height[crate] >= self.height[it] for it in others)
-        beside = min(len(self.ready()), len(self.rooms)) + len(self.running)
-        jobs = max(JOBS_OF_THE_FIRST if leads else 1, self.processors // beside)
+        jobs = min(JOBS_OF_THE_FIRST, self.processors) if leads else 1
         number = self.count - len(self.waiting) + 1
         print(f"crate {number} of {self.count}: {crate.name} ({self.minutes()} so far)", flush=True)
         self.waiting.remove(crate)
