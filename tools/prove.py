@@ -26,7 +26,7 @@ import kit
 JOBS_OF_THE_FIRST = 2
 # How far other checks stand back behind the first one.
 STANDS_BACK = 10
-# Beside three others a check takes up to twice its time, and what stands beside the longest chain is done long before its end.
+# Checks side by side slow each other down, and what stands beside the longest chain is done long before its end.
 MOST_ROOMS = 3
 RT = f"{kit.ROOT}/tools/rt_once.py"
 # The minutes of a crate whose time bench/GATE.md does not tell.
