@@ -1,6 +1,6 @@
 #!/usr/bin/env python3
 """Writes what is said of commands, codes and exit statuses from the texts beside this file: the program's constants
-(crates/rewind/src/words.rt, meanings), the list of the codes (crates/rewind/specs/Codes.antt), the manual page (docs/rewind.1), the
+(crates/gr_console/src/words.rt, meanings), the list of the codes (crates/gr_console/specs/Codes.antt), the manual page (docs/rewind.1), the
 marked tables of docs/COMMANDS.md and docs/LANGUAGE.md, and what the clients know of codes (clients/rewind_client/words.json).
 
     words/make.py           writes them
@@ -15,9 +15,9 @@ import textwrap
 
 HERE = os.path.dirname(os.path.abspath(__file__))
 ROOT = os.path.dirname(HERE)
-WORDS = "crates/rewind/src/words.rt"
-MEANINGS = "crates/rewind/src/meanings/%s.rt"
-NAMES = "crates/rewind/specs/Codes.antt"
+WORDS = "crates/gr_console/src/words.rt"
+MEANINGS = "crates/gr_console/src/meanings/%s.rt"
+NAMES = "crates/gr_console/specs/Codes.antt"
 MANUAL = "docs/rewind.1"
 CLIENTS = "clients/rewind_client/words.json"
 WIDTH = 78
@@ -214,8 +214,8 @@ def pages(section):
     return (
         f"//! Pages on {title}. Made by words/make.py from the texts beside it: change those.\n"
         "ghost use Rattle.std.specs.Prelude.{◌≡◌, IfSome, is_some};\n"
-        "ghost use Rattle.rewind.specs.Explanations.{IsOn, is_among};\n"
-        f"ghost use Rattle.rewind.specs.Codes.{{{section} as names}};\n\n"
+        "ghost use Rattle.gr_console.specs.Explanations.{IsOn, is_among};\n"
+        f"ghost use Rattle.gr_console.specs.Codes.{{{section} as names}};\n\n"
         "use crate::pages::page_in;\n\n"
         f"const PAGES: [(&[u8], &str); {len(rows)}] = [\n{''.join(rows)}];\n\n"
         f"#[tactic(auto, unfolding(crate::specs::Codes::{section}))]\n"
@@ -336,10 +336,10 @@ def client_words():
 
 def defined():
     """The codes that the definitions name, by section."""
-    report = read("crates/rewind/specs/Report.antt")
+    report = read("crates/gr_serve/specs/Report.antt")
     texts = read("crates/gr_command/specs/Texts.antt")
     kinds = read("crates/gr_base/specs/Kinds.antt")
-    lines = read("crates/rewind/specs/Replies.antt")
+    lines = read("crates/gr_serve/specs/Replies.antt")
     refusals = re.findall(r'codes "no ([A-Z]\d)', texts + lines)
     return {
         "sources": re.findall(r'codes "([SPC]\d+)"', report),

@@ -24,6 +24,14 @@ def read(name):
         return file.read()
 
 
+def at(commit, name):
+    """A file as it was at a commit; None where git does not have that."""
+    if not exists(".git") or not shutil.which("git"):
+        return None
+    told = subprocess.run(["git", "-C", ROOT, "show", f"{commit}:{name}"], stdout=subprocess.PIPE, stderr=subprocess.DEVNULL, text=True)
+    return told.stdout if told.returncode == 0 else None
+
+
 def is_made(name):
     """Whether a path lies in a folder that `make` fills."""
     parts = name.split("/")

@@ -5,14 +5,14 @@ use Rattle.std.specs.Io.KnownBytes.{Keeps}
 use Rattle.std.specs.declared.result.Result.{Result}
 use Rattle.gr_program.specs.Programs.{Program}
 use Rattle.gr_share.specs.Calls.{Asker}
-use Rattle.rewind.specs.declared.stream.ServeFault.{ServeFault}
-use Rattle.rewind.specs.declared.stream.ServeFault.TheVariants.{Read, Write, Memory}
-use Rattle.rewind.specs.declared.debug.DebugFault.{DebugFault}
-use Rattle.rewind.specs.declared.debug.DebugFault.TheVariants.{Source, Open, Serve, Threads}
-use Rattle.rewind.specs.Devices.{Device, Change, NeverFails}
-use Rattle.rewind.specs.Debug.{Opened, SourceLeft, BlamesDevice}
+use Rattle.gr_serve.specs.declared.stream.ServeFault.{ServeFault}
+use Rattle.gr_serve.specs.declared.stream.ServeFault.TheVariants.{Read, Write, Memory}
+use Rattle.gr_serve.specs.declared.debug.DebugFault.{DebugFault}
+use Rattle.gr_serve.specs.declared.debug.DebugFault.TheVariants.{Source, Open, Serve, Threads}
+use Rattle.gr_lines.specs.Devices.{Device, Change, NeverFails}
+use Rattle.gr_serve.specs.Debug.{Opened, SourceLeft, BlamesDevice}
 use Rattle.rewind.specs.Beside.{LeftBeside, Settled, StreamLeft, BlamesStream, Streamed, EndedWith, BesideEnds, DebuggedBeside, LeftWith, BesideLeft, IsStill}
-use Rattle.rewind.proofs.Known.{Keeps-refl}
+use Rattle.gr_lines.proofs.Known.{Keeps-refl}
 
 abbrev still : Device → Change
 still device = record { old = device; new = device }

@@ -5,16 +5,15 @@ use Rattle.gr_program.specs.Views.{program_of}
 use Rattle.gr_share.specs.Entries.{IsLegal}
 use Rattle.gr_share.specs.Keeps.{Seen}
 use Rattle.gr_share.specs.Calls.{Asker, IsTied}
-use Rattle.rewind.specs.declared.stream.ServeFault.{ServeFault}
-use Rattle.rewind.specs.declared.stream.ServeFault.TheVariants.{Read, Write, Memory}
-use Rattle.rewind.specs.declared.debug.DebugFault.{DebugFault}
-use Rattle.rewind.specs.declared.debug.DebugFault.TheVariants.{Source, Open, Serve, Threads}
-use Rattle.rewind.specs.Devices.{Change, NeverFails}
-use Rattle.rewind.specs.Fault.{Blames}
-use Rattle.rewind.specs.Debug.{Opened, Unopened, NothingDone, NeverServed}
-use Rattle.rewind.specs.Stream.{of_desk}
-use Rattle.rewind.specs.Clients.{StreamEnds}
-use Rattle.rewind.specs.DeskStreams.{Serves, Leaves}
+use Rattle.gr_serve.specs.declared.stream.ServeFault.{ServeFault}
+use Rattle.gr_serve.specs.declared.stream.ServeFault.TheVariants.{Read, Write, Memory}
+use Rattle.gr_serve.specs.declared.debug.DebugFault.{DebugFault}
+use Rattle.gr_serve.specs.declared.debug.DebugFault.TheVariants.{Source, Open, Serve, Threads}
+use Rattle.gr_lines.specs.Devices.{Change, NeverFails}
+use Rattle.gr_serve.specs.Fault.{Blames}
+use Rattle.gr_serve.specs.Debug.{Opened, Unopened, NothingDone, NeverServed}
+use Rattle.gr_serve.specs.Clients.{StreamEnds}
+use Rattle.rewind.specs.DeskStreams.{of_desk, Serves, Leaves}
 
 -- the lines were served by a desk without calls before, of a session of this program
 pub record ServedBeside (program : Program) (reader writer : Change) : Type 0 where

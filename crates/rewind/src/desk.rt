@@ -1,13 +1,13 @@
 //! A stream of commands of a desk, and its replies.
 ghost use Rattle.std.specs.Prelude.{OnOk, IfErr};
-ghost use Rattle.rewind.specs.Devices.{change, NeverFails};
-ghost use Rattle.rewind.specs.Fault.{Blames};
+ghost use Rattle.gr_lines.specs.Devices.{change, NeverFails};
+ghost use Rattle.gr_serve.specs.Fault.{Blames};
 ghost use Rattle.rewind.specs.DeskStreams.{Serves, Leaves};
 
-use crate::client::{Client, put_answer, serve_client};
-use crate::counted::Counted;
-use crate::stream::ServeFault;
 use gr_base::NoMemory;
+use gr_lines::counted::Counted;
+use gr_serve::client::{Client, put_answer, serve_client};
+use gr_serve::stream::ServeFault;
 use gr_share::{Command, Desk, Room, Shared};
 use std::alloc::Global;
 use std::io::{BufRead, Write};
@@ -24,7 +24,7 @@ struct SharedDesk<'a, B: Room, T> {
 impl<'a, B: Room, T: Wait> Client for SharedDesk<'a, B, T> {
     ghost use Rattle.std.specs.Prelude.{ℕ};
     ghost use Rattle.gr_share.specs.Calls.{Asker};
-    ghost use Rattle.rewind.specs.Stream.{of_desk};
+    ghost use Rattle.rewind.specs.DeskStreams.{of_desk};
 
     ghost State = { Asker };
 

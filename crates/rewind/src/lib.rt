@@ -1,22 +1,13 @@
 //! The debugger: lines of commands in, lines of replies out.
 #![tactic(auto)]
 
-mod client;
-pub mod command_line;
-pub mod counted;
-pub mod debug;
 pub mod desk;
-pub mod explanations;
-mod meanings;
-mod pages;
-pub mod report;
-pub mod settings;
 mod started;
-pub mod stream;
-pub mod terminal;
-pub mod words;
 pub mod workers;
 
+pub use gr_console::{command_line, explanations, settings, terminal, words};
+pub use gr_lines::counted;
+pub use gr_serve::{debug, report, stream};
 pub use gr_share::{
     Batch, Desk, DeskId, EnrolRefused, Finished, Gate, Open, OpenError, Opened, Position, Receipt,
     Room, Session, Shared, Unfinished, Worker, finish, run_batch, worker,

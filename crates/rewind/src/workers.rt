@@ -2,16 +2,16 @@
 ghost use Rattle.std.specs.Prelude.{◌≡◌, ◌==◌, ◌<◌, ◌≤◌, [], ◌∷◌, ◌++◌, length, vec_len, vec_capacity, Bool};
 ghost use Rattle.std.specs.Prelude.{OnOk, IfOk, IfErr, IfSome, IfNone, IsTrue};
 ghost use Rattle.gr_program.specs.Views.{program_of};
-ghost use Rattle.rewind.specs.Devices.{change};
-ghost use Rattle.rewind.specs.Debug.{BlamesDevice};
+ghost use Rattle.gr_lines.specs.Devices.{change};
+ghost use Rattle.gr_serve.specs.Debug.{BlamesDevice};
 ghost use Rattle.rewind.specs.Beside.{Settled, Streamed, EndedWith, BesideEnds, DebuggedBeside, BesideLeft, StreamedIf, IsStill};
 
-use crate::counted::Counted;
-use crate::debug::{DebugFault, open_source};
 use crate::desk::serve_desk;
 use crate::started::Started;
-use crate::stream::ServeFault;
 use gr_base::NoMemory;
+use gr_lines::counted::Counted;
+use gr_serve::debug::{DebugFault, open_source};
+use gr_serve::stream::ServeFault;
 use gr_share::{Desk, Open, Opened, Room, Shared, Worker, finish, worker};
 use std::alloc::Global;
 use std::io::{BufRead, Read, Write};
@@ -47,7 +47,7 @@ struct Stream<'a, 'r, 'w, B: Room, T, R, W> {
 
 impl<'a, 'r, 'w, B: Room, T: Wait, R: BufRead, W: Write> Task for Stream<'a, 'r, 'w, B, T, R, W> {
     ghost use Rattle.std.specs.Prelude.{◌≡◌};
-    ghost use Rattle.rewind.specs.Devices.{change};
+    ghost use Rattle.gr_lines.specs.Devices.{change};
     ghost use Rattle.rewind.specs.Beside.{StreamedIf};
 
     type Output = (

@@ -1,7 +1,7 @@
-use Rattle.rewind.specs.Devices.{change, known}
-use Rattle.rewind.specs.declared.stream.ServeFault.TheVariants.{Memory}
-use Rattle.rewind.specs.declared.debug.DebugFault.TheVariants.{Serve}
-use Rattle.rewind.proofs.Debugging.{read_in_part, source_blamed}
+use Rattle.gr_lines.specs.Devices.{change, known}
+use Rattle.gr_serve.specs.declared.stream.ServeFault.TheVariants.{Memory}
+use Rattle.gr_serve.specs.declared.debug.DebugFault.TheVariants.{Serve}
+use Rattle.gr_serve.proofs.Debugging.{read_in_part, source_blamed}
 use Rattle.rewind.proofs.Sharing.{unshared}
 use Rattle.rewind.proofs.workers.debug_beside.Goals as goal
 

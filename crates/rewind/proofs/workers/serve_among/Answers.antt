@@ -1,5 +1,5 @@
 use Rattle.std.proofs.Common.{◌≡◌, ◌==◌, length, false, rules, subst, sym, Some}
-use Rattle.rewind.specs.Devices.{change}
+use Rattle.gr_lines.specs.Devices.{change}
 use Rattle.rewind.specs.Beside.{StreamedIf, IsStill}
 use Rattle.rewind.proofs.workers.serve_among.Goals as goal
 

@@ -1,5 +1,5 @@
 use Rattle.std.proofs.Common.{◌≡◌, [], ◌∷◌, ◌++◌, subst, ap, ◌∙◌}
-use Rattle.rewind.specs.Devices.{change}
+use Rattle.gr_lines.specs.Devices.{change}
 use Rattle.rewind.specs.Beside.{Settled, Streamed, EndedWith}
 use Rattle.rewind.proofs.Sharing.{ends, no_threads}
 use Rattle.rewind.proofs.workers.serve_beside.Goals as goal

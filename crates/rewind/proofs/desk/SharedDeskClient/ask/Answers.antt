@@ -1,4 +1,4 @@
-use Rattle.rewind.proofs.Answers.{told}
+use Rattle.gr_serve.proofs.Answers.{told}
 use Rattle.rewind.proofs.Asking.{asked}
 use Rattle.rewind.proofs.desk.SharedDeskClient.ask.Goals as goal
 

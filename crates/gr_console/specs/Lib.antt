@@ -1,0 +1,4 @@
+pub mod CommandLine
+pub mod Terminal
+pub mod Codes
+pub mod Explanations

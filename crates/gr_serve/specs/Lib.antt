@@ -1,0 +1,9 @@
+pub mod Fault
+pub mod Lines
+pub mod Replies
+pub mod Served
+pub mod Stream
+pub mod Clients
+pub mod Streams
+pub mod Debug
+pub mod Report

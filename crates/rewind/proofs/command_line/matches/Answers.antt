@@ -1,9 +1,0 @@
-use Rattle.std.proofs.Common.{ap, map, ◌∙◌}
-use Rattle.std.proofs.lemmas.Result.{IfErr-weaker}
-use Rattle.clap.specs.Words.{App, takes}
-use Rattle.rewind.proofs.command_line.matches.Goals as goal
-
-pub returns-clause-err : goal.returns-clause-err
-returns-clause-err c = IfErr-weaker c.try_get_matches_from.result _ _
-    (λ error passes taken. passes (ap (λ (a : App). takes a (map (λ w. w.now) c.args.words.now)) c.in_ok-command.ensures ∙ taken))
-    c.try_get_matches_from.ensures.passes

@@ -1,6 +1,0 @@
-use Rattle.std.proofs.Common.{take}
-use Rattle.rewind.specs.Bytes.{Plain}
-use Rattle.rewind.proofs.counted.split_line.Given as goal
-
-abbrev pub invariant-loop-i : goal.invariant-loop-i
-invariant-loop-i l = Plain (take l.i l.bytes)
