@@ -18,7 +18,6 @@ use std::marker::Model;
 
 /// A channel of a running program (Go specification, "Channel types"): a buffer of values, and two waiting lists,
 /// both served in the order of arrival. Each change can be undone.
-#[derive(Drop)]
 pub struct Channel {
     alloc: Global,
     capacity: u32,
@@ -27,6 +26,21 @@ pub struct Channel {
     receivers: VecDeque<Waiter<()>>,
     head: u64,
     items: VecDeque<Value>,
+}
+
+// Written out, so that crates above call it and need not prove it again.
+impl Drop for Channel {
+    fn drop(self) {
+        let Channel {
+            alloc: _,
+            capacity: _,
+            closed: _,
+            senders: _,
+            receivers: _,
+            head: _,
+            items: _,
+        } = self;
+    }
 }
 
 impl Model for Channel {

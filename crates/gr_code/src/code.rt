@@ -157,7 +157,6 @@ pub enum Instruction {
 }
 
 /// The code of a function. The cells of its frames are the variables, by their numbers, and then the temporaries.
-#[derive(Drop)]
 pub struct FunctionCode {
     /// The variables of the parameters; `None` for the blank identifier.
     pub parameters: Vec<Option<u32>>,
@@ -171,11 +170,33 @@ pub struct FunctionCode {
     pub lines: Vec<u32>,
 }
 
+// Written out, so that crates above call it and need not prove it again.
+impl Drop for FunctionCode {
+    fn drop(self) {
+        let FunctionCode {
+            parameters: _,
+            variables: _,
+            cells: _,
+            instructions: _,
+            lines: _,
+        } = self;
+    }
+}
+
 /// The code of a program.
-#[derive(Drop)]
 pub struct Code {
     /// The functions by their numbers.
     pub functions: Vec<FunctionCode>,
     /// The number of `main`.
     pub main: u32,
+}
+
+// Written out, so that crates above call it and need not prove it again.
+impl Drop for Code {
+    fn drop(self) {
+        let Code {
+            functions: _,
+            main: _,
+        } = self;
+    }
 }

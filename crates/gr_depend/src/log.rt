@@ -20,13 +20,22 @@ use std::alloc::Global;
 const MOST_STEPS: usize = 2_147_483_648;
 
 /// The steps that were taken and are kept, in their order, with the touches of each object.
-#[derive(Drop)]
 pub struct Log {
     pub(crate) records: Vec<Record>,
     pub(crate) lanes: Lanes,
     ghost touches: { (o : Object) → list_of lanes o ≡ touches_in o 0 records.items } by { Prim.hlevel props },
     ghost once: { list_all (λ r. none_twice (touched_by r)) records.items ≡ true },
     ghost few: { length records.items ≤ 2 ^ 31 },
+}
+
+// Written out, so that crates above call it and need not prove it again.
+impl Drop for Log {
+    fn drop(self) {
+        let Log {
+            records: _,
+            lanes: _,
+        } = self;
+    }
 }
 
 impl Log {

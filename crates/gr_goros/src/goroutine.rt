@@ -15,7 +15,6 @@ use std::alloc::Global;
 use std::marker::Model;
 
 /// The content of a goroutine. Each change of it can be undone.
-#[derive(Drop)]
 pub struct Goroutine {
     pub(crate) status: Status,
     /// The innermost frame. Where the goroutine is finished, a frame that no view shows.
@@ -26,6 +25,21 @@ pub struct Goroutine {
     pub(crate) children: u32,
     pub(crate) channels: u32,
     pub(crate) text: Vec<Vec<u8>>,
+}
+
+// Written out, so that crates above call it and need not prove it again.
+impl Drop for Goroutine {
+    fn drop(self) {
+        let Goroutine {
+            status: _,
+            top: _,
+            below: _,
+            steps: _,
+            children: _,
+            channels: _,
+            text: _,
+        } = self;
+    }
 }
 
 impl Model for Goroutine {

@@ -12,7 +12,6 @@ use std::cell::Cell;
 use std::marker::Model;
 
 /// Goroutines, each known from a time on, and at each time ready or not. The ready ones stand in the order of their names.
-#[derive(Drop)]
 pub struct Pool {
     alloc: Global,
     known: IndexSet<GoName>,
@@ -22,6 +21,19 @@ pub struct Pool {
     last: Cell<usize>,
     /// Where the name that was made unready last stands among the known ones: a guess of the next that is made ready.
     gone: Cell<usize>,
+}
+
+// Written out, so that crates above call it and need not prove it again.
+impl Drop for Pool {
+    fn drop(self) {
+        let Pool {
+            alloc: _,
+            known: _,
+            ready: _,
+            last: _,
+            gone: _,
+        } = self;
+    }
 }
 
 impl Model for Pool {

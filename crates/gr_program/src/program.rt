@@ -170,7 +170,6 @@ pub struct Variable {
 }
 
 /// A function.
-#[derive(Drop)]
 pub struct Function {
     pub name: Vec<u8>,
     pub parameters: Vec<Parameter>,
@@ -182,11 +181,34 @@ pub struct Function {
     pub closing: Place,
 }
 
+// Written out, so that crates above call it and need not prove it again.
+impl Drop for Function {
+    fn drop(self) {
+        let Function {
+            name: _,
+            parameters: _,
+            result: _,
+            variables: _,
+            body: _,
+            closing: _,
+        } = self;
+    }
+}
+
 /// The checked program of a file.
-#[derive(Drop)]
 pub struct Program {
     /// The functions by their numbers, in source order.
     pub functions: Vec<Function>,
     /// The number of `main`.
     pub main: usize,
+}
+
+// Written out, so that crates above call it and need not prove it again.
+impl Drop for Program {
+    fn drop(self) {
+        let Program {
+            functions: _,
+            main: _,
+        } = self;
+    }
 }

@@ -10,10 +10,19 @@ use std::alloc::Global;
 use std::sync::Arc;
 
 /// A program with its code.
-#[derive(Drop)]
 pub struct Listing {
     pub program: Arc<Program>,
     pub code: Arc<Code>,
+}
+
+// Written out, so that crates above call it and need not prove it again.
+impl Drop for Listing {
+    fn drop(self) {
+        let Listing {
+            program: _,
+            code: _,
+        } = self;
+    }
 }
 
 impl Listing {

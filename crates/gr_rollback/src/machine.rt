@@ -19,11 +19,20 @@ use std::alloc::Global;
 
 /// The machine of a program: its state, the log of the steps that led there, and the steps that were taken back last and can be
 /// taken again.
-#[derive(Drop)]
 pub struct Machine {
     pub(crate) course: Course,
     /// The events that `redo` takes, the first of them last.
     pub(crate) again: Vec<Event>,
+}
+
+// Written out, so that crates above call it and need not prove it again.
+impl Drop for Machine {
+    fn drop(self) {
+        let Machine {
+            course: _,
+            again: _,
+        } = self;
+    }
 }
 
 impl Machine {

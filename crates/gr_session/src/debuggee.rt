@@ -13,13 +13,23 @@ use indexmap::IndexMap;
 use std::alloc::Global;
 
 /// A program under the debugger: its machine, the lines with a breakpoint, and the grant of the workers.
-#[derive(Drop)]
 pub struct Debuggee {
     pub(crate) machine: Machine,
     /// The lines with a breakpoint, each with its number as replies tell it.
     pub(crate) lines: IndexMap<usize, u32>,
     /// The grant: how many steps workers may still take.
     pub(crate) grant: u32,
+}
+
+// Written out, so that crates above call it and need not prove it again.
+impl Drop for Debuggee {
+    fn drop(self) {
+        let Debuggee {
+            machine: _,
+            lines: _,
+            grant: _,
+        } = self;
+    }
 }
 
 impl Debuggee {

@@ -26,13 +26,23 @@ pub enum Asked {
 }
 
 /// What the journal keeps of what was asked.
-#[derive(Drop)]
 pub struct Entry {
     /// The number of the asker, from 1.
     pub asker: u32,
     pub asked: Asked,
     /// How far memory went. For a batch it was enough, since a batch that runs out of memory has no entry.
     pub memory: Memory,
+}
+
+// Written out, so that crates above call it and need not prove it again.
+impl Drop for Entry {
+    fn drop(self) {
+        let Entry {
+            asker: _,
+            asked: _,
+            memory: _,
+        } = self;
+    }
 }
 
 /// An asker of a session: a number that `enrol` gave, from 1 to 1,000.

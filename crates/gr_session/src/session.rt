@@ -36,12 +36,22 @@ use std::alloc::Global;
 use std::marker::Model;
 
 /// A program under the debugger, and the journal of what was asked. The journal is legal, and the program stands where it means.
-#[derive(Drop)]
 pub struct Session {
     debuggee: Debuggee,
     journal: Vec<Entry>,
     askers: u32,
     ghost room: { HasRoom (vec_len journal) (vec_capacity journal) } by { Prim.hlevel props },
+}
+
+// Written out, so that crates above call it and need not prove it again.
+impl Drop for Session {
+    fn drop(self) {
+        let Session {
+            debuggee: _,
+            journal: _,
+            askers: _,
+        } = self;
+    }
 }
 
 impl Model for Session {

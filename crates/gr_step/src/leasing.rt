@@ -27,10 +27,16 @@ use std::mem;
 
 /// What is kept of the steps that a goroutine took on its copy: the program, the goroutine's name, the goroutine as it was
 /// lent, and the number of steps.
-#[derive(Drop)]
 pub struct LocalRun {
     pub(crate) lent: Box<Lent>,
     pub(crate) len: usize,
+}
+
+// Written out, so that crates above call it and need not prove it again.
+impl Drop for LocalRun {
+    fn drop(self) {
+        let LocalRun { lent: _, len: _ } = self;
+    }
 }
 
 /// What was lent. It lies in a box, so that a list of entries takes no room for it where an entry is no batch.
@@ -58,12 +64,22 @@ impl LocalRun {
 }
 
 /// A copy of a goroutine, with the steps that it took by itself since it was lent.
-#[derive(Drop)]
 pub struct LentCopy {
     pub(crate) batch: LocalRun,
     /// The goroutine after its steps.
     pub(crate) reached: Goroutine,
     pub(crate) records: Vec<Record>,
+}
+
+// Written out, so that crates above call it and need not prove it again.
+impl Drop for LentCopy {
+    fn drop(self) {
+        let LentCopy {
+            batch: _,
+            reached: _,
+            records: _,
+        } = self;
+    }
 }
 
 impl LentCopy {
@@ -85,7 +101,12 @@ impl LentCopy {
     pub fn into_run(self) -> LocalRun
         ensures { loan_kept result ≡ loan_of self }
     {
-        self.batch
+        let LentCopy {
+            batch,
+            reached: _,
+            records: _,
+        } = self;
+        batch
     }
 
     /// Takes the records of its steps out.

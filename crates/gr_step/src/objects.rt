@@ -15,10 +15,21 @@ pub enum Run {
 }
 
 /// What the objects of a running program contain.
-#[derive(Drop)]
 pub struct Objects {
     pub run: Run,
     pub goroutines: Goroutines,
     pub channels: Channels,
     pub alloc: Global,
+}
+
+// Written out, so that crates above call it and need not prove it again.
+impl Drop for Objects {
+    fn drop(self) {
+        let Objects {
+            run: _,
+            goroutines: _,
+            channels: _,
+            alloc: _,
+        } = self;
+    }
 }

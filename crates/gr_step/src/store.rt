@@ -32,11 +32,21 @@ use std::alloc::Global;
 use std::sync::Arc;
 
 /// The state of a running program, changed in place.
-#[derive(Drop)]
 pub struct Store {
     pub(crate) listing: Listing,
     pub(crate) objects: Objects,
     pub(crate) taken: u64,
+}
+
+// Written out, so that crates above call it and need not prove it again.
+impl Drop for Store {
+    fn drop(self) {
+        let Store {
+            listing: _,
+            objects: _,
+            taken: _,
+        } = self;
+    }
 }
 
 impl Store {

@@ -20,11 +20,17 @@ use std::alloc::Global;
 use std::collections::BTreeMap;
 
 /// The channels of a store, each under its name.
-#[derive(Drop)]
 pub struct Channels {
     map: BTreeMap<ChName, Channel>,
     alloc: Global,
     ghost are_channels: { AreChannels (get ch_cmp map) },
+}
+
+// Written out, so that crates above call it and need not prove it again.
+impl Drop for Channels {
+    fn drop(self) {
+        let Channels { map: _, alloc: _ } = self;
+    }
 }
 
 impl Channels {

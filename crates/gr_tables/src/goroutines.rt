@@ -19,12 +19,22 @@ use std::alloc::Global;
 use std::mem;
 
 /// The goroutines of a store. A name that was known once keeps its number, and its goroutine may be absent.
-#[derive(Drop)]
 pub struct Goroutines {
     map: IndexMap<GoName, Option<Goroutine>>,
     alloc: Global,
     guesses: Guesses,
     ghost unique: { IsUnique same_go map } by { Prim.hlevel props },
+}
+
+// Written out, so that crates above call it and need not prove it again.
+impl Drop for Goroutines {
+    fn drop(self) {
+        let Goroutines {
+            map: _,
+            alloc: _,
+            guesses: _,
+        } = self;
+    }
 }
 
 impl Goroutines {

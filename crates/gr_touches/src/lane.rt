@@ -22,11 +22,20 @@ pub(crate) fn extend(touches: &mut Vec<Touch>, place: u32, count: usize, writes:
 }
 
 /// The touches of an object, in the order of the log.
-#[derive(Drop)]
 pub(crate) struct Lane {
     touches: Vec<Touch>,
     /// The number of the lane that was asked for after this one the last time: a guess of the next one.
     next: Cell<usize>,
+}
+
+// Written out, so that crates above call it and need not prove it again.
+impl Drop for Lane {
+    fn drop(self) {
+        let Lane {
+            touches: _,
+            next: _,
+        } = self;
+    }
 }
 
 impl Model for Lane {

@@ -19,7 +19,6 @@ use std::alloc::Global;
 use std::cell::Cell;
 
 /// The touches of each object, in the order of the log.
-#[derive(Drop)]
 pub struct Lanes {
     run: Vec<Touch>,
     /// The touches of `Run` that wrote it.
@@ -32,6 +31,20 @@ pub struct Lanes {
     guesses: Guesses,
     ghost unique: { IsUnique same map } by { Prim.hlevel props },
     ghost writers: { stops.items ≡ filter (λ t. t.writes) run.items },
+}
+
+// Written out, so that crates above call it and need not prove it again.
+impl Drop for Lanes {
+    fn drop(self) {
+        let Lanes {
+            run: _,
+            stops: _,
+            map: _,
+            alloc: _,
+            last: _,
+            guesses: _,
+        } = self;
+    }
 }
 
 impl Lanes {
