@@ -3,9 +3,8 @@
 PREFIX ?= /usr/local
 # The program that tests take: bin/rewind (proved) or bin/rewind-quick.
 REWIND ?= bin/rewind
-# Checks side by side: one fewer than processors, and at least two. None was seen to take more than 5.5 GB. With less memory:
-# make gate RT_JOBS=2.
-RT_JOBS ?= $(shell n=$$(nproc); echo $$((n > 3 ? n - 1 : 2)))
+# Checks side by side: one for each processor, as far as the memory goes. None was seen to take more than 5.5 GB.
+RT_JOBS ?= $(shell awk -v n=$$(nproc) '/^MemTotal/ { m = int($$2 / 5500000); print m < 1 ? 1 : m < n ? m : n }' /proc/meminfo)
 
 HAS_RT := $(shell command -v rt)
 RT = $(if $(HAS_RT),rt,$(error rewind: 'rt' is not on the path: install the Rattle toolchain first (README.md, 'How to build it')))
