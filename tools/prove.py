@@ -22,9 +22,9 @@ import time
 import kit
 
 # The jobs of the check on which most depends; each other check has one. Each job reads the libraries below for itself, and a
-# check begins new jobs several times. So a crate that stands on many others is proved as fast with one job.
+# check begins new jobs several times. So only a crate that stands on few others has two.
 JOBS_OF_THE_FIRST = 2
-MANY_BELOW = 20
+FEW_BELOW = 20
 # How far other checks stand back behind the first one.
 STANDS_BACK = 10
 # What stands beside the longest chain is done long before its end.
@@ -133,7 +133,7 @@ class Prover:
         """Begins a check. The crate with the longest chain above it, of those that wait or run, leads."""
         others = [*self.waiting, *(it.crate for it in self.running)]
         leads = all(self.height[crate] >= self.height[it] for it in others)
-        reads_few = len(order(crate, [])) <= MANY_BELOW
+        reads_few = len(order(crate, [])) <= FEW_BELOW
         jobs = min(JOBS_OF_THE_FIRST, self.processors) if leads and reads_few else 1
         number = self.count - len(self.waiting) + 1
         print(f"crate {number} of {self.count}: {crate.name} ({self.minutes()} so far)", flush=True)

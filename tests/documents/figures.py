@@ -1,4 +1,4 @@
-"""Figures: the tables of `bench` have a row for each bench and each crate, and COMPARED says of a step what they say."""
+"""Figures: the tables of `bench` have a row for each bench and each crate of their commit, and COMPARED says of a step what they say."""
 
 import math
 import re
