@@ -277,6 +277,7 @@ impl<R: BufRead> Counted<R> {
         ensures same { OnOk result (failures_of self.new ≡ failures_of self.old) }
         ensures memory { IsErrOf result LineError.Memory → failures_of self.new ≡ failures_of self.old }
         ensures left { OnOk result (left_of self.new + 1 ≡ left_of self.old) }
+        ensures never_more { left_of self.new ≤ left_of self.old }
     {
         if self.left == 0 {
             self.fail();
@@ -308,6 +309,7 @@ pub fn read_line<R: BufRead>(
     ensures same { OnOk result (failures_of reader.new ≡ failures_of reader.old) }
     ensures memory { IsErrOf result LineError.Memory → failures_of reader.new ≡ failures_of reader.old }
     ensures left { OnOk result (left_of reader.new < left_of reader.old) }
+    ensures never_more { left_of reader.new ≤ left_of reader.old }
 {
     loop {
         match reader.read_on(line) {
