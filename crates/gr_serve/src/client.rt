@@ -1,5 +1,5 @@
 //! Clients of a session, and how the lines of one are answered.
-ghost use Rattle.std.specs.Prelude.{◌≡◌, ◌++◌, [], OnOk};
+ghost use Rattle.std.specs.Prelude.{◌≡◌, ◌++◌, [], OnOk, OnErr};
 ghost use Rattle.gr_lines.specs.Devices.{change};
 ghost use Rattle.gr_serve.specs.Replies.{answer_of, answer_text};
 ghost use Rattle.gr_serve.specs.Clients.{IsAnswered, LineEnds, StreamEnds};
@@ -42,16 +42,18 @@ pub trait Client {
         ensures fixed { fixed self.new ≡ fixed self.old };
 }
 
-/// Appends the bytes.
+/// Appends the bytes. An error leaves the text as it was.
 fn put(text: &mut Vec<u8>, bytes: &[u8]) -> Result<(), NoMemory>
-    ensures { OnOk result (text.new.items ≡ text.old.items ++ bytes.now) }
+    ensures ok { OnOk result (text.new.items ≡ text.old.items ++ bytes.now) }
+    ensures err { OnErr result (text.new.items ≡ text.old.items) }
 {
     Ok(text.extend_from_slice(bytes)?)
 }
 
-/// Appends the text of what came of a command. After an error a part of it may be there.
+/// Appends the text of what came of a command. An error leaves the text as it was.
 pub fn put_answer(text: &mut Vec<u8>, asked: Result<&Receipt, AskRefused>) -> Result<(), NoMemory>
-    ensures { OnOk result (text.new.items ≡ text.old.items ++ answer_text (answer_of asked.entry)) }
+    ensures ok { OnOk result (text.new.items ≡ text.old.items ++ answer_text (answer_of asked.entry)) }
+    ensures err { OnErr result (text.new.items ≡ text.old.items) }
 {
     match asked {
         Ok(receipt) => write_reply(text, &receipt.reply),
