@@ -1,6 +1,6 @@
 -- What was read of a line, and what of a reply was written.
 use Rattle.std.specs.Prelude.{◌≡◌, ℕ, ◌+◌, ◌≢◌, List, [], ◌∷◌, ◌++◌, take, Option, None, Some, OnSome}
-use Rattle.std.specs.Io.KnownBytes.{Consumes, Appends, Keeps, IsAtEnd}
+use Rattle.std.specs.Io.KnownBytes.{Consumes, Appends, IsAtEnd}
 use Rattle.gr_command.specs.declared.read.TheConstants.{LINE_LIMIT}
 use Rattle.gr_lines.specs.declared.counted.LineEnd.{LineEnd}
 use Rattle.gr_lines.specs.declared.counted.LineEnd.TheVariants.{Newline, End}

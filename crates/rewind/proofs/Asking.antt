@@ -1,5 +1,5 @@
 -- What came of a command of a desk.
-use Rattle.std.proofs.Common.{◌≡◌, Result, Ok, Err, refl}
+use Rattle.std.proofs.Common.{Result, Ok, Err, refl}
 use Rattle.std.specs.Borrow.{Bor}
 use Rattle.gr_program.specs.Programs.{Program}
 use Rattle.gr_command.specs.declared.command.Command.{Command}

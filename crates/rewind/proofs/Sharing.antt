@@ -11,7 +11,7 @@ use Rattle.gr_serve.specs.declared.debug.DebugFault.{DebugFault}
 use Rattle.gr_serve.specs.declared.debug.DebugFault.TheVariants.{Source, Open, Serve, Threads}
 use Rattle.gr_lines.specs.Devices.{Device, Change, NeverFails}
 use Rattle.gr_serve.specs.Debug.{Opened, SourceLeft, BlamesDevice}
-use Rattle.rewind.specs.Beside.{LeftBeside, Settled, StreamLeft, BlamesStream, Streamed, EndedWith, BesideEnds, DebuggedBeside, LeftWith, BesideLeft, IsStill}
+use Rattle.rewind.specs.Beside.{LeftBeside, Settled, StreamLeft, BlamesStream, Streamed, EndedWith, BesideEnds, DebuggedBeside, BesideLeft, IsStill}
 use Rattle.gr_lines.proofs.Known.{Keeps-refl}
 
 abbrev still : Device → Change
