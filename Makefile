@@ -16,7 +16,7 @@ NEEDS_RT = @: $(RT)
 
 ## Use it
 
-all: bin/rewind ## proves the program, and leaves it as bin/rewind (about an hour)
+all: bin/rewind ## proves the program, and leaves it as bin/rewind (half an hour to an hour)
 
 bin/rewind: FORCE
 	$(NEEDS_RT)
@@ -98,7 +98,7 @@ uninstall: ## removes what install installed
 test: bin/rewind-quick ## every test, without proofs (7 minutes on two processors)
 	tests/run.py bin/rewind-quick
 
-gate: ## the gate: each proof from nothing, edits that must be refused, all tests and programs (one to two hours on four processors)
+gate: ## the gate: each proof from nothing, edits that must be refused, all tests and programs (an hour on four processors)
 	RT_JOBS=$(RT_JOBS) $(RT) ci
 
 edits: ## the edits that must be refused and that the gate leaves out (hours; CRATE=NAME for one crate)
