@@ -37,7 +37,8 @@ def slowest(folder):
 def markdown(folder, clock, processor):
     lines = ["# The proofs of the program", "", "Written by `make make-times`.", "", origin(), ""]
     lines += ["| `make` from nothing | Minutes |", "|---|---|", f"| by the clock | {clock:.1f} |", f"| of processors | {processor:.1f} |", ""]
-    lines += ["What took longest, in seconds. A check that several processes share tells more than each part takes alone.", ""]
+    lines += ["What took longest, in seconds. A check that several processes share tells more than each part takes alone. The first "
+              "function that calls one of a crate below has the loading of that crate's proofs, too.", ""]
     return "\n".join([*lines, slowest(folder), ""])
 
 

@@ -16,6 +16,8 @@ import re
 # What the toolchain writes for a function, beside the files of its folder in proofs/.
 PARTS = re.compile(r"(\.(Code|Mir|Statement|Key|Symbol|Layout|Kinds[-0-9]*|Lts[^.]*|Named|Met|Reads|Tie|Proof|Goals|Given"
                    r"|TheLink|TheImpl))+$")
+# A module of one of several functions that call each other: the name of their group, which begins with '+', and its own.
+MEMBER = re.compile(r"(.*\+\w+)\.Lts-([^.]+)")
 
 
 def modules(crate):
@@ -35,19 +37,23 @@ def file_of(crate, module):
 
 
 def seconds_of(crate):
-    """The seconds of each function and of each proof file of a crate."""
-    functions, files = collections.Counter(), collections.Counter()
+    """The seconds of each function, or group of functions that call each other, and of each proof file of a crate."""
+    functions, files, groups = collections.Counter(), collections.Counter(), collections.defaultdict(set)
     for module, seconds in modules(crate):
-        file = file_of(crate, module)
+        file, part = file_of(crate, module), module.partition("-proofs.")[2]
+        member = MEMBER.match(part)
+        if member:
+            groups[member[1]].add(member[2])
         if file:
-            files[file] += seconds
-        elif "-proofs." in module:
-            functions[PARTS.sub("", module.partition("-proofs.")[2])] += seconds
-    return functions, files
+            files[f"`{file}`"] += seconds
+        elif part:
+            functions[PARTS.sub("", part)] += seconds
+    sizes = {name: f", {len(members)} functions that call each other" for name, members in groups.items()}
+    return {f"`{name}`{sizes.get(name, '')}": seconds for name, seconds in functions.items()}, files
 
 
 def table(heading, rows):
-    lines = [f"| {crate} | `{name}` | {seconds:.1f} |" for seconds, crate, name in rows]
+    lines = [f"| {crate} | {name} | {seconds:.1f} |" for seconds, crate, name in rows]
     return "\n".join([f"| Crate | {heading} | Seconds |", "|---|---|---|", *lines])
 
 
