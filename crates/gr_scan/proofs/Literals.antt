@@ -1,7 +1,8 @@
 -- String literals, byte by byte.
-use Rattle.std.proofs.Common.{◌≡◌, ℕ, zero, suc, ◌<◌, ◌≤◌, ◌+◌, Bool, true, false, cond, List, [], ◌∷◌, ◌++◌, length, take, get_or, refl, ap, sym, ◌∙◌, subst, arith, length-take, eqb-true}
-use Rattle.std.specs.Prelude.{◌==◌, Option, Some, None}
+use Rattle.std.proofs.Common.{◌≡◌, ℕ, zero, suc, ◌<◌, ◌≤◌, ◌+◌, Bool, true, false, cond, List, [], ◌∷◌, ◌++◌, length, take, drop, get_or, refl, ap, sym, ◌∙◌, subst, arith, length-take, eqb-true, append_assoc, append-nil, add-one, drop-cons, ◌⊎◌, inl, inr}
+use Rattle.std.specs.Prelude.{◌==◌, Option, Some, None, IfSome}
 use Rattle.std.proofs.lemmas.Option.{same_Some}
+use Rattle.std.proofs.lemmas.List.{drop_all}
 use Rattle.gr_scan.specs.declared.quoted.Part.{Part}
 use Rattle.gr_scan.specs.declared.quoted.Part.TheVariants.{Byte, Backslash, Close, LeftOut, Malformed}
 use Rattle.gr_scan.specs.Strings.{is_plain, escaped, with_byte, body_of, text_of, is_left_out_escape, escape_part, part_of}
@@ -120,3 +121,42 @@ text_front (b ∷ s) bytes h = (omega arith, eqb-true b 34 (first_quote (b == 34
 abbrev pub after_bytes : List ℕ → Value → Value
 after_bytes done None = None
 after_bytes done (Some rest) = Some (done ++ rest)
+
+more_bytes : (done : List ℕ) (b : ℕ) (r : Value) → after_bytes (done ++ (b ∷ [])) r ≡ after_bytes done (with_byte (Some b) r)
+more_bytes done b None = refl
+more_bytes done b (Some rest) = ap Some (append_assoc done (b ∷ []) rest)
+
+by_quote : (quote ended : Bool) (r : Value) (done : List ℕ) → after_bytes done (cond ended (Some []) None) ≡ r → IfSome (cond quote r None) (λ bytes. done ≡ bytes)
+by_quote false ended r done e = tt
+by_quote true true r done e = subst (λ v. IfSome v (λ bytes. done ≡ bytes)) e (sym (append-nil done))
+by_quote true false r done e = subst (λ v. IfSome v (λ bytes. done ≡ bytes)) e tt
+
+-- where a body ends: the bytes that were read are all of its bytes, or it stands for none
+ended : (last : Bool) (text done : List ℕ) → after_bytes done (cond last (Some []) None) ≡ body_of false (drop 1 text) → IfSome (text_of text) (λ bytes. done ≡ bytes)
+ended last [] done e = tt
+ended last (b ∷ s) done e = by_quote (b == 34) last (body_of false s) done e
+
+-- one turn of the loop over the bytes of a literal
+module _ (text done : List ℕ) (i : ℕ) (f : Bool) (so_far : after_bytes done (body_of f (drop i text)) ≡ body_of false (drop 1 text)) where
+  pub all_read : length text ≤ i → IfSome (text_of text) (λ bytes. done ≡ bytes)
+  all_read le = ended false text done (sym (ap (λ s. after_bytes done (body_of f s)) (drop_all i text le)) ∙ so_far)
+
+  module _ (lt : i < length text) where
+    abbrev rest : List ℕ
+    rest = drop (i + 1) text
+
+    turn : (p : Part) → p ≡ part_of f (get_or text i 0) → after_bytes done (body_by p (length rest == 0) (body_of false rest) (body_of true rest)) ≡ body_of false (drop 1 text)
+    turn p is =
+        let front : drop i text ≡ get_or text i 0 ∷ rest = rw (add-one, drop-cons text i 0) in
+        sym (ap (λ s. after_bytes done (body_of f s)) front ∙ ap (after_bytes done) (by_this f (get_or text i 0) rest p (sym is))) ∙ so_far
+
+    pub byte_on : (b : ℕ) (new : List ℕ) → Byte b ≡ part_of f (get_or text i 0) → new ≡ done ++ (b ∷ []) → after_bytes new (body_of false rest) ≡ body_of false (drop 1 text)
+    byte_on b new is pushed = ap (λ d. after_bytes d (body_of false rest)) pushed ∙ more_bytes done b (body_of false rest) ∙ turn (Byte b) is
+
+    pub escape_on : Backslash ≡ part_of f (get_or text i 0) → after_bytes done (body_of true rest) ≡ body_of false (drop 1 text)
+    escape_on is = turn Backslash is
+
+    pub quote_ends : (p : Part) → p ≡ part_of f (get_or text i 0) → (p ≡ Close) ⊎ ((p ≡ LeftOut) ⊎ (p ≡ Malformed)) → IfSome (text_of text) (λ bytes. done ≡ bytes)
+    quote_ends p is (inl h) = ended (length rest == 0) text done (turn Close (sym h ∙ is))
+    quote_ends p is (inr (inl h)) = ended false text done (turn LeftOut (sym h ∙ is))
+    quote_ends p is (inr (inr h)) = ended false text done (turn Malformed (sym h ∙ is))
