@@ -8,6 +8,7 @@ pub mod FindsSimpleAll
 pub mod FindsStatements
 pub mod FindsStatementsAll
 pub mod FitTogether
+pub mod GroupTurns
 pub mod Headed
 pub mod LabelNames
 pub mod NameLists
@@ -21,5 +22,6 @@ pub mod Stepping
 pub mod TakenGroups
 pub mod TakerRows
 pub mod Taking
+pub mod TargetTurns
 pub mod TreeRows
 pub mod TreesOfTexts
