@@ -38,18 +38,29 @@ def file_of(crate, module):
 
 def seconds_of(crate):
     """The seconds of each function, or group of functions that call each other, and of each proof file of a crate."""
-    functions, files, groups = collections.Counter(), collections.Counter(), collections.defaultdict(set)
+    functions, files = collections.Counter(), collections.Counter()
     for module, seconds in modules(crate):
         file, part = file_of(crate, module), module.partition("-proofs.")[2]
-        member = MEMBER.match(part)
-        if member:
-            groups[member[1]].add(member[2])
         if file:
-            files[f"`{file}`"] += seconds
+            files[file] += seconds
         elif part:
             functions[PARTS.sub("", part)] += seconds
-    sizes = {name: f", {len(members)} functions that call each other" for name, members in groups.items()}
-    return {f"`{name}`{sizes.get(name, '')}": seconds for name, seconds in functions.items()}, files
+    return functions, files
+
+
+def members_of(crate):
+    """The functions of each group of a crate."""
+    groups = collections.defaultdict(set)
+    for module, _ in modules(crate):
+        member = MEMBER.match(module.partition("-proofs.")[2])
+        if member:
+            groups[member[1]].add(member[2])
+    return groups
+
+
+def shown(name, members):
+    """A function, a group with the number of its functions, or a proof file, as a cell of the table."""
+    return f"`{name}`, {len(members)} functions that call each other" if members else f"`{name}`"
 
 
 def table(heading, rows):
@@ -64,9 +75,9 @@ def main():
     given = options.parse_args()
     functions, files = [], []
     for crate in given.crates:
-        name = os.path.basename(os.path.abspath(crate))
+        name, groups = os.path.basename(os.path.abspath(crate)), members_of(crate)
         for rows, seconds in zip((functions, files), seconds_of(crate)):
-            rows += [(each, name, what) for what, each in seconds.items()]
+            rows += [(each, name, shown(what, groups.get(what))) for what, each in seconds.items()]
     for heading, rows in (("Function", functions), ("Proof file", files)):
         print(table(heading, sorted(rows, reverse=True)[:given.most]), end="\n\n")
 
