@@ -278,6 +278,7 @@ impl<R: BufRead> Counted<R> {
         ensures memory { IsErrOf result LineError.Memory → failures_of self.new ≡ failures_of self.old }
         ensures left { OnOk result (left_of self.new + 1 ≡ left_of self.old) }
         ensures never_more { left_of self.new ≤ left_of self.old }
+        ensures spent { left_of self.old ≡ 0 → IsErrOf result LineError.Read }
     {
         if self.left == 0 {
             self.fail();
@@ -296,7 +297,8 @@ impl<R: BufRead> Counted<R> {
 }
 
 /// Reads a line into `line`, which is empty, without its newline. Of a line of more than 1,048,576 bytes one byte more than that
-/// is kept. After an error some bytes of the line may have been read.
+/// is kept. After an error some bytes of the line may have been read. Each read of the device is one of those that are left, and
+/// with none left the error is `LineError::Read`.
 pub fn read_line<R: BufRead>(
     reader: &mut Counted<R>,
     line: &mut Vec<u8>,
@@ -310,6 +312,7 @@ pub fn read_line<R: BufRead>(
     ensures memory { IsErrOf result LineError.Memory → failures_of reader.new ≡ failures_of reader.old }
     ensures left { OnOk result (left_of reader.new < left_of reader.old) }
     ensures never_more { left_of reader.new ≤ left_of reader.old }
+    ensures spent { left_of reader.old ≡ 0 → IsErrOf result LineError.Read }
 {
     loop {
         match reader.read_on(line) {
