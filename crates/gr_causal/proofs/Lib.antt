@@ -14,3 +14,13 @@ pub mod MailboxLemmas
 pub mod PartLemmas
 pub mod UniqueLemmas
 pub mod PlaceLemmas
+mod TakeLemmas
+mod MoveLemmas
+mod TripLemmas
+mod ConsistencyLemmas
+mod ParabolicLemmas
+mod MachineTripLemmas
+mod ClosureLemmas
+mod BackwardLemmas
+mod FrontLemmas
+mod EventLemmas

@@ -7,3 +7,6 @@ pub mod OrderByNames
 pub mod StepNames
 pub mod Mailboxes
 pub mod WorkedLog
+pub mod Trips
+pub mod Closure
+pub mod MailboxTrips

@@ -7,11 +7,16 @@
 //! Each theorem is the contract of a function that does nothing. It holds for all machines whose objects, cells, states,
 //! events and notes are `O`, `C`, `S`, `E` and `N`, or for all steps of a type `T`. The definitions are in `specs/`. Nothing
 //! is said of time, fairness or progress. After Lanese, Nishida, Palacios and Vidal, "A theory of reversibility for Erlang"
-//! (2018), and Mazurkiewicz's traces (1977).
+//! (2018), Lanese, Phillips and Ulidowski, "An axiomatic approach to reversible computation" (2020), and Mazurkiewicz's traces
+//! (1977).
 #![tactic(auto)]
 
+pub mod backward;
+pub mod closure;
 pub mod dependence;
+pub mod mailbox_trips;
 pub mod mailboxes;
 pub mod orders;
 pub mod rollback;
 pub mod steps;
+pub mod trips;
