@@ -224,7 +224,7 @@ module _ (c : ChName) (s t : State) (g h : List ℕ) where
   shares k _ e f x = absurd (no_truth f)
 
 -- the row of a step with a channel
-row_is : (s : State) (e : Event) (n : Note Object Report) (operation : Operation) → n.kind.operation ≡ Some operation
+pub row_is : (s : State) (e : Event) (n : Note Object Report) (operation : Operation) → n.kind.operation ≡ Some operation
     → table s e n.kind ≡ and_always e (with_channel s operation n.kind.deed)
 row_is s e n operation h = ap (λ o. and_always e (row s e n.kind (s.goroutines e.go) o)) h
 

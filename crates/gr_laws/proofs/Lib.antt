@@ -12,6 +12,7 @@ pub mod TouchedLemmas
 pub mod LocalLemmas
 pub mod FoldingLemmas
 pub mod BufferConflicts
+pub mod MemoryLemmas
 pub mod RuleRefusals
 pub mod ChoiceLemmas
 pub mod ReasonLemmas

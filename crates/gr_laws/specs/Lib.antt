@@ -7,4 +7,5 @@ pub mod TakingBack
 pub mod Touched
 pub mod Folding
 pub mod OneBuffer
+pub mod MemoryModel
 pub mod Refusals

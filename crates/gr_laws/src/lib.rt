@@ -1,6 +1,8 @@
 //! What holds of the rules of steps: laws, each on a function that does nothing.
 #![tactic(auto)]
 
+pub mod memory_model;
+
 ghost use Rattle.std.specs.Prelude.{◌≡◌, ◌↔◌, ℕ, ℤ, ◌<◌, ◌≤◌, List, [], ◌∷◌, ◌++◌, map, length, Bool, true, false, ◌||◌, ◌⊎◌};
 ghost use Rattle.std.specs.Prelude.{Some, None};
 ghost use Rattle.gr_tree.specs.declared.expr.UnaryOp.{UnaryOp};
