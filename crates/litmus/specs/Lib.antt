@@ -9,3 +9,5 @@ pub mod Calls
 pub mod Limits
 pub mod Names
 pub mod Lookups
+pub mod Neighbours
+pub mod HappensBefore

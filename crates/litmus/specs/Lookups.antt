@@ -3,13 +3,12 @@
 use Rattle.std.specs.Prelude.{◌≡◌, ℕ, true, false, Bool, List, [], ◌∷◌, Option, Some, None, option_map, option_and_then}
 use Rattle.std.specs.Option.{option_map_or}
 use Rattle.gr_base.specs.declared.events.Event.{Event}
-use Rattle.gr_program.specs.Programs.{Program}
 use Rattle.gr_rules.specs.History.{start_of, sent, received}
 use Rattle.gr_rules.specs.LocalSteps.{is_local}
 use Rattle.gr_rules.specs.Turns.{RunEnd, all_taken, none_ready, log_full, at_break, why_end}
 use Rattle.gr_rules.specs.Limits.{most_steps}
 use Rattle.litmus.specs.Buffers.{program, full, full_and_taken}
-use Rattle.litmus.specs.Runs.{Name, main, child, channel, steps, times, name, log, run_of}
+use Rattle.litmus.specs.Runs.{Name, main, child, channel, times, name, log, run_of}
 
 abbrev pub starter : List ℕ → Option Name
 starter g = option_map (name program) (start_of program g (log program full_and_taken))

@@ -10,6 +10,8 @@ ghost use Rattle.litmus.specs.Calls as calls;
 ghost use Rattle.litmus.specs.Limits as limits;
 ghost use Rattle.litmus.specs.Names as names;
 ghost use Rattle.litmus.specs.Lookups as lookups;
+ghost use Rattle.litmus.specs.Neighbours as neighbours;
+ghost use Rattle.litmus.specs.HappensBefore as happens_before;
 
 /// A value is handed over, whichever of the two comes first.
 pub fn law_of_handing_over()
@@ -78,4 +80,35 @@ pub fn law_of_lookups()
     ensures finds { lookups.Finds }
     ensures local { lookups.AreLocal }
     ensures ends { lookups.Ends }
+{}
+
+/// Neighbours that depend on each other though their order does not matter: `cap` and `len` with a wait or a close, `len` with a
+/// hand-over, a close with a receive of a buffered value, what serves the first of a queue with a wait at its end, and a default
+/// with a wait. In both orders each is a step of the same kind, and the state in the end is one. Still the later one goes back
+/// with the first.
+pub fn law_of_needless_dependence()
+    ensures cap_and_wait { neighbours.CapAndWait }
+    ensures cap_and_close { neighbours.CapAndClose }
+    ensures len_and_wait { neighbours.LenAndWait }
+    ensures len_and_close { neighbours.LenAndClose }
+    ensures len_and_hand { neighbours.LenAndHand }
+    ensures close_and_take { neighbours.CloseAndTake }
+    ensures hand_and_wait { neighbours.HandAndWait }
+    ensures meet_and_wait { neighbours.MeetAndWait }
+    ensures take_and_wait { neighbours.TakeAndWait }
+    ensures default_and_wait { neighbours.DefaultAndWait }
+    ensures default_and_send_wait { neighbours.DefaultAndSendWait }
+{}
+
+/// What Go's memory model orders goes back together, in runs whose sends and receives are counted as Go counts them: a start, a
+/// value without a buffer and with one, a buffer past which a value goes from hand to hand, and a close. Two sends into a buffer
+/// depend on each other, though Go does not order them.
+pub fn law_of_happening_before()
+    ensures starts { happens_before.StartsFirst }
+    ensures receiver { happens_before.ReceiverWaits }
+    ensures sender { happens_before.SenderWaits }
+    ensures buffered { happens_before.Buffered }
+    ensures handed { happens_before.HandedBetween }
+    ensures closes { happens_before.ClosesFirst }
+    ensures more { happens_before.MoreThanGo }
 {}

@@ -1,0 +1,2 @@
+-- Lemmas on runs of small programs.
+pub mod EndLemmas
