@@ -10,4 +10,7 @@ mod pool;
 #[cfg(test)]
 mod scan;
 #[cfg(test)]
+mod search;
+pub mod stairs;
+#[cfg(test)]
 mod syntax;

@@ -1,0 +1,23 @@
+-- What steps and turns of the search keep.
+use Rattle.std.proofs.Common.{◌≡◌, ℕ, ◌+◌, Bool, true, false, List, ◌∷◌, Option, Some, None, drop, sym, ◌∙◌, ap, subst, arith}
+use Rattle.std.proofs.lemmas.List.{drop-drop}
+use Rattle.gr_search.specs.System.{System, Follows, goes}
+use Rattle.gr_search.specs.Going.{Stepped}
+
+pub drop_one : {A : Type 0} (n : ℕ) (x : A) (xs : List A) → drop (n + 1) (x ∷ xs) ≡ drop n xs
+drop_one n x xs = let e : n + 1 ≡ 1 + n = omega arith in ap (λ k. drop k (x ∷ xs)) e ∙ sym (drop-drop n 1 (x ∷ xs))
+
+module _ {State Event Key : Type 0} (Y : System State Event Key) where
+  pub possible : (done : Bool) (e : Event) (s t : State) (log more : List Event) → done ≡ true → Stepped Y done e s t log more → (Y.next s e ≡ Some t) × (more ≡ e ∷ log)
+  possible done e s t log more h w = let P : Bool → Type 0 = λ b. Stepped Y b e s t log more in subst P h w
+
+  pub impossible : (done : Bool) (e : Event) (s t : State) (log more : List Event) → done ≡ false → Stepped Y done e s t log more → (Y.next s e ≡ None) × (t ≡ s) × (more ≡ log)
+  impossible done e s t log more h w = let P : Bool → Type 0 = λ b. Stepped Y b e s t log more in subst P h w
+
+module _ {State Event Key : Type 0} (Y Z : System State Event Key) (same : Y ≡ Z) where
+  pub follow_on : (o s t : State) (found : Option Event) (a : Event) → found ≡ Some a → ((b : Event) → found ≡ Some b → Y.alone s b ≡ true) → Y.next s a ≡ Some t
+      → ((u : State) → Follows Z s u → Follows Z o u) → (u : State) → Follows Z t u → Follows Z o u
+  follow_on o s t found a e h g f u w = f u (goes {a = a} (ap (λ (y : System State Event Key). y.alone s a) (sym same) ∙ h a e) (ap (λ (y : System State Event Key). y.next s a) (sym same) ∙ g) w)
+
+pub drop_steps : {A : Type 0} (n : ℕ) (e : A) (xs ys zs : List A) → drop n xs ≡ ys → ys ≡ e ∷ zs → drop (n + 1) xs ≡ zs
+drop_steps n e xs ys zs h g = sym (drop-drop 1 n xs) ∙ ap (drop 1) (h ∙ g)
