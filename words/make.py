@@ -275,7 +275,7 @@ def manual():
     parts += [
         f".SH EXIT STATUS\n{tagged(statuses)}",
         f".SH EXAMPLE\n.nf\n{example}\n.fi\n",
-        ".SH SEE ALSO\ndocs/COMMANDS.md, docs/LANGUAGE.md and docs/SESSIONS.md of the repository\n",
+        ".SH SEE ALSO\nCOMMANDS.md, LANGUAGE.md and SESSIONS.md in share/doc/rewind/docs, beside the folder of the program\n",
     ]
     return "".join(parts)
 

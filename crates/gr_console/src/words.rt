@@ -1,6 +1,6 @@
 //! What the program says in plain words. Made by words/make.py from the texts beside it: change those.
 
-pub(crate) const VERSION: &str = "1.1.0";
+pub(crate) const VERSION: &str = "1.2.0-dev";
 
 pub(crate) const ABOUT: &str = "\
 Debugs a program in a small Go with goroutines and channels, one step at a
@@ -15,8 +15,8 @@ rewind [--workers <N>] <FILE>
 pub(crate) const HELP: &str = "\
 Commands, one a line on standard input:
   step G                        take one step of a goroutine
-  step G CASE                   .. of the clause CASE of a select
-  run N                         take up to N steps, round-robin
+  step G CASE                   .. of the case CASE of a select
+  run N                         take up to N steps, round robin
   undo                          take the last step back
   back G#N                      take a step back with all that depends on it
   back go G                     .. the step that started a goroutine
@@ -87,7 +87,7 @@ this line is not a command (rewind --help lists the commands)
 ";
 
 pub(crate) const BANNER: &str = "\
-Rewind 1.1.0: a command a line, such as 'run 100', 'show g0', 'undo'; 'quit' ends the session, 'rewind --help' lists them all.
+Rewind 1.2.0-dev: a command a line, such as 'run 100', 'show g0', 'undo'; 'quit' ends the session, 'rewind --help' lists them all.
 (rewind) ";
 
 /// What is said of arguments that are not UTF-8.

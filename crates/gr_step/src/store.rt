@@ -80,7 +80,7 @@ impl Store {
 
     /// Takes the step of an event, if it is one. Errors: the program is over; there is no such goroutine; it is done; it waits;
     /// the choice is not possible here: the first of these that holds. Out of memory only where it is a step. Refused, nothing
-    /// has changed.
+    /// has changed. The crates above call `step_meant`: this is for users of the library.
     pub fn step(&mut self, event: Event) -> Result<Record, StepRefused>
         requires run { IsRun self.old }
         requires counted { CanCount (contents_at self.old) }
@@ -100,7 +100,7 @@ impl Store {
     /// Takes the step of a goroutine with its usual choice. At a select that is the lowest clause that can proceed, else the
     /// default clause, else to wait. Errors: the program is over; there is no such goroutine; it is done; it waits: the first
     /// of these that holds. Out of memory only where it is a step, and at a select of 2^32 clauses or more. Refused, nothing
-    /// has changed.
+    /// has changed. The crates above call `step_meant`: this is for users of the library.
     pub fn step_usual(&mut self, go: GoName) -> Result<Record, StepRefused>
         requires run { IsRun self.old }
         requires counted { CanCount (contents_at self.old) }

@@ -31,7 +31,7 @@ that gave 's' its value.
     (
         b"SendOnClosed",
         "\
-SendOnClosed: a send on a closed channel, also as a clause of a select
+SendOnClosed: a send on a closed channel, also as a case of a select
 
 Example: 'c <- 1' after 'close(c)'.
 

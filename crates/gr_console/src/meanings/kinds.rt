@@ -152,20 +152,20 @@ The goroutine is ready again when somebody sends to the channel, or closes it.
     (
         b"pick",
         "\
-pick: did the communication of clause N of a select
+pick: did the communication of case N of a select
 
-Example: 'step g0 2' gives 'ok g0#7 pick 2' where clause 2 can proceed.
+Example: 'step g0 2' gives 'ok g0#7 pick 2' where case 2 can proceed.
 
-To choose another clause, take the step back and step again with the clause's
+To choose another case, take the step back and step again with the case's
 number.
 ",
     ),
     (
         b"default",
         "\
-default: took the default clause of a select
+default: took the default case of a select
 
-Example: 'select' with 'default' where no other clause can proceed.
+Example: 'select' with 'default' where no other case can proceed.
 
 It depends on the channels that it found not ready.
 ",
@@ -173,11 +173,11 @@ It depends on the channels that it found not ready.
     (
         b"select-wait",
         "\
-select-wait: waits on all clauses of a select
+select-wait: waits on all cases of a select
 
-Example: 'select' without 'default' where no clause can proceed.
+Example: 'select' without 'default' where no case can proceed.
 
-The goroutine is ready again when one of the clauses can proceed.
+The goroutine is ready again when one of the cases can proceed.
 ",
     ),
     (

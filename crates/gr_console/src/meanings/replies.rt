@@ -54,11 +54,11 @@ What to do: Step another one, or take its last step back with 'back'.
         "\
 N5: the choice is not possible here
 
-Example: 'step g0 2' where clause 2 is not ready, is the 'default', or the
+Example: 'step g0 2' where case 2 is not ready, is the 'default', or the
 statement is no select whose parts are done.
 
-What to do: Leave the number out, or give that of a clause that can proceed
-now. Clauses are counted from 1, with 'default'.
+What to do: Leave the number out, or give that of a case that can proceed now.
+Cases are counted from 1, with 'default'.
 ",
     ),
     (

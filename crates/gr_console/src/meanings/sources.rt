@@ -154,7 +154,7 @@ spelling. Only the built-in functions need no declaration.
     (
         b"C2",
         "\
-C2: a name or label declared twice, or one that may not be declared; two 'default' clauses
+C2: a name or label declared twice, or one that may not be declared; two 'default' cases
 
 Example: 'a, a := 1, 2' is refused at 3:2 (on line 3 of a file, in the body of
 'main', after a tab).
