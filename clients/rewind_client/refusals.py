@@ -13,10 +13,22 @@ A form of S1 to P4 has conditions, all of which must hold:
 
 For S1 to S8 the text is that of the line. For P1 to P4 it is the tokens with one space between two, an end of a statement at the
 end of a line as a newline, and the end of the file as `<end>`. The groups of both expressions are fields that the sentence
-may name. `words` tells which tokens the form is about, counted from the place: [-1, 2] are the one before it, it, and the next.
-`back_to` is in place of that the last token with this text before the place.
+may name. `words` tells which tokens are marked, counted from the place: [-1, 2] are the one before it, it, and the next. A group
+`mark` of `before` is marked in place of that.
 
-A form of C1 to C10 has no conditions: the package refused finds it and its fields. S7, S8, P4 and C11 have no place, and one form.
+A form has advice of two kinds, or none. `instead` is code in place of a part of the source, and `put` tells of which part:
+
+    (none)     what is marked
+    match      the tokens from the group `from` of `before` on, or from what is marked, to the end of what `at` matches
+    line       the line, without its indentation and a comment
+    above      nothing: it is a line of its own above that of the mark, or a statement before it
+    before     nothing: it stands before the mark, with the end of a line after it
+    statement  the statement that is refused, with the { after it where the code ends with one
+
+`hint` is a sentence. A sentence shows at most 40 letters of a field, and code has all of it.
+
+A form of C1 to C10 has no conditions: the package refused finds it and its fields. Where it is one of a group, `of` tells which,
+and `names` are those that have this form. S7, S8, P4 and C11 have no place, and one form.
 Groups are written (?<name>..), as in JavaScript.
 """
 from __future__ import annotations
@@ -28,13 +40,27 @@ from functools import lru_cache
 from pathlib import Path
 from typing import Any, Mapping, Optional
 
-from .refused.reader import Fault
+from .refused.matching import Place, at_byte, in_text, in_tokens, number_at, placed, statement
+from .refused.reader import Fault, Names
 from .refused.statements import fault_at
-from .refused.tokens import END_OF_FILE, Token, byte_length, open_brackets, tokens_of
+from .refused.tokens import tokens_of
 
 TABLE = Path(__file__).with_name("refusals.json")
-TOKENS_AROUND = 120
 WIDTH = 100
+LONGEST = 40
+
+
+@dataclass(frozen=True)
+class Change:
+    """What stands instead: a text in place of a part of the source, in characters from its start."""
+
+    start: int
+    end: int
+    text: str
+
+    def made_in(self, source: str) -> str:
+        """The source with this change."""
+        return source[: self.start] + self.text + source[self.end :]
 
 
 @dataclass(frozen=True)
@@ -47,29 +73,28 @@ class Refusal:
     column: int
     word: str
     sentence: str
-    instead: Optional[str]
+    instead: Optional[str]  # code
+    hint: Optional[str]  # a sentence
     line_text: str
+    change: Optional[Change] = None  # puts the code in its place
 
     def text(self, file: str) -> str:
-        """The sentence with its place, the line with a caret under the word, and what to write instead."""
+        """The sentence with its place, the line with a caret under the word, what to write instead, and what helps."""
         place = f"{file}:{self.line}:{self.column}" if self.line else file
         lines = [f"{place}: {self.sentence}"]
         if self.line and self.line_text.strip():
             lines += marked(self.line_text, self.column, self.word)
         if self.instead:
             lines.append(f"write instead: {self.instead}")
+        if self.hint:
+            lines.append(f"hint: {self.hint}")
         return "\n".join(lines)
 
-
-@dataclass(frozen=True)
-class Place:
-    """Where the form is, what it is about, and what the sentence may name."""
-
-    form: str
-    line: int
-    column: int
-    word: str
-    fields: Mapping[str, str]
+    def brief(self) -> str:
+        """All of it in one line, for a box or a message: the place, the sentence and the advice."""
+        place = f"line {self.line}: " if self.line else ""
+        instead = f" Write instead: {self.instead}" if self.instead else ""
+        return f"{place}{self.sentence}.{instead}" + (f" Hint: {self.hint}." if self.hint else "")
 
 
 def shown(text: str) -> str:
@@ -83,11 +108,6 @@ def escaped(sign: str) -> str:
     if 0xDC80 <= number <= 0xDCFF:
         return f"\\x{number - 0xDC00:02x}"
     return f"\\u{number:04x}" if number > 0xFF else f"\\x{number:02x}"
-
-
-def at_byte(line: str, column: int) -> int:
-    """The number of characters before a column that counts bytes from 1."""
-    return len(line.encode("utf-8", "surrogateescape")[: column - 1].decode("utf-8", "surrogateescape"))
 
 
 def marked(line: str, column: int, word: str) -> list[str]:
@@ -110,144 +130,71 @@ def table() -> Mapping[str, Any]:
 
 
 @lru_cache(maxsize=None)
-def pattern(text: str) -> re.Pattern[str]:
-    """A regular expression of the table."""
-    return re.compile(re.sub(r"\(\?<(?=[a-z])", "(?P<", text), re.DOTALL)
+def names() -> Names:
+    """The names that have a form of their own, by group, each with its form."""
+    groups: dict[str, dict[str, str]] = {}
+    for form in table()["C1"]["forms"]:
+        groups.setdefault(form.get("of", ""), {}).update(dict.fromkeys(form.get("names", []), form["form"]))
+    return groups
 
 
-def tidy(text: str) -> str:
-    """Tokens with one space between two, written as in a source."""
-    text = re.sub(r" (?=[,;)\]])|(?<=[(\[!]) | (?=\+\+|--)|(?<=\w) (?=[(\[])", "", text.strip())
-    text = re.sub(r"(?<=struct) (?=\{)|(?<=\{) (?=\})|(?<=\}) (?=\{)|(?<=<-) (?=chan)", "", text)
-    return re.sub(r" ?\. ?", ".", text)
-
-
-def matched(form: Mapping[str, Any], before: str, at: str, inside: str, column: int) -> Optional[dict[str, str]]:
-    """The fields of a form whose conditions hold, else none."""
-    if "inside" in form and form["inside"] != inside or form.get("column", column) != column:
-        return None
-    fields: dict[str, str] = {}
-    for key, text in (("at", at), ("before", before)):
-        if key in form:
-            match = pattern(form[key]).search(text)
-            if match is None:
-                return None
-            fields.update((name, value) for name, value in match.groupdict().items() if value is not None)
-    return fields
-
-
-def in_text(code: str, lines: list[str], line: int, column: int) -> Optional[Place]:
-    """The form of a place at which the scanner refused the text."""
-    text = lines[line - 1] if line <= len(lines) else ""
-    start = at_byte(text, column)
-    for form in table()[code]["forms"]:
-        fields = matched(form, text[:start], text[start:], "", column)
-        if fields is not None:
-            word = fields.get("word") or text[start : start + 1]
-            found = {**computed(word), **fields}
-            offset = text.find(word, start)
-            return Place(form["form"], line, column + byte_length(text[start : max(start, offset)]), word, found)
-    return None
-
-
-def computed(word: str) -> dict[str, str]:
-    """What can be reckoned from a literal: the number of a rune, and a fraction or exponent as a whole number."""
-    fields = {"shown": shown(word)}
-    if len(word) == 3 and word[0] == "'" == word[2]:
-        fields["rune"] = str(ord(word[1]))
-    try:
-        fields["whole"] = str(int(float(word.rstrip("i").replace("_", ""))))
-    except (ValueError, OverflowError):
-        fields["whole"] = "a whole number"
-    if word.isdigit():
-        fields["decimal"] = word.lstrip("0") or "0"
-    return fields
-
-
-def joined(tokens: list[Token]) -> str:
-    """Tokens with one space between two."""
-    return " ".join(token.text for token in tokens)
-
-
-def around(tokens: list[Token], number: int, lines: list[str]) -> dict[str, str]:
-    """What a sentence may name besides the groups: the function and the bracket around a place, and the line."""
-    fields = {"word": tokens[number].text}
-    opened = open_brackets(tokens[:number])
-    if opened:
-        fields["opening"], fields["opening_line"] = opened[-1].text, str(opened[-1].line)
-    for index in range(min(number, len(tokens) - 2) - 1, -1, -1):
-        if tokens[index].text == "func" and tokens[index + 1].kind == "name":
-            fields["function"], fields["function_line"] = tokens[index + 1].text, str(tokens[index].line)
-            break
-    line = tokens[number].line
-    fields["here"] = lines[line - 1].split("//")[0].strip() if line <= len(lines) else ""
-    fields["above"] = next((text.split("//")[0].strip() for text in reversed(lines[: line - 1]) if text.strip()), "")
-    return fields
-
-
-def words(form: Mapping[str, Any], tokens: list[Token], number: int, fields: Mapping[str, str]) -> tuple[int, int]:
-    """The tokens that a form is about: the first one, and the one after the last."""
-    if "back_to" in form:
-        text = filled(form["back_to"], fields)
-        return next((n, n + 1) for n in range(number, -1, -1) if tokens[n].text == text or n == 0)
-    first, end = form.get("words", [0, 1])
-    return max(0, number + first), number + end
-
-
-def in_tokens(code: str, source: str, lines: list[str], line: int, column: int) -> Optional[Place]:
-    """The form of a place at which the parser refused the tokens."""
-    tokens = tokens_of(source)
-    number = next((n for n, token in enumerate(tokens) if (token.line, token.column) >= (line, column)), len(tokens) - 1)
-    before = joined(tokens[max(0, number - TOKENS_AROUND) : number])
-    at = joined(tokens[number : number + TOKENS_AROUND])
-    opened = open_brackets(tokens[:number])
-    for form in table()[code]["forms"]:
-        groups = matched(form, before, at, opened[-1].text if opened else "", column)
-        if groups is not None:
-            fields = {**around(tokens, number, lines), **{name: tidy(value) for name, value in groups.items()}}
-            first, end = words(form, tokens, number, fields)
-            return placed(form["form"], source, tokens, first, end, fields)
-    return placed("", source, tokens, number, number + 1, around(tokens, number, lines))
-
-
-def placed(form: str, source: str, tokens: list[Token], first: int, end: int, fields: Mapping[str, str]) -> Place:
-    """The place of the tokens from the first one up to the end; the word ends with their line."""
-    end = min(end, len(tokens))
-    token, last = tokens[first], tokens[end - 1]
-    word = source[token.offset : last.offset + len(last.text)].split("\n")[0].rstrip("\r")
-    return Place(form, token.line, token.column, "" if token.text in ("\n", END_OF_FILE) else word, fields)
-
-
-def in_statement(source: str, code: str, line: int, column: int) -> Optional[Place]:
+def in_statement(forms: list[Mapping[str, Any]], source: str, code: str, line: int, column: int) -> Place:
     """The form of a place at which the checker refused a statement or a heading."""
     tokens = tokens_of(source)
-    fault: Optional[Fault] = fault_at(tokens, source, code, line, column)
+    number = number_at(tokens, line, column)
+    fault: Optional[Fault] = fault_at(tokens, source, code, (line, column), names())
     if fault is None:
-        number = next((n for n, token in enumerate(tokens) if (token.line, token.column) >= (line, column)), len(tokens) - 1)
-        return placed("", source, tokens, number, number + 1, {})
-    return placed(fault.form, source, tokens, fault.first, fault.last + 1, fault.fields)
+        return placed({}, source, tokens, (number, number + 1), (number, number + 1), {})
+    form = next((each for each in forms if each["form"] == fault.form), {"form": fault.form})
+    words = put = (fault.first, fault.last + 1)
+    if form.get("put") == "statement":
+        first = fault.first if tokens[number].text == "select" else number
+        put = statement(tokens, first, with_brace=form["instead"].endswith("{"))
+    return placed(form, source, tokens, words, put, fault.fields)
 
 
 def place_of(source: str, code: str, line: int, column: int) -> Optional[Place]:
     """The form that stands at a place, with the fields of its sentence."""
     if not line or code not in table():
         return None
-    lines = [text.rstrip("\r") for text in source.split("\n")]
+    forms = table()[code]["forms"]
     if code.startswith("S"):
-        return in_text(code, lines, line, column)
+        return in_text(forms, source, line, column)
     if code.startswith("P"):
-        return in_tokens(code, source, lines, line, column)
-    return in_statement(source, code, line, column)
+        return in_tokens(forms, source, line, column)
+    return in_statement(forms, source, code, line, column)
 
 
-def filled(text: Optional[str], fields: Mapping[str, str]) -> Optional[str]:
+def filled(text: Optional[str], fields: Mapping[str, str], longest: Optional[int] = None) -> Optional[str]:
     """A sentence with its fields, or none where a field is not known."""
     if text is None:
         return None
     wanted = re.findall(r"\{([a-z_]+)\}", text)
     if any(name not in fields for name in wanted):
         return None
-    return re.sub(r"\{([a-z_]+)\}", lambda match: shown(fields[match.group(1)]), text)
+    return re.sub(r"\{([a-z_]+)\}", lambda match: shown(shortened(fields[match.group(1)], longest)), text)
+
+
+def shortened(text: str, longest: Optional[int]) -> str:
+    """A text, cut where it is too long for a sentence."""
+    return text if longest is None or len(text) <= longest else text[: longest - 2] + ".."
+
+
+def change_of(form: Mapping[str, Any], source: str, place: Place, instead: str) -> Change:
+    """Puts the code of a form in its place."""
+    begin = source.rfind("\n", 0, place.start) + 1
+    line = source[begin:].split("\n")[0].split("//")[0]
+    indentation = line[: len(line) - len(line.lstrip())]
+    if form.get("put") == "line":
+        return Change(begin + len(indentation), begin + len(line.rstrip()), instead)
+    if form.get("put") == "before":
+        return Change(place.start, place.start, f"{instead}\n")
+    if form.get("put") == "above":
+        before = source[begin : place.start]
+        if not before.strip():
+            return Change(begin, begin, f"{indentation}{instead}\n")
+        return Change(place.start, place.start, f"{instead} " if before.rstrip().endswith("{") else f"; {instead} ")
+    return Change(place.start, place.end, instead)
 
 
 def explain_refusal(source: str, code: str, line: int = 0, column: int = 0) -> Refusal:
@@ -262,9 +209,11 @@ def explain_refusal(source: str, code: str, line: int = 0, column: int = 0) -> R
     if place is None:
         text = lines[line - 1].rstrip("\r") if 0 < line <= len(lines) else ""
         form = next(iter(table()[code]["forms"]), {}) if code in table() and not line else {}
-        return Refusal(code, form.get("form", ""), line, column, "", form.get("sentence", meaning), None, text)
+        return Refusal(code, form.get("form", ""), line, column, "", form.get("sentence", meaning), None, None, text)
     form = next((each for each in table()[code]["forms"] if each["form"] == place.form), {})
-    sentence = filled(form.get("sentence"), place.fields)
+    sentence = filled(form.get("sentence"), place.fields, LONGEST)
     instead = filled(form.get("instead"), place.fields) if sentence else None
+    hint = filled(form.get("hint"), place.fields, LONGEST) if sentence else None
+    change = change_of(form, source, place, instead) if instead else None
     text = lines[place.line - 1].rstrip("\r") if place.line <= len(lines) else ""
-    return Refusal(code, place.form, place.line, place.column, place.word, sentence or meaning, instead, text)
+    return Refusal(code, place.form, place.line, place.column, place.word, sentence or meaning, instead, hint, text, change)

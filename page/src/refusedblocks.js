@@ -12,9 +12,10 @@ export class Blocks extends SimpleStatements {
    * @param {GoToken[]} tokens
    * @param {string} source
    * @param {Refusal} wanted
+   * @param {GoNames} names
    */
-  constructor(tokens, source, wanted) {
-    super(tokens, source, wanted);
+  constructor(tokens, source, wanted, names) {
+    super(tokens, source, wanted, names);
     /** @type {GoFunction | null} */
     this.inFunction = null;
     /** @type {string[]} */
@@ -188,7 +189,8 @@ export class Blocks extends SimpleStatements {
     const { kind, own, first, last } = value;
     const name = number < 0 ? "" : this.tokens[number].text;
     if (name === "_" && sign === ":=") this.fault("C10", "range_blank", number, this.number - 1, { channel: this.text(value) });
-    if (own === "int") this.fault("C3", "range_number", first, last, { name: name === "_" || !name ? "i" : name });
+    const isNamed = name !== "_" && name !== "";
+    if (own === "int") this.fault("C3", "range_number", first, last, { name: isNamed ? name : this.freeName(), sign: isNamed ? sign : ":=" });
     else if (kind !== "unknown" && !isChannel(own)) this.misfit("range", value);
     if (directionOf(own) === "send") this.fault("C5", "range", first, last, { type: own, element: elementOf(own) });
     if (number >= 0) this.rangedInto(number, sign, elementOf(own));

@@ -1,11 +1,9 @@
 // Reads the calls in a source that the parser accepts, and finds what the checker refuses in them.
 
 import { Expressions, isNegative } from "./refusedexpressions.js";
-import { GO_TYPES, counted } from "./refusedreader.js";
+import { counted, ofGiven } from "./refusedreader.js";
 import { PREDECLARED, TYPES, directionOf, elementOf, goValue, isChannel, mayBe } from "./refusedvalues.js";
 
-const GO_FUNCTIONS = new Set("append clear complex copy delete imag max min new panic print real recover".split(" "));
-const WITH_A_FORM = new Set(["append", "new", "panic", "print", "recover"]);
 const NO_VALUE = new Set(["close", "println"]);
 const CALLABLE = new Set(["len", "cap", ...NO_VALUE]);
 
@@ -20,7 +18,8 @@ export class Calls extends Expressions {
     const called = this.functions.get(name);
     if (variable) this.fault("C3", "variable_called", number, number, { name, type: variable.own });
     else if (!called && !PREDECLARED.has(name)) this.unknownFunction(number, name);
-    else if (!called && !CALLABLE.has(name)) this.fault("C3", TYPES.has(name) ? "conversion" : "not_callable", number, number, { name });
+    else if (!called && TYPES.has(name)) this.fault("C3", "conversion", number, number, { name });
+    else if (!called && !CALLABLE.has(name)) this.fault("C3", "not_callable", number, this.closing(number), { name });
     const values = this.args(name === "println" && !called);
     return this.called(number, name, called, values);
   }
@@ -30,9 +29,33 @@ export class Calls extends Expressions {
    * @param {string} name
    */
   unknownFunction(number, name) {
-    if (GO_FUNCTIONS.has(name)) this.fault("C1", WITH_A_FORM.has(name) ? `function_${name}` : "function_left_out", number, number, { name });
-    if (GO_TYPES.has(name)) this.fault("C1", "conversion_left_out", number, number, { name });
+    this.ofGroup("function", name, number, number, { name });
+    this.conversion(number, name);
     this.unknown(number, "function");
+  }
+
+  // The parenthesis that ends the call of a name.
+  /** @param {number} number */
+  closing(number) {
+    let depth = 0;
+    for (let last = number + 1; last < this.tokens.length; last++) {
+      const { text } = this.tokens[last];
+      depth += text === "(" ? 1 : text === ")" ? -1 : 0;
+      if (!depth) return last;
+    }
+    return number;
+  }
+
+  // A conversion to a type of Go that is left out, and the value that is converted.
+  /**
+   * @param {number} number
+   * @param {string} name
+   */
+  conversion(number, name) {
+    const last = this.closing(number);
+    const inner = last > number + 2 ? this.of(number + 2, last - 1) : "0";
+    const isOne = last <= number + 3 || (this.tokens[number + 3].text === "(" && this.closing(number + 2) === last - 1);
+    this.ofGroup("conversion", name, number, last, { name, inner: isOne ? inner : `(${inner})` });
   }
 
   // Reads the arguments of a call; `println` takes string literals too.
@@ -80,7 +103,7 @@ export class Calls extends Expressions {
    */
   checkArguments(number, { name, parameters, heading }, values) {
     if (parameters.length !== values.length) {
-      this.fault("C4", "arguments", number, this.number - 1, { name, wanted: counted(parameters.length, "argument"), given: String(values.length), heading });
+      this.fault("C4", "arguments", number, this.number - 1, { name, wanted: counted(parameters.length, "argument"), given: ofGiven(values.length), heading });
     }
     values.slice(0, parameters.length).forEach((value, at) => {
       const [parameter, wanted] = parameters[at];
@@ -97,7 +120,7 @@ export class Calls extends Expressions {
    * @param {GoValue[]} values
    */
   isOne(number, name, values) {
-    if (values.length !== 1) this.fault("C4", "one_channel", number, this.number - 1, { name, given: String(values.length) });
+    if (values.length !== 1) this.fault("C4", "one_channel", number, this.number - 1, { name, given: ofGiven(values.length) });
     return values.length === 1;
   }
 

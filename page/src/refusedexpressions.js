@@ -48,8 +48,9 @@ export class Expressions extends Reader {
     if (operator === "<-") return this.received(first, inner);
     const wanted = operator === "!" ? "bool" : "int";
     if (!mayBe(inner, wanted) || inner.kind === "nil") {
-      const form = operator === "!" && inner.own === "int" ? "not_of_a_number" : "unary";
-      this.misfit(form, inner, { operator, wanted: plainly(wanted), operand: this.text(inner) });
+      const operand = this.text(inner);
+      if (operator === "!" && inner.own === "int") this.fault("C3", "not_of_a_number", first, inner.last, { operand });
+      this.misfit("unary", inner, { operator, wanted: plainly(wanted), operand });
     }
     const constant = negated(operator, inner.constant);
     return goValue(constant === null ? "value" : "constant", wanted, first, inner.last, constant);
@@ -156,8 +157,8 @@ export class Expressions extends Reader {
     const wrong = sides.find((each) => !mayBe(each, wanted) || each.kind === "nil");
     if (!wrong) return;
     const isOfNumbers = wanted === "bool" && wrong.own === "int";
-    const form = !isOfNumbers ? "operator" : sides.every(({ own }) => own === "int") ? "logical_two_numbers" : "logical_numbers";
-    this.fault("C3", form, wrong.first, wrong.last, { wanted: plainly(wanted), type: this.kind(wrong), ...fields });
+    if (isOfNumbers && sides.every(({ own }) => own === "int")) this.fault("C3", "logical_two_numbers", sides[0].first, sides[1].last, fields);
+    this.fault("C3", isOfNumbers ? "logical_numbers" : "operator", wrong.first, wrong.last, { wanted: plainly(wanted), type: this.kind(wrong), ...fields });
   }
 
   // A constant that becomes an `int` must fit it.

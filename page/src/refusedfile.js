@@ -1,7 +1,7 @@
 // Reads a file that the parser accepts, from its first function to its last, and finds what the checker refuses at a place.
 
 import { Blocks } from "./refusedblocks.js";
-import { Found, GO_TYPES, Scopes } from "./refusedreader.js";
+import { Found, Scopes } from "./refusedreader.js";
 import { PREDECLARED, isChannel } from "./refusedvalues.js";
 
 const ZEROS = new Map([["int", "0"], ["bool", "false"]]);
@@ -62,7 +62,7 @@ class File extends Blocks {
   /** @param {number} number */
   checkOrder(number) {
     const [type, name] = [this.tokens[number].text, this.ahead().text];
-    if (this.ahead().kind !== "name" || PREDECLARED.has(name) || !(PREDECLARED.has(type) || GO_TYPES.has(type))) return;
+    if (this.ahead().kind !== "name" || PREDECLARED.has(name) || !(PREDECLARED.has(type) || this.names.get("type")?.has(type))) return;
     this.fault("C1", "type_before_the_name", number, this.number, { name, type });
   }
 
@@ -99,11 +99,12 @@ class File extends Blocks {
  * @param {GoToken[]} tokens
  * @param {string} source
  * @param {Refusal} wanted
+ * @param {GoNames} names
  * @returns {FormFault | null}
  */
-export function faultAt(tokens, source, wanted) {
+export function faultAt(tokens, source, wanted, names) {
   try {
-    new File(tokens, source, wanted).read();
+    new File(tokens, source, wanted, names).read();
   } catch (found) {
     if (found instanceof Found) return found.fault;
     if (!(found instanceof TypeError || found instanceof RangeError)) throw found; // else the source ends too soon, or is too deep

@@ -1,14 +1,15 @@
 // Goes over the tokens of a source that the parser accepts, knows its names, and ends at the fault that is looked for.
 
-import { PREDECLARED, TYPES, channelOf } from "./refusedvalues.js";
+import { PREDECLARED, TYPES, channelOf, isChannel } from "./refusedvalues.js";
+import { textOf } from "./refusedtokens.js";
 import { mostLike } from "./similar.js";
 
-export const GO_TYPES = new Set(
-  ("any byte comparable complex64 complex128 error float32 float64 int8 int16 int32 int64 rune string uint uint8 uint16 uint32 uint64 " +
-    "uintptr").split(" "),
-);
-const FORMS_OF_TYPES = new Map([["string", "type_string"], ["error", "type_error"], ["float32", "type_float"], ["float64", "type_float"]]);
-const LONGEST = 40;
+const FUNCTIONS = ["len", "cap", "make", "close", "println"];
+const MEASURES = new Set(["len", "cap", "close"]);
+const LOGICAL = new Set(["&&", "||"]);
+const OF_NUMBERS = new Set(["+", "-", "*", "/", "%", "<", ">", "<=", ">=", "<<", ">>"]);
+const CHANGING = new Set(["++", "--", "+=", "-="]);
+const CONSTANTS = new Map([["bool", ["true", "false"]], ["", ["true", "false"]]]);
 
 // The fault is found.
 export class Found extends Error {
@@ -66,11 +67,13 @@ export class Reader {
    * @param {GoToken[]} tokens
    * @param {string} source
    * @param {Refusal} wanted
+   * @param {GoNames} names
    */
-  constructor(tokens, source, wanted) {
+  constructor(tokens, source, wanted, names) {
     this.tokens = tokens;
     this.source = source;
     this.wanted = wanted;
+    this.names = names;
     this.number = 0; // of the next token
     this.place = { line: 0, column: 0 };
     this.scopes = new Scopes();
@@ -97,15 +100,13 @@ export class Reader {
     return true;
   }
 
-  // The text of some tokens, on one line and not too long.
+  // The text of some tokens, on one line.
   /**
    * @param {number} first
    * @param {number} last
    */
   of(first, last) {
-    const end = this.tokens[last];
-    const text = this.source.slice(this.tokens[first].offset, end.offset + end.text.length).trim().split(/\s+/).join(" ");
-    return text.length <= LONGEST ? text : `${text.slice(0, LONGEST - 2)}..`;
+    return textOf(this.source, this.tokens, first, last);
   }
 
   /** @param {GoValue} value */
@@ -143,6 +144,19 @@ export class Reader {
     throw new Found({ form, first, last, fields: { what: this.of(first, last), ...fields } });
   }
 
+  // The fault of a name that has a form of its own, in a group of names.
+  /**
+   * @param {string} group
+   * @param {string} name
+   * @param {number} first
+   * @param {number} last
+   * @param {Fields} fields
+   */
+  ofGroup(group, name, first, last, fields) {
+    const form = this.names.get(group)?.get(name);
+    if (form) this.fault("C1", form, first, last, fields);
+  }
+
   // Reads a type.
   /** @returns {string} */
   type() {
@@ -172,10 +186,8 @@ export class Reader {
     if (TYPES.has(name)) return name;
     if (this.isKnown(name)) {
       this.fault("C3", "no_type", number, number, { name });
-    } else if (GO_TYPES.has(name)) {
-      const isNumber = /^u?int|^byte$|^rune$/.test(name);
-      this.fault("C1", FORMS_OF_TYPES.get(name) || (isNumber ? "type_of_numbers" : "type_left_out"), number, number, { name });
     }
+    this.ofGroup("type", name, number, number, { name });
     this.fault("C1", "type_unknown", number, number, { name });
     return "";
   }
@@ -183,6 +195,33 @@ export class Reader {
   /** @param {string} name */
   isKnown(name) {
     return PREDECLARED.has(name) || this.scopes.find(name) !== undefined || this.functions.has(name);
+  }
+
+  // The names that fit where one stands which is not declared: functions, or variables of the type that is wanted.
+  /**
+   * @param {number} number
+   * @param {string} what
+   */
+  meant(number, what) {
+    if (what === "function") return [...FUNCTIONS, ...this.functions.keys()];
+    const wanted = this.wantedAt(number);
+    const fits = (/** @type {string} */ own) => !own || !wanted || (wanted === "chan" ? isChannel(own) : own === wanted);
+    return [...this.scopes.names.filter((name) => fits(this.scopes.find(name)?.own || "")), ...(CONSTANTS.get(wanted) || [])];
+  }
+
+  // The type that the place of a name wants: chan, int or bool, or "" where any will do.
+  /** @param {number} number */
+  wantedAt(number) {
+    const [earlier, before, after] = [-2, -1, 1].map((step) => this.tokens[Math.max(0, number + step)]);
+    const isReceived = before.text === "<-" && !["name", "number"].includes(earlier.kind) && earlier.text !== ")";
+    if (isReceived || before.text === "range" || after.text === "<-" || (before.text === "(" && MEASURES.has(earlier.text))) return "chan";
+    if (before.text === "!" || LOGICAL.has(before.text) || LOGICAL.has(after.text)) return "bool";
+    return OF_NUMBERS.has(before.text) || OF_NUMBERS.has(after.text) || CHANGING.has(after.text) ? "int" : "";
+  }
+
+  // A name for a counter that no variable here has.
+  freeName() {
+    return [..."ijknm"].find((name) => !this.scopes.find(name)) || "count";
   }
 
   // A name that is not declared.
@@ -194,11 +233,10 @@ export class Reader {
     const { scopes, tokens } = this;
     const name = tokens[number].text;
     const later = tokens.find((token, at) => at > number && token.text === name && tokens[at + 1]?.text === ":=");
-    const near = mostLike(name, [...new Set([...scopes.names, ...this.functions.keys(), ...PREDECLARED])]);
+    const near = mostLike(name, [...new Set(this.meant(number, what))]);
     const ended = scopes.ended.get(name);
-    if (name === "_" || name === "iota") this.fault("C1", name === "_" ? "blank" : "iota", number, number);
-    else if (["null", "NULL", "None"].includes(name)) this.fault("C1", "null", number, number, { name });
-    else if (ended !== undefined) this.fault("C1", "out_of_scope", number, number, { name, line: String(ended) });
+    this.ofGroup("unknown", name, number, number, { name });
+    if (ended !== undefined) this.fault("C1", "out_of_scope", number, number, { name, line: String(ended) });
     else if (near) this.fault("C1", "misspelt", number, number, { name, near });
     else if (later) this.fault("C1", "before_its_declaration", number, number, { name, line: String(later.line) });
     this.fault("C1", `unknown_${what}`, number, number, { name });
@@ -208,6 +246,10 @@ export class Reader {
 // Values of a type, in a sentence.
 /** @param {string} wanted */
 export const plainly = (wanted) => (wanted === "bool" ? "truth values" : "numbers");
+
+// How many arguments are given, in a sentence.
+/** @param {number} count */
+export const ofGiven = (count) => `${count || "none"} ${count < 2 ? "is" : "are"} given`;
 
 // A count of things, in a sentence.
 /**

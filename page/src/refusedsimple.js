@@ -86,7 +86,7 @@ export class SimpleStatements extends Calls {
     const fields = { channel: this.text(channel) };
     if (kind === "nil" || (own && !isChannel(own))) this.misfit("send_to_no_channel", channel, fields);
     if (directionOf(own) === "receive") this.fault("C5", "send", channel.first, value.last, { ...fields, type: own, element: elementOf(own) });
-    if (own) this.checkFits(value, elementOf(own), "sent", fields);
+    if (own) this.checkFits(value, elementOf(own), elementOf(own) === "struct{}" ? "sent_without_a_value" : "sent", fields);
   }
 
   // `x += e`, `x++` and their like.
@@ -224,9 +224,15 @@ export class SimpleStatements extends Calls {
     const texts = names.map((number) => this.tokens[number].text);
     const block = this.scopes.inner;
     if (!texts.every((text) => text === "_" || block.has(text))) return;
-    const form = isCase ? "case_blank" : texts.every((text) => text === "_") ? "blank_defined" : "nothing_new";
-    const fields = { names: texts.join(", "), values: this.of(values[0].first, values[values.length - 1].last), line: String(block.get(texts[0])?.line || 0) };
-    this.fault("C10", form, names[0], names[names.length - 1], fields);
+    const other = texts.find((text, at) => block.has(text) && values[at] && !mayBe(values[at], block.get(text)?.own || ""));
+    const ofNames = other ? "nothing_new_of_this_type" : "nothing_new";
+    const form = isCase ? "case_blank" : texts.every((text) => text === "_") ? "blank_defined" : ofNames;
+    const { line = 0, own: type = "" } = block.get(other || texts[0]) || {};
+    const fields = {
+      names: texts.join(", "), values: this.of(values[0].first, values[values.length - 1].last), are: texts.length === 1 ? "is" : "are",
+      name: other || "", type, line: String(line),
+    };
+    this.fault("C10", form, names[0], isCase ? values[values.length - 1].last : names[names.length - 1], fields);
   }
 
   // Names that are declared together.

@@ -11,6 +11,9 @@ const KEYWORDS = new Set(
 // A line that ends with one of these has a semicolon after it.
 const ENDING_KEYWORDS = new Set(["break", "continue", "fallthrough", "return"]);
 const ENDING_OPERATORS = new Set(["++", "--", ")", "]", "}"]);
+const GLUED_BEFORE = new Set([",", ";", ")", "]", "."]);
+const GLUED_AFTER = new Set(["(", "[", ".", "!"]);
+const UNARY = new Set(["-", "+", "^", "<-"]);
 const CLOSING = new Map([[")", "("], ["]", "["], ["}", "{"]]);
 
 const PIECE = new RegExp(
@@ -59,6 +62,31 @@ export function goTokens(source) {
   }
   if (endsStatement(tokens)) tokens.push({ kind: "end", text: "\n", line, column, offset: source.length });
   return [...tokens, { kind: "file", text: END_OF_FILE, line, column, offset: source.length }];
+}
+
+// The text of some tokens, on one line and without comments.
+/**
+ * @param {string} source
+ * @param {GoToken[]} tokens
+ * @param {number} first
+ * @param {number} last
+ */
+export function textOf(source, tokens, first, last) {
+  const text = source.slice(tokens[first].offset, tokens[last].offset + tokens[last].text.length);
+  if (!/\/\/|\/\*|\r?\n/.test(text)) return text;
+  return spaced(tokens.slice(first, last + 1).filter(({ kind }) => kind !== "end" && kind !== "file"));
+}
+
+// Tokens with spaces between them as a source has them.
+/** @param {GoToken[]} tokens */
+function spaced(tokens) {
+  return tokens.reduce((text, token, number) => {
+    const [before, earlier] = [tokens[number - 1], tokens[number - 2]];
+    if (!before || GLUED_BEFORE.has(token.text) || GLUED_AFTER.has(before.text)) return text + token.text;
+    const isCall = token.text === "(" && before.kind === "name";
+    const isUnary = UNARY.has(before.text) && !(earlier && endsStatement([earlier]));
+    return isCall || isUnary ? text + token.text : `${text} ${token.text}`;
+  }, "");
 }
 
 // The brackets that these tokens open and do not close, the innermost last.

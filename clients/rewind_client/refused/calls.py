@@ -4,11 +4,9 @@ from __future__ import annotations
 from typing import Optional
 
 from .expressions import Expressions
-from .reader import GO_TYPES, Function, counted
+from .reader import Function, counted, of_given
 from .values import PREDECLARED, TYPES, Value, direction_of, element_of, is_channel
 
-GO_FUNCTIONS = frozenset("append clear complex copy delete imag max min new panic print real recover".split())
-WITH_A_FORM = frozenset(["append", "new", "panic", "print", "recover"])
 NO_VALUE = frozenset(["close", "println"])
 
 
@@ -26,15 +24,32 @@ class Calls(Expressions):
         if self.scopes.find(name):
             self.fault("C3", "variable_called", number, number, name=name, type=(self.scopes.find(name) or ("",))[0])
         elif not function and name not in PREDECLARED:
-            if name in GO_FUNCTIONS:
-                self.fault("C1", f"function_{name}" if name in WITH_A_FORM else "function_left_out", number, number, name=name)
-            if name in GO_TYPES:
-                self.fault("C1", "conversion_left_out", number, number, name=name)
+            if name in self.names["function"]:
+                self.fault("C1", self.names["function"][name], number, number, name=name)
+            if name in self.names["conversion"]:
+                self.conversion(number, name)
             self.unknown(number, "function")
         elif not function and name not in ("len", "cap", *NO_VALUE):
-            self.fault("C3", "conversion" if name in TYPES else "not_callable", number, number, name=name)
+            form, last = ("conversion", number) if name in TYPES else ("not_callable", self.closing(number))
+            self.fault("C3", form, number, last, name=name)
         values = self.arguments(printed=name == "println" and not function)
         return self.called(number, name, function, values)
+
+    def closing(self, number: int) -> int:
+        """The parenthesis that ends the call of a name."""
+        depth = 0
+        for last in range(number + 1, len(self.tokens)):
+            depth += {"(": 1, ")": -1}.get(self.tokens[last].text, 0)
+            if depth == 0:
+                return last
+        return number
+
+    def conversion(self, number: int, name: str) -> None:
+        """A conversion to a type of Go that is left out, and the value that is converted."""
+        last = self.closing(number)
+        inner = self.of(number + 2, last - 1) if last > number + 2 else "0"
+        is_one = last <= number + 3 or self.tokens[number + 3].text == "(" and self.closing(number + 2) == last - 1
+        self.fault("C1", self.names["conversion"][name], number, last, name=name, inner=inner if is_one else f"({inner})")
 
     def arguments(self, printed: bool = False) -> list[Value]:
         values: list[Value] = []
@@ -67,7 +82,7 @@ class Calls(Expressions):
     def check_arguments(self, number: int, function: Function, values: list[Value]) -> None:
         wanted, given = len(function.parameters), len(values)
         if wanted != given:
-            fields = {"wanted": counted(wanted, "argument"), "given": str(given), "heading": function.heading}
+            fields = {"wanted": counted(wanted, "argument"), "given": of_given(given), "heading": function.heading}
             self.fault("C4", "arguments", number, self.number - 1, name=function.name, **fields)
         for count, (value, (parameter, own)) in enumerate(zip(values, function.parameters), 1):
             self.check_constant_to(value)
@@ -77,7 +92,7 @@ class Calls(Expressions):
 
     def check_measure(self, number: int, name: str, values: list[Value]) -> None:
         if len(values) != 1:
-            self.fault("C4", "one_channel", number, self.number - 1, name=name, given=str(len(values)))
+            self.fault("C4", "one_channel", number, self.number - 1, name=name, given=of_given(len(values)))
         elif values[0].kind == "nil" or not is_channel(values[0].own) and values[0].kind not in ("unknown", "text"):
             self.misfit("measured", values[0], name=name)
 
@@ -88,7 +103,7 @@ class Calls(Expressions):
 
     def check_closed(self, number: int, values: list[Value]) -> None:
         if len(values) != 1:
-            self.fault("C4", "one_channel", number, self.number - 1, name="close", given=str(len(values)))
+            self.fault("C4", "one_channel", number, self.number - 1, name="close", given=of_given(len(values)))
             return
         value = values[0]
         if value.kind == "nil" or value.own and not is_channel(value.own):

@@ -38,8 +38,9 @@ class Expressions(Reader):
             return self.received(first, inner)
         wanted = "bool" if token.text == "!" else "int"
         if not (inner.may_be(wanted) and inner.kind != "nil"):
-            form = "not_of_a_number" if token.text == "!" and inner.own == "int" else "unary"
-            self.misfit(form, inner, operator=token.text, wanted=plainly(wanted), operand=self.text(inner))
+            if token.text == "!" and inner.own == "int":
+                self.fault("C3", "not_of_a_number", first, inner.last, operand=self.text(inner))
+            self.misfit("unary", inner, operator=token.text, wanted=plainly(wanted), operand=self.text(inner))
         constant = negated(token.text, inner)
         return Value("constant" if constant is not None else "value", wanted, first, inner.last, constant)
 
@@ -118,8 +119,8 @@ class Expressions(Reader):
             wrong = next((each for each in (left, right) if not each.may_be(wanted) or each.kind == "nil"), None)
             if wrong:
                 form = "logical_numbers" if wanted == "bool" and wrong.own == "int" else "operator"
-                both = left.own == right.own == "int"
-                form = "logical_two_numbers" if form == "logical_numbers" and both else form
+                if form == "logical_numbers" and left.own == right.own == "int":
+                    self.fault("C3", "logical_two_numbers", left.first, right.last, **fields)
                 self.fault("C3", form, wrong.first, wrong.last, wanted=plainly(wanted), type=self.kind(wrong), **fields)
         elif "nil" in (left.kind, right.kind):
             other = right if left.kind == "nil" else left

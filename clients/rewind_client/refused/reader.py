@@ -5,15 +5,17 @@ import difflib
 from dataclasses import dataclass, field
 from typing import Mapping, NamedTuple, Optional
 
-from .tokens import Token
-from .values import PREDECLARED, TYPES, Value, channel_of
+from .tokens import Token, text_of
+from .values import LOGICAL, PREDECLARED, TYPES, Value, channel_of, is_channel
 
-GO_TYPES = frozenset(
-    "any byte comparable complex64 complex128 error float32 float64 int8 int16 int32 int64 rune string uint uint8 uint16 uint32 "
-    "uint64 uintptr".split()
-)
-NUMBER_TYPES = frozenset(name for name in GO_TYPES if name.startswith(("int", "uint")) or name in ("byte", "rune"))
-LONGEST = 40
+# The forms of names that have one of their own, by group: names of Go that are left out, and others that are often written.
+Names = Mapping[str, Mapping[str, str]]
+
+
+FUNCTIONS = frozenset(["len", "cap", "make", "close", "println"])
+CONSTANTS = {"bool": frozenset(["true", "false"]), "": frozenset(["true", "false"])}
+MEASURES = frozenset(["len", "cap", "close"])
+OF_NUMBERS = frozenset(["+", "-", "*", "/", "%", "<", ">", "<=", ">=", "<<", ">>"])
 
 
 @dataclass(frozen=True)
@@ -72,8 +74,8 @@ class Scopes:
 class Reader:
     """Raises Found at the fault with the code and in the statement that are looked for."""
 
-    def __init__(self, tokens: list[Token], source: str, code: str, place: tuple[int, int]) -> None:
-        self.tokens, self.source, self.code, self.wanted = tokens, source, code, place
+    def __init__(self, tokens: list[Token], source: str, code: str, place: tuple[int, int], names: Names) -> None:
+        self.tokens, self.source, self.code, self.wanted, self.names = tokens, source, code, place, names
         self.number = 0
         self.place = (0, 0)
         self.scopes = Scopes()
@@ -97,10 +99,8 @@ class Reader:
         return True
 
     def of(self, first: int, last: int) -> str:
-        """The text of some tokens, on one line and not too long."""
-        end = self.tokens[last]
-        text = " ".join(self.source[self.tokens[first].offset : end.offset + len(end.text)].split())
-        return text if len(text) <= LONGEST else text[: LONGEST - 2] + ".."
+        """The text of some tokens, on one line."""
+        return text_of(self.source, self.tokens, first, last)
 
     def text(self, value: Value) -> str:
         return self.of(value.first, value.last)
@@ -146,26 +146,45 @@ class Reader:
             return name
         if self.is_known(name):
             self.fault("C3", "no_type", number, number, name=name)
-        elif name in GO_TYPES:
-            forms = {"string": "type_string", "error": "type_error", "float32": "type_float", "float64": "type_float"}
-            form = forms.get(name, "type_of_numbers" if name in NUMBER_TYPES else "type_left_out")
-            self.fault("C1", form, number, number, name=name)
+        elif name in self.names["type"]:
+            self.fault("C1", self.names["type"][name], number, number, name=name)
         self.fault("C1", "type_unknown", number, number, name=name)
         return ""
 
     def is_known(self, name: str) -> bool:
         return name in PREDECLARED or self.scopes.find(name) is not None or name in self.functions
 
+    def meant(self, number: int, what: str) -> frozenset[str]:
+        """The names that fit where one stands which is not declared: functions, or variables of the type that is wanted."""
+        if what == "function":
+            return FUNCTIONS | frozenset(self.functions)
+        wanted = self.wanted_at(number)
+        found = ((name, self.scopes.find(name)) for name in self.scopes.names())
+        fitting = frozenset(name for name, variable in found if variable and has_type(variable[0], wanted))
+        return fitting | CONSTANTS.get(wanted, frozenset())
+
+    def wanted_at(self, number: int) -> str:
+        """The type that the place of a name wants: chan, int or bool, or "" where any will do."""
+        earlier, before, after = (self.tokens[max(0, number + step)] for step in (-2, -1, 1))
+        is_received = before.text == "<-" and not (earlier.kind in ("name", "number") or earlier.text == ")")
+        if is_received or before.text == "range" or after.text == "<-" or (before.text == "(" and earlier.text in MEASURES):
+            return "chan"
+        if before.text == "!" or {before.text, after.text} & LOGICAL:
+            return "bool"
+        return "int" if {before.text, after.text} & OF_NUMBERS or after.text in ("++", "--", "+=", "-=") else ""
+
+    def free_name(self) -> str:
+        """A name for a counter that no variable here has."""
+        return next((name for name in "ijknm" if not self.scopes.find(name)), "count")
+
     def unknown(self, number: int, what: str) -> None:
         """A name that is not declared."""
         name = self.tokens[number].text
         pairs = zip(self.tokens[number + 1 :], self.tokens[number + 2 :])
         later = next((token.line for token, after in pairs if token.text == name and after.text == ":="), 0)
-        near = difflib.get_close_matches(name, sorted(self.scopes.names() | set(self.functions) | PREDECLARED), 1, 0.75)
-        if name in ("_", "iota"):
-            self.fault("C1", "blank" if name == "_" else "iota", number, number)
-        elif name in ("null", "NULL", "None"):
-            self.fault("C1", "null", number, number, name=name)
+        near = difflib.get_close_matches(name, sorted(self.meant(number, what)), 1, 0.75)
+        if name in self.names["unknown"]:
+            self.fault("C1", self.names["unknown"][name], number, number, name=name)
         elif name in self.scopes.ended:
             self.fault("C1", "out_of_scope", number, number, name=name, line=str(self.scopes.ended[name]))
         elif near:
@@ -175,9 +194,19 @@ class Reader:
         self.fault("C1", f"unknown_{what}", number, number, name=name)
 
 
+def has_type(own: str, wanted: str) -> bool:
+    """Whether a variable may stand where a type is wanted."""
+    return not own or not wanted or (is_channel(own) if wanted == "chan" else own == wanted)
+
+
 def plainly(wanted: str) -> str:
     """Values of a type, in a sentence."""
     return "truth values" if wanted == "bool" else "numbers"
+
+
+def of_given(count: int) -> str:
+    """How many arguments are given, in a sentence."""
+    return f"{count or 'none'} {'is' if count < 2 else 'are'} given"
 
 
 def counted(count: int, what: str) -> str:

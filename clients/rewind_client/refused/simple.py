@@ -87,7 +87,8 @@ class SimpleStatements(Calls):
             fields = {"channel": self.text(channel), "type": channel.own, "element": element_of(channel.own)}
             self.fault("C5", "send", channel.first, value.last, **fields)
         if channel.own:
-            self.check_fits(value, element_of(channel.own), "sent", channel=self.text(channel))
+            form = "sent_without_a_value" if element_of(channel.own) == "struct{}" else "sent"
+            self.check_fits(value, element_of(channel.own), form, channel=self.text(channel))
 
     def change(self) -> None:
         """`x += e`, `x++` and their like."""
@@ -174,9 +175,7 @@ class SimpleStatements(Calls):
         self.distinct(names)
         block = self.scopes.blocks[-1]
         if all(text == "_" or text in block for text in texts):
-            fields = {"names": ", ".join(texts), "values": self.of(values[0].first, values[-1].last)}
-            form = "case_blank" if case else "blank_defined" if set(texts) == {"_"} else "nothing_new"
-            self.fault("C10", form, names[0], names[-1], line=str(block.get(texts[0], ("", 0))[1]), **fields)
+            self.nothing_new(names, texts, values, case)
         paired = self.paired(names, values)
         for count, (number, text) in enumerate(zip(names, texts)):
             value = values[min(count, len(values) - 1)]
@@ -188,6 +187,19 @@ class SimpleStatements(Calls):
                 self.given(number, block[text][0], value)
             elif text not in block:
                 self.scopes.declare(text, own, self.tokens[number].line)
+
+    def nothing_new(self, names: list[int], texts: list[str], values: list[Value], case: bool) -> None:
+        """A `:=` whose names are all declared in this block."""
+        block = self.scopes.blocks[-1]
+        fields = {"names": ", ".join(texts), "values": self.of(values[0].first, values[-1].last)}
+        fields.update(are="is" if len(texts) == 1 else "are", line=str(block.get(texts[0], ("", 0))[1]))
+        form = "case_blank" if case else "blank_defined" if set(texts) == {"_"} else "nothing_new"
+        known = [(text, *block[text], value) for text, value in zip(texts, values) if text in block]
+        other = next(((text, own, line) for text, own, line, value in known if not value.may_be(own)), None)
+        if other and form == "nothing_new":
+            form = "nothing_new_of_this_type"
+            fields.update(name=other[0], type=other[1], line=str(other[2]))
+        self.fault("C10", form, names[0], values[-1].last if case else names[-1], **fields)
 
     def distinct(self, names: list[int]) -> None:
         """Names that are declared together."""

@@ -3,7 +3,7 @@ from __future__ import annotations
 
 from typing import Optional
 
-from .reader import GO_TYPES, Fault, Found, Function, Scopes
+from .reader import Fault, Found, Function, Names, Scopes
 from .simple import ENDS, SimpleStatements
 from .tokens import Token
 from .values import PREDECLARED, direction_of, element_of, is_assignable, is_channel
@@ -67,7 +67,7 @@ class Statements(SimpleStatements):
             while self.passes(","):
                 names.append(self.next())
             written, name = self.ahead().text, self.tokens[names[-1]].text
-            if self.ahead().kind == "name" and written not in PREDECLARED and (name in PREDECLARED or name in GO_TYPES):
+            if self.ahead().kind == "name" and written not in PREDECLARED and (name in PREDECLARED or name in self.names["type"]):
                 self.fault("C1", "type_before_the_name", names[-1], self.number, name=written, type=name)
             own = self.type()
             for number in names:
@@ -242,7 +242,8 @@ class Statements(SimpleStatements):
         if text == "_" and sign == ":=":
             self.fault("C10", "range_blank", name or 0, self.number - 1, channel=self.text(value))
         if value.own == "int":
-            self.fault("C3", "range_number", value.first, value.last, name=text if text not in ("", "_") else "i")
+            counter = text if text not in ("", "_") else self.free_name()
+            self.fault("C3", "range_number", value.first, value.last, name=counter, sign=sign if counter == text else ":=")
         elif value.kind != "unknown" and not is_channel(value.own):
             self.misfit("range", value)
         if direction_of(value.own) == "send":
@@ -301,10 +302,10 @@ class Statements(SimpleStatements):
             self.check_fits(value, result, "returned", name=name, result=result)
 
 
-def fault_at(tokens: list[Token], source: str, code: str, line: int, column: int) -> Optional[Fault]:
+def fault_at(tokens: list[Token], source: str, code: str, place: tuple[int, int], names: Names) -> Optional[Fault]:
     """The fault with this code in the statement, or heading, at a place; none where it is not found."""
     try:
-        Statements(tokens, source, code, (line, column)).file()
+        Statements(tokens, source, code, place, names).file()
     except Found as found:
         return found.fault
     except (IndexError, KeyError, RecursionError):

@@ -12,6 +12,9 @@ KEYWORDS = frozenset(
 ENDING_KEYWORDS = frozenset(["break", "continue", "fallthrough", "return"])
 ENDING_OPERATORS = frozenset(["++", "--", ")", "]", "}"])
 END_OF_FILE = "<end>"
+GLUED_BEFORE = frozenset([",", ";", ")", "]", "."])
+GLUED_AFTER = frozenset(["(", "[", ".", "!"])
+UNARY = frozenset(["-", "+", "^", "<-"])
 CLOSING = {")": "(", "]": "[", "}": "{"}
 
 PIECE = re.compile(
@@ -84,3 +87,23 @@ def open_brackets(tokens: list[Token]) -> list[Token]:
         elif token.text in CLOSING and opened and opened[-1].text == CLOSING[token.text]:
             opened.pop()
     return opened
+
+
+def text_of(source: str, tokens: list[Token], first: int, last: int) -> str:
+    """The text of some tokens, on one line and without comments."""
+    text = source[tokens[first].offset : tokens[last].offset + len(tokens[last].text)]
+    if re.search("//|/[*]|\r?\n", text) is None:
+        return text
+    return spaced([token for token in tokens[first : last + 1] if token.kind not in ("end", "file")])
+
+
+def spaced(tokens: list[Token]) -> str:
+    """Tokens with spaces between them as a source has them."""
+    text = ""
+    for number, token in enumerate(tokens):
+        before, earlier = (tokens[number - back] if number >= back else None for back in (1, 2))
+        is_glued = token.text in GLUED_BEFORE or before is not None and before.text in GLUED_AFTER
+        is_call = token.text == "(" and before is not None and before.kind == "name"
+        is_unary = before is not None and before.text in UNARY and not (earlier and ends_statement([earlier]))
+        text += token.text if is_glued or is_call or is_unary or not text else f" {token.text}"
+    return text

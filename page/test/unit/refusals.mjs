@@ -10,13 +10,13 @@ const TABLE = JSON.parse(readFileSync(new URL("../../../clients/rewind_client/re
 const refusal = (code, line = 0, column = 0) => ({ code, line, column, text: `rewind: ${code}` });
 const inMain = (...lines) => `package main\n\nfunc main() {\n${lines.map((it) => `\t${it}\n`).join("")}}\n`;
 
-// A source, the refusal of it, and what is said: the sentence, the marked word, and what to write instead.
+// A source, the refusal of it, and what is said: the sentence, the marked word, what to write instead, and a hint.
 const CASES = [
-  [inMain("x := 1", "y := x + totl", "println(y)"), ["C1", 5, 2], ["undeclared name: totl", "totl", "totl := .. before it, or a parameter totl"]],
-  [inMain("total := 1", "y := 2 + totl", "println(y)"), ["C1", 5, 2], ["undeclared name: totl (did you mean total?)", "totl", "total"]],
-  [inMain("n := 1", "n += true"), ["C3", 5, 2], ["+= takes a number: true is bool", "true", ""]],
-  [inMain("x := 1", "if x {", "}"), ["C3", 5, 2], ["the condition of if must be true or false, and x is int", "x", "x != 0"]],
-  [inMain("break"), ["C8", 4, 2], ["break stands only in a for or a select", "break", "return"]],
+  [inMain("x := 1", "y := x + totl", "println(y)"), ["C1", 5, 2], ["undeclared name: totl", "totl", "", "a declaration before it, or a parameter totl"]],
+  [inMain("total := 1", "y := 2 + totl", "println(y)"), ["C1", 5, 2], ["undeclared name: totl (did you mean total?)", "totl", "total", ""]],
+  [inMain("n := 1", "n += true"), ["C3", 5, 2], ["+= takes a number: true is bool", "true", "", ""]],
+  [inMain("x := 1", "if x {", "}"), ["C3", 5, 2], ["the condition of if must be true or false, and x is int", "x", "x != 0", ""]],
+  [inMain("break"), ["C8", 4, 2], ["break stands only in a for or a select", "break", "", "return, where the function is to end"]],
   [inMain("c := make(chan<- int)", "println(<-c)"), ["C5", 5, 2], null],
   [inMain("x := 1", "println(x / 0)"), ["C7", 5, 2], null],
   [inMain("x := 9223372036854775807 + 1", "println(x)"), ["C7", 4, 2], null],
@@ -28,7 +28,7 @@ function sentences() {
   for (const [source, place, told] of CASES) {
     const found = explain(TABLE, source, refusal(...place));
     const word = source.split("\n")[found.line - 1].slice(found.column - 1, found.column - 1 + found.length);
-    if (told) equal(`a refusal with ${place[0]}`, [found.sentence, word, found.instead], told);
+    if (told) equal(`a refusal with ${place[0]}`, [found.sentence, word, found.instead, found.hint], told);
     else holds(`a form of ${place[0]} is found`, found.sentence !== TABLE[place[0]].meaning && word);
   }
   const { whole } = explain(TABLE, CASES[2][0], refusal(...CASES[2][1]));

@@ -1,0 +1,7 @@
+package main
+
+func main() {
+	if len(os.Args) > 1 {
+		println(1)
+	}
+}

@@ -1,0 +1,5 @@
+package main
+
+async func main() {
+	println(1)
+}

@@ -1,0 +1,7 @@
+package main
+
+func main() {
+	results, result := make(chan int, 1), 0
+	resuls <- 1
+	println(result, <-results)
+}

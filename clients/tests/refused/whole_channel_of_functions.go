@@ -1,0 +1,6 @@
+package main
+
+func main() {
+	tasks := make(chan<- func())
+	println(cap(tasks))
+}

@@ -1,0 +1,4 @@
+/* a program
+   of mine */ func main() {
+	println(1)
+}

@@ -1,0 +1,7 @@
+package main
+
+func main() {
+	mu := make(chan struct{}, 1)
+	cond := sync.NewCond(mu)
+	println(1)
+}

@@ -1,0 +1,10 @@
+package main
+
+func work(ctx chan struct{}) {
+	<-ctx
+}
+
+func main() {
+	ctx := context.Background()
+	go work(ctx)
+}

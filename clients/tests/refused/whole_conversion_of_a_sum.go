@@ -1,0 +1,6 @@
+package main
+
+func main() {
+	a, b := 1, 2
+	println(2 * float64(a+b))
+}

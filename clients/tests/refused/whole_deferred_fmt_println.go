@@ -1,0 +1,6 @@
+package main
+
+func main() {
+	defer fmt.Println("bye", 1)
+	println(1)
+}

@@ -1,0 +1,7 @@
+package main
+
+func main() {
+	f := 3
+	defer f.Close()
+	println(f)
+}

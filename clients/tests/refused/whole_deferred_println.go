@@ -1,0 +1,6 @@
+package main
+
+func main() {
+	defer println("done")
+	println(1)
+}

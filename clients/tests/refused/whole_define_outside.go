@@ -1,0 +1,8 @@
+package main
+
+total := 0
+
+func main() {
+	total++
+	println(total)
+}

@@ -1,0 +1,6 @@
+package main
+
+func main() {
+	price := 1.5
+	println(price)
+}

@@ -1,0 +1,9 @@
+package main
+
+type Shape interface {
+	Area() int
+}
+
+func main() {
+	println(1)
+}

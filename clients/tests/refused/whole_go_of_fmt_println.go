@@ -1,0 +1,6 @@
+package main
+
+func main() {
+	go fmt.Println("hi")
+	println(1)
+}

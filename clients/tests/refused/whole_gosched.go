@@ -1,0 +1,8 @@
+package main
+
+func main() {
+	done := make(chan bool, 1)
+	done <- true
+	runtime.Gosched()
+	<-done
+}

@@ -1,0 +1,8 @@
+package main
+
+func main() {
+	ok := false
+	if !ok {
+		log.Fatal("no luck")
+	}
+}

@@ -1,0 +1,6 @@
+package main
+
+func main() {
+	log.Println("started", 3)
+	println(1)
+}

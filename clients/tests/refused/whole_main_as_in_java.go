@@ -1,0 +1,5 @@
+package main
+
+public static void main(String[] args) {
+	System.out.println(1);
+}

@@ -1,0 +1,6 @@
+package main
+
+func main() {
+	ages := map[string]int{"ann": 30}
+	println(ages["ann"])
+}

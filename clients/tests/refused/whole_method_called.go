@@ -1,0 +1,7 @@
+package main
+
+func main() {
+	counter := 0
+	counter.Inc()
+	println(counter)
+}

@@ -1,0 +1,9 @@
+package main
+
+func (c *Counter) Add(n int) {
+	println(n)
+}
+
+func main() {
+	println(1)
+}

@@ -1,0 +1,9 @@
+package pool
+
+func Run(n int) {
+	println(n)
+}
+
+func main() {
+	Run(3)
+}

@@ -1,0 +1,9 @@
+package main
+
+func open(n int) *Account {
+	return nil
+}
+
+func main() {
+	println(1)
+}

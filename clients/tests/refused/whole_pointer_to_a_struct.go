@@ -1,0 +1,9 @@
+package main
+
+func transfer(from, to *Account, amount int) {
+	println(amount)
+}
+
+func main() {
+	transfer(1)
+}

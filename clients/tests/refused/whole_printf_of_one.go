@@ -1,0 +1,6 @@
+package main
+
+func main() {
+	x := 3
+	fmt.Printf("x is %d", x)
+}

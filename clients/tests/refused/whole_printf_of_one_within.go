@@ -1,0 +1,6 @@
+package main
+
+func main() {
+	id := 3
+	fmt.Printf("philosopher %d eats", id)
+}

@@ -1,0 +1,6 @@
+package main
+
+func main() {
+	n := rand.Intn(10)
+	println(n)
+}

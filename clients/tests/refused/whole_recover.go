@@ -1,0 +1,12 @@
+package main
+
+func safe() {
+	defer func() {
+		recover()
+	}()
+	println(1)
+}
+
+func main() {
+	println(1)
+}

@@ -1,0 +1,7 @@
+package main
+
+func main() {
+	done := make(chan struct{}, 1)
+	done <- true
+	<-done
+}

@@ -1,0 +1,6 @@
+package main
+
+func main() {
+	pause := 2 * time.Second
+	println(pause)
+}

@@ -1,0 +1,6 @@
+package main
+
+func main() {
+	var cells []chan int
+	println(len(cells))
+}

@@ -1,0 +1,7 @@
+package main
+
+func main() {
+	n := 3
+	name := fmt.Sprintf("worker-%d", n)
+	println(name)
+}

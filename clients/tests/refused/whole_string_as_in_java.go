@@ -1,0 +1,6 @@
+package main
+
+func main() {
+	String name = "ann"
+	println(name)
+}

@@ -1,0 +1,6 @@
+package main
+
+func main() {
+	acc := &Account{10}
+	println(acc)
+}

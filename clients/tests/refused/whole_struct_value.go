@@ -1,0 +1,6 @@
+package main
+
+func main() {
+	p := Point{1, 2}
+	println(p)
+}

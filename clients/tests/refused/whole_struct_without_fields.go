@@ -1,0 +1,8 @@
+package main
+
+type Done struct{}
+
+func main() {
+	done := make(chan Done)
+	<-done
+}

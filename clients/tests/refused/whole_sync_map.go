@@ -1,0 +1,6 @@
+package main
+
+func main() {
+	var seen sync.Map
+	println(1)
+}

@@ -1,0 +1,6 @@
+package main
+
+func main() {
+	total	:=	1
+	println(totl	+	1)
+}

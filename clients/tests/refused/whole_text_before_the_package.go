@@ -1,0 +1,7 @@
+Exercise 3
+
+package main
+
+func main() {
+	println(1)
+}

@@ -1,0 +1,9 @@
+package main
+
+func main() {
+	ready, read := false, 1
+	if !redy {
+		println(read)
+	}
+	println(ready)
+}

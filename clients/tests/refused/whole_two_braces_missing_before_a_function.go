@@ -1,0 +1,9 @@
+package main
+
+func main() {
+	for i := 0; i < 3; i++ {
+		println(i)
+
+func work() {
+	println(1)
+}

@@ -1,0 +1,10 @@
+package main
+
+func main() {
+	println(1)
+}
+
+package other
+
+func help() {
+}

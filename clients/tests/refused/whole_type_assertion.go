@@ -1,0 +1,7 @@
+package main
+
+func main() {
+	e := 3
+	n, ok := e.(int)
+	println(n, ok)
+}

@@ -1,0 +1,7 @@
+package main
+
+type Handler func(int) int
+
+func main() {
+	println(1)
+}

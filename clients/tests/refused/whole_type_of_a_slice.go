@@ -1,0 +1,7 @@
+package main
+
+type Queue []int
+
+func main() {
+	println(1)
+}

@@ -1,0 +1,9 @@
+package main
+
+func work(int) {
+	println(1)
+}
+
+func main() {
+	work(1)
+}

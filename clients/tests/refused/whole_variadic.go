@@ -1,0 +1,9 @@
+package main
+
+func sum(numbers ...int) int {
+	return 0
+}
+
+func main() {
+	println(sum(1, 2, 3))
+}

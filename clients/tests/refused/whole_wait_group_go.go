@@ -1,0 +1,7 @@
+package main
+
+func main() {
+	wg := make(chan struct{})
+	wg.Go(func() { println(1) })
+	<-wg
+}

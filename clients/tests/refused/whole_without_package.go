@@ -1,0 +1,3 @@
+func main() {
+	println("hello")
+}

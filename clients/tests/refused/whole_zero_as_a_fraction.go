@@ -1,0 +1,6 @@
+package main
+
+func main() {
+	total := 0.0
+	println(total)
+}
