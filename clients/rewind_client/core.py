@@ -1,6 +1,7 @@
 """The commands of Rewind as calls, with their replies as values."""
 from __future__ import annotations
 
+import re
 from typing import Callable, List, Optional, Sequence, TypeVar
 
 from . import replies
@@ -12,6 +13,10 @@ from .replies import Channel, Entry, Goroutine, KindWord, Ran, Reason
 # Commands that take steps or take them back, and all that change what a session does.
 MOVING = frozenset(("step", "run", "undo", "back", "redo", "order"))
 CHANGING = MOVING | frozenset(("break", "clear", "free"))
+
+# Blanks among the control characters, and characters that are not seen: a zero-width space, a byte order mark.
+CONTROL_BLANKS = re.compile("[\x0b\x0c\x1c-\x1f]")
+INVISIBLE = frozenset("\u200b\ufeff")
 
 END_OF_KIND = {KindWord.EXIT: Reason.ENDED, KindWord.FAULT: Reason.FAULT}
 
@@ -116,11 +121,11 @@ class Core:
     # What takes steps, or takes them back.
 
     def step(self, goroutine: str, clause: int = 0) -> Entry:
-        """Takes a step of the goroutine: its name and its kind. A clause of a select may be chosen."""
+        """Takes a step of the goroutine: its name and its kind. A case of a select may be chosen."""
         return self.asked(step_words(goroutine, clause), replies.stepped)
 
     def run(self, most: int) -> Ran:
-        """Takes steps by turns."""
+        """Takes steps, round robin."""
         return self.asked("run %d" % most, replies.ran)
 
     def undo(self) -> str:
@@ -184,14 +189,21 @@ class Core:
         return self.asked("deps " + step, replies.steps)
 
 
+def with_plain_blanks(line: str) -> str:
+    """A line with a space for each blank of any alphabet, as pasted text has them; Rewind knows spaces, tabs and carriage returns."""
+    if line.isascii() and not CONTROL_BLANKS.search(line):
+        return line
+    return "".join(" " if one.isspace() or one in INVISIBLE else one for one in line)
+
+
 def words_of(command: str) -> List[str]:
     """The words of a command, as Rewind tells them apart."""
     return [word for word in command.replace("\t", " ").replace("\r", " ").split(" ") if word]
 
 
 def first_word(command: str) -> str:
-    words = command.split(None, 1)
-    return words[0] if words else ""
+    words = command.replace("\t", " ").replace("\r", " ").lstrip(" ").split(" ", 1)
+    return words[0]
 
 
 def step_words(goroutine: str, clause: int = 0) -> str:

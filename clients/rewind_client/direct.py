@@ -1,7 +1,7 @@
 """The direct causes of a step: the steps of other goroutines on which it depends without a third one between them.
 
 All causes of a step are many, since each depends on those before it. A direct one started the goroutine, closed the channel, gave
-or took the value, or was first in a queue.
+or took the value, ended the wait of the goroutine's step before, or was first in a queue.
 """
 from __future__ import annotations
 
@@ -15,7 +15,6 @@ from .replies import Kind, KindWord
 from .session import Session
 
 LOCAL = frozenset((KindWord.PURE, KindWord.CALL, KindWord.RETURN, KindWord.GO, KindWord.MAKE))
-WAKE_MESSAGES = frozenset((KindWord.HAND, KindWord.PICK))
 
 
 class EdgeKind(Enum):
@@ -24,6 +23,7 @@ class EdgeKind(Enum):
     START = "started the goroutine"
     CLOSE = "closed the channel"
     MESSAGE = "is the other half of the message"
+    WAIT = "ended the wait of the step before it"
     ORDER = "came first"
 
 
@@ -110,9 +110,7 @@ class DirectCauses:
             return EdgeKind.CLOSE
         if is_met or (from_word is KindWord.BUFFER and to_word in (KindWord.TAKE, KindWord.PICK)):
             return EdgeKind.MESSAGE
-        before = self.before(step)
-        gave = is_waker and from_word in WAKE_MESSAGES and self.kinds[before].word is not KindWord.SEND_WAIT
-        return EdgeKind.MESSAGE if gave else EdgeKind.ORDER
+        return EdgeKind.WAIT if is_waker else EdgeKind.ORDER
 
 
 def takes_from(note: Note, wait: Kind) -> bool:

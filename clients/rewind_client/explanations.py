@@ -1,10 +1,11 @@
-"""Why a program stands as it does, as data: the end of the run, who waits for whom, a fault, and what is left at the end."""
+"""Why a program stands as it does, as data: the end of the run, who waits for whom, a fault, and what is not done at the end."""
 from __future__ import annotations
 
 from dataclasses import dataclass
 from enum import Enum
 from typing import Dict, List, Optional, Tuple
 
+from .endings import Fate, fates_of
 from .notes import Note, Place
 from .operations import Verb
 from .replies import Goroutine, KindWord, Reason, State, Variable
@@ -48,13 +49,18 @@ class Starved:
 
 @dataclass(frozen=True)
 class Explanation:
-    """How a program stands, and what there is to say of it. `left` are goroutines that are not done, but for those that wait."""
+    """How a program stands, and what there is to say of it.
+
+    `ready` are the goroutines that can go on. At the end `fates` are what would become of those that are not done, and `waits` are
+    the waits of those that would wait for ever.
+    """
 
     standing: Standing
     waits: Tuple[Wait, ...] = ()
     cycle: Tuple[str, ...] = ()
     fault: Optional[Fault] = None
-    left: Tuple[Goroutine, ...] = ()
+    ready: Tuple[Goroutine, ...] = ()
+    fates: Tuple[Fate, ...] = ()
     starved: Tuple[Starved, ...] = ()
     printed: int = 0
 
@@ -62,16 +68,17 @@ class Explanation:
 def explain(session: Session) -> Explanation:
     """Why the program stands as it does."""
     standing = standing_of(session)
+    if standing is Standing.ENDED:
+        fates, open_waits = fates_of(session)
+        return Explanation(standing, waits=tuple(open_waits), fates=tuple(fates))
     waits = tuple(Waits(session).all())
     if standing is Standing.FAULT:
         return Explanation(standing, waits=waits, fault=fault_of(session))
-    if standing is Standing.DEADLOCK:
-        return Explanation(standing, waits=waits, cycle=tuple(cycle_among(waits)))
-    left = tuple(it for it in session.goroutines() if it.state is State.READY)
-    if standing is Standing.ENDED:
-        return Explanation(standing, waits=waits, left=left)
     cycle = tuple(cycle_among(waits))
-    return Explanation(standing, waits=waits, cycle=cycle, left=left, starved=tuple(starved(session, waits)))
+    if standing is Standing.DEADLOCK:
+        return Explanation(standing, waits=waits, cycle=cycle)
+    ready = tuple(it for it in session.goroutines() if it.state is State.READY)
+    return Explanation(standing, waits=waits, cycle=cycle, ready=ready, starved=tuple(starved(session, waits)))
 
 
 def standing_of(session: Session) -> Standing:

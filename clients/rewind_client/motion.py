@@ -17,6 +17,7 @@ from .names import name_order, step_owner
 from .replies import Entry, Goroutine, KindWord, Ran, Reason, State
 from .scout import last_step_at, lines_back
 from .session import Session
+from .watched import Watched
 
 RUN_PORTION = 50_000
 STEP_PORTION = 100
@@ -42,6 +43,7 @@ class StopReason(Enum):
     ENDED = "ended"
     WAITS = "waits"
     VALUE = "value"
+    VALUE_TAKEN_BACK = "value taken back"
     COUNT = "count"
     ENTRY = "entry"
     FULL = "full"
@@ -49,7 +51,7 @@ class StopReason(Enum):
 
 
 class Stop(NamedTuple):
-    """Why a movement stopped, with the goroutine to look at, its last step, a breakpoint's line, a run, the step last taken back."""
+    """Why a movement stopped: the goroutine to look at, its last step, a breakpoint's line, a run, a step taken back, a watch."""
 
     reason: StopReason
     goroutine: str
@@ -57,6 +59,7 @@ class Stop(NamedTuple):
     line: int = 0
     ran: Optional[Ran] = None
     before: str = ""
+    watch: Optional[Watched] = None
 
 
 Motion = Generator[int, None, Stop]
@@ -72,7 +75,7 @@ STOPS = {
 
 
 def forward(session: Session, lines: Lines, goroutine: str, most: Optional[int] = None) -> Motion:
-    """Runs all goroutines by turns to the next breakpoint, or as far as it goes, but no more than some steps.
+    """Runs all goroutines, round robin, to the next breakpoint, or as far as it goes, but no more than some steps.
 
     A run looks for breakpoints before each of its steps but the first. So a portion begins with the last step of the one
     before, which is taken back first: else a breakpoint between two portions would be passed.
@@ -183,7 +186,7 @@ def until_line(session: Session, start: Goroutine, lines: Lines, wanted: int, hi
 def waited_for(
     session: Session, start: Goroutine, lines: Lines, hit: Hit, go_on: Callable[[Goroutine], Motion], leaves: bool
 ) -> Motion:
-    """A movement of a goroutine; where it waits the others run by turns first, until it can go on or they stop.
+    """A movement of a goroutine; where it waits the others run round robin first, until it can go on or they stop.
 
     Where `leaves` holds, it is over when the wait itself has led to another line.
     """
@@ -200,7 +203,7 @@ def waited_for(
 
 
 def others(session: Session, waiting: Goroutine, lines: Lines, hit: Hit = always) -> Generator[int, None, Optional[Stop]]:
-    """Runs the others by turns until a goroutine that waits could take a step; where they stop before that, the stop.
+    """Runs the others round robin until a goroutine that waits could take a step; where they stop before that, the stop.
 
     The portions grow; where the goroutine has moved in one, what came after it could is taken back.
     """

@@ -1,6 +1,7 @@
 """What the log does not tell of its steps: the line, the callers, the channel and the value of each."""
 from __future__ import annotations
 
+from dataclasses import replace
 from typing import List, NamedTuple, Optional, Tuple
 
 from .operations import Operation, Verb
@@ -61,10 +62,11 @@ FAULTS = {"SendOnClosed": Verb.SEND, "CloseOfClosed": Verb.CLOSE, "CloseOfNil": 
 
 
 class Use(NamedTuple):
-    """A use of a channel that a step may have been."""
+    """A use of a channel that a step may have been; it is not alone where the statement has one whose channel stands in no variable."""
 
     operation: Operation
     channel: str
+    is_alone: bool = True
 
 
 def uses_of(kind: Kind, shown: Goroutine, operations: List[Operation]) -> List[Use]:
@@ -77,18 +79,25 @@ def uses_of(kind: Kind, shown: Goroutine, operations: List[Operation]) -> List[U
         fitting = [it for it in operations if it.verb is FAULTS.get(kind.fault)]
     else:
         fitting = [it for it in operations if it.verb is VERBS.get(kind.word) and not it.clause]
-    named = [Use(it, value) for it in fitting for value in shown.frames[0].values_of(it.channel)]
+    is_alone = all(it.channel for it in fitting)
+    named = [Use(it, value, is_alone) for it in fitting for value in shown.frames[0].values_of(it.channel)]
     return [it for it in named if "/c" in it.channel]
 
 
 def found_use(kind: Kind, uses: List[Use], before: List[Channel], after: List[Channel]) -> Optional[Tuple[Use, Channel, Channel]]:
     """The use that the step was: the only one, or the only one whose channel the step changed."""
     told = list(zip(uses, before, after))
-    if len({use.channel for use in uses}) > 1:
+    if len({use.channel for use in uses}) > 1 or not all(use.is_alone for use in uses):
         changed = [it for it in told if it[1] != it[2]]
         closed = [it for it in told if not it[1].is_open and (kind.word is KindWord.FAULT or not it[1].items)]
         told = closed if kind.word in (KindWord.CLOSED, KindWord.FAULT) else changed
-    return told[0] if len({it[0].channel for it in told}) == 1 else None
+    if len({it[0].channel for it in told}) != 1:
+        return None
+    use, first, last = told[0]
+    if len({it[0].operation.value for it in told}) > 1:
+        # Statements on one line send different values: which of them it was, the text does not tell.
+        use = use._replace(operation=replace(use.operation, value=()))
+    return use, first, last
 
 
 def value_over(goroutine: Goroutine, kind: Kind, use: Use, before: Channel, after: Channel) -> str:

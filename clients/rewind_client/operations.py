@@ -44,42 +44,6 @@ class Call:
     width: int = 0
 
 
-@dataclass(frozen=True)
-class Passing:
-    """A variable's value goes on to another variable, or, where that is empty, to wherever a return or a send takes it."""
-
-    source: str
-    target: str
-    line: int
-
-
-def passings_of(part: Sequence[Token], line: int) -> Iterator[Passing]:
-    """The variables among the tokens of a statement whose whole value goes on."""
-    texts = [token.text for token in part]
-    if texts[:1] == ["return"]:
-        yield from (Passing(name, "", line) for name in names_between_commas(part[1:]) if name)
-    equals = next((place for place, text in enumerate(texts) if text in ("=", ":=")), None)
-    if equals is not None:
-        first = 1 if texts[0] == "var" else 0
-        targets = parameters_of(part[first:equals])
-        for target, source in zip(targets, names_between_commas(part[equals + 1 :])):
-            if source:
-                yield Passing(source, target, line)
-    if len(texts) > 2 and texts[-2] == "<-" and part[-1].is_name and part[-3].ends_operand:
-        yield Passing(texts[-1], "", line)
-
-
-def names_between_commas(part: Sequence[Token]) -> List[str]:
-    """The plain names of a list of values; an empty text for a value that is none."""
-    depth, first, found = 0, 0, []
-    for at, token in enumerate(part):
-        depth += {"(": 1, ")": -1}.get(token.text, 0)
-        if depth == 0 and token.text == ",":
-            found.append(argument(part[first:at]))
-            first = at + 1
-    return found + [argument(part[first:])]
-
-
 def operations_of(part: Sequence[Token], line: int, clause: int) -> Iterator[Operation]:
     """The uses of channels among the tokens of a statement that stands on a line."""
     for place, token in enumerate(part):

@@ -5,6 +5,7 @@ stand, and where an outer frame called the next one, is told from the text.
 """
 from __future__ import annotations
 
+import re
 from bisect import bisect_left
 from typing import Dict, List, Optional
 
@@ -14,13 +15,16 @@ from .tokens import all_tokens
 from .walk import Clause, Function, Walk
 
 WIDEST = 12
+# Only in a text with a type of channels of channels, or a function that returns one, may a receive or a call give a channel.
+CARRIES = re.compile(r"chan (<- )?(\( )*(<- )?chan|\) (\( )*(<- )?chan\b")
 
 
 class Program:
     """The text of a source, and what a walk over it found."""
 
     def __init__(self, text: bytes, path: str = "") -> None:
-        walk = Walk(all_tokens(text))
+        found = all_tokens(text)
+        walk = Walk(found)
         self.path = path
         self.bytes = text
         self.text = text.decode("utf-8", "replace")
@@ -29,6 +33,7 @@ class Program:
         self.statements: List[int] = sorted(walk.lines)
         self.widths: Dict[int, int] = walk.widths
         self.selects: Dict[int, List[Clause]] = walk.selects
+        self.carries = CARRIES.search(" ".join(token.text for token in found)) is not None
 
     def line(self, number: int) -> str:
         """The text of a line with single spaces in it; an empty text where there is no such line."""

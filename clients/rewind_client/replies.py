@@ -240,6 +240,7 @@ def channel(name: str, reply: Sequence[str]) -> Channel:
     return Channel(name, int(first[1]), first[2] == "open", tuple(items[1:]), waiting[0], waiting[1])
 
 
+@lru_cache(maxsize=16384)
 def waiter(text: str) -> Waiter:
     """`G`, `G@CASE`, `G=V` or `G@CASE=V`."""
     who, _, value = text.partition("=")

@@ -19,7 +19,7 @@ LARGEST_PORTION = 4000
 # A session takes 2,000,000 commands, and two for each step back.
 MOST_COMMANDS = 1_990_000
 STEPS_FOR_A_COMMAND = 20
-# Of a longer log it is tried first whether it is one of a run by turns, which can be made to stop at lines.
+# Of a longer log it is tried first whether it is one of a round robin, which can be made to stop at lines.
 FAR = 50_000
 MOST_STOPS = 20_000
 MOST_STEPS = 1_000_000
@@ -118,7 +118,7 @@ def are_noted(session: Session) -> bool:
 
 
 def place_by_turns(session: Session, lines: AbstractSet[int]) -> Optional[int]:
-    """The same for a log that a run by turns makes, by a run that stops at these lines; None for another log."""
+    """The same for a log that a round robin makes, by a run that stops at these lines; None for another log."""
     log, core = session.log(), session.begin()
     try:
         shown, taken = core.show("g0"), 0

@@ -262,7 +262,7 @@ class Session:
         return [] if self.stopped_by() else [it for it in self.goroutines() if it.state is State.READY]
 
     def ready_clauses(self, goroutine: str, count: int) -> List[int]:
-        """Which of the clauses of a select, at which a goroutine stands, could be taken now."""
+        """Which of the cases of a select, at which a goroutine stands, could be taken now."""
         core, found = self.follow().session(), []
         with self.follower.whole():
             for clause in range(1, count + 1):

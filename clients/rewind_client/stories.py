@@ -5,7 +5,7 @@ from typing import Optional
 
 from .direct import Edge, EdgeKind
 from .meanings import FAULTS
-from .names import step_owner
+from .names import step_number, step_of, step_owner
 from .notes import Note
 from .operations import Verb
 from .replies import Channel, Goroutine, KindWord, State, Waiter
@@ -27,8 +27,8 @@ class Stories:
             KindWord.EXIT: "ends the program",
             KindWord.GO: "starts %s" % self.made.get(note.step, "a goroutine"),
             KindWord.MAKE: "makes %s" % self.name(self.made.get(note.step, "")),
-            KindWord.DEFAULT: "takes the default clause",
-            KindWord.SELECT_WAIT: "waits on all clauses",
+            KindWord.DEFAULT: "takes the default case",
+            KindWord.SELECT_WAIT: "waits on all cases",
             KindWord.FAULT: FAULTS.get(note.kind.fault, note.kind.fault),
         }
         if word in plain:
@@ -39,7 +39,7 @@ class Stories:
         """A step that used a channel."""
         name, value = self.name(note.channel), note.value
         partner = " or ".join(step_owner(wait) for wait in note.woke)
-        clause = "clause %d: " % note.kind.clause if note.kind.clause else ""
+        clause = "case %d: " % note.kind.clause if note.kind.clause else ""
         if note.verb is Verb.CLOSE:
             return "closes %s%s" % (name, ", and wakes " + partner if partner else "")
         if note.verb is Verb.LENGTH:
@@ -57,7 +57,8 @@ class Stories:
 
     def wait(self, note: Note, name: str) -> str:
         """A step that began to wait, and what ended the wait."""
-        wish = "send %s to" % note.value if note.verb is Verb.SEND and note.value else (note.verb or Verb.RECEIVE).value
+        verb = Verb.SEND if note.kind.word is KindWord.SEND_WAIT else Verb.RECEIVE
+        wish = "send %s to" % note.value if verb is Verb.SEND and note.value else verb.value
         waker = self.session.follower.wakers.get(note.step, "")
         value = self.session.follower.notes[waker].value if waker and note.verb is Verb.RECEIVE else ""
         until = ", until %s%s" % (waker, " with " + value if value else "") if waker else ""
@@ -93,12 +94,14 @@ class Stories:
 
 
 def waiter_in_words(waiter: Waiter, wish: str) -> str:
-    clause = " (clause %d)" % waiter.clause if waiter.clause else ""
+    clause = " (case %d)" % waiter.clause if waiter.clause else ""
     return "%s waits to %s%s" % (waiter.goroutine, wish, clause)
 
 
 def relation(edge: Edge, source: Optional[Note], step: Optional[Note]) -> str:
     """What a direct cause was to a step, in words."""
+    if edge.kind is EdgeKind.WAIT and step is not None:
+        return "which ended the wait of " + step_of(step_owner(step.step), step_number(step.step) - 1)
     if edge.kind is not EdgeKind.ORDER or source is None or step is None or source.channel != step.channel or not source.channel:
         return "which " + edge.kind.value
     if step.verb is Verb.RECEIVE and step.kind.waits and source.receives():

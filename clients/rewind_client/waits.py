@@ -1,41 +1,92 @@
-"""Who waits for whom: what each goroutine waits for, who could still serve it, and the cycle where there is one."""
+"""Who waits for whom: what each goroutine waits for, who may still serve it, and the cycle where there is one."""
 from __future__ import annotations
 
 from dataclasses import dataclass, field, replace
-from typing import Dict, List, Optional, Sequence, Tuple
+from enum import Enum
+from typing import Dict, FrozenSet, List, NamedTuple, Optional, Sequence, Set, Tuple
 
 from .names import step_owner
-from .notes import Note, Place
+from .notes import Place
 from .operations import Verb
-from .replies import Goroutine, State
+from .replies import Channel, Goroutine, State
 from .roles import Roles
-from .session import Session
+from .session import MAX_CHANNELS, MAX_GOROUTINES, Session
+from .transfers import Transfers
 
 NIL = "nil"
-SERVED_BY = {Verb.SEND: (Verb.RECEIVE,), Verb.RECEIVE: (Verb.SEND, Verb.CLOSE)}
+SERVED_BY = {Verb.SEND: frozenset((Verb.RECEIVE,)), Verb.RECEIVE: frozenset((Verb.SEND, Verb.CLOSE))}
+MOST_ITEMS = 64
+
+
+class Server(NamedTuple):
+    """A goroutine that may still do the other half, and by what."""
+
+    goroutine: str
+    verbs: FrozenSet[Verb]
+
+
+class Stand(Enum):
+    """What became of a goroutine that took a lock, or used a channel last."""
+
+    SELF = "it waits itself"
+    DONE = "it is done"
+    MAY = "it may still do the other half"
+    NEVER = "it never does the other half again"
+
+
+@dataclass(frozen=True)
+class Hold:
+    """A step by which a goroutine put an item into a buffer, or took one out of it; `value` is that of an item that is there."""
+
+    step: str
+    place: Place
+    callers: Tuple[Place, ...]
+    stand: Stand
+    value: str = ""
+
+    @property
+    def goroutine(self) -> str:
+        return step_owner(self.step)
 
 
 @dataclass(frozen=True)
 class Wish:
-    """What a goroutine waits for: `channel` is NIL where nobody can serve it; `value` is what it sends."""
+    """What a goroutine waits for: `channel` is NIL where nobody can serve it; `value` is what it sends.
+
+    `variable` is its own name for the channel. Of a full buffer `items` are the steps that put the items in, as far as they are known,
+    of an empty one `taken` is the step that took the last one. `last` is the last message of a channel that nobody serves any more.
+    """
 
     verb: Verb
     channel: str
     clause: int = 0
     value: str = ""
-    # Goroutines that could still serve the wish, and of these the one that took the channel's last value.
-    servers: Tuple[str, ...] = ()
-    taker: str = ""
-    # The step that took the last value out of the channel, and the one that last sent one, where these are of interest.
-    taken_by: Optional[Note] = None
-    sent_by: Optional[Note] = None
-    # Whether the channel itself is on its way over a channel, so that others may come to know it.
-    is_on_its_way: bool = False
+    variable: str = ""
+    capacity: int = 0
+    is_range: bool = False
+    servers: Tuple[Server, ...] = ()
+    # Goroutines that would serve it only behind the same wish of their own.
+    behind: Tuple[str, ...] = ()
+    # Whether all goroutines and channels were looked at.
+    is_whole: bool = True
+    items: Tuple[Hold, ...] = ()
+    taken: Optional[Hold] = None
+    last: Optional[Hold] = None
+
+    @property
+    def owners(self) -> Tuple[str, ...]:
+        """Those that hold a lock and may still give it back."""
+        held = self.items or ((self.taken,) if self.taken and self.capacity == 1 else ())
+        return tuple(dict.fromkeys(it.goroutine for it in held if it.stand is Stand.MAY))
+
+    @property
+    def waits_for(self) -> Tuple[str, ...]:
+        return self.owners or tuple(it.goroutine for it in self.servers)
 
 
 @dataclass(frozen=True)
 class Wait:
-    """A goroutine that waits, the places of its frames, and the step that began the wait."""
+    """A goroutine that waits, the places of its frames, and the step that began the wait. A select without cases has no wish."""
 
     goroutine: str
     places: Tuple[Place, ...]
@@ -44,11 +95,13 @@ class Wait:
 
     @property
     def waits_for(self) -> Tuple[str, ...]:
-        """The goroutines for which it waits: who took a channel's last value, else all that could serve it."""
-        named: List[str] = []
-        for wish in self.wishes:
-            named += [wish.taker] if wish.taker else wish.servers
-        return tuple(dict.fromkeys(named))
+        """The goroutines for which it waits: those that hold a lock, else all that may serve it."""
+        return tuple(dict.fromkeys(name for wish in self.wishes for name in wish.waits_for))
+
+    @property
+    def helpers(self) -> Tuple[str, ...]:
+        """All goroutines that may serve it, also beside those that hold a lock."""
+        return tuple(dict.fromkeys(server.goroutine for wish in self.wishes for server in wish.servers))
 
 
 @dataclass
@@ -56,102 +109,156 @@ class Waits:
     """Finds the waits of a session as it stands."""
 
     session: Session
-    roles: Roles = field(init=False)
+    goroutines: List[Goroutine] = field(init=False)
+    channels: Dict[str, Channel] = field(init=False)
 
     def __post_init__(self) -> None:
-        self.roles = Roles(self.session.program)
+        self.goroutines = [it for it in self.session.goroutines() if it.state is not State.DONE]
+        self.channels = {it.name: it for it in self.session.channels()}
+        self.names = {it.name for it in self.goroutines}
+        self.able: Dict[Tuple[Verb, str], Tuple[Server, ...]] = {}
+        self.same: Dict[Tuple[Verb, str], Set[str]] = {}
+        known = self.session.ledger()
+        self.is_whole = max(len(known.goroutines) - MAX_GOROUTINES, len(known.channels) - MAX_CHANNELS) <= 0
 
     def all(self) -> List[Wait]:
         """The waits of all goroutines, in the order of their names."""
-        goroutines = [it for it in self.session.goroutines() if it.state is not State.DONE]
+        waiting = [it for it in self.goroutines if it.state is State.WAITING]
+        if not waiting:
+            return []
+        places = {it.name: tuple(self.session.places(it)) for it in self.goroutines}
         queued = self.queued()
-        last = Last(self.session.notes())
-        found = []
-        for one in goroutines:
-            if one.state is State.WAITING:
-                wishes = queued.get(one.name) or [self.nil_wish(one)]
-                served = tuple(self.served(one, wish, goroutines, last) for wish in wishes)
-                found.append(Wait(one.name, tuple(self.session.places(one)), one.last_step, served))
-        return found
+        self.wishes = {it.name: self.wishes_of(it, queued.get(it.name, [])) for it in waiting}
+        for name, wishes in self.wishes.items():
+            if len({(wish.verb, wish.channel) for wish in wishes}) == 1:
+                self.same.setdefault((wishes[0].verb, wishes[0].channel), set()).add(name)
+        self.roles = Roles(self.session.program, self.goroutines, list(places.values()), list(self.channels.values()))
+        self.transfers = Transfers(self.session, list(dict.fromkeys(it.channel for of in self.wishes.values() for it in of if it.channel != NIL)))
+        return [
+            Wait(it.name, places[it.name], it.last_step, tuple(self.served(it.name, wish) for wish in self.wishes[it.name]))
+            for it in waiting
+        ]
+
+    # What is wished.
 
     def queued(self) -> Dict[str, List[Wish]]:
         """What each goroutine waits for, by the queues of the channels."""
-        wishes: Dict[str, List[Wish]] = {}
-        for channel in self.session.channels():
+        found: Dict[str, List[Wish]] = {}
+        for channel in self.channels.values():
             for verb, queue in ((Verb.SEND, channel.senders), (Verb.RECEIVE, channel.receivers)):
-                for one in queue:
-                    wishes.setdefault(one.goroutine, []).append(Wish(verb, channel.name, one.clause, one.value))
-        return {name: sorted(found, key=lambda wish: wish.clause) for name, found in wishes.items()}
+                for it in queue:
+                    wish = Wish(verb, channel.name, it.clause, it.value, capacity=channel.capacity, is_whole=self.is_whole)
+                    found.setdefault(it.goroutine, []).append(wish)
+        return found
 
-    def nil_wish(self, goroutine: Goroutine) -> Wish:
-        function = goroutine.frames[0].function if goroutine.frames else ""
-        used = self.session.program.operations(function, goroutine.line)
-        return Wish(used[0].verb if used else Verb.RECEIVE, NIL)
+    def wishes_of(self, one: Goroutine, queued: Sequence[Wish]) -> List[Wish]:
+        """What a goroutine waits for. One that is in no queue waits at a nil channel, or at a select without cases."""
+        found = [self.named(one, wish) for wish in queued]
+        return sorted(found, key=lambda wish: wish.clause) or self.nil_wishes(one)
 
-    def served(self, waiting: Goroutine, wish: Wish, goroutines: Sequence[Goroutine], last: Last) -> Wish:
-        """A wish with those that could still serve it. A channel with a buffer, from which one waits to receive, may be a lock."""
+    def named(self, one: Goroutine, wish: Wish) -> Wish:
+        """A wish with the goroutine's own name for the channel: that of its statement, else that of a frame, the innermost first."""
+        used = [it for it in self.uses_at(one) if it[0] is wish.verb]
+        holding = [variable.name for frame in one.frames for variable in frame.variables if variable.value == wish.channel]
+        written = [name for _, name, _ in used if name in holding]
+        is_range = any(ranges and name in ("", *holding) for _, name, ranges in used)
+        return replace(wish, variable=(written or holding or [""])[0], is_range=is_range and not wish.clause)
+
+    def uses_at(self, one: Goroutine) -> List[Tuple[Verb, str, bool]]:
+        """The uses of channels on the line of a goroutine: what is done, the variable, and whether it is a range."""
+        function = self.session.program.functions.get(one.frames[0].function) if one.frames else None
+        uses = [it for it in function.flows.uses if it.line == one.line] if function else []
+        return [(it.verb, it.channel.name if it.channel else "", it.is_range) for it in uses]
+
+    def nil_wishes(self, one: Goroutine) -> List[Wish]:
+        """The wishes of a goroutine in no queue: at nil channels, or none at a select without cases."""
+        uses = self.uses_at(one)
+        return [Wish(verb, NIL) for verb in dict.fromkeys(verb for verb, _, _ in uses if verb in SERVED_BY)]
+
+    # Who serves it.
+
+    def served(self, waiting: str, wish: Wish) -> Wish:
+        """A wish with those that may still serve it, and the steps that left it unserved."""
         if wish.channel == NIL:
             return wish
-        others = [it for it in goroutines if it.name != waiting.name]
-        servers = tuple(it.name for it in others if self.may_use(it, wish.channel, SERVED_BY[wish.verb]))
-        channel, taken = self.session.channel(wish.channel), last.taken.get(wish.channel)
-        is_lock = channel is not None and channel.capacity > 0 and wish.verb is Verb.RECEIVE
-        taker = taker_of(taken) if taken and is_lock else ""
-        is_alone = not servers
-        return replace(
-            wish,
-            servers=servers,
-            taker=taker if taker in servers else "",
-            taken_by=taken if is_lock or (is_alone and wish.verb is Verb.SEND) else None,
-            sent_by=last.sent.get(wish.channel) if is_alone and not is_lock and wish.verb is Verb.RECEIVE else None,
-            is_on_its_way=is_alone and self.is_on_its_way(wish.channel),
-        )
+        items, taken = self.items(waiting, wish), self.taken(waiting, wish)
+        owners = {it.goroutine for it in (*items, *((taken,) if taken else ()))}
+        later = self.same.get((wish.verb, wish.channel), set()) - owners
+        able = self.able_to(wish)
+        behind = tuple(it.goroutine for it in able if it.goroutine in later and it.goroutine != waiting)
+        servers = tuple(it for it in able if it.goroutine not in later and it.goroutine != waiting) if able else ()
+        last = None if servers or behind or wish.capacity else self.last(waiting, wish)
+        return replace(wish, servers=servers, behind=behind, items=items, taken=taken, last=last)
 
-    def is_on_its_way(self, name: str) -> bool:
-        """Whether a channel is a value that some other channel holds, or that a sender waits with."""
-        channels = self.session.channels()
-        return any(name in it.items or any(sender.value == name for sender in it.senders) for it in channels)
+    def verbs(self, name: str, wish: Wish) -> FrozenSet[Verb]:
+        return self.roles.verbs(name, wish.channel) & SERVED_BY[wish.verb]
 
-    def may_use(self, goroutine: Goroutine, channel: str, verbs: Tuple[Verb, ...]) -> bool:
-        """Whether a goroutine may still use a channel in one of some ways, by its variables and the text that is ahead of it."""
-        for frame, place in zip(goroutine.frames, self.session.places(goroutine)):
-            for variable in frame.variables:
-                if variable.value == channel and self.roles.may(frame.function, variable.name, verbs, place.line):
-                    return True
-        return False
+    def able_to(self, wish: Wish) -> Tuple[Server, ...]:
+        """All goroutines that may do the other half of a wish, as the text ahead of them tells it."""
+        key = (wish.verb, wish.channel)
+        if key not in self.able:
+            found = (Server(it.name, self.verbs(it.name, wish)) for it in self.goroutines)
+            self.able[key] = tuple(it for it in found if it.verbs)
+        return self.able[key]
 
+    def items(self, waiting: str, wish: Wish) -> Tuple[Hold, ...]:
+        """The steps that put the items into a full buffer: the last ones that put any, since the first item goes out first."""
+        items = self.channels[wish.channel].items
+        if wish.verb is not Verb.SEND or not items or len(items) > MOST_ITEMS:
+            return ()
+        put = self.transfers.put[wish.channel][-len(items) :]
+        holds = [self.hold(waiting, wish, step, value) for step, value in zip(put, items[-len(put) :])] if put else []
+        return tuple(it for it in holds if it)
 
-class Last:
-    """Of each channel the step that took its last value, and the one that sent it."""
+    def taken(self, waiting: str, wish: Wish) -> Optional[Hold]:
+        """The step that took the last item out of an empty buffer."""
+        taken = self.transfers.taken[wish.channel]
+        return self.hold(waiting, wish, taken[-1]) if wish.verb is Verb.RECEIVE and wish.capacity and taken else None
 
-    def __init__(self, notes: Sequence[Note]) -> None:
-        self.taken: Dict[str, Note] = {}
-        self.sent: Dict[str, Note] = {}
-        for note in notes:
-            if note.sends() or (note.receives() and note.woke):
-                self.sent[note.channel] = note
-            if note.receives() or (note.sends() and note.woke):
-                self.taken[note.channel] = note
+    def last(self, waiting: str, wish: Wish) -> Optional[Hold]:
+        """The last step that did the other half."""
+        done = (self.transfers.taken if wish.verb is Verb.SEND else self.transfers.sent)[wish.channel]
+        return self.hold(waiting, wish, done[-1]) if done else None
 
+    def hold(self, waiting: str, wish: Wish, step: str, value: str = "") -> Optional[Hold]:
+        note = self.session.follower.notes.get(step)
+        if note is None:
+            return None
+        return Hold(step, note.place, note.callers, self.stand(waiting, wish, step_owner(step)), value)
 
-def taker_of(note: Note) -> str:
-    """The goroutine that got the value of a transfer."""
-    return step_owner(note.step if note.receives() else note.woke[0])
-
-
-def sender_of(note: Note) -> str:
-    """The goroutine whose value a transfer was."""
-    return step_owner(note.step if note.sends() else note.woke[0])
+    def stand(self, waiting: str, wish: Wish, name: str) -> Stand:
+        if name == waiting:
+            return Stand.SELF
+        if name not in self.names:
+            return Stand.DONE
+        return Stand.MAY if self.verbs(name, wish) else Stand.NEVER
 
 
 def cycle_among(waits: Sequence[Wait]) -> List[str]:
-    """Goroutines of which each waits for the next one, and the last one for the first; none where there is no cycle."""
+    """The fewest goroutines of which each waits for the next one, and the last one for the first; none where there is no cycle.
+
+    A cycle from which a way leads to a goroutine that does not wait may still come loose, and is none.
+    """
     edges = {wait.goroutine: wait.waits_for for wait in waits}
+    helpers = {wait.goroutine: wait.helpers for wait in waits}
+    best: List[str] = []
     for start in edges:
-        path = path_back(start, edges)
-        if path:
-            return path
-    return []
+        path = path_back(start, edges) if not comes_loose(start, helpers) else []
+        if path and (not best or len(path) < len(best)):
+            best = path
+    return best
+
+
+def comes_loose(start: str, helpers: Dict[str, Tuple[str, ...]]) -> bool:
+    """Whether one that waits may be served by way of a goroutine that does not wait."""
+    reached, ahead = {start}, [start]
+    while ahead:
+        name = ahead.pop()
+        if name not in helpers:
+            return True
+        ahead += [it for it in helpers[name] if it not in reached]
+        reached.update(helpers[name])
+    return False
 
 
 def path_back(start: str, edges: Dict[str, Tuple[str, ...]]) -> List[str]:

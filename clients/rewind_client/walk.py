@@ -4,7 +4,8 @@ from __future__ import annotations
 from dataclasses import dataclass, field
 from typing import Dict, List, NamedTuple, Sequence, Set, Tuple
 
-from .operations import Call, Operation, Passing, calls_of, operations_of, parameters_of, passings_of
+from .flows import Flows, Part, flows_of
+from .operations import Call, Operation, calls_of, operations_of, parameters_of
 from .tokens import Token
 
 END = Token("", 0)
@@ -21,8 +22,10 @@ class Function:
     names: Set[str] = field(default_factory=set)
     operations: List[Operation] = field(default_factory=list)
     calls: List[Call] = field(default_factory=list)
-    passings: List[Passing] = field(default_factory=list)
+    parts: List[Part] = field(default_factory=list)
+    # The places of the tokens of each loop that come again with each turn.
     loops: List[Tuple[int, int]] = field(default_factory=list)
+    flows: Flows = Flows([], [], [])
 
 
 class Clause(NamedTuple):
@@ -74,6 +77,9 @@ class Walk:
             if self.take().text == "struct":
                 self.at += 2
         self.function.last_line = self.block()
+        if self.at <= len(self.tokens):
+            self.function.parts.append(Part(self.function.last_line, self.at - 1, self.at))
+        self.function.flows = flows_of(self.tokens, self.function.parts)
         self.function.names = {token.text for token in self.tokens[begin : self.at] if token.is_name}
         self.lines.add(self.function.last_line)
 
@@ -117,17 +123,20 @@ class Walk:
         """An `if` or a `for` with its heading, its body and what comes behind `else`."""
         keyword = self.take()
         self.lines.add(keyword.line)
-        self.heading(keyword.line)
-        last_line = self.block()
+        turns = self.heading(keyword.line)
+        self.block()
         if keyword.text == "for":
-            self.function.loops.append((keyword.line, last_line))
+            self.function.loops.append((turns, self.at))
         if self.peek().text == "else":
             self.take()
             self.statement()
 
-    def heading(self, line: int) -> None:
-        """The parts of a heading: the condition belongs to the statement, the others are statements of their own."""
-        parts, clauses = [], 0
+    def heading(self, line: int) -> int:
+        """The parts of a heading: the condition belongs to the statement, the others are statements of their own.
+
+        Gives the place of what comes again with each turn: what stands before the first semicolon does not.
+        """
+        parts, clauses, turns = [], 0, self.at
         while self.peek().text not in ("{", ""):
             first = self.peek().line
             if self.peek().text != ";":
@@ -135,11 +144,13 @@ class Walk:
             if self.peek().text == ";":
                 self.take()
                 clauses += 1
+                turns = self.at if clauses == 1 else turns
         for clause, first, begin, end in parts:
             own = clauses > 0 and clause != 1
             if own:
                 self.lines.add(first)
             self.note(first if own else line, begin, end)
+        return turns
 
     def select(self) -> None:
         """A select: its clauses belong to it up to their bodies."""
@@ -178,4 +189,4 @@ class Walk:
         self.widths[line] = self.widths.get(line, 0) + len(part)
         self.function.calls += calls_of(part, line)
         self.function.operations += operations_of(part, line, clause)
-        self.function.passings += passings_of(part, line)
+        self.function.parts.append(Part(line, begin, end, clause))

@@ -1,46 +1,45 @@
-"""Stops where a variable is given a value, forward and back.
+"""Stops where a variable is given a value, or something goes over a channel, forward and back.
 
-Rewind tells by `back var` which step gave a variable its last value. A session of its own is asked, and takes the same steps.
+Rewind tells by `back var` which step gave a variable its last value, and by `back send` and `back recv` which steps used a channel. A
+session of its own is asked, and takes the same steps.
 """
 from __future__ import annotations
 
+from itertools import count
 from typing import Callable, Dict, List, NamedTuple, Optional, Sequence
 
 from . import replies
 from .core import Core, step_command
 from .motion import Lines, Motion, Stop, StopReason, back_to, stop_of_run
+from .names import step_owner
 from .replies import Entry, KindWord, Ran, Reason
 from .scout import last_step_at
 from .session import Session
+from .watched import ChannelWatch, Watch, Watched
 
 # After each portion the whole log is asked for, so they grow large.
 LARGEST_PORTION = 400_000
 
 
-class Watch(NamedTuple):
-    """The variables of one name in a goroutine."""
-
-    goroutine: str
-    variable: str
-
-
 class Given(NamedTuple):
-    """A variable was given a value by the step at a place of the log."""
+    """What is watched was done by the step at a place of the log."""
 
     place: int
-    watch: Watch
+    watch: Watched
 
 
-Watches = Callable[[], Sequence[Watch]]
+Watches = Callable[[], Sequence[Watched]]
 
 
 class Watcher:
-    """Finds the steps that give variables values."""
+    """Finds the steps that do what is watched."""
 
     def __init__(self, begin: Callable[[], Core]) -> None:
         self.begin = begin
         self.core: Optional[Core] = None
         self.at = 0
+        # How often something went over each channel, when that was last asked.
+        self.numbers: Dict[ChannelWatch, int] = {}
 
     def end(self) -> None:
         if self.core is not None:
@@ -57,32 +56,52 @@ class Watcher:
         self.at += len(ahead)
         return self.core
 
-    def given_since(self, log: Sequence[Entry], since: int, watches: Sequence[Watch]) -> List[Given]:
-        """For each variable that was given a value since a place, the first and the last step that did it."""
+    def given_since(self, log: Sequence[Entry], since: int, watches: Sequence[Watched]) -> List[Given]:
+        """For each thing that was done since a place, the first and the last step that did it."""
         core, found = self.follow(log), []
         places = {entry.step: at for at, entry in enumerate(log[since:], since)}
         for watch in watches:
             found += self.of_one(core, watch, places)
         if found:
             self.end()
-        return sorted(found)
+        return sorted(found, key=lambda given: given.place)
 
-    def last_given(self, log: Sequence[Entry], watches: Sequence[Watch]) -> Optional[Given]:
-        """The last step that gave one of some variables a value."""
+    def last_given(self, log: Sequence[Entry], watches: Sequence[Watched]) -> Optional[Given]:
+        """The last step that did one of some things."""
         core, found = self.follow(log), []
         places = {entry.step: at for at, entry in enumerate(log)}
         for watch in watches:
-            reply = core.ask("back var %s %s" % watch)
+            reply = core.ask("back " + watch.target(self.number(core, watch)))
             if replies.is_ok(reply):
                 found.append(Given(places[replies.steps(reply)[0]], watch))
                 core.redo()
-        return max(found, default=None)
+        return sorted(found, key=lambda given: given.place)[-1] if found else None
 
-    def of_one(self, core: Core, watch: Watch, places: Dict[str, int]) -> List[Given]:
-        """The steps that gave one variable a value, among some; what goes back for another one comes again."""
+    def number(self, core: Core, watch: Watched) -> int:
+        """How often something went over a channel: the greatest number of which `back` knows. Of a variable it is not asked."""
+        if isinstance(watch, Watch):
+            return 0
+        least, most = 0, max(1, self.numbers.get(watch, 1))
+        while self.knows(core, watch, most):
+            least, most = most, 2 * most
+        while most - least > 1:
+            middle = (least + most) // 2
+            least, most = (middle, most) if self.knows(core, watch, middle) else (least, middle)
+        self.numbers[watch] = least
+        return least
+
+    def knows(self, core: Core, watch: ChannelWatch, number: int) -> bool:
+        """Whether `back` finds a time of a number; what it takes back comes again."""
+        found = replies.is_ok(core.ask("back " + watch.target(number)))
+        if found:
+            core.redo()
+        return found
+
+    def of_one(self, core: Core, watch: Watched, places: Dict[str, int]) -> List[Given]:
+        """The steps that did one thing, among some; what goes back for another one comes again."""
         found: List[Given] = []
-        while True:
-            reply = core.ask("back var %s %s" % watch)
+        for number in count(self.number(core, watch), -1):
+            reply = core.ask("back " + watch.target(number)) if number > 0 or isinstance(watch, Watch) else ["no"]
             if not replies.is_ok(reply):
                 return found
             step = replies.steps(reply)[0]
@@ -90,10 +109,18 @@ class Watcher:
                 core.redo()
                 return found
             found.append(Given(places[step], watch))
+        return found
+
+
+def stop_at(reason: StopReason, entry: Entry, watch: Watched) -> Stop:
+    """A stop for what is watched, at the goroutine of the variable, or of the step."""
+    if isinstance(watch, Watch):
+        return Stop(reason, watch.goroutine, entry, before=watch.variable, watch=watch)
+    return Stop(reason, step_owner(entry.step), entry, watch=watch)
 
 
 def forward_to_value(session: Session, lines: Lines, watches: Watches, goroutine: str) -> Motion:
-    """Runs all by turns until a step has given one of some variables a value, or a run would stop before that."""
+    """Runs all, round robin, until a step has done what is watched, or a run would stop before that."""
     watcher, taken, again, portion = Watcher(session.begin), 0, 0, 1
     try:
         while True:
@@ -105,7 +132,7 @@ def forward_to_value(session: Session, lines: Lines, watches: Watches, goroutine
             if given:
                 entry = session.log()[given[0].place]
                 session.cut(given[0].place + 1)
-                return Stop(StopReason.VALUE, given[0].watch.goroutine, entry, before=given[0].watch.variable)
+                return stop_at(StopReason.VALUE, entry, given[0].watch)
             taken += run.taken - again
             if run.reason is not Reason.COUNT:
                 return stop_of_run(session, Ran(taken, run.reason, run.line), goroutine)
@@ -117,7 +144,7 @@ def forward_to_value(session: Session, lines: Lines, watches: Watches, goroutine
 
 
 def backward_to_value(session: Session, lines: Lines, watches: Watches) -> Motion:
-    """Takes steps back as far as before the last one that gave one of some variables a value, or as `backward` does."""
+    """Takes steps back as far as before the last one that did what is watched, or as `backward` does."""
     watcher = Watcher(session.begin)
     try:
         given = watcher.last_given(session.log(), watches())
@@ -128,4 +155,4 @@ def backward_to_value(session: Session, lines: Lines, watches: Watches) -> Motio
         return back_to(session, place)
     entry = session.log()[given.place]
     session.cut(given.place)
-    return Stop(StopReason.VALUE, given.watch.goroutine, entry, before=given.watch.variable)
+    return stop_at(StopReason.VALUE_TAKEN_BACK, entry, given.watch)

@@ -3,14 +3,17 @@ from __future__ import annotations
 
 import glob
 import os
+import re
 from typing import Callable, Dict, List
 
 from rewind_client.errors import RewindError
 
 from .desk import Desk
-from .words import WORDS, word_of
+from .words import WORDS, meant_words
 
 SHOWN_STEPS = 200
+# A variable or a channel that is begun.
+NAME_AT_END = re.compile(r"[A-Za-z_][A-Za-z0-9_./]*$")
 
 
 class Completing:
@@ -24,8 +27,8 @@ class Completing:
             **dict.fromkeys(("deps", "causes", "direct", "order"), [step]),
             **dict.fromkeys(("break", "until", "list", "clear"), [line, self.functions]),
             "chan": [channel],
-            "print": [self.variables, channel],
-            "history": [goroutine, channel, self.variables, lambda: ["all"]],
+            "print": [self.variables, self.channel_variables, channel],
+            "history": [goroutine, channel, self.channel_variables, lambda: ["all"]],
             "back": [step, line, self.variables, lambda: ["go", "send", "recv", "var"]],
             "preview": [step, line, lambda: ["go", "send", "recv", "var"]],
             "help": [self.words],
@@ -37,8 +40,10 @@ class Completing:
         first = [word for word in words if word][:1]
         last = words[-1]
         if len([word for word in words if word]) <= 1 and last:
-            return [name for name in self.words() if name.startswith(last)]
-        name = word_of(first[0]) if first else None
+            return [name for name in self.words() if name.startswith(last)] + (self.within(last) if self.shell.takes_values else [])
+        name = meant_words([*first, last])[0] if first else None
+        if name == "print":
+            return self.within(last)
         if name in ("save", "load"):
             return sorted(path + ("/" if os.path.isdir(path) else "") for path in glob.glob(glob.escape(last) + "*"))
         try:
@@ -46,6 +51,16 @@ class Completing:
         except RewindError:
             return []
         return [text for text in dict.fromkeys(found) if text.startswith(last)]
+
+    def within(self, last: str) -> List[str]:
+        """What a word may become that is an expression: the name at its end is completed."""
+        begun = NAME_AT_END.search(last)
+        before = last[: begun.start()] if begun else last
+        try:
+            names = [text for source in self.by_word["print"] for text in source()]
+        except RewindError:
+            return []
+        return [before + text for text in dict.fromkeys(names) if text.startswith(last[len(before) :])]
 
     def words(self) -> List[str]:
         return sorted(word.name for word in WORDS)
@@ -64,6 +79,11 @@ class Completing:
 
     def functions(self) -> List[str]:
         return sorted(self.shell.program.functions)
+
+    def channel_variables(self) -> List[str]:
+        """The names that replies have for channels."""
+        names = self.shell.session.channel_names()[:SHOWN_STEPS]
+        return [name for name in map(self.shell.session.variable_of, names) if name]
 
     def variables(self) -> List[str]:
         goroutine = self.shell.session.goroutine(self.shell.chosen)

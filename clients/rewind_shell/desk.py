@@ -29,6 +29,14 @@ class Desk(Protocol):
     chosen: str
 
     @property
+    def takes_values(self) -> bool:
+        """Whether a line may be a variable or an expression."""
+
+    @property
+    def has_workers(self) -> bool:
+        """Whether the program runs beside workers."""
+
+    @property
     def session(self) -> Session:
         ...
 

@@ -5,6 +5,7 @@ from typing import Callable, Dict, List, Optional
 
 from rewind_client.direct import DirectCauses
 from rewind_client.explanations import explain
+from rewind_client.expressions import evaluated
 from rewind_client.follower import NOTED
 from rewind_client.names import is_channel, is_goroutine, is_step, step_number, step_of, step_owner
 from rewind_client.notes import Note
@@ -13,11 +14,14 @@ from rewind_client.sentences import Sentences
 from rewind_client.stories import Stories, relation
 
 from .desk import Desk
-from .words import GROUPS, HINTS, BY_NAME, Word, word_of
+from .words import BY_NAME, CODES, FOR_WORKERS, GROUPS, HINTS, TERMS, Word, word_of
 
 AROUND = 5
 SHOWN_STEPS = 40
 MAX_ROWS = 1000
+SHOWN_TEXT = 60
+# To follow so many steps takes longer than a person waits without a sign.
+LONG = 10_000
 
 
 class Looking:
@@ -48,6 +52,8 @@ class Looking:
             for title, group in GROUPS.items():
                 self.screen.say(title, "strong")
                 for word in group:
+                    if word.name == FOR_WORKERS and not self.shell.has_workers:
+                        continue
                     self.screen.say("  %-28s %s" % (used(word), word.does))
             self.screen.say("'help WORD' tells more of a word, and 'help CODE' of a code such as N3 or SendOnClosed.")
             return
@@ -66,8 +72,11 @@ class Looking:
             self.screen.say("  " + HINTS[word.name])
 
     def explained(self, code: str) -> None:
-        """What Rewind itself tells of a code."""
-        lines = self.shell.explained(code)
+        """What Rewind itself tells of a code, or what a word of ours means."""
+        if code.lower() in TERMS:
+            self.screen.say(TERMS[code.lower()])
+            return
+        lines = self.shell.explained(CODES.get(code.lower(), code))
         for line in lines or ["there is no command and no code '%s'; 'help' lists the commands" % code[:40]]:
             self.screen.say(line)
 
@@ -111,9 +120,17 @@ class Looking:
 
     def why(self, _words: List[str]) -> None:
         session = self.shell.session
+        self.tell_reading()
         for line in Sentences(session).all(explain(session)):
             self.screen.say(line, "faint" if line.startswith(" ") else "")
         self.tell_limit()
+
+    def tell_reading(self) -> None:
+        """Says at a terminal that the log is read, before that takes long."""
+        session = self.shell.session
+        if self.screen.is_terminal and len(session.log()) - len(session.follower.entries) > LONG:
+            self.screen.say("reading the log ..", "note")
+            self.screen.flush()
 
     def tell_limit(self) -> None:
         """Says where a log is so long that the first of its steps are not noted."""
@@ -159,13 +176,17 @@ class Looking:
             self.screen.row("%s %4d  %s%s" % (mark, number, text, names), "source" if number == here else "")
 
     def print(self, words: List[str]) -> None:
+        text = " ".join(words)
         if not words:
-            self.screen.say("print wants a variable or a channel: print x, print g0/c1", "error")
-            return
-        stories, name = Stories(self.shell.session), words[0]
-        if is_channel(name):
-            self.one_channel(name)
-            return
+            self.screen.say("print wants a variable, a channel or an expression: print x, print g0/c1, print len(c)", "error")
+        elif is_channel(text):
+            self.one_channel(text)
+        elif not self.variable(text) and not self.channels_called(text):
+            self.expression(text)
+
+    def variable(self, name: str) -> bool:
+        """Tells a variable of the innermost frame that has it; whether there is one."""
+        stories = Stories(self.shell.session)
         goroutine = self.shell.session.goroutine(self.shell.chosen)
         for frame in goroutine.frames if goroutine else ():
             values = frame.values_of(name)
@@ -175,10 +196,29 @@ class Looking:
                 if is_channel(value):
                     self.one_channel(value)
             if values:
-                return
-        self.screen.say(
-            "%s has no variable '%s' with a value here; 'bt' shows those it has" % (self.shell.chosen, name[:40]), "error"
-        )
+                return True
+        return False
+
+    def channels_called(self, name: str) -> bool:
+        """Tells the channels that other replies call so; whether there are some."""
+        found = self.shell.session.channels_named(name) if name.isidentifier() else []
+        for channel in found:
+            self.one_channel(channel)
+        return bool(found)
+
+    def expression(self, text: str) -> None:
+        """Tells the value of an expression over variables of the chosen goroutine, each of the innermost frame that has it."""
+        goroutine = self.shell.session.goroutine(self.shell.chosen)
+        frames = goroutine.frames if goroutine else ()
+        variable: Callable[[str], str] = lambda name: next((found for found in (it.value_of(name) for it in frames) if found), "")
+        found = evaluated(text, self.shell.session, variable)
+        if found.value:
+            self.screen.say("%s = %s" % (text[:SHOWN_TEXT], Stories(self.shell.session).value(found.value)))
+        elif text.isidentifier():
+            told = (self.shell.chosen, text[:SHOWN_TEXT])
+            self.screen.say("%s has no variable '%s' with a value here; 'bt' shows those it has" % told, "error")
+        else:
+            self.screen.say("'%s' has no value: %s" % (text[:SHOWN_TEXT], found.why), "error")
 
     def one_channel(self, name: str) -> None:
         channel = self.shell.session.channel(name)
@@ -190,12 +230,13 @@ class Looking:
     # Steps.
 
     def history(self, words: List[str]) -> None:
+        self.tell_reading()
         notes = self.shell.session.notes()
         wanted = words[0] if words else str(SHOWN_STEPS)
         chosen = self.selected(notes, wanted)
         if chosen is None:
             self.screen.say(
-                "history wants a number, a goroutine, a channel, its variable, or 'all': history 20, history g0.1", "error"
+                "history wants a number, a goroutine, a channel or 'all': history 20, history g0.1, history g0/c1", "error"
             )
             return
         stories = Stories(self.shell.session)
@@ -226,7 +267,7 @@ class Looking:
             return
         finder, step = DirectCauses(self.shell.session), words[0]
         if step not in finder.kinds:
-            self.screen.say("there is no kept step %s; 'log' and 'history' list them" % step, "error")
+            self.screen.say("there is no step %s in the log; 'log' and 'history' list them" % step, "error")
             return
         stories, notes = Stories(self.shell.session), self.shell.session.follow().notes
         self.about(stories, step, notes, "")
@@ -259,4 +300,5 @@ def used(word: Word) -> str:
 def row(stories: Stories, text: str, note: Note) -> str:
     """A step with its kind, line and statement, and what it did."""
     did = stories.step(note)
-    return ("%-8s %-11s %4d: %-30s %s" % (note.step, note.kind, note.line, text[:60], did)).rstrip()
+    shown = text if len(text) <= SHOWN_TEXT else text[: SHOWN_TEXT - 2] + ".."
+    return ("%-8s %-11s %4d: %-30s %s" % (note.step, note.kind, note.line, shown, did)).rstrip()

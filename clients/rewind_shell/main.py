@@ -9,14 +9,14 @@ from typing import Callable, List, NoReturn, Optional
 
 from rewind_client.errors import NotFound, RewindError, SourceRefused
 from rewind_client.finding import find_rewind
-from rewind_client.program import read_program
-from rewind_client.refusals import explain_refusal
+from rewind_client.versions import version_of
 
 from .completing import Completing
 from .interpreter import python_with
 from .interrupts import Interrupts
-from .reading import MISSING, FileReader, PlainReader, Reader, RichReader, has_rich_terminal
-from .shell import Shell
+from .reading import MISSING, CannotRead, FileReader, PlainReader, Reader, RichReader, has_rich_terminal
+from .saving import COMMANDS, saved_in
+from .shell import Shell, refusal_in_words
 from .terminal import Screen, error
 from .words import word_of
 
@@ -39,8 +39,12 @@ def arguments(words: List[str]) -> argparse.Namespace:
         "--rewind", metavar="PATH", help="the rewind to take; else $REWIND, that of the repository, or that on the path"
     )
     parser.add_argument("--load", metavar="SCRIPT", help="take the commands of a script first")
-    parser.add_argument("file", metavar="FILE", help="the source")
-    return parser.parse_args(words)
+    parser.add_argument("--version", action="store_true", help="print the version of the rewind that is taken")
+    parser.add_argument("file", metavar="FILE", nargs="?", help="the source; one that the page has saved with its commands takes them")
+    given = parser.parse_args(words)
+    if not given.file and not given.version:
+        parser.error("name a FILE")
+    return given
 
 
 def take_better_python() -> None:
@@ -55,36 +59,37 @@ def take_better_python() -> None:
 
 def main(words: List[str]) -> int:
     given = arguments(words)
-    take_better_python()
-    interrupts = Interrupts()
-    screen = Screen(sys.stdout, interrupts.pending)
     try:
-        if not os.path.isfile(given.file):
-            raise RewindError("there is no file %s" % given.file)
-        shell = Shell(find_rewind(given.rewind), given.file, screen, interrupts, asking())
+        if given.version:
+            print("rewind-shell %s" % version_of(find_rewind(given.rewind)))
+            return 0
+        if sys.stdin is None:
+            raise RewindError("standard input is closed: there is nobody to give commands")
+        take_better_python()
+        return begun(given)
     except SourceRefused as refused:
-        tell_refused(given.file, refused)
+        error(refusal_in_words(given.file, refused))
         return REFUSED
+    except CannotRead as fault:
+        error(str(fault))
+        return FAILED
     except (RewindError, NotFound) as fault:
         error(str(fault))
         return USAGE
-    except KeyboardInterrupt:
-        return INTERRUPTED
+
+
+def begun(given: argparse.Namespace) -> int:
+    """Begins a session on the file, and converses."""
+    if os.path.isdir(given.file):
+        raise RewindError("%s is a folder: name the source in it" % given.file)
+    if not os.path.isfile(given.file):
+        raise RewindError("there is no file %s" % given.file)
+    interrupts = Interrupts()
+    shell = Shell(find_rewind(given.rewind), given.file, Screen(sys.stdout, interrupts.pending), interrupts, asking())
     try:
         return converse(shell, given.load)
-    except KeyboardInterrupt:
-        return INTERRUPTED
-    except BrokenPipeError:
-        os.dup2(os.open(os.devnull, os.O_WRONLY), sys.stdout.fileno())
-        return FAILED
     finally:
         shell.end()
-
-
-def tell_refused(path: str, refused: SourceRefused) -> None:
-    """A refused source: where, why, the line with a mark, and what to write instead."""
-    told = explain_refusal(read_program(path).text, refused.code, refused.line, refused.column)
-    error("%s\nmore: rewind --explain %s" % (told.text(path), refused.code))
 
 
 def asking() -> Optional[Callable[[str], str]]:
@@ -108,10 +113,9 @@ def converse(shell: Shell, script: Optional[str]) -> int:
     reader = reader_for(shell)
     if is_terminal:
         shell.screen.say("Rewind on %s: 'help' lists the commands, 'quit' leaves." % shell.program.path)
-        shell.script.begin()
+        shell.script.begin(shell.program)
         shell.tell_saved()
-    if script:
-        shell.obey("load " + script)
+    shell.guarded(lambda: take_saved(shell, script))
     before = ""
     while not shell.is_over:
         try:
@@ -127,6 +131,14 @@ def converse(shell: Shell, script: Optional[str]) -> int:
         if shell.is_lost and not is_terminal:
             return FAILED
     return 0
+
+
+def take_saved(shell: Shell, script: Optional[str]) -> None:
+    """Takes the commands of a script; without one those that the page has written behind the source."""
+    if script:
+        shell.load_file(script)
+    elif COMMANDS in shell.program.bytes:
+        shell.take(saved_in(shell.program.bytes).commands, shell.path)
 
 
 def obey_next(shell: Shell, reader: Reader, before: str, is_terminal: bool) -> str:

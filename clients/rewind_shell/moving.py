@@ -4,9 +4,11 @@ from __future__ import annotations
 from typing import TYPE_CHECKING, Callable, Dict, List, Optional
 
 from rewind_client import motion
+from rewind_client.follower import NOTED
 from rewind_client.motion import Motion, Stop, StopReason
 from rewind_client.names import is_goroutine, is_step, step_owner
 from rewind_client.replies import Goroutine, Ran, Reason, State
+from rewind_client.session import Session
 
 from .words import HINTS
 
@@ -136,6 +138,8 @@ class Moving:
             return "Breakpoint on line %d: %s comes to %s" % (stop.line, stop.goroutine, self.shell.program.line(stop.line))
         if stop.reason is StopReason.ENTRY:
             return "The start of the program."
+        if stop.reason is StopReason.COUNT and stop.ran:
+            return "The run has taken the %s that it was to take." % ("step" if stop.ran.taken == 1 else "%d steps" % stop.ran.taken)
         if stop.reason is StopReason.FULL:
             return "The log is full with 1,000,000 steps; 'undo' or 'back' takes steps back."
         if stop.reason is StopReason.MEMORY:
@@ -166,13 +170,21 @@ class Moving:
             if step:
                 self.take_back(step, asks=True)
             else:
-                self.screen.say("%s was not on line %s in the steps that are noted" % (self.shell.chosen, words[0]), "error")
+                self.screen.say(never_there(self.shell.session, self.shell.chosen, words[0]), "error")
         elif len(words) == 2 and words[0] == "var" and words[1].isidentifier():
-            self.take_back("var %s %s" % (self.shell.chosen, words[1]), asks=True)
+            self.back_to_variable(words[1])
         elif len(words) == 1 and words[0].isidentifier() and not is_goroutine(words[0]):
-            self.take_back("var %s %s" % (self.shell.chosen, words[0]), asks=True)
+            self.back_to_variable(words[0])
         else:
             self.screen.say(HINTS["back"], "error")
+
+    def back_to_variable(self, name: str) -> None:
+        """Takes back the step that gave a variable of the chosen goroutine its value."""
+        why = no_variable(self.shell.session, name)
+        if why:
+            self.screen.say(why, "error")
+        else:
+            self.take_back("var %s %s" % (self.shell.chosen, name), asks=True)
 
     def take_back(self, target: str, asks: bool) -> None:
         """Takes a step back; where it asks, after a preview and, at a terminal, a question."""
@@ -235,6 +247,23 @@ class Moving:
         self.screen.reply(["ok"])
         if not was_there:
             self.screen.say("there was no breakpoint on line %s; 'break' lists them" % words[0])
+
+
+def no_variable(session: Session, name: str) -> str:
+    """Why a name is no variable whose value can be taken back; an empty text where it may be one."""
+    functions = session.program.functions
+    if name in functions and not any(name in it.names for it in functions.values()):
+        return "%s is a function; 'back go G' takes back the start of a goroutine, and 'back LINE' what was done on a line" % name
+    if not any(name in it.names for it in functions.values()):
+        return "there is no variable '%s' in the program; %s" % (name[:40], HINTS["back"])
+    return ""
+
+
+def never_there(session: Session, chosen: str, line: str) -> str:
+    """That a goroutine has not been on a line, as far as that is known."""
+    if len(session.log()) > NOTED:
+        return "%s has taken no step on line %s among the last %d, of which lines are known" % (chosen, line, NOTED)
+    return "%s has taken no step on line %s" % (chosen, line)
 
 
 def listed(names: List[str]) -> str:

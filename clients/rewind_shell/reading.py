@@ -7,6 +7,8 @@ import os
 import sys
 from typing import TYPE_CHECKING, Iterable, Protocol
 
+from rewind_client.errors import RewindError
+
 from .completing import Completing
 from .saving import state_folder
 
@@ -17,6 +19,10 @@ if TYPE_CHECKING:
 MISSING = (
     "history, completion and Ctrl-R need prompt_toolkit, which this Python does not have: apt-get install python3-prompt-toolkit"
 )
+
+
+class CannotRead(RewindError):
+    """No more lines can be read."""
 
 
 class Reader(Protocol):
@@ -30,7 +36,10 @@ class FileReader:
     """Lines of a standard input that is no terminal."""
 
     def read(self, prompt: str) -> str:
-        line = sys.stdin.buffer.readline()
+        try:
+            line = sys.stdin.buffer.readline()
+        except OSError as fault:
+            raise CannotRead("standard input cannot be read: %s" % fault.strerror) from None
         if not line:
             raise EOFError
         return line.decode("utf-8", "backslashreplace").rstrip("\n")

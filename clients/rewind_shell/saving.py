@@ -1,12 +1,21 @@
 """The commands of a session, saved as a script as they are given."""
 from __future__ import annotations
 
+import hashlib
 import os
+import re
 import time
-from typing import IO, List, Optional, Sequence
+from typing import IO, List, NamedTuple, Optional, Sequence
 
 from rewind_client.core import CHANGING, first_word
 from rewind_client.errors import RewindError
+from rewind_client.program import Program
+
+# Before the commands that the page writes behind a source.
+COMMANDS = b"\n// commands of Rewind:\n"
+HEADING = "// commands for"
+FIRST_LINE = re.compile(r"// commands for .*, SHA-256 ([0-9a-f]{64})$")
+CONTROL = re.compile("[\x00-\x1f\x7f]")
 
 
 class CannotSave(RewindError):
@@ -31,8 +40,8 @@ class Script:
         self.path = ""
         self.fault = ""
 
-    def begin(self) -> None:
-        """Begins a new file; where that fails the session goes on without."""
+    def begin(self, program: Program) -> None:
+        """Begins a new file, for a program; where that fails the session goes on without."""
         self.end()
         self.lines, self.path, self.fault = [], "", ""
         stem = os.path.splitext(os.path.basename(self.source))[0] or "session"
@@ -45,6 +54,7 @@ class Script:
                 if not os.path.exists(path):
                     break
             self.file = open(path, "x", encoding="utf-8", errors="backslashreplace")
+            self.file.write(heading(program) + "\n")
             self.path = path
         except OSError as fault:
             self.fault = "the session is not saved, since %s cannot be written: %s" % (fault.filename, fault.strerror)
@@ -70,32 +80,78 @@ class Script:
             self.fault = "the session is saved no more: %s" % fault.strerror
             self.file = None
 
-    def save(self, path: str) -> None:
+    def save(self, path: str, program: Program) -> None:
         """Writes the commands so far to a file."""
-        write_script(path, self.lines)
+        write_script(path, self.lines, program)
 
     def end(self) -> None:
         """Closes the file; one without a command goes."""
         if self.file is not None:
-            self.file.close()
-            self.file = None
-            if not self.lines:
-                os.unlink(self.path)
+            file, self.file = self.file, None
+            try:
+                file.close()
+                if not self.lines:
+                    os.unlink(self.path)
+            except OSError as fault:
+                self.fault = "the session is saved no more: %s" % fault.strerror
 
 
-def write_script(path: str, commands: Sequence[str]) -> None:
-    """Writes commands to a file, a line each."""
+def write_script(path: str, commands: Sequence[str], program: Program) -> None:
+    """Writes commands to a file, a line each, behind a line that tells of which source they are; whole or not at all."""
+    made = path + ".new"
     try:
-        with open(path, "w", encoding="utf-8", errors="backslashreplace") as file:
-            file.write("".join(line + "\n" for line in commands))
-    except OSError as fault:
-        raise CannotSave("%s cannot be written: %s" % (path, fault.strerror)) from None
+        with open(made, "w", encoding="utf-8", errors="backslashreplace") as file:
+            file.write("".join(line + "\n" for line in [heading(program), *commands]))
+        os.replace(made, path)
+    except (OSError, ValueError) as fault:
+        raise CannotSave("%s cannot be written: %s" % (path, getattr(fault, "strerror", None) or fault)) from None
 
 
-def read_script(path: str) -> List[str]:
-    """The commands of a script."""
+def heading(program: Program) -> str:
+    """The first line of a script: the file of the source, and the SHA-256 of its text."""
+    name = CONTROL.sub("?", os.path.basename(program.path))
+    return "%s %s, SHA-256 %s" % (HEADING, name, digest(source_part(program.bytes)))
+
+
+def digest(text: bytes) -> str:
+    return hashlib.sha256(text).hexdigest()
+
+
+def source_part(text: bytes) -> bytes:
+    """The source of a file; the page may have written the commands of a session behind it."""
+    return text.partition(COMMANDS)[0]
+
+
+class Saved(NamedTuple):
+    """The commands of a script, and the SHA-256 of the source of which they are, where it tells that."""
+
+    commands: List[str]
+    source: str = ""
+
+    def is_of(self, program: Program) -> bool:
+        """Whether the script may be one of a program."""
+        return not self.source or self.source == digest(source_part(program.bytes))
+
+
+def saved_in(text: bytes) -> Saved:
+    """What a script tells: a line for each command, or a source with the commands as comments behind it, as the page saves it."""
+    source, mark, behind = text.partition(COMMANDS)
+    lines = lines_of(behind if mark else text)
+    if mark:
+        return Saved([line[2:].strip() for line in lines if line.startswith("//") and line[2:].strip()], digest(source))
+    found = FIRST_LINE.match(lines[0]) if lines else None
+    commands = [line for line in lines if line.strip() and not line.startswith("//")]
+    return Saved(commands, found.group(1) if found else "")
+
+
+def lines_of(text: bytes) -> List[str]:
+    return [line.rstrip("\r") for line in text.decode("utf-8", "backslashreplace").split("\n")]
+
+
+def read_script(path: str) -> Saved:
+    """The script in a file."""
     try:
         with open(path, "rb") as file:
-            return file.read().decode("utf-8", "backslashreplace").splitlines()
-    except OSError as fault:
-        raise RewindError("%s cannot be read: %s" % (path, fault.strerror)) from None
+            return saved_in(file.read())
+    except (OSError, ValueError) as fault:
+        raise RewindError("%s cannot be read: %s" % (path, getattr(fault, "strerror", None) or fault)) from None

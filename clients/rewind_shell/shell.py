@@ -3,17 +3,18 @@ from __future__ import annotations
 
 from typing import Callable, Dict, List, Optional, Sequence
 
-from rewind_client.breakpoints import Breakpoints
+from rewind_client.breakpoints import Breakpoints, NoPlace
 from rewind_client.core import MOVING as MOVING_WORDS
-from rewind_client.core import Refused, words_of
-from rewind_client.errors import Cancelled, ProcessError, RewindError
+from rewind_client.core import Refused, with_plain_blanks, words_of
+from rewind_client.errors import Cancelled, ProcessError, RewindError, SourceRefused
 from rewind_client.explanations import Standing, standing_of
 from rewind_client.finding import explained
 from rewind_client.meanings import FAULTS, REFUSED_COMMANDS
 from rewind_client.names import is_step, step_owner
 from rewind_client.opening import open_session
 from rewind_client.printed import change
-from rewind_client.program import Program
+from rewind_client.program import Program, read_program
+from rewind_client.refusals import explain_refusal
 from rewind_client.replies import Entry, State
 from rewind_client.stories import Stories
 
@@ -22,7 +23,7 @@ from .looking import Looking
 from .moving import Moving
 from .saving import Script, read_script
 from .terminal import Screen
-from .words import CORE, hint, word_of
+from .words import BY_NAME, CORE, FOR_WORKERS, hint, meant_words, too_many
 
 PASSED = frozenset(word.name for word in CORE) - {"run"}
 TARGETS = frozenset(("go", "send", "recv"))
@@ -61,6 +62,14 @@ class Shell:
         self.printed: Optional[List[str]] = []
 
     @property
+    def takes_values(self) -> bool:
+        return False
+
+    @property
+    def has_workers(self) -> bool:
+        return False
+
+    @property
     def program(self) -> Program:
         return self.session.program
 
@@ -72,9 +81,13 @@ class Shell:
 
     def obey(self, line: str) -> None:
         """Does what a line says, and tells what was wrong with it where it can't."""
+        self.guarded(lambda: self.obeyed(with_plain_blanks(line)))
+
+    def guarded(self, action: Callable[[], None]) -> None:
+        """Does something, and tells what was wrong where that can't be done."""
         self.interrupts.begin()
         try:
-            self.obeyed(line)
+            action()
         except Cancelled:
             self.screen.say("Stopped by Ctrl-C; Rewind may still do the command.", "note")
         except Refused as refusal:
@@ -82,6 +95,9 @@ class Shell:
             self.tell_refusal(refusal.reply[-1])
         except ProcessError as fault:
             self.lost(fault)
+        except SourceRefused as refused:
+            for text in refusal_in_words(self.path, refused).split("\n"):
+                self.screen.line(text, "error")
         except RewindError as fault:
             self.screen.say(str(fault), "error")
         finally:
@@ -92,16 +108,17 @@ class Shell:
         words = words_of(line)
         if not words:
             return
-        name = word_of(words[0])
-        if name is not None and words[0] != name:
-            words = [name, *words[1:]]
-            line = " ".join(words)
-        if name == "quit" and len(words) == 1:
+        meant = meant_words(words)
+        line = line if meant == words else " ".join(meant)
+        name = meant[0]
+        if name == "quit" and len(meant) == 1:
             self.leave()
-        elif name is None or is_for_rewind(words):
+        elif name not in BY_NAME or is_for_rewind(meant):
             self.passed(line)
+        elif too_many(name, meant[1:]):
+            self.screen.say(too_many(name, meant[1:]), "error")
         else:
-            self.handlers[name](words[1:])
+            self.handlers[name](meant[1:])
 
     def leave(self) -> None:
         if not self.is_lost:
@@ -130,6 +147,8 @@ class Shell:
             self.tell_refusal(last)
         elif words[0] in MOVING_WORDS:
             self.after_move(words, last)
+        elif words[0] == FOR_WORKERS:
+            self.screen.say("The shell has no workers: nothing takes these steps.", "note")
 
     def after_move(self, words: Sequence[str], last: str) -> None:
         """What follows from steps that were taken, or taken back."""
@@ -157,11 +176,11 @@ class Shell:
             place = "%s at line %d: %s" % (step_owner(last.step), line, self.program.line(line))
             return "%s, in %s ('why' tells more)" % (FAULTS.get(last.kind.fault, last.kind.fault), place)
         if standing is Standing.ENDED:
-            left = sum(it.state is not State.DONE for it in session.goroutines())
-            if not left:
-                return "The program has ended, and no goroutine is left."
-            return "The program has ended, and %s left ('why' tells where)." % (
-                "1 goroutine is" if left == 1 else "%d goroutines are" % left
+            number = sum(it.state is not State.DONE for it in session.goroutines())
+            if not number:
+                return "The program has ended, and every goroutine is done."
+            return "The program has ended. %s not done when main returned ('why' tells what they would do)." % (
+                "1 goroutine was" if number == 1 else "%d goroutines were" % number
             )
         if standing is Standing.DEADLOCK:
             names = [it.name for it in session.goroutines() if it.state is State.WAITING]
@@ -222,18 +241,29 @@ class Shell:
         return explained(self.rewind, code)
 
     def save(self, words: List[str]) -> None:
-        if len(words) != 1:
+        if not words:
             self.screen.say("save wants a file: save session.script", "error")
             return
-        self.script.save(words[0])
-        self.screen.say("%d commands are in %s" % (len(self.script.lines), words[0]))
+        path = " ".join(words)
+        self.script.save(path, self.program)
+        self.screen.say("%s in %s" % (counted(len(self.script.lines), "command is", "commands are"), path))
 
     def load(self, words: List[str]) -> None:
-        """Takes the commands of a script, and tells the last reply."""
-        if len(words) != 1:
+        if not words:
             self.screen.say("load wants a file: load session.script", "error")
             return
-        commands = [line for line in read_script(words[0]) if words_of(line) and words_of(line)[0] != "quit"]
+        self.load_file(" ".join(words))
+
+    def load_file(self, path: str) -> None:
+        """Takes the commands of a script, and tells the last reply."""
+        saved = read_script(path)
+        if not saved.is_of(self.program):
+            self.screen.say("%s is of another source than %s: its commands may mean something else here" % (path, self.path), "error")
+        self.take(saved.commands, path)
+
+    def take(self, lines: Sequence[str], path: str) -> None:
+        """Takes commands of a file, and tells the last reply."""
+        commands = [line for line in map(with_plain_blanks, lines) if words_of(line) and words_of(line)[0] != "quit"]
         refused, reply = 0, ["ok"]
         for number, line in enumerate(commands, 1):
             reply = self.session.ask(line)
@@ -244,9 +274,10 @@ class Shell:
             elif given[0] == "clear" and reply[-1] == "ok":
                 self.breakpoints.by_line.pop(int(given[1]), None)
             if self.interrupts.pending():
-                self.screen.say("Stopped by Ctrl-C after %d commands of %s" % (number, words[0]), "note")
+                self.screen.say("Stopped by Ctrl-C after %s of %s" % (counted(number, "command", "commands"), path), "note")
                 return
-        self.screen.say("%d commands of %s were taken, %d of them refused; the last gave" % (len(commands), words[0], refused))
+        taken = counted(len(commands), "command of %s was" % path, "commands of %s were" % path)
+        self.screen.say("%s taken, %d of them refused; the last gave" % (taken, refused))
         self.screen.reply(reply[-1:])
         self.tell_printed()
         named = [word for word in reply[-1].split(" ") if is_step(word)]
@@ -256,19 +287,22 @@ class Shell:
             self.screen.say(sentence, "note")
 
     def restart(self, _words: List[str]) -> None:
-        """Begins the program anew, with the breakpoints as they are."""
-        before = self.breakpoints.all()
-        self.session.end()
+        """Begins the program anew, with the breakpoints as they are. Where its file is refused now, the session goes on."""
+        before, old, kept = self.breakpoints.all(), self.session, self.script.lines
+        self.begin()
+        old.end()
         if self.script.path:
             self.screen.say("The commands before are in %s" % self.script.path)
-            self.script.begin()
+            self.script.begin(self.program)
         else:
-            self.script.lines = []
-        self.begin()
+            del kept[:]
         self.is_lost = False
         self.breakpoints = Breakpoints(self.session)
         for one in before:
-            self.breakpoints.set(str(one.line))
+            try:
+                self.breakpoints.set(str(one.line))
+            except NoPlace as fault:
+                self.screen.say("the breakpoint on line %d is gone: %s" % (one.line, fault), "note")
         self.tell_saved()
         self.tell_chosen()
 
@@ -277,6 +311,19 @@ class Shell:
             self.screen.say(self.script.fault, "error")
         elif self.script.path:
             self.screen.say("The session is saved as it goes: %s" % self.script.path, "faint")
+
+
+def counted(number: int, one: str, more: str) -> str:
+    return "1 %s" % one if number == 1 else "%d %s" % (number, more)
+
+
+def refusal_in_words(path: str, refused: SourceRefused) -> str:
+    """A refused source: where, why, the line with a mark, and what to write instead."""
+    try:
+        told = explain_refusal(read_program(path).text, refused.code, refused.line, refused.column)
+    except RewindError:
+        return str(refused)
+    return "%s\nmore: rewind --explain %s" % (told.text(path), refused.code)
 
 
 def is_for_rewind(words: Sequence[str]) -> bool:

@@ -37,12 +37,13 @@ class Screen:
         self.out.write(self.colour(shown, colour) + "\n")
 
     def say(self, text: str, colour: str = "") -> None:
-        """A sentence, broken at the width of the terminal; what goes on in a new line is indented."""
+        """A sentence, broken at the width of the terminal between words; what goes on in a new line is indented."""
         if not self.is_terminal or len(text) < self.width():
             self.line(text, colour)
             return
         indent = text[: len(text) - len(text.lstrip())]
-        for part in textwrap.wrap(text, self.width() - 1, subsequent_indent=indent + "  ", drop_whitespace=True):
+        wraps = textwrap.TextWrapper(self.width() - 1, subsequent_indent=indent + "  ", break_long_words=False, break_on_hyphens=False)
+        for part in wraps.wrap(text):
             self.line(part, colour)
 
     def row(self, text: str, colour: str = "") -> None:

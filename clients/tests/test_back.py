@@ -14,7 +14,8 @@ from rewind_client.prints import printing_lines
 from rewind_client.replies import State
 from rewind_client.scout import last_step_at, place_by_turns
 from rewind_client.session import Session
-from rewind_client.watches import Watch, backward_to_value, forward_to_value
+from rewind_client.watched import ChannelWatch, Watch, Way
+from rewind_client.watches import backward_to_value, forward_to_value
 
 from test_session import Open, random_command, session  # noqa: F401
 
@@ -126,7 +127,7 @@ def test_values_that_are_given_forward_and_back(session: Open) -> None:  # noqa:
         seen.append(value(one, watch))
     assert seen[:5] == ["0", "0", "1", "3", "6"] and stop.reason is StopReason.ENDED
     back = []
-    while driven(backward_to_value(one, set, lambda: [watch])).reason is StopReason.VALUE:
+    while driven(backward_to_value(one, set, lambda: [watch])).reason is StopReason.VALUE_TAKEN_BACK:
         back.append(value(one, watch))
     assert back == ["3", "1", "0", "0", ""]
     assert one.log() == []
@@ -140,6 +141,26 @@ def test_two_watched_variables_stop_in_the_order_of_the_steps(session: Open) -> 
     order = [entry.step for entry in one.log()]
     steps = [order.index(stop.entry.step) for stop in stops if stop.entry]
     assert steps == sorted(steps) and len(steps) == 6
+
+
+def test_a_channel_is_watched_forward_and_back(session: Open) -> None:  # noqa: F811
+    """Each send is stopped at once, and each of them again on the way back; so are the receives."""
+    for way in Way:
+        one, watch = session(VALUES), ChannelWatch("g0/c1", way)
+        steps: List[str] = []
+        stop = driven(forward_to_value(one, set, lambda: [watch], "g0"))
+        while stop.reason is StopReason.VALUE:
+            assert stop.entry and one.log()[-1] == stop.entry and stop.watch == watch
+            steps.append(stop.entry.step)
+            stop = driven(forward_to_value(one, set, lambda: [watch], "g0"))
+        assert len(steps) == len(set(steps)) >= 4
+        back: List[str] = []
+        stop = driven(backward_to_value(one, set, lambda: [watch]))
+        while stop.reason is StopReason.VALUE_TAKEN_BACK:
+            assert stop.entry and stop.entry not in one.log()
+            back.append(stop.entry.step)
+            stop = driven(backward_to_value(one, set, lambda: [watch]))
+        assert back == steps[::-1]
 
 
 def test_a_loop_on_one_line_is_no_statement_that_goes_back_whole(session: Open) -> None:  # noqa: F811

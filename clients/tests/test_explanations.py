@@ -4,6 +4,7 @@ from __future__ import annotations
 from typing import Dict, List
 
 from rewind_client.direct import DirectCauses, EdgeKind
+from rewind_client.endings import Ending
 from rewind_client.explanations import Explanation, Standing, explain
 from rewind_client.sentences import Sentences
 from rewind_client.session import Session
@@ -25,7 +26,7 @@ def test_lock_order(session: Open) -> None:  # noqa: F811
     assert found.standing is Standing.DEADLOCK
     assert found.cycle == ("g0.1", "g0.2")
     assert [place.line for place in found.waits[1].places] == [4, 9]
-    assert found.waits[1].wishes[0].taken_by.step == "g0.2#2"  # type: ignore[union-attr]
+    assert found.waits[1].wishes[0].taken.step == "g0.2#2"  # type: ignore[union-attr]
 
 
 def test_philosophers(session: Open) -> None:  # noqa: F811
@@ -38,15 +39,6 @@ def test_a_send_that_nobody_can_receive(session: Open) -> None:  # noqa: F811
     found = explained(session("unbuffered"))
     assert [(wish.value, wish.servers) for wish in found.waits[0].wishes] == [("42", ())]
     assert not found.cycle
-
-
-def test_a_channel_on_its_way(session: Open) -> None:  # noqa: F811
-    one = session(
-        "package main\nfunc main() {\n\tc, d := make(chan chan int, 1), make(chan int)\n\tc <- d\n\t<-d\n}\n"
-        "func other(c chan int) { c <- 1 }\n"
-    )
-    one.run(100)
-    assert said(one)[2].strip() == "d is itself on its way over a channel"
 
 
 def test_off_by_one(session: Open) -> None:  # noqa: F811
@@ -73,7 +65,7 @@ def test_a_division_by_zero(session: Open) -> None:  # noqa: F811
 def test_a_nil_channel(session: Open) -> None:  # noqa: F811
     one = session("package main\nfunc main() {\n\tvar c chan int\n\tc <- 1\n}\n")
     one.run(10)
-    assert said(one)[1] == "g0 waits to send to a nil channel at line 4: c <- 1"
+    assert said(one)[1:] == ["g0 waits to send to a nil channel at line 4: c <- 1", "    a nil channel blocks for ever"]
 
 
 def test_a_select_that_waits(session: Open) -> None:  # noqa: F811
@@ -87,8 +79,8 @@ def test_a_select_that_waits(session: Open) -> None:  # noqa: F811
 def test_what_is_left(session: Open) -> None:  # noqa: F811
     found = explained(session("leak"))
     assert found.standing is Standing.ENDED
-    assert [wait.goroutine for wait in found.waits] == ["g0.2"]
-    assert [it.name for it in found.left] == ["g0.3", "g0.5"]
+    assert [wait.goroutine for wait in found.waits] == ["g0.2", "g0.3", "g0.5"]
+    assert [(it.goroutine, it.ending) for it in found.fates] == [(name, Ending.WAIT) for name in ("g0.2", "g0.3", "g0.5")]
 
 
 def test_a_starved_clause(session: Open) -> None:  # noqa: F811
@@ -100,7 +92,7 @@ def test_a_program_that_is_well(session: Open) -> None:  # noqa: F811
     one = session("lost_update")
     assert said(one) == ["The program can go on: g0 is ready."]
     one.run(1000)
-    assert said(one) == ["The program has ended, and no goroutine is left."]
+    assert said(one) == ["The program has ended, and every goroutine is done."]
 
 
 def test_direct_causes(session: Open) -> None:  # noqa: F811
@@ -113,6 +105,7 @@ def test_direct_causes(session: Open) -> None:  # noqa: F811
     assert edges["g0#9"] == ["g0.1#9 CLOSE"]
     assert edges["g0.1#1"] == ["g0#4 START"]
     assert edges["g0.1#2"] == ["g0#5 MESSAGE"]
+    assert edges["g0#6"] == ["g0.1#2 WAIT"]
     assert edges["g0#1"] == []
 
 

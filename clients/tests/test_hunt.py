@@ -2,26 +2,30 @@
 from __future__ import annotations
 
 import io
-import multiprocessing
 import os
 import re
+import signal
 import subprocess
 import sys
+import time
 from pathlib import Path
-from typing import Callable, Dict, Iterator, List, Optional
+from typing import Callable, Dict, Iterator, List, Optional, Tuple
 
 import pytest
 
 from rewind_client.core import Core
 from rewind_client.finding import start
 from rewind_client.replies import KindWord, Reason
-from rewind_hunt.hunting import Hunt, Plan, here, hunt
+from rewind_hunt import hunting
+from rewind_hunt.hunting import Found, Hunt, Plan, here, hunt
 from rewind_hunt.main import Progress
 from rewind_hunt.outcomes import Kind, Outcome
+from rewind_hunt.report import Report, expecting
 from rewind_hunt.schedules import End
 from rewind_hunt.scripts import Reducer, Script
+from rewind_hunt.shortening import Shortener
 from rewind_hunt.story import Story
-from rewind_hunt.ways import way_back
+from rewind_hunt.ways import Ways
 
 CLIENTS = Path(__file__).resolve().parents[1]
 EXAMPLES = CLIENTS / "examples"
@@ -29,13 +33,13 @@ COMMAND = [sys.executable, str(CLIENTS / "rewind-hunt")]
 # What counts as bad in each example. A select is starved in a schedule that does not end, whatever its other schedules do.
 BAD = {
     "lock_order": Kind.DEADLOCK,
-    "lost_update": Kind.UNEXPECTED,
-    "leak": Kind.LEFT,
-    "send_on_closed": Kind.FAULT,
-    "worker_pool": Kind.FAULT,
+    "lost_update": Kind.OUTPUT,
+    "leak": Kind.LEAK,
+    "send_on_closed": Kind.PANIC,
+    "worker_pool": Kind.PANIC,
     "unbuffered": Kind.DEADLOCK,
     "starved_select": Kind.UNENDED,
-    "double_close": Kind.FAULT,
+    "double_close": Kind.PANIC,
     "off_by_one": Kind.DEADLOCK,
     "philosophers": Kind.DEADLOCK,
 }
@@ -146,27 +150,71 @@ func main() {
 	println(len(c))
 }
 """
+# The one that is late is left where the other one was first.
+TIMEOUT = """package main
+
+func late(out chan int) {
+	out <- 1
+}
+
+func main() {
+	out := make(chan int)
+	go late(out)
+	select {
+	case n := <-out:
+		println(n)
+	default:
+		println("none")
+	}
+}
+"""
+IN_ANY_ORDER = """package main
+
+func tell(n int, done chan bool) {
+	println(n)
+	done <- true
+}
+
+func main() {
+	done := make(chan bool)
+	go tell(1, done)
+	go tell(2, done)
+	<-done
+	<-done
+}
+"""
 
 
 def plan_of(rewind: str, path: Path, **given: object) -> Plan:
     expected = EXPECTED.get(path.stem)
     pattern = re.compile(expected) if expected else None
     values: Dict[str, object] = {"runs": RUNS, "expected": pattern, **given}
-    return Plan(rewind, str(path), **values)  # type: ignore[arg-type]
+    return Plan(rewind, str(path), str(path), **values)  # type: ignore[arg-type]
 
 
 def hunted(plan: Plan, wanted: Optional[Kind] = None) -> Hunt:
-    """The schedules of a plan, up to the first one of a kind."""
+    """The schedules of a plan, up to the first one of a kind; a leak is one only beside a schedule that has it not."""
     found = Hunt(plan)
     outcomes = here(plan)
     for outcome in outcomes:
         assert isinstance(outcome, Outcome)
         found.add(outcome)
-        if wanted and wanted in found.kinds_of(outcome):
+        if wanted and any(it.kind is wanted for it in found.groups()):
             break
     outcomes.close()
-    found.settle()
     return found
+
+
+def first_of(found: Hunt, kind: Kind) -> Tuple[Found, Outcome]:
+    """What was found of a kind, and the first schedule that has it against it."""
+    return next((about, outcomes[0]) for about, outcomes in found.groups().items() if about.kind is kind)
+
+
+def script_of(reducer: Reducer, kind: Kind) -> Script:
+    about, outcome = first_of(reducer.hunted, kind)
+    script = reducer.script(outcome, about)
+    assert script
+    return script
 
 
 @pytest.fixture
@@ -184,8 +232,7 @@ def reducers() -> Iterator[Callable[[Hunt], Reducer]]:
     made: List[Reducer] = []
 
     def make(found: Hunt) -> Reducer:
-        plan = found.plan
-        made.append(Reducer(plan.begin, plan.program(), plan.seed, plan.most_steps))
+        made.append(Reducer(found, found.plan.program()))
         return made[-1]
 
     yield make
@@ -212,25 +259,22 @@ def reason_behind(plan: Plan, commands: List[str]) -> str:
 
 @pytest.mark.parametrize("name", BAD)
 def test_each_example_is_found_bad(name: str, rewind: str, reducers: Callable[[Hunt], Reducer]) -> None:
-    """Within 200 schedules; and the script leads to the same in a session of its own."""
+    """Within 200 schedules; and the script and the short commands lead to the same in a session of its own."""
     found = hunted(plan_of(rewind, EXAMPLES / (name + ".go")), BAD[name])
-    outcome = found.outcomes[-1] if BAD[name] is not Kind.UNENDED else found.outcomes[0]
-    assert BAD[name] in found.kinds_of(outcome)
     reducer = reducers(found)
-    script = reducer.script(outcome, BAD[name])
+    about, outcome = first_of(found, BAD[name])
+    script = reducer.script(outcome, about)
     assert script and len(script.entries) <= script.of_steps
-    reasons = {Kind.FAULT: "fault", Kind.DEADLOCK: "stuck", Kind.UNENDED: "count"}
+    reasons = {Kind.PANIC: "fault", Kind.DEADLOCK: "stuck", Kind.UNENDED: "count"}
     assert reason_behind(found.plan, list(script.commands)) == reasons.get(BAD[name], "ended")
-    short = list(reducer.shortened(script, []).short)
-    assert len(short) <= len(script.commands)
-    if short:
-        assert reason_behind(found.plan, short[:-1]) == reasons.get(BAD[name], "ended")
+    short = Shortener(reducer, about, found.groups()[about]).short()
+    assert short and len(short.commands) <= len(script.commands) + 1
+    assert reason_behind(found.plan, list(short.commands)[:-1]) == reasons.get(BAD[name], "ended")
 
 
 def test_a_script_has_no_step_that_does_not_matter(rewind: str, source: Callable[[str], Path], reducers: Callable[[Hunt], Reducer]) -> None:
     found = hunted(plan_of(rewind, source(UNRELATED)), Kind.DEADLOCK)
-    script = reducers(found).script(found.outcomes[-1], Kind.DEADLOCK)
-    assert script
+    script = script_of(reducers(found), Kind.DEADLOCK)
     taken = {entry.step.split("#")[0] for entry in script.entries}
     assert "g0.1" not in taken and {"g0.2", "g0.3"} <= taken
     core = standing(found.plan, list(script.commands))
@@ -241,12 +285,10 @@ def test_a_script_has_no_step_that_does_not_matter(rewind: str, source: Callable
 
 def test_steps_that_print_stay_in_their_order(rewind: str, reducers: Callable[[Hunt], Reducer]) -> None:
     plan = plan_of(rewind, EXAMPLES / "lost_update.go")
-    found = hunted(plan, Kind.UNEXPECTED)
-    outcome = found.outcomes[-1]
-    script = reducers(found).script(outcome, Kind.UNEXPECTED)
-    assert script
+    found = hunted(plan, Kind.OUTPUT)
+    script = script_of(reducers(found), Kind.OUTPUT)
     core = standing(plan, list(script.commands))
-    assert tuple(core.console()) == outcome.console and core.end is Reason.ENDED
+    assert tuple(core.console()) == script.outcome.console and core.end is Reason.ENDED
     core.process.end()
 
 
@@ -256,7 +298,7 @@ def test_what_is_printed_behind_the_end_is_not_counted(rewind: str, source: Call
     found = hunted(plan)
     late = [it for it in found.outcomes if it.left and it.console == ("main",)]
     assert late
-    script = reducers(found).script(late[0], Kind.UNEXPECTED)
+    script = reducers(found).script(late[0], Found(Kind.OUTPUT))
     assert script
     core = standing(plan, list(script.commands))
     assert core.console() == ["main"]
@@ -264,37 +306,60 @@ def test_what_is_printed_behind_the_end_is_not_counted(rewind: str, source: Call
 
 
 def test_a_fault_in_a_clause(rewind: str, source: Callable[[str], Path], reducers: Callable[[Hunt], Reducer]) -> None:
-    found = hunted(plan_of(rewind, source(IN_A_SELECT)), Kind.FAULT)
-    script = reducers(found).script(found.outcomes[-1], Kind.FAULT)
-    assert script and script.entries[-1].kind.fault == "SendOnClosed"
+    found = hunted(plan_of(rewind, source(IN_A_SELECT)), Kind.PANIC)
+    script = script_of(reducers(found), Kind.PANIC)
+    assert script.entries[-1].kind.fault == "SendOnClosed"
     core = standing(found.plan, list(script.commands))
     assert core.end is Reason.FAULT
     core.process.end()
 
 
-def test_the_way_back_ends_well(rewind: str, reducers: Callable[[Hunt], Reducer]) -> None:
-    plan = plan_of(rewind, EXAMPLES / "philosophers.go")
-    found = hunted(plan, Kind.DEADLOCK)
-    reducer = reducers(found)
-    script = reducer.script(found.outcomes[-1], Kind.DEADLOCK)
-    assert script
-    way = way_back(reducer, script, found.is_well)
+@pytest.mark.parametrize("name, prints", [
+    ("philosophers", "all have eaten"), ("worker_pool", "sum of squares 55"), ("lost_update", "counter 4 wanted 4"),
+])  # fmt: skip
+def test_the_way_back_ends_well(name: str, prints: str, rewind: str, reducers: Callable[[Hunt], Reducer]) -> None:
+    """It is tried behind the commands under which it stands."""
+    plan = plan_of(rewind, EXAMPLES / (name + ".go"))
+    found = hunted(plan, BAD[name])
+    reducer, about = reducers(found), first_of(found, BAD[name])[0]
+    short = Shortener(reducer, about, found.groups()[about]).short()
+    assert short
+    way = Ways(reducer, short.commands, about).search().way
     assert way
-    core = standing(plan, [*script.commands, "back " + way.step, *way.commands])
-    assert core.end is Reason.ENDED and core.console()[-1] == "all have eaten"
+    core = standing(plan, [*short.commands, "back " + way.step, *way.commands])
+    assert core.end is Reason.ENDED and core.console()[-1] == prints
     core.process.end()
+    counted = standing(plan, list(short.commands))
+    assert len(counted.back(way.step)) == way.taken_back
+    counted.process.end()
+
+
+def test_a_search_for_a_way_back_that_the_clock_ends(
+    rewind: str, reducers: Callable[[Hunt], Reducer], monkeypatch: pytest.MonkeyPatch
+) -> None:
+    from rewind_hunt import ways
+
+    monkeypatch.setattr(ways, "SECONDS", 0.0)
+    found = hunted(plan_of(rewind, EXAMPLES / "philosophers.go"), Kind.DEADLOCK)
+    about, outcome = first_of(found, Kind.DEADLOCK)
+    search = Ways(reducers(found), outcome_commands(reducers(found), outcome), about).search()
+    assert search.way is None and search.tried < search.steps
+    told = Report(found, found.plan.program()).way(search, about)
+    assert "not found. Only the last 0 steps of %d were tried" % search.steps in told
+
+
+def outcome_commands(reducer: Reducer, outcome: Outcome) -> List[str]:
+    return reducer.scheduler.take(outcome.number).commands()
 
 
 def test_each_step_is_told(rewind: str, reducers: Callable[[Hunt], Reducer]) -> None:
     plan = plan_of(rewind, EXAMPLES / "worker_pool.go")
-    found = hunted(plan, Kind.FAULT)
-    script = reducers(found).script(found.outcomes[-1], Kind.FAULT)
-    assert script
+    script = script_of(reducers(hunted(plan, Kind.PANIC)), Kind.PANIC)
     told = Story(plan.begin, plan.program()).told(script)
     assert sum(one.times for one in told) == len(script.entries)
     sentences = " / ".join(one.sentence for one in told)
     assert "g0 makes jobs (g0/c1)" in sentences and "starts g0.1 (worker)" in sentences and "closes results (g0/c2)" in sentences
-    assert "meets SendOnClosed (panic: send on closed channel) at results (g0/c2)" in told[-1].sentence
+    assert "stops with panic: send on closed channel (SendOnClosed) at results (g0/c2)" in told[-1].sentence
 
 
 def test_a_schedule_is_that_of_its_seed_and_number(rewind: str) -> None:
@@ -310,18 +375,18 @@ def test_a_schedule_is_that_of_its_seed_and_number(rewind: str) -> None:
 def test_a_system_without_locks_between_processes(rewind: str, monkeypatch: pytest.MonkeyPatch) -> None:
     """One process finds what several do."""
 
-    def refuses(*_: object) -> None:
+    def refuses(*_: object, **__: object) -> None:
         raise OSError(38, "Function not implemented")
 
     together = hunt(plan_of(rewind, EXAMPLES / "philosophers.go", runs=20, jobs=2), lambda _: None)
-    monkeypatch.setattr(multiprocessing, "Pool", refuses)
+    monkeypatch.setattr(hunting, "ProcessPoolExecutor", refuses)
     assert hunt(plan_of(rewind, EXAMPLES / "philosophers.go", runs=20, jobs=2), lambda _: None).outcomes == together.outcomes
 
 
 def test_every_manner_is_a_schedule_of_the_program(rewind: str) -> None:
     """The steps of each schedule are those of a session that takes the same commands."""
-    plan = plan_of(rewind, EXAMPLES / "starved_select.go", most_steps=60)
-    reducer = Reducer(plan.begin, plan.program(), 3, 60)
+    plan = plan_of(rewind, EXAMPLES / "starved_select.go", most_steps=60, seed=3)
+    reducer = Reducer(Hunt(plan), plan.program())
     for number in range(12):
         schedule = reducer.scheduler.take(number)
         core = standing(plan, schedule.commands())
@@ -349,7 +414,7 @@ def run(rewind: str, *words: str) -> "subprocess.CompletedProcess[str]":
 def test_nothing_found(rewind: str, source: Callable[[str], Path]) -> None:
     done = run(rewind, "--runs", "30", str(source(GOOD)))
     assert done.returncode == 0 and done.stderr == ""
-    assert "    30  ended well\n        30 printed: 42\n" in done.stdout
+    assert "    30  ended            42\n" in done.stdout
     assert done.stdout.endswith("This is a hunt by chance: what it did not find may still be there.\n")
 
 
@@ -357,19 +422,112 @@ def test_something_found(rewind: str, tmp_path: Path) -> None:
     kept = tmp_path / "kept.script"
     done = run(rewind, "--runs", "20", "--script", str(kept), str(EXAMPLES / "lock_order.go"))
     assert done.returncode == 1 and done.stderr == ""
-    for part in ("deadlock: no goroutine can go on", "Step by step", "Where to go back: 'back ", "A cycle: "):
+    for part in ("deadlock: no goroutine can go on", "In short, ", "Where to go back: 'back ", "A cycle: "):
         assert part in done.stdout
+    assert "Step by step" not in done.stdout and len(done.stdout.splitlines()) <= 40
+    assert "Step by step" in run(rewind, "--runs", "20", "--full", str(EXAMPLES / "lock_order.go")).stdout
     replies = subprocess.run([rewind, str(EXAMPLES / "lock_order.go")], input=kept.read_text() + "run 9\n", capture_output=True, text=True)
-    assert replies.stdout.splitlines()[-1].endswith(" stuck")
+    assert replies.stdout.splitlines()[0] == "? bad command" and replies.stdout.splitlines()[-1].endswith(" stuck")
+    assert kept.read_text().startswith("// commands for lock_order.go, SHA-256 ")
 
 
-def test_two_things_against_a_schedule(rewind: str, source: Callable[[str], Path]) -> None:
-    """A goroutine that serves for ever is left behind, and does not hide what is printed."""
-    done = run(rewind, "--runs", "40", str(source(SERVED)))
+def test_a_server_and_two_outputs(rewind: str, source: Callable[[str], Path]) -> None:
+    """Nothing is bad: each schedule leaves the goroutine that serves, and nobody has said which output is right."""
+    path = str(source(SERVED))
+    done = run(rewind, "--runs", "40", path)
+    assert done.returncode == 3 and "In short" not in done.stdout
+    assert re.search(r"^All 40 schedules leave hold at line 6 \(select \{\): a server\?", done.stdout, re.MULTILINE)
+    assert "2 different outputs came. Which is right? Say so: --expect " in done.stdout
+    each = run(rewind, "--runs", "40", "--each", path)
+    assert each.returncode == 3 and each.stdout.count("In short") == 2
+    assert run(rewind, "--runs", "40", "--ignore", "output", path).returncode == 0
+
+
+def test_the_rare_output_is_bad_where_the_user_says_so(rewind: str, source: Callable[[str], Path]) -> None:
+    done = run(rewind, "--runs", "40", "--expect", "^2$", str(source(SERVED)))
+    assert done.returncode == 1 and done.stdout.count("In short") == 1
+    assert "output: not as --expect says" in done.stdout and "run 5000' ends well and prints: 2\n" in done.stdout
+
+
+def test_a_leak_that_some_schedules_have(rewind: str, source: Callable[[str], Path]) -> None:
+    """A step is told behind which it does not come."""
+    path = str(source(TIMEOUT))
+    done = run(rewind, "--runs", "60", "--ignore", "output", path)
     assert done.returncode == 1
-    assert "goroutines left behind" in done.stdout and "printed other lines" in done.stdout and "counts for both" in done.stdout
-    alone = run(rewind, "--runs", "40", "--ignore", "left", str(source(SERVED)))
-    assert alone.stdout.count("Step by step") == 1 and done.stdout.count("Step by step") == 2
+    assert "leak: a goroutine never ends" in done.stdout and "in late at line 4 (out <- 1)" in done.stdout
+    assert run(rewind, "--runs", "60", "--ignore", "output,leak", path).returncode == 0
+
+
+def test_other_orders_of_the_same_lines_are_one_output(rewind: str, source: Callable[[str], Path]) -> None:
+    done = run(rewind, "--runs", "60", str(source(IN_ANY_ORDER)))
+    assert done.returncode == 0 and re.search(r" 60  ended +1 / 2 \(in 2 orders\)$|2 / 1 \(in 2 orders\)$", done.stdout, re.MULTILINE)
+
+
+def test_a_source_of_standard_input(rewind: str) -> None:
+    """It is read once, whatever the number of processes; a device that has it too."""
+    text = (EXAMPLES / "double_close.go").read_text()
+    environment = {**os.environ, "REWIND": rewind}
+    for name in ("-", "/dev/stdin"):
+        words = [*COMMAND, "--jobs", "2", "--runs", "20", name]
+        done = subprocess.run(words, input=text, capture_output=True, text=True, env=environment, check=False, timeout=60)
+        assert done.returncode == 1 and done.stderr == "" and "panic: close of closed channel" in done.stdout
+
+
+def test_a_standard_input_that_is_closed(rewind: str) -> None:
+    words = ["sh", "-c", '"$@" <&-', "sh", *COMMAND, "-"]
+    done = subprocess.run(words, capture_output=True, text=True, env={**os.environ, "REWIND": rewind}, check=False)
+    assert (done.returncode, done.stdout, done.stderr) == (2, "", "rewind-hunt: standard input is closed\n")
+
+
+def test_several_files(rewind: str, source: Callable[[str], Path], tmp_path: Path) -> None:
+    """The worst of their statuses counts."""
+    good = str(source(GOOD))
+    done = run(rewind, "--runs", "5", good, str(EXAMPLES / "double_close.go"))
+    assert done.returncode == 1 and done.stdout.count("schedules of ") == 2
+    lost = run(rewind, "--runs", "5", good, str(tmp_path / "none.go"), str(EXAMPLES / "double_close.go"))
+    assert lost.returncode == 2 and lost.stdout.count("schedules of ") == 2
+    assert lost.stderr == "rewind-hunt: %s cannot be read: No such file or directory\n" % (tmp_path / "none.go")
+    assert run(rewind, "--runs", "5", good, good).returncode == 0
+
+
+def test_the_version_is_that_of_the_program(rewind: str) -> None:
+    version = subprocess.run([rewind, "--version"], capture_output=True, text=True, check=True).stdout.split(" ", 1)[1].strip()
+    done = run(rewind, "--version")
+    assert done.returncode == 0 and done.stdout.startswith("rewind-hunt %s" % version)
+
+
+@pytest.mark.parametrize("console, others, pattern", [
+    (("balance 30",), [("balance 20",)], "'balance 30'"),
+    (("3",), [("30",)], "'^3$'"),
+    (("a", "b"), [("a",), ("b",)], "'\\Aa\\nb\\Z'"),
+    (("(x)",), [()], "'\\(x\\)'"),
+])  # fmt: skip
+def test_a_pattern_for_one_output(console: Tuple[str, ...], others: List[Tuple[str, ...]], pattern: str) -> None:
+    assert expecting(console, others) == pattern
+
+
+@pytest.mark.parametrize("closed, status, said", [
+    ("<&-", 1, ""),
+    (">&-", 2, "rewind-hunt: standard output is closed\n"),
+    (">/dev/full", 2, "rewind-hunt: standard output cannot be written: No space left on device\n"),
+])  # fmt: skip
+def test_a_stream_that_is_closed_or_full(closed: str, status: int, said: str, rewind: str) -> None:
+    words = [*COMMAND, "--jobs", "1", "--runs", "3", str(EXAMPLES / "double_close.go")]
+    shell, environment = ["sh", "-c", '"$@" %s' % closed, "sh"], {**os.environ, "REWIND": rewind}
+    done = subprocess.run([*shell, *words], capture_output=True, text=True, env=environment)
+    assert (done.returncode, done.stderr) == (status, said)
+
+
+def test_a_ctrl_c_at_any_moment(rewind: str) -> None:
+    """It ends the hunt without a traceback."""
+    words = [*COMMAND, "--jobs", "2", "--runs", "20000", str(EXAMPLES / "philosophers.go")]
+    for moment in (0.06, 0.1, 0.15, 0.2, 0.25, 0.3, 0.35, 0.4, 0.45, 0.5):
+        environment, pipe = {**os.environ, "REWIND": rewind}, subprocess.PIPE
+        child = subprocess.Popen(words, stdout=pipe, stderr=pipe, text=True, env=environment, start_new_session=True)
+        time.sleep(moment)
+        os.killpg(child.pid, signal.SIGINT)
+        _, said = child.communicate(timeout=60)
+        assert "rewind" not in said and "Error" not in said, (moment, said)
 
 
 class Terminal(io.StringIO):
@@ -392,12 +550,12 @@ def test_what_is_expected(rewind: str, source: Callable[[str], Path]) -> None:
     path = str(source(GOOD))
     assert run(rewind, "--runs", "5", "--expect", "^42$", path).returncode == 0
     done = run(rewind, "--runs", "5", "--expect", "43", path)
-    assert done.returncode == 1 and "what is printed does not match the pattern" in done.stdout
+    assert done.returncode == 1 and "output: not as --expect says, 5 of 5 schedules" in done.stdout
 
 
 def test_what_is_ignored(rewind: str) -> None:
-    done = run(rewind, "--runs", "5", "--ignore", "fault", str(EXAMPLES / "double_close.go"))
-    assert done.returncode == 0 and "5  fault CloseOfClosed" in done.stdout and "Step by step" not in done.stdout
+    done = run(rewind, "--runs", "5", "--ignore", "panic", str(EXAMPLES / "double_close.go"))
+    assert done.returncode == 0 and "5  panic: close of closed channel" in done.stdout and "In short" not in done.stdout
 
 
 def test_a_hunt_that_stops(rewind: str) -> None:
@@ -408,10 +566,14 @@ def test_a_hunt_that_stops(rewind: str) -> None:
 @pytest.mark.parametrize(
     "words, said",
     [
-        ([], "the following arguments are required: FILE"),
+        ([], "name a FILE, or - for standard input; 'rewind-hunt --help' tells how it is used"),
+        (["-", "-"], "- stands for standard input, which is read once: name it once"),
+        (["--script", "x.script", "a.go", "b.go"], "--script keeps the commands for one FILE: name one"),
+        (["--bad", "x.go"], "unrecognized arguments: --bad; 'rewind-hunt --help' tells how it is used"),
+        (["/"], "/ is a folder: name the source in it"),
         (["--runs", "0", "x.go"], "argument --runs: 0 is no number from 1 to 1000000"),
         (["--expect", "(", "x.go"], "--expect has a pattern that means nothing: "),
-        (["--ignore", "leaks", "x.go"], "--ignore has a kind that is none: leaks (there are fault, deadlock, unended, left, lines)"),
+        (["--ignore", "leaks", "x.go"], "--ignore has a kind that is none: leaks (there are panic, deadlock, unended, leak, output)"),
         (["--script", "/no/such/folder/x", "x.go"], "/no/such/folder/x cannot be written"),
         (["/no/such/file.go"], "/no/such/file.go cannot be read: No such file or directory"),
         (["--rewind", "/no/such/program", "x.go"], "there is no program /no/such/program, which --rewind names"),
@@ -431,6 +593,5 @@ def test_a_source_that_is_refused(rewind: str, source: Callable[[str], Path]) ->
 
 
 def test_the_last_step_is_the_end(rewind: str, reducers: Callable[[Hunt], Reducer]) -> None:
-    found = hunted(plan_of(rewind, EXAMPLES / "leak.go"), Kind.LEFT)
-    script: Optional[Script] = reducers(found).script(found.outcomes[-1], Kind.LEFT)
-    assert script and script.entries[-1].kind.word is KindWord.EXIT
+    script = script_of(reducers(hunted(plan_of(rewind, EXAMPLES / "leak.go"), Kind.LEAK)), Kind.LEAK)
+    assert script.entries[-1].kind.word is KindWord.EXIT

@@ -4,9 +4,9 @@ from __future__ import annotations
 import pytest
 
 from rewind_client.operations import Verb
+from rewind_client.expressions import fault_of_condition
 from rewind_client.program import Program
 from rewind_client.refusals import explain_refusal
-from rewind_client.roles import Roles
 from rewind_client.values import value_of
 
 SOURCE = b"""package main
@@ -57,7 +57,8 @@ def test_statements(program: Program) -> None:
 def test_functions(program: Program) -> None:
     passing = program.functions["pass"]
     assert passing.parameters == ["first", "second"]
-    assert passing.loops == [(14, 16)]
+    lines = [[it.line for it in passing.parts if first <= it.begin < last] for first, last in passing.loops]
+    assert lines == [[14, 15]]
     assert program.functions["put"].parameters == ["m", "n"]
     assert program.calling_lines("pass", "put") == [6]
     assert program.calling_lines("main", "pass") == []
@@ -75,41 +76,6 @@ def test_operations(program: Program) -> None:
     ]
     assert [it.verb for it in program.operations("main", 21)] == []
     assert program.operations("put", 3)[0].value == ("n", "*", "2")
-
-
-ALIASES = b"""package main
-func pick(c chan int) chan int {
-	return c
-}
-func main() {
-	a, b := make(chan int), make(chan int)
-	d, e := a, 1
-	var f chan int = d
-	println(e)
-	f <- 1
-	g := make(chan chan int, 1)
-	g <- b
-	a = pick(b)
-}
-"""
-
-
-def test_roles_of_variables_whose_value_goes_on() -> None:
-    roles = Roles(Program(ALIASES))
-    assert roles.may("main", "a", (Verb.SEND,), 7)
-    assert not roles.may("main", "a", (Verb.RECEIVE,), 7)
-    assert roles.may("main", "b", (Verb.RECEIVE,), 12)
-    assert roles.may("pick", "c", (Verb.SEND,), 3)
-    assert not roles.may("main", "e", (Verb.SEND,), 7)
-
-
-def test_roles(program: Program) -> None:
-    roles = Roles(program)
-    assert roles.may("pass", "first", (Verb.SEND,), 6)
-    assert not roles.may("pass", "first", (Verb.SEND,), 7)
-    assert roles.may("pass", "second", (Verb.RECEIVE,), 15)
-    assert roles.may("main", "a", (Verb.CLOSE,), 0)
-    assert not roles.may("main", "a", (Verb.CLOSE,), 24)
 
 
 @pytest.mark.parametrize(
@@ -135,11 +101,44 @@ def test_roles(program: Program) -> None:
         ("y", ""),
         ("x +", ""),
         ("", ""),
+        ("x && 1", ""),
+        ("ok + 1", ""),
+        ("c == nil", "false"),
+        ("c + c", ""),
+        ("x == 5 || x / 0 == 1", "true"),
+        ("x == 4 && x / 0 == 1", "false"),
+        ("x == 5 && x / 0 == 1", ""),
+        ("( " * 5000 + "x", ""),
     ],
 )
 def test_values(text: str, value: str) -> None:
     variables = {"x": "5", "ok": "true", "c": "g0/c1"}
     assert value_of(text.split(), lambda name: variables.get(name, "")) == value
+
+
+@pytest.mark.parametrize("condition, why", [
+    ("n > 2 && ok", ""),
+    ("m", ""),
+    ("len(c) == cap(c)", ""),
+    ("c == nil || n / 0 == 1", ""),
+    ("n", "it is a number, and no truth value"),
+    ("n / 2", "it is a number, and no truth value"),
+    ("c", "it is a channel or a token, and no truth value"),
+    ("n && 1", "'&&' wants truth values"),
+    ("n = 5", "'=' is not expected there, '==' compares"),
+    ("n >", "something is missing at its end"),
+    ("(n > 1", "something is missing at its end"),
+    ("n == ok", "'==' wants two of one type"),
+    ("k > 1", "there is no variable 'k' here"),
+    ("len(n) > 1", "'len' wants a channel"),
+    ("done()", "there is no variable 'done' here"),
+    ("n)", "')' is not expected there"),
+    ("", "something is missing at its end"),
+    ("n > 1 \x00", "'\x00' is not expected there"),
+])  # fmt: skip
+def test_conditions(condition: str, why: str) -> None:
+    source = b"package main\nfunc f(a, n int, c chan int) {\n\tvar ok bool\n\tm := <-c > 1\n\tprintln(m, ok)\n}\nfunc main() {}\n"
+    assert fault_of_condition(condition, Program(source), "f") == why
 
 
 def test_a_long_source() -> None:

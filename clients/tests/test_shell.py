@@ -1,9 +1,12 @@
 """The shell as a filter: its words, hints, and what it does where something goes wrong."""
 from __future__ import annotations
 
+import io
 import os
 import random
+import re
 import stat
+import re
 import subprocess
 import sys
 from functools import partial
@@ -16,6 +19,7 @@ from rewind_client import motion
 from rewind_client.core import Core
 from rewind_client.opening import open_session
 from rewind_client.process import TIMEOUT
+from rewind_client.versions import output, version_of
 from rewind_shell.completing import Completing
 from rewind_shell.interrupts import Interrupts
 from rewind_shell.shell import Shell
@@ -98,8 +102,24 @@ HINTS = [
     ("until", "until wants a line"),
     ("print", "print wants a variable"),
     ("direct", "direct wants a step"),
-    ("direct g0#9", "no kept step g0#9"),
-    ("history x", "history wants"),
+    ("direct g0#9", "no step g0#9 in the log"),
+    ("history x", "history wants a number, a goroutine, a channel or 'all'"),
+    ("why g0", "why stands alone: 'g0' is not taken"),
+    ("next 3", "next stands alone: '3' is not taken"),
+    ("bt g0 g0.1", "bt takes one word: 'g0.1' is not taken. It is used so: bt [G]"),
+    ("list 9 10", "list takes one word: '10' is not taken"),
+    ("print n m", "'n m' has no value: 'm' is not expected there"),
+    ("print n +", "'n +' has no value: something is missing at its end"),
+    ("print left", "g0 has no variable 'left' with a value here"),
+    ("back main", "main is a function; 'back go G' takes back the start of a goroutine"),
+    ("back nobody", "there is no variable 'nobody' in the program"),
+    ("b 99999", "no statement begins on line 99999"),
+    ("step g1", "there is no goroutine g1: main is g0, the first that it starts is g0.1"),
+    ("show g1.1", "there is no goroutine g1.1: main is g0"),
+    ("step\u00a0g1", "there is no goroutine g1: main is g0"),
+    ("free 3", "The shell has no workers"),
+    ("help deadlock", "no goroutine is ready"),
+    ("help Leak", "a leak is a goroutine that is blocked for ever"),
     ("goroutine g7", "no goroutine g7"),
     ("list nobody", "list wants a line"),
     ("break 99999", "no statement begins on line 99999"),
@@ -129,7 +149,7 @@ def test_abbreviations(talk: Talk) -> None:
         "b g0#2",
         "b go g0.1",
         "caus g0#1",
-        "br 8",
+        "b 8",
         "cl 8",
         "u 8",
         "w",
@@ -139,7 +159,8 @@ def test_abbreviations(talk: Talk) -> None:
         "exit 1",
     ]
     shown = answers(talk(example("lock_order"), *commands).stdout)
-    assert shown[0] == ["ok g0#1 make"] and shown[2] == ["ok 5 count"] and shown[3] == ["ok"]
+    assert shown[0] == ["ok g0#1 make"] and shown[3] == ["ok"]
+    assert shown[2] == ["ok 5 count", "The run has taken the 5 steps that it was to take."]
     assert shown[4][0].startswith("ok 7 g0#2") and shown[5][0] == "no B2" and shown[6] == ["ok 1 g0#1"]
     assert shown[14] == ["? bad command", "quit stands alone"]
 
@@ -168,11 +189,16 @@ def test_random_lines(talk: Talk) -> None:
         "all",
         "main",
         "\x00",
+        "\\xff",
         "é",
         "'",
         "#",
     ]
-    lines = [" ".join([chance.choice(names)] + chance.choices(more, k=chance.choice([0, 1, 1, 1, 2, 3]))) for _ in range(400)]
+    blanks = [" "] * 20 + ["\t", "\u00a0", "\u2003", "\u3000", "\x1c", "\x85", "\u2028", "\ufeff"]
+    lines = []
+    for _ in range(400):
+        words = [chance.choice(names)] + chance.choices(more, k=chance.choice([0, 1, 1, 1, 2, 3]))
+        lines.append(chance.choice(["", "", "", *blanks[20:]]) + "".join(word + chance.choice(blanks) for word in words))
     done = talk(example("philosophers"), *lines)
     assert done.returncode == 0 and done.stderr == ""
     assert [line[2:] for line in done.stdout.split("\n") if line.startswith("> ")] == lines
@@ -246,8 +272,8 @@ def test_what_is_printed(talk: Talk) -> None:
 def test_very_many_printed_lines(talk: Talk, tmp_path: Path) -> None:
     (tmp_path / "many.go").write_text("package main\nfunc main() {\n\tfor i := 0; ; i++ {\n\t\tprintln(i)\n\t}\n}\n")
     shown = answers(talk("many.go", "run 50000", "run 9", "restart", "run 9", "run 999999").stdout)
-    assert shown[0][-2] == "(and 16656 lines more: 'console' shows all that is printed)"
-    assert shown[0][-1].startswith("(from here on") and shown[1] == ["ok 9 count"]
+    assert shown[0][-3] == "(and 16656 lines more: 'console' shows all that is printed)"
+    assert shown[0][-2].startswith("(from here on") and shown[1][0] == "ok 9 count"
     assert shown[3][1] == "prints: 0"
     assert shown[4][0].startswith("ok ") and shown[4][1].startswith("(from here on")
 
@@ -261,6 +287,8 @@ def test_completion(rewind: str) -> None:
     assert completing.of("chan g0/c") == ["g0/c1", "g0/c2", "g0/c3", "g0/c4"]
     assert "g0.3#3" in completing.of("back g0.3#") and "22" in completing.of("break 2") and "main" in completing.of("break ")
     assert completing.of("print f") == ["f1", "f2", "f3"]
+    assert completing.of("print len(don") == ["len(done"] and completing.of("p 2*f") == ["2*f1", "2*f2", "2*f3"]
+    assert completing.of("history don") == ["done"] and completing.of("b ma") == ["main"]
     assert completing.of("help re") == ["redo", "restart", "reverse-continue", "reverse-next"]
     assert completing.of("nobody x") == []
     shell.session.core.process.end()
@@ -271,11 +299,32 @@ def test_completion(rewind: str) -> None:
 def test_saving_and_loading(talk: Talk, tmp_path: Path, rewind: str) -> None:
     talk(example("lock_order"), "step 2", "next", "break 8", "continue", "show g0", "bad", "save saved")
     script = (tmp_path / "saved").read_text()
-    assert "bad" not in script and script.splitlines()[0] == "step g0" and "show g0" in script
+    assert script.startswith("// commands for lock_order.go, SHA-256 ")
+    assert "bad\n" not in script and script.splitlines()[1] == "step g0" and "show g0" in script
     again = talk(example("lock_order"), "load saved", "break", "log").stdout
     assert "0 of them refused" in again and "line 8: lock(first)" in again
+    other = talk(example("philosophers"), "load saved").stdout
+    assert "saved is of another source than" in other and "is of another source" not in again
     plain = subprocess.run([rewind, example("lock_order")], input=script + "log\n", stdout=subprocess.PIPE, text=True).stdout
     assert steps_in(again) == steps_in(plain) != []
+
+
+def test_a_file_of_the_page(talk: Talk, tmp_path: Path) -> None:
+    """The page writes the commands of a session as comments behind the source; the start takes them, and so does load."""
+    source = Path(example("lock_order")).read_text()
+    (tmp_path / "page.go").write_text(source + "\n// commands of Rewind:\n// step g0\n// run 4\n")
+    begun = talk("page.go", "log").stdout
+    assert begun.startswith("2 commands of page.go were taken, 0 of them refused; the last gave\nok 4 count\n") and len(steps_in(begun)) == 5
+    (tmp_path / "plain.go").write_text(source)
+    loaded = talk("plain.go", "load page.go", "log").stdout
+    assert "another source" not in loaded and steps_in(loaded) == steps_in(begun)
+    assert "another source" in talk(example("philosophers"), "load page.go").stdout
+
+
+def test_a_file_with_blanks_in_its_name(talk: Talk, tmp_path: Path) -> None:
+    talk(example("lock_order"), "step g0", "save my own session")
+    assert (tmp_path / "my own session").exists()
+    assert "1 command of my own session was taken" in talk(example("lock_order"), "load my own session").stdout
 
 
 def steps_in(text: str) -> List[str]:
@@ -286,6 +335,78 @@ def test_restart(talk: Talk) -> None:
     shown = answers(talk(example("lock_order"), "break 8", "run 100", "restart", "log", "run 100").stdout)
     assert shown[3] == ["ok 0"]
     assert shown[4][0].endswith("break 8")
+
+
+def test_a_restart_where_the_file_is_broken_now(talk: Talk, tmp_path: Path, rewind: str) -> None:
+    """The sentence is that of the start, and the session goes on."""
+    path = tmp_path / "x.go"
+    path.write_text("package main\nfunc main() {\n\tx := 1\n\tprintln(x)\n}\n")
+    shell = Shell(rewind, str(path), Screen(io.StringIO(), lambda: False), Interrupts(), None)
+    shell.obey("step g0")
+    path.write_text('package main\nimport "fmt"\nfunc main() {}\n')
+    out = shell.screen.out = io.StringIO()
+    for line in ("restart", "step g0", "history"):
+        shell.obey(line)
+    assert "x.go:2:1: imports are not supported\n" in out.getvalue() and "ok g0#2 " in out.getvalue()
+    assert "g0#1 " in out.getvalue().split("ok g0#2")[1]
+    shell.end()
+
+
+def test_expressions_and_channels(talk: Talk) -> None:
+    asked = ["print len(jobs)", "p 2 * 3 + len(jobs)", "print jobs", "goroutine g0.1", "print results", "print 1/0"]
+    shown = answers(talk(example("worker_pool"), "run 12", *asked).stdout)
+    assert re.match(r"len\(jobs\) = \d+$", shown[1][0])
+    assert re.match(r"2 \* 3 \+ len\(jobs\) = \d+$", shown[2][0])
+    assert any(line.startswith("jobs (g0/c1): open") for line in shown[3])
+    assert any(line.startswith("results (g0/c2): open") for line in shown[5])
+    assert shown[6] == ["'1/0' has no value: it divides by zero"]
+
+
+def test_a_statement_that_is_cut_has_a_mark(talk: Talk, tmp_path: Path) -> None:
+    makes = "a, b, c := make(chan int, 10), make(chan int, 10), make(chan struct{}, 10)"
+    (tmp_path / "long.go").write_text("package main\nfunc main() {\n\t%s\n\tprintln(len(a), len(b), len(c))\n}\n" % makes)
+    shown = talk("long.go", "run 1", "history").stdout
+    assert re.search(r"3: a, b, c := make.*\.\. makes g0/c1$", shown, re.MULTILINE)
+
+
+def test_free_is_no_word_without_workers(talk: Talk) -> None:
+    assert "free N" not in talk(example("lock_order"), "help").stdout
+
+
+@pytest.mark.parametrize("blank", ["\u00a0", "\u2003", "\u3000", "\x1c", "\x85", "\u2028", "\u200b", "\ufeff", "\x0b"])
+def test_blanks_of_every_alphabet(talk: Talk, blank: str) -> None:
+    done = talk(example("lock_order"), blank, blank * 3, "step%sg0" % blank, "%sgoroutines" % blank)
+    assert done.stderr == "" and done.returncode == 0
+    assert "ok g0#1 make" in done.stdout and "* g0 " in done.stdout
+
+
+@pytest.mark.parametrize("closed, status, said", [
+    ("<&-", 3, "rewind-shell: standard input is closed\n"),
+    (">&-", 3, "rewind-shell: standard output is closed\n"),
+    (">/dev/full", 3, "rewind-shell: standard output cannot be written: No space left on device\n"),
+    ("2>&- <&-", 3, ""),
+])  # fmt: skip
+def test_a_stream_that_is_closed_or_full(closed: str, status: int, said: str, rewind: str) -> None:
+    words = [sys.executable, str(SHELL), "--rewind", rewind, example("lock_order")]
+    done = subprocess.run(["sh", "-c", '"$@" %s' % closed, "sh", *words], input="why\nrun 9\n", capture_output=True, text=True, timeout=60)
+    assert (done.returncode, done.stderr) == (status, said)
+
+
+def test_the_version_is_that_of_the_program(rewind: str) -> None:
+    version = subprocess.run([rewind, "--version"], capture_output=True, text=True, check=True).stdout.split(" ", 1)[1].strip()
+    done = subprocess.run([sys.executable, str(SHELL), "--rewind", rewind, "--version"], capture_output=True, text=True, check=True)
+    assert done.stdout.startswith("rewind-shell %s" % version)
+
+
+def test_a_version_between_releases_has_its_commit(tmp_path: Path) -> None:
+    """A program that names its own commit is not told another one."""
+    commit = output(["git", "-C", str(CLIENTS), "rev-parse", "--short", "HEAD"])
+    unreleased = "1.2.0-dev (%s)" % commit if commit else "1.2.0-dev"
+    for said, told in (("1.2.0-dev", unreleased), ("1.2.0-dev+abc", "1.2.0-dev+abc"), ("1.1.0", "1.1.0")):
+        path = tmp_path / "rewind"
+        path.write_text("#!/bin/sh\necho rewind %s\n" % said)
+        path.chmod(0o755)
+        assert version_of(str(path)) == told
 
 
 @pytest.mark.parametrize("word", ["quit", "q", "exit"])
@@ -332,12 +453,12 @@ def test_a_core_that_answers_nothing(
     monkeypatch.setattr("rewind_shell.shell.open_session", partial(open_session, timeout=0.5))
     monkeypatch.setenv("XDG_STATE_HOME", str(tmp_path))
     shell = Shell(hangs, str(EXAMPLES / "lock_order.go"), Screen(sys.stdout, lambda: False), Interrupts(), None)
-    shell.script.begin()
+    shell.script.begin(shell.program)
     shell.obey("step g0")
     said = capsys.readouterr().out
     assert "gave no answer within 0.5 seconds, and was ended" in said
     assert "'restart' begins the program anew; the commands so far are in %s" % shell.script.path in said
-    assert Path(shell.script.path).read_text() == "step g0\n"
+    assert Path(shell.script.path).read_text().splitlines()[1:] == ["step g0"]
     shell.rewind = rewind
     shell.obey("restart")
     shell.obey("step g0")
@@ -349,7 +470,8 @@ def test_a_core_that_answers_nothing(
     "words, sentence, status",
     [
         (["/nowhere/x.go"], "there is no file /nowhere/x.go", 2),
-        ([], "the following arguments are required: FILE", 2),
+        ([], "name a FILE", 2),
+        (["/"], "/ is a folder: name the source in it", 2),
         (["--rewind", "/nowhere/rewind", "x.go"], "no file x.go", 2),
         (["--rewind", "/nowhere/rewind", "SOURCE"], "there is no program /nowhere/rewind", 2),
         (["IMPORT"], "IMPORT:2:1: ", 1),
@@ -428,6 +550,14 @@ def test_a_restart_takes_the_file_as_it_is_then(rewind: str, tmp_path: Path, cap
     shell.obey("list 4")
     assert "x := 2" in capsys.readouterr().out
     shell.end()
+
+
+def test_a_value_is_told_where_its_receive_began(talk: Talk) -> None:
+    shown = answers(talk(example("lost_update"), "run 1000", "direct g0#9", "direct g0#8").stdout)
+    told = [[part.strip() for part in lines] for lines in shown[1:]]
+    assert "which ended the wait of g0#8" in told[0]
+    assert not any("other half of the message" in line for line in told[0])
+    assert any(re.search(r"<-done +waits to receive from done, until g0\.[12]#\d+ with true", line) for line in told[1])
 
 
 def test_how_far_back_a_long_log_is_known_is_told(talk: Talk) -> None:

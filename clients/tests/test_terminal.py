@@ -161,15 +161,30 @@ def test_ctrl_c_where_rewind_hangs(begin: Begin, tmp_path: Path) -> None:
 def test_a_core_that_is_killed(begin: Begin) -> None:
     terminal = begin()
     terminal.say("step g0", "ok g0#1")
-    path = re.search(r"saved as it goes: (\S+\.script)", terminal.text.replace("\n  ", ""))
+    path = re.search(r"saved as it goes: (\S+\.script)", terminal.text.replace("\n  ", " "))
     assert path
     children = subprocess.run(["ps", "-o", "pid=", "--ppid", str(terminal.process.pid)], stdout=subprocess.PIPE, text=True).stdout
     for number in children.split():
         os.kill(int(number), signal.SIGKILL)
     terminal.say("step g0", "signal 9 ended it")
     terminal.say("restart", "g0 is ready")
-    assert Path(path.group(1)).read_text().startswith("step g0\n")
+    assert Path(path.group(1)).read_text().splitlines()[1] == "step g0"
     terminal.say("load " + path.group(1), "commands of")
+
+
+def test_a_ctrl_c_at_any_moment_of_the_start(rewind: str, tmp_path: Path) -> None:
+    """It ends the shell, or is taken at the prompt; there is no traceback of ours."""
+    environment = {**os.environ, "TERM": "xterm", "XDG_STATE_HOME": str(tmp_path / "state")}
+    words = [sys.executable, str(SHELL), "--rewind", rewind, str(EXAMPLES / "lock_order.go")]
+    for twentieths in range(12):
+        terminal = Terminal(words, environment, 100)
+        terminal.read(0.05 * twentieths)
+        time.sleep(0.05)
+        os.kill(terminal.process.pid, signal.SIGINT)
+        while terminal.process.poll() is None and "(rewind g0)" not in terminal.text:
+            terminal.read(0.1)
+        terminal.close()
+        assert "rewind_" not in terminal.raw and "Error" not in terminal.raw, (twentieths, terminal.raw)
 
 
 def test_history_and_completion(begin: Begin) -> None:
@@ -214,6 +229,13 @@ def test_no_colours(begin: Begin, more: Dict[str, str]) -> None:
     terminal.say("run 1000", "Deadlock")
     terminal.say("why", "A cycle")
     assert not re.search("\x1b\\[[0-9;]*[1-9][0-9]*m", terminal.raw)
+
+
+def test_a_long_log_is_said_to_be_read(begin: Begin) -> None:
+    terminal = begin("starved_select")
+    terminal.say("run 30000", "ok 30000 count")
+    assert "reading the log .." in terminal.say("why", "The program can go on")
+    assert "reading the log .." not in terminal.say("history 2", "g0")
 
 
 def test_twenty_columns(begin: Begin) -> None:
