@@ -1,37 +1,54 @@
 """The hunt: many schedules, in some processes at once, and what they found by its kind."""
 from __future__ import annotations
 
-import multiprocessing
 import signal
 import time
-from collections import Counter
+from concurrent.futures import ProcessPoolExecutor
+from concurrent.futures.process import BrokenProcessPool
+from contextlib import closing
 from dataclasses import dataclass, field
-from typing import Callable, Dict, Generator, List, Optional, Pattern, Tuple, Union
+from typing import Any, Callable, Dict, Generator, List, NamedTuple, Optional, Pattern, Tuple, Union
 
 from rewind_client.core import Core
 from rewind_client.errors import ProcessError, RewindError
 from rewind_client.finding import start
 from rewind_client.program import Program, read_program
 
-from .outcomes import Judge, Kind, Outcome, Spot, most_frequent
-from .schedules import Scheduler
+from .outcomes import Judge, Kind, Outcome, Spot
+from .schedules import End, Scheduler
 
-# Kinds that are told and are nothing bad by themselves.
-HARMLESS = frozenset((Kind.WELL, Kind.ORDER))
-# Kinds of which it matters where the goroutines stand.
-WITH_SPOTS = frozenset((Kind.FAULT, Kind.DEADLOCK, Kind.LEFT))
-# Schedules that a process is given at once.
+# Schedules that a process is given at once, and how many shares are made at most.
 SHARE = 8
-Found = Tuple[Kind, str, Tuple[Spot, ...]]
+MOST_SHARES = 2000
+ENDS = {End.FAULT: Kind.PANIC, End.DEADLOCK: Kind.DEADLOCK, End.UNENDED: Kind.UNENDED}
 Outcomes = Generator[Union[Outcome, str], None, None]
+
+
+class Found(NamedTuple):
+    """What there is against schedules: the kind, the fault, and where the goroutines stand that it is about."""
+
+    kind: Kind
+    fault: str = ""
+    spots: Tuple[Spot, ...] = ()
+
+
+class Row(NamedTuple):
+    """What schedules of one row of the table have in common: how they ended, whether goroutines leak, and the lines printed."""
+
+    end: End
+    fault: str
+    spots: Tuple[Spot, ...]
+    leaks: bool
+    lines: Tuple[str, ...]
 
 
 @dataclass(frozen=True)
 class Plan:
-    """What is hunted for, and how."""
+    """What is hunted for, and how. The processes read the source at `path`; the user calls it `name`."""
 
     rewind: str
     path: str
+    name: str = ""
     runs: int = 200
     seed: int = 1
     jobs: int = 1
@@ -55,73 +72,132 @@ class Hunt:
     plan: Plan
     outcomes: List[Outcome] = field(default_factory=list)
     seconds: float = 0.0
-    # What most schedules print that end; none where none has ended.
-    common: Optional[Tuple[str, ...]] = None
+    # How many goroutines each schedule that ended left at a spot, where that is the same number for all of them.
+    servers: Optional[Dict[Spot, int]] = None
+    # Whether some of the schedules that ended left other goroutines than the rest.
+    has_leaks: bool = False
 
     def add(self, outcome: Outcome) -> None:
         self.outcomes.append(outcome)
+        if outcome.end is not End.ENDED:
+            return
+        left = outcome.left
+        if self.servers is None:
+            self.servers = dict(left)
+        same = {spot: number for spot, number in self.servers.items() if left[spot] == number}
+        self.has_leaks = self.has_leaks or same != self.servers or same != left
+        self.servers = same
 
-    def kinds_of(self, outcome: Outcome) -> Tuple[Kind, ...]:
-        """What there is against an outcome, its console too; of a schedule that ended it may be two things."""
-        if outcome.kind not in (Kind.WELL, Kind.LEFT):
-            return (outcome.kind,)
-        console = self.of_console(outcome)
-        if outcome.kind is Kind.LEFT:
-            return (Kind.LEFT,) if console in HARMLESS else (Kind.LEFT, console)
-        return (console,)
+    # What there is against an outcome.
 
-    def of_console(self, outcome: Outcome) -> Kind:
-        """What there is against what was printed."""
-        if self.plan.expected:
-            return Kind.WELL if self.plan.expected.search("\n".join(outcome.console)) else Kind.UNEXPECTED
-        if self.common is None or outcome.console == self.common:
-            return Kind.WELL
-        return Kind.ORDER if sorted(outcome.console) == sorted(self.common) else Kind.LINES
+    def leaks(self, outcome: Outcome) -> Tuple[Spot, ...]:
+        """Where an outcome leaves goroutines, but for those that every schedule leaves there."""
+        servers = self.servers or {}
+        return tuple(spot for spot, number in outcome.left.items() if servers.get(spot) != number)
+
+    def is_unexpected(self, outcome: Outcome) -> bool:
+        """Whether the user has told what is to be printed, and this is something else."""
+        expected = self.plan.expected
+        return bool(expected and outcome.end is End.ENDED and not expected.search("\n".join(outcome.console)))
+
+    def against(self, outcome: Outcome) -> List[Found]:
+        """What there is against an outcome."""
+        if outcome.end is not End.ENDED:
+            return [Found(ENDS[outcome.end], outcome.fault, outcome.places)]
+        found = [Found(Kind.LEAK, spots=(spot,)) for spot in self.leaks(outcome)]
+        return found + [Found(Kind.OUTPUT)] * self.is_unexpected(outcome)
+
+    def bad(self, outcome: Outcome) -> List[Found]:
+        """What there is against an outcome, but for what the user ignores."""
+        return [found for found in self.against(outcome) if found.kind not in self.plan.ignored]
 
     def is_well(self, outcome: Outcome) -> bool:
-        return not any(self.is_bad(kind) for kind in self.kinds_of(outcome))
+        return not self.bad(outcome)
 
-    def is_bad(self, kind: Kind) -> bool:
-        return kind not in HARMLESS and kind not in self.plan.ignored
+    def stops(self, outcome: Outcome) -> bool:
+        """Whether a hunt to the first bad schedule ends with an outcome that was just added."""
+        return not self.is_well(outcome) or (self.has_leaks and Kind.LEAK not in self.plan.ignored)
 
-    def settle(self) -> None:
-        """Puts the outcomes in order, and finds the console that most of them have."""
-        self.outcomes.sort(key=lambda outcome: outcome.number)
-        ended = [it for it in self.outcomes if it.kind in (Kind.WELL, Kind.LEFT)]
-        self.common = most_frequent(Counter(it.console for it in ended))
+    # All of them.
 
     def groups(self) -> Dict[Found, List[Outcome]]:
-        """The outcomes that have the same against them, the worst kinds and then the most frequent ones first."""
-        found: Dict[Found, List[Outcome]] = {}
+        """The bad outcomes by what there is against them, the worst kinds and then the most frequent ones first."""
+        groups: Dict[Found, List[Outcome]] = {}
         for outcome in self.outcomes:
-            for kind in self.kinds_of(outcome):
-                about = (outcome.fault, outcome.spots) if kind in WITH_SPOTS else ("", ())
-                found.setdefault((kind, *about), []).append(outcome)
+            for found in self.bad(outcome):
+                groups.setdefault(found, []).append(outcome)
         order = list(Kind)
-        return dict(sorted(found.items(), key=lambda item: (order.index(item[0][0]), -len(item[1]))))
+        return dict(sorted(groups.items(), key=lambda item: (order.index(item[0].kind), -len(item[1]))))
+
+    def rows(self) -> Dict[Row, List[Outcome]]:
+        """The outcomes by how they ended and what they printed, whatever the order of the lines; the most frequent ones first."""
+        rows: Dict[Row, List[Outcome]] = {}
+        for outcome in self.outcomes:
+            rows.setdefault(self.row(outcome), []).append(outcome)
+        return dict(sorted(rows.items(), key=lambda item: -len(item[1])))
+
+    def row(self, outcome: Outcome) -> Row:
+        """The row of an outcome; what a schedule printed that did not end does not tell it from others."""
+        if outcome.end is End.ENDED:
+            return Row(End.ENDED, "", (), bool(self.leaks(outcome)), tuple(sorted(outcome.console)))
+        return Row(outcome.end, outcome.fault, outcome.places, False, ())
+
+    def outputs(self) -> Dict[Tuple[str, ...], List[Outcome]]:
+        """The outcomes that ended by the lines that they printed, whatever their order; the most frequent ones first."""
+        found: Dict[Tuple[str, ...], List[Outcome]] = {}
+        for outcome in self.outcomes:
+            if outcome.end is End.ENDED:
+                found.setdefault(tuple(sorted(outcome.console)), []).append(outcome)
+        return dict(sorted(found.items(), key=lambda item: -len(item[1])))
+
+    def is_open(self) -> bool:
+        """Whether different things were printed, and the user has not told what is right."""
+        asks = self.plan.expected is None and Kind.OUTPUT not in self.plan.ignored
+        return asks and len(self.outputs()) > 1
+
+    def has_come_to(self, wanted: Outcome, found: Found, come: Outcome) -> bool:
+        """Whether an outcome has the same against it as another one; where that is nothing, whether it printed the same."""
+        if come.end is not wanted.end or come.fault != wanted.fault:
+            return False
+        if come.end is not End.ENDED:
+            return come.places == wanted.places
+        return found.spots[0] in self.leaks(come) if found.kind is Kind.LEAK else come.console == wanted.console
+
+
+class Interrupts:
+    """Takes account of a first Ctrl-C, where an exception in the midst of the processes would leave them; a second one is raised."""
+
+    def __init__(self) -> None:
+        self.came = False
+
+    def note(self, _number: int, _frame: Any) -> None:
+        if self.came:
+            raise KeyboardInterrupt
+        self.came = True
+
+    def __enter__(self) -> Interrupts:
+        self.before = signal.signal(signal.SIGINT, self.note)
+        return self
+
+    def __exit__(self, *_: object) -> None:
+        signal.signal(signal.SIGINT, self.before)
 
 
 def hunt(plan: Plan, told: Callable[[Hunt], None]) -> Hunt:
     """Takes the schedules; `told` is called after each. A Ctrl-C ends the hunt with what was found so far."""
     found = Hunt(plan)
     begun = time.monotonic()
-    outcomes = in_processes(plan) if plan.jobs > 1 else here(plan)
-    try:
+    with Interrupts() as interrupts, closing(in_processes(plan) if plan.jobs > 1 else here(plan)) as outcomes:
         for outcome in outcomes:
             if isinstance(outcome, str):
                 raise ProcessError(outcome)
             found.add(outcome)
             told(found)
-            if plan.stop and not found.is_well(outcome):
+            if interrupts.came or (plan.stop and found.stops(outcome)):
                 break
-    except KeyboardInterrupt:
-        pass
-    finally:
-        outcomes.close()
     found.seconds = time.monotonic() - begun
-    found.settle()
+    found.outcomes.sort(key=lambda outcome: outcome.number)
     return found
-
 
 
 class Hunter:
@@ -146,24 +222,26 @@ def here(plan: Plan) -> Outcomes:
 
 
 def in_processes(plan: Plan) -> Outcomes:
-    """The outcomes of some processes at once, as they come; a text says what went wrong.
+    """The outcomes of some processes at once, in the order of their numbers; a text says what went wrong.
 
     Where the system has no locks between processes, as Python 3.9 has none without /dev/shm, this process finds them all.
     """
     try:
-        pool = multiprocessing.Pool(plan.jobs, ignore_interrupts)
-    except OSError:
+        pool = ProcessPoolExecutor(plan.jobs, initializer=ignore_interrupts)
+        outcomes = pool.map(Share(plan), range(plan.runs), chunksize=max(SHARE, plan.runs // MOST_SHARES))
+    except (OSError, NotImplementedError, ImportError):
         yield from here(plan)
         return
     try:
-        yield from pool.imap_unordered(Share(plan), range(plan.runs), SHARE)
+        yield from outcomes
+    except BrokenProcessPool:
+        yield "a process of the hunt has ended before its time"
     finally:
-        pool.terminate()
-        pool.join()
+        pool.shutdown(cancel_futures=True)
 
 
 def ignore_interrupts() -> None:
-    """A Ctrl-C at the terminal is for the process that began the others."""
+    """A Ctrl-C at the terminal is for the process that began the others; before this they take account of it and go on."""
     signal.signal(signal.SIGINT, signal.SIG_IGN)
 
 

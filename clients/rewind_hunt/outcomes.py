@@ -1,32 +1,27 @@
 """How a schedule ended, and what there is to say against it."""
 from __future__ import annotations
 
+from collections import Counter
 from dataclasses import dataclass
 from enum import Enum
-from typing import Dict, List, NamedTuple, Optional, Sequence, Tuple
+from typing import Iterable, List, NamedTuple, Sequence, Tuple
 
 from rewind_client import replies
 from rewind_client.core import step_words
+from rewind_client.endings import DRAIN, drained
 from rewind_client.replies import Goroutine, State
 
 from .schedules import End, Schedule, Scheduler
 
-# Steps that the other goroutines get at the end of `main`, to see which of them would never end.
-DRAIN = 2000
-DRAIN_PORTION = 8
-
 
 class Kind(Enum):
-    """What was found, the worst first."""
+    """What there is against a schedule, the worst first."""
 
-    FAULT = "fault"
+    PANIC = "panic"
     DEADLOCK = "deadlock"
     UNENDED = "unended"
-    LEFT = "left"
-    UNEXPECTED = "unexpected"
-    LINES = "lines"
-    ORDER = "order"
-    WELL = "well"
+    LEAK = "leak"
+    OUTPUT = "output"
 
 
 class Spot(NamedTuple):
@@ -39,27 +34,27 @@ class Spot(NamedTuple):
 
 @dataclass(frozen=True)
 class Outcome:
-    """How the schedule of a number ended: the fault, where the goroutines stand that matter, and what was printed."""
+    """How the schedule of a number ended: the fault, where goroutines stand, and what was printed.
+
+    The spots are those of a panic or a deadlock; where the program ended, those of the goroutines that are blocked for ever.
+    """
 
     number: int
     end: End
     steps: int
     fault: str = ""
     spots: Tuple[Spot, ...] = ()
-    left: bool = False
     console: Tuple[str, ...] = ()
 
     @property
-    def kind(self) -> Kind:
-        """What there is against it, whatever it printed."""
-        if self.end is End.ENDED:
-            return Kind.LEFT if self.left else Kind.WELL
-        return {End.FAULT: Kind.FAULT, End.DEADLOCK: Kind.DEADLOCK, End.UNENDED: Kind.UNENDED}[self.end]
+    def left(self) -> "Counter[Spot]":
+        """How many goroutines are left at each spot when `main` has returned."""
+        return Counter(self.spots if self.end is End.ENDED else ())
 
     @property
-    def sort(self) -> "Tuple[Kind, str, Tuple[Spot, ...]]":
-        """What it has in common with others of its kind."""
-        return self.kind, self.fault, self.spots
+    def places(self) -> Tuple[Spot, ...]:
+        """The spots, each once."""
+        return tuple(dict.fromkeys(self.spots))
 
 
 class Judge:
@@ -74,7 +69,7 @@ class Judge:
         if schedule.end is End.ENDED:
             left = self.drained(schedule)
             if schedule.end is End.ENDED:
-                return Outcome(number, End.ENDED, len(schedule.entries), spots=spots(left), left=bool(left), console=console)
+                return Outcome(number, End.ENDED, len(schedule.entries), spots=spots(map(stopped_at_last, left)), console=console)
         shown = self.shown(schedule.goroutines)
         fault = ""
         if schedule.end is End.FAULT:
@@ -85,14 +80,14 @@ class Judge:
             shown = [one for one in shown if one.state is State.WAITING]
         else:
             shown = []
-        return Outcome(number, schedule.end, len(schedule.entries), fault, spots(shown), False, console)
+        return Outcome(number, schedule.end, len(schedule.entries), fault, spots(shown), console)
 
     def shown(self, names: Sequence[str]) -> List[Goroutine]:
         found = self.scheduler.core.process.ask_all(["show " + name for name in names])
         return [replies.goroutine(reply) for reply in found if replies.is_ok(reply)]
 
     def drained(self, schedule: Schedule) -> List[Goroutine]:
-        """The goroutines that would never end if `main` waited for them.
+        """The goroutines that would be blocked for ever, or would go on for ever, if `main` waited for them.
 
         The exit is taken back, the others go as far as they can, and the exit is taken again.
         """
@@ -114,22 +109,15 @@ class Judge:
 
     def drain(self, schedule: Schedule) -> int:
         """Lets the goroutines beside `main` go on until none is ready, or for many steps: how many they took."""
-        taken = 0
-        while taken < DRAIN and not schedule.stopped:
-            names = [name for name in schedule.live if name != "g0"]
-            entries = self.scheduler.try_steps([step_words(name) for name in names for _ in range(DRAIN_PORTION)])
-            if not entries:
-                break
-            taken += len(entries)
-        return taken
+        return drained(lambda: [name for name in schedule.live if name != "g0"], self.scheduler.try_steps)
 
 
-def spots(goroutines: Sequence[Goroutine]) -> Tuple[Spot, ...]:
+def stopped_at_last(one: Goroutine) -> Goroutine:
+    """A goroutine that is left; one that goes on for ever is told by its function alone, since its line is one of many."""
+    return one if one.state is State.WAITING else one._replace(line=0, frames=one.frames[-1:])
+
+
+def spots(goroutines: Iterable[Goroutine]) -> Tuple[Spot, ...]:
     """Where goroutines stand, in an order that does not hang on their names."""
     found = [Spot(tuple(frame.function for frame in one.frames), one.line, one.state) for one in goroutines]
     return tuple(sorted(found, key=lambda spot: (spot.line, spot.functions, spot.state.value)))
-
-
-def most_frequent(consoles: Dict[Tuple[str, ...], int]) -> Optional[Tuple[str, ...]]:
-    """The console that most runs print; of two the smaller one."""
-    return min(consoles, key=lambda lines: (-consoles[lines], lines)) if consoles else None

@@ -33,7 +33,7 @@ WAKING = frozenset((KindWord.HAND, KindWord.MEET, KindWord.TAKE, KindWord.PICK, 
 class Manner(Enum):
     """How the goroutine of the next step is chosen."""
 
-    TURNS = "by turns"
+    TURNS = "round robin"
     EVENLY = "evenly"
     BURSTS = "in bursts"
     RANKS = "by ranks"
@@ -58,7 +58,7 @@ class Schedule:
     goroutines: List[str] = field(default_factory=lambda: ["g0"])
     started: Dict[str, int] = field(default_factory=dict)
     done: Set[str] = field(default_factory=set)
-    # The command that took the last step: where that is a fault in a select, its kind does not tell the clause.
+    # The command that took the last step: where that is a fault in a select, its kind does not tell the case.
     last_command: str = ""
 
     def note(self, entry: Entry) -> None:
@@ -118,7 +118,7 @@ class Scheduler:
         return self.schedule
 
     def manner_of(self, number: int) -> Manner:
-        """The first schedule goes by turns; of the others every second one evenly."""
+        """The first schedule is round robin; of the others every second one evenly."""
         if number == 0:
             return Manner.TURNS
         return self.random.choice((Manner.EVENLY, Manner.EVENLY, Manner.BURSTS, Manner.RANKS))
@@ -155,7 +155,7 @@ class Scheduler:
         return taken
 
     def step(self, goroutine: str) -> str:
-        """A step of a goroutine, half of them with a clause where the program has a select."""
+        """A step of a goroutine, half of them with a case where the program has a select."""
         if self.clauses > 1 and self.random.random() < 0.5:
             return step_words(goroutine, self.random.randint(2, self.clauses))
         return step_words(goroutine)

@@ -101,7 +101,7 @@ class Sentences:
             KindWord.CLOSED: lambda it: "finds %s closed and empty" % self.channel(it),
             KindWord.SEND_WAIT: lambda it: "waits to send %s to %s" % (self.value(it), self.channel(it)),
             KindWord.RECEIVE_WAIT: lambda it: "waits to receive from " + self.channel(it),
-            KindWord.PICK: self.pick, KindWord.DEFAULT: lambda _: "takes the default of a select, since no clause is ready",
+            KindWord.PICK: self.pick, KindWord.DEFAULT: lambda _: "takes the default of a select, since no case is ready",
             KindWord.SELECT_WAIT: lambda _: "waits at a select", KindWord.CLOSE: lambda it: "closes " + self.channel(it),
             KindWord.FAULT: self.fault,
         }  # fmt: skip
@@ -141,11 +141,11 @@ class Sentences:
     def pick(self, note: Note) -> str:
         verb = {Verb.SEND: "sends %s to", Verb.RECEIVE: "receives %s from"}.get(note.verb or Verb.LENGTH)
         does = " and " + verb % self.value(note) + " " + self.channel(note) if verb else ""
-        return "takes clause %d of a select%s" % (note.kind.clause, does)
+        return "takes case %d of a select%s" % (note.kind.clause, does)
 
     def fault(self, note: Note) -> str:
         why = FAULTS.get(note.kind.fault, note.kind.fault)
-        return "meets %s (%s)%s" % (note.kind.fault, why, " at " + self.channel(note) if note.channel else "")
+        return "stops with %s (%s)%s" % (why, note.kind.fault, " at " + self.channel(note) if note.channel else "")
 
 
 def grouped(told: Sequence[Told]) -> List[Told]:

@@ -1,18 +1,20 @@
-"""Where to go back: a step from before which the program still ends well."""
+"""Where to go back: a step from before which the program ends without what was found."""
 from __future__ import annotations
 
 import time
 from dataclasses import dataclass
-from typing import Callable, Iterator, List, Optional, Tuple
+from typing import Iterator, List, Optional, Sequence, Tuple
 
 from rewind_client.core import step_words
 from rewind_client.names import step_owner
 from rewind_client.replies import Entry, KindWord
 
+from .hunting import Found
 from .outcomes import Outcome
-from .scripts import Reducer, Script
+from .schedules import End
+from .scripts import Reducer
 
-SECONDS = 1.5
+SECONDS = 2.0
 PLAIN = frozenset((KindWord.PURE, KindWord.CALL, KindWord.RETURN, KindWord.MAKE, KindWord.EXIT, KindWord.FAULT))
 
 
@@ -26,34 +28,56 @@ class WayBack:
     outcome: Outcome
 
 
-def way_back(reducer: Reducer, script: Script, is_well: Callable[[Outcome], bool]) -> Optional[WayBack]:
-    """The latest step from before which a run by turns ends well, or does with one step of another goroutine first."""
-    until = time.monotonic() + SECONDS
-    for entry in reversed([it for it in script.entries if it.kind.word not in PLAIN]):
-        for first in firsts(script, entry):
-            if time.monotonic() > until:
-                return None
-            found = tried(reducer, script, entry.step, first)
-            if found and is_well(found.outcome):
-                return found
-    return None
+@dataclass(frozen=True)
+class Search:
+    """A way back, if one was found; else how many of the steps were tried, before the time was over or to the last one."""
+
+    way: Optional[WayBack]
+    tried: int
+    steps: int
 
 
-def firsts(script: Script, entry: Entry) -> Iterator[List[str]]:
-    """What is done after the step is taken back, before the run: nothing, or a step of another goroutine."""
-    yield []
-    own = step_owner(entry.step)
-    for name in dict.fromkeys(step_owner(it.step) for it in script.entries):
-        if name != own:
-            yield [step_words(name)]
+class Ways:
+    """Looks for a way back behind the commands that a person types, and tries each there."""
 
+    def __init__(self, reducer: Reducer, commands: Sequence[str], found: Found) -> None:
+        self.reducer = reducer
+        self.commands = list(commands)
+        self.found = found
 
-def tried(reducer: Reducer, script: Script, step: str, first: List[str]) -> Optional[WayBack]:
-    """Takes the step back and goes on from there; none where the program does not end then."""
-    commands = [*first, "run %d" % reducer.most_steps]
-    answers = reducer.from_start([*script.commands, "back " + step, *commands])
-    if not answers[-1].endswith(" ended"):
-        return None
-    outcome = reducer.judge.outcome(-1, reducer.rebuilt())
-    back = answers[len(script.commands)]
-    return WayBack(step, int(back.split(" ")[1]), tuple(commands), outcome)
+    def search(self) -> Search:
+        """The latest step from before which the program ends well; else the latest one from before which this does not come again."""
+        until = time.monotonic() + SECONDS
+        self.reducer.from_start(self.commands)
+        entries = self.reducer.scheduler.core.log()
+        steps = [it for it in reversed(entries) if it.kind.word not in PLAIN]
+        second: Optional[WayBack] = None
+        for tried, entry in enumerate(steps):
+            for first in self.firsts(entries, entry):
+                if time.monotonic() > until:
+                    return Search(second, tried, len(steps))
+                way = self.tried(entry.step, first)
+                if way and self.reducer.hunted.is_well(way.outcome):
+                    return Search(way, tried, len(steps))
+                second = second or way
+        return Search(second, len(steps), len(steps))
+
+    def firsts(self, entries: Sequence[Entry], entry: Entry) -> Iterator[List[str]]:
+        """What is done after the step is taken back, before the run: nothing, or a step of another goroutine."""
+        yield []
+        own = step_owner(entry.step)
+        for name in dict.fromkeys(step_owner(it.step) for it in entries):
+            if name != own:
+                yield [step_words(name)]
+
+    def tried(self, step: str, first: Sequence[str]) -> Optional[WayBack]:
+        """Takes the step back and goes on from there; none where the program does not end then, or the same comes again."""
+        commands = [*first, "run %d" % self.reducer.most_steps]
+        answers = self.reducer.from_start([*self.commands, "back " + step, *commands])
+        behind = answers[len(self.commands) :]
+        if not all(answer.startswith("ok") for answer in behind) or not behind[-1].endswith(" ended"):
+            return None
+        outcome = self.reducer.now()
+        if outcome.end is not End.ENDED or self.found in self.reducer.hunted.against(outcome):
+            return None
+        return WayBack(step, int(behind[0].split(" ")[1]), tuple(commands), outcome)
