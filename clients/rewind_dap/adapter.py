@@ -2,21 +2,20 @@
 from __future__ import annotations
 
 import time
-from typing import Any, Callable, Dict, List, Optional, cast
+from typing import AbstractSet, Any, Callable, Dict, List, Optional, cast
 
 from rewind_client.core import Refused
 from rewind_client.errors import Cancelled, ProcessError, RewindError
-from rewind_client.watches import Watch
 
 from .arguments import Arguments, BadRequest
-from .capabilities import CAPABILITIES
+from .capabilities import CAPABILITIES, DEFAULT, Filter
 from .console import Console
 from .debuggee import Debuggee
 from .lives import Lives
 from .looks import Looks
 from .moves import Moves
 from .offers import Offers
-from .stops import Motion, Stop, not_taken
+from .stops import Motion, Stop, exit_code, not_taken, with_filters
 from .telling import tell_output, tell_threads, warn_of_change
 from .transport import Closed, Malformed, Transport
 
@@ -25,8 +24,6 @@ Handler = Callable[[Arguments], Optional[Body]]
 
 SECONDS_BETWEEN_OUTPUTS = 1.0
 TROUBLE = frozenset(("exception", "deadlock"))
-# The status with which Go ends after a fault or a deadlock.
-FAILED = 2
 
 
 class Adapter:
@@ -41,6 +38,7 @@ class Adapter:
         self.first_column = 1
         self.greeted = False
         self.finished = False
+        self.filters: AbstractSet[Filter] = DEFAULT
         self.debuggee: Optional[Debuggee] = None
         self.motion: Optional[Motion] = None
         self.later: List[Callable[[], None]] = []
@@ -143,8 +141,11 @@ class Adapter:
             self.gone()
 
     def gone(self) -> None:
-        """Ends the program under the debugger, and tells the editor."""
+        """Ends the program under the debugger, and tells the editor; with which status Go would have ended, if it has come to an end."""
+        code = exit_code(self.debuggee.session) if self.debuggee else None
         self.end_program()
+        if code is not None:
+            self.event("exited", {"exitCode": code})
         self.event("terminated")
 
     def end_program(self) -> None:
@@ -213,6 +214,7 @@ class Adapter:
         """Tells the editor where and why the program stopped, and what was printed."""
         self.motion = None
         debuggee = self.any_debuggee()
+        stop = with_filters(debuggee.session, stop, self.filters)
         debuggee.focus = stop.goroutine
         debuggee.fault = stop if stop.reason == "exception" else None
         tell_output(self, debuggee)
@@ -220,16 +222,11 @@ class Adapter:
             self.say("stderr" if stop.reason in TROUBLE else "console", stop.text)
         if debuggee.launch.no_debug:
             self.say("console", stop.description)
-            self.exited(stop)
             self.gone()
             return
         warn_of_change(self, debuggee)
         tell_threads(self, debuggee)
         self.event("stopped", self.stop_body(debuggee, stop))
-
-    def exited(self, stop: Stop) -> None:
-        """Tells with which status Go would have ended."""
-        self.event("exited", {"exitCode": 0 if stop.reason == "ended" else FAILED})
 
     def stop_body(self, debuggee: Debuggee, stop: Stop) -> Body:
         body: Body = {"reason": stop.reason, "description": stop.description}
@@ -239,7 +236,6 @@ class Adapter:
             body["text"] = stop.text.split("\n")[0]
         if stop.line in debuggee.breakpoints.lines():
             body["hitBreakpointIds"] = debuggee.breakpoints.numbers(stop.line)
-        watch = Watch(stop.goroutine, stop.variable)
-        if watch in debuggee.watches:
-            body["hitBreakpointIds"] = [debuggee.watches[watch]]
+        if stop.watch in debuggee.watches:
+            body["hitBreakpointIds"] = [debuggee.watches[stop.watch]]
         return body

@@ -28,6 +28,14 @@ class Answer:
         return False
 
     @property
+    def takes_values(self) -> bool:
+        return True
+
+    @property
+    def has_workers(self) -> bool:
+        return self.debuggee.launch.workers > 0
+
+    @property
     def session(self) -> Session:
         return self.debuggee.session
 

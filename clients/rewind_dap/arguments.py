@@ -75,5 +75,14 @@ class Arguments:
             raise self.wrong(name, "a list")
         return [Arguments(member, name) for member in members]
 
+    def texts(self, name: str) -> List[str]:
+        """A list of strings, empty where it is left out."""
+        members = self.members.get(name)
+        if members is None:
+            return []
+        if not isinstance(members, list) or not all(isinstance(member, str) for member in members):
+            raise self.wrong(name, "a list of strings")
+        return members
+
     def has(self, name: str) -> bool:
         return self.members.get(name) is not None

@@ -4,6 +4,7 @@ from __future__ import annotations
 import os
 from typing import Any, Callable, Dict, List, NamedTuple, Set
 
+from rewind_client.breakpoints import NoPlace, place_of
 from rewind_client.session import Session
 
 from .arguments import Arguments
@@ -13,11 +14,12 @@ Body = Dict[str, Any]
 
 
 class Wish(NamedTuple):
-    """A breakpoint that the editor wants: its number, the line that was asked for, and when it stops."""
+    """A breakpoint that the editor wants: its number, the line or the function that was asked for, and when it stops."""
 
     number: int
     line: int
     condition: Condition
+    function: str = ""
 
 
 class Breakpoints:
@@ -34,10 +36,19 @@ class Breakpoints:
         self.tell = tell
         self.last_number = 0
         self.wishes: Dict[int, List[Wish]] = {}
+        self.functions: Dict[int, List[Wish]] = {}
         self.by_command: Dict[int, int] = {}
 
     def lines(self) -> Set[int]:
-        return set(self.wishes) | set(self.by_command)
+        return set(self.wishes) | set(self.functions) | set(self.by_command)
+
+    def on(self, line: int) -> List[Wish]:
+        """What the editor wants on a line."""
+        return self.wishes.get(line, []) + self.functions.get(line, [])
+
+    def conditions(self, line: int) -> List[Condition]:
+        """When the breakpoints on a line stop; none where only a command has set one."""
+        return [wish.condition for wish in self.on(line)]
 
     def is_here(self, path: str) -> bool:
         """Whether a path is that of the program."""
@@ -45,7 +56,7 @@ class Breakpoints:
 
     def numbers(self, line: int) -> List[int]:
         """The numbers of the breakpoints on a line."""
-        return [wish.number for wish in self.wishes.get(line, [])] or [self.by_command[line]]
+        return [wish.number for wish in self.on(line)] or [self.by_command[line]]
 
     def replace(self, path: str, wanted: List[Arguments]) -> List[Body]:
         """Sets the breakpoints of a source in place of those before.
@@ -58,13 +69,43 @@ class Breakpoints:
         before = self.lines()
         self.wishes = {}
         bodies = [self.one(line, wish) for line, wish in zip(asked, wanted)]
-        for line in self.wishes:
+        self.bring_up_to_date(before)
+        return bodies
+
+    def replace_functions(self, wanted: List[Arguments]) -> List[Body]:
+        """Sets the breakpoints at the first statements of functions in place of those before."""
+        before = self.lines()
+        self.functions = {}
+        bodies = [self.of_function(wish.text("name"), wish) for wish in wanted]
+        self.bring_up_to_date(before)
+        return bodies
+
+    def bring_up_to_date(self, before: Set[int]) -> None:
+        """Tells Rewind which lines have come and gone."""
+        for line in [*self.wishes, *self.functions]:
             self.by_command.pop(line, None)
         for line in sorted(before - self.lines()):
             self.session.core.clear_breakpoint(line)
         for line in sorted(self.lines() - before):
             self.session.core.set_breakpoint(line)
-        return bodies
+
+    def of_function(self, name: str, wanted: Arguments) -> Body:
+        """A breakpoint at the first statement of a function."""
+        try:
+            place = place_of(self.session.program, name).line
+        except NoPlace as fault:
+            return self.not_set(str(fault))
+        if name.isdigit():
+            return self.not_set("there is no function %s" % name)
+        condition = condition_of(self.session.program, place, wanted)
+        if isinstance(condition, str):
+            return self.not_set(condition)
+        wish = Wish(self.next_number(), place, condition, name)
+        self.functions.setdefault(place, []).append(wish)
+        return {**self.placed(wish.number, place, place), "source": self.described}
+
+    def not_set(self, why: str) -> Body:
+        return {"id": self.next_number(), "verified": False, "message": why}
 
     def one(self, line: int, wanted: Arguments) -> Body:
         place = self.session.program.statement_at(line)
@@ -101,6 +142,7 @@ class Breakpoints:
             for number in self.numbers(line):
                 self.tell({"reason": "removed", "breakpoint": {"id": number, "verified": False}})
             self.wishes.pop(line, None)
+            self.functions.pop(line, None)
             self.by_command.pop(line, None)
 
     def begin_anew(self, session: Session) -> None:
@@ -114,8 +156,22 @@ class Breakpoints:
                 continue
             self.wishes.setdefault(place, []).append(wish)
             self.tell({"reason": "changed", "breakpoint": self.placed(wish.number, wish.line, place)})
+        self.find_functions_anew()
         for line in sorted(self.lines()):
             session.core.set_breakpoint(line)
+
+    def find_functions_anew(self) -> None:
+        """Sets the breakpoints at functions where these begin in the text as it is now."""
+        wishes = [wish for line in sorted(self.functions) for wish in self.functions[line]]
+        self.functions = {}
+        for wish in wishes:
+            try:
+                place = place_of(self.session.program, wish.function).line
+            except NoPlace:
+                self.tell({"reason": "changed", "breakpoint": {"id": wish.number, "verified": False}})
+                continue
+            self.functions.setdefault(place, []).append(wish._replace(line=place))
+            self.tell({"reason": "changed", "breakpoint": self.placed(wish.number, place, place)})
 
     def between(self, path: str, first: int, last: int) -> List[Body]:
         """The places on some lines where a breakpoint can stand."""

@@ -2,21 +2,26 @@
 from __future__ import annotations
 
 import re
-from typing import List, Optional, Union
+from typing import Callable, Optional, Union
 
+from rewind_client.expressions import evaluated, fault_of_condition
 from rewind_client.program import Program
-from rewind_client.replies import Goroutine
-from rewind_client.tokens import all_tokens
-from rewind_client.values import value_of
+from rewind_client.replies import Frame, Goroutine
+from rewind_client.session import Session
+from rewind_client.values import Told
 
 from .arguments import Arguments
 
 HITS = re.compile(r"\s*(>=|==|>|%)?\s*([1-9][0-9]{0,9})\s*\Z")
 FIELD = re.compile(r"\{([^{}]*)\}")
+SHOWN = 80
 
 
 class Condition:
-    """What a breakpoint wants beside its line; `hits` counts how often its expression held there."""
+    """What a breakpoint wants beside its line; `hits` counts how often its expression held there.
+
+    `fault` says why the expression had no truth value when it was last wanted, and `is_told` that the user has been told so.
+    """
 
     def __init__(self, expression: str, compared: str, count: int, message: str) -> None:
         self.expression = expression
@@ -24,11 +29,17 @@ class Condition:
         self.count = count
         self.message = message
         self.hits = 0
+        self.fault = ""
+        self.is_told = False
 
-    def holds(self, goroutine: Optional[Goroutine]) -> bool:
-        """Whether the breakpoint is hit, where a goroutine comes to it. An expression that can't be told holds."""
-        if self.expression and evaluated(self.expression, goroutine) == "false":
-            return False
+    def holds(self, session: Session, goroutine: Optional[Goroutine]) -> bool:
+        """Whether the breakpoint is hit, where a goroutine comes to it. An expression without a truth value holds."""
+        if self.expression:
+            found = in_frame(self.expression, session, innermost(goroutine))
+            if found.value == "false":
+                return False
+            if found.value != "true":
+                self.fault = found.why or "it is %s, and no truth value" % found.value
         self.hits += 1
         compares = {
             ">": self.hits > self.count,
@@ -38,31 +49,37 @@ class Condition:
         }
         return compares[self.compared]
 
-    def written(self, goroutine: Optional[Goroutine]) -> str:
+    def written(self, session: Session, goroutine: Optional[Goroutine]) -> str:
         """The message, with values in place of what stands between braces."""
-        return FIELD.sub(lambda field: evaluated(field[1], goroutine) or field[0], self.message)
+        frame = innermost(goroutine)
+        return FIELD.sub(lambda field: in_frame(field[1], session, frame).value or field[0], self.message)
+
+    def news(self, line: int) -> str:
+        """Why the expression has no truth value, once; else an empty text."""
+        if not self.fault or self.is_told:
+            return ""
+        self.is_told = True
+        told = (self.expression[:SHOWN], line, self.fault)
+        return "The condition '%s' on line %d has no truth value: %s. The breakpoint stops wherever that is so." % told
 
 
 def condition_of(program: Program, line: int, wanted: Arguments) -> Union[Condition, str]:
     """The condition of a breakpoint on a line; a sentence where there can be none."""
-    expression, hits = wanted.text("condition", ""), wanted.text("hitCondition", "")
+    expression, hits = wanted.text("condition", "").strip(), wanted.text("hitCondition", "")
     found = HITS.match(hits or ">= 1")
     if found is None:
         return "A hit condition is a number, or one behind '>=', '>', '==' or '%'"
-    strange = [name for name in names_of(expression) if not program.has_variable(program.function_at(line), name)]
-    if strange:
-        return "There is no variable '%s' on this line" % strange[0]
+    why = fault_of_condition(expression, program, program.function_at(line)) if expression else ""
+    if why:
+        return "'%s' is no condition: %s" % (expression[:SHOWN], why)
     return Condition(expression, found[1] or ">=", int(found[2]), wanted.text("logMessage", ""))
 
 
-def names_of(expression: str) -> List[str]:
-    """The variables that an expression names."""
-    words = [token.text for token in all_tokens(expression.encode()) if token.is_name]
-    return [word for word in words if word not in ("true", "false", "nil")]
+def innermost(goroutine: Optional[Goroutine]) -> Optional[Frame]:
+    return goroutine.frames[0] if goroutine and goroutine.frames else None
 
 
-def evaluated(expression: str, goroutine: Optional[Goroutine]) -> str:
-    """The value of an expression in the innermost frame of a goroutine; an empty text where it can't be told."""
-    frame = goroutine.frames[0] if goroutine and goroutine.frames else None
-    tokens = [token.text for token in all_tokens(expression.encode()) if token.text != ";"]
-    return value_of(tokens, frame.value_of if frame else lambda name: "") if tokens else ""
+def in_frame(expression: str, session: Session, frame: Optional[Frame]) -> Told:
+    """The value of an expression in a frame, or why it cannot be told."""
+    variable: Callable[[str], str] = frame.value_of if frame else lambda name: ""
+    return evaluated(expression, session, variable)

@@ -4,15 +4,15 @@ from __future__ import annotations
 from typing import TYPE_CHECKING, Any, Callable, Dict, List, Optional
 
 from rewind_client.breakpoints import place_of
-from rewind_client.core import MOVING, words_of
+from rewind_client.core import MOVING, with_plain_blanks, words_of
 from rewind_client.names import is_channel, step_owner
 from rewind_client.replies import is_ok
 from rewind_shell.completing import Completing
-from rewind_shell.words import BY_NAME, hint, word_of
+from rewind_shell.words import BY_NAME, hint, meant_words
 
 from .answer import Answer
 from .arguments import Arguments, BadRequest
-from .conditions import evaluated
+from .conditions import in_frame
 from .debuggee import Debuggee
 from .looks import one_line
 from .stops import Stop, end
@@ -40,7 +40,7 @@ class Console:
 
         An editor that names no context means its console.
         """
-        text, frame = arguments.text("expression"), arguments.number("frameId", 0)
+        text, frame = with_plain_blanks(arguments.text("expression")), arguments.number("frameId", 0)
         if arguments.text("context", "repl") == "repl":
             return self.typed(one_line(text), frame)
         return self.value(self.adapter.stopped_debuggee(), text.strip(), frame)
@@ -79,13 +79,14 @@ class Console:
 
     def word(self, debuggee: Debuggee, words: List[str], frame: int) -> Optional[Body]:
         """The answer to a word of the shell: in full, or by its abbreviation where no variable has that name."""
-        name = word_of(words[0])
-        if name is None or (words[0] not in BY_NAME and self.has_value(debuggee, " ".join(words), frame)):
+        meant = meant_words(words)
+        name = meant[0]
+        if name not in BY_NAME or (words[0] not in BY_NAME and self.has_value(debuggee, " ".join(words), frame)):
             return None
-        answer = self.words.obey(name, words[1:], self.chosen(debuggee, frame))
+        answer = self.words.obey(name, meant[1:], self.chosen(debuggee, frame))
         if answer is not None:
             return said(answer)
-        return self.typed(" ".join([name, *words[1:]]), frame) if words[0] != name else None
+        return self.typed(" ".join(meant), frame) if words[0] != name else None
 
     def not_understood(self, debuggee: Debuggee, text: str, words: List[str], frame: int, reply: List[str]) -> Body:
         """A variable or an expression; else the reply of Rewind, with a hint."""
@@ -129,10 +130,10 @@ class Console:
 
     def has_value(self, debuggee: Debuggee, text: str, frame: int) -> bool:
         """Whether a text is a variable of a frame that is there, or an expression over such variables."""
-        goroutine = debuggee.view.goroutine_at(frame)
-        if goroutine is None:
+        if debuggee.view.goroutine_at(frame) is None:
             return False
-        return any(body["name"] == text for body in debuggee.view.of_frame(frame)) or bool(evaluated(text, goroutine))
+        is_variable = any(body["name"] == text for body in debuggee.view.of_frame(frame))
+        return is_variable or bool(in_frame(text, debuggee.session, debuggee.view.frame_at(frame)).value)
 
     def value(self, debuggee: Debuggee, text: str, frame: int) -> Body:
         """The value of a variable of a frame, of a channel by its name, or of an expression over variables."""
@@ -141,11 +142,13 @@ class Console:
         if not bodies and is_channel(text) and debuggee.session.channel(text) is not None:
             view.renew()
             bodies = [view.values.variable(text, text)]
+        why = "there is no variable '%s' with a value here" % text[:80]
         if not bodies and frame:
-            found = evaluated(text, view.place(frame).goroutine)
-            bodies = [view.values.variable(text, found)] if found else []
+            found = in_frame(text, debuggee.session, view.frame_at(frame))
+            bodies = [view.values.variable(text, found.value)] if found.value else []
+            why = why if text.isidentifier() else "'%s' has no value: %s" % (text[:80], found.why)
         if not bodies:
-            raise BadRequest("there is no variable '%s' with a value here" % text[:80])
+            raise BadRequest(why)
         return {"result": bodies[-1]["value"], **{key: bodies[-1][key] for key in ("type", "variablesReference")}}
 
 

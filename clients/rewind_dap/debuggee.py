@@ -4,7 +4,7 @@ from __future__ import annotations
 from typing import Any, Callable, Dict, List, Optional, Set
 
 from rewind_client.session import Session
-from rewind_client.watches import Watch
+from rewind_client.watched import Watched
 
 from .breakpoints import Breakpoints
 from .launching import Launch, described
@@ -25,7 +25,7 @@ class Debuggee:
         self.launch = launch
         self.first_line, self.first_column = first_line, first_column
         self.breakpoints = Breakpoints(session, described(launch.path), first_line, tell)
-        self.watches: Dict[Watch, int] = {}
+        self.watches: Dict[Watched, int] = {}
         self.begin(session, 0)
 
     def begin(self, session: Session, last_number: int) -> None:
@@ -48,7 +48,7 @@ class Debuggee:
         self.begin(session, self.view.last_number)
         self.breakpoints.begin_anew(session)
 
-    def watched(self) -> List[Watch]:
+    def watched(self) -> List[Watched]:
         return list(self.watches)
 
     def rest(self) -> None:

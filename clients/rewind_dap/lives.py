@@ -47,22 +47,25 @@ class Lives:
         adapter.later.append(lambda: adapter.event("initialized"))
 
     def session_of(self, launch: Launch) -> Session:
-        """A session on the program of a launch; a refused source is told in the console with what to write instead."""
+        """A session on the program of a launch; of a refused source the console gets the line with a mark besides."""
         try:
             return start(launch, self.adapter.transport.closed.is_set, self.adapter.journal)
         except SourceRefused as refusal:
-            self.tell_refusal(launch.path, refusal)
-            raise
+            raise self.told_refusal(launch.path, refusal) from None
 
-    def tell_refusal(self, path: str, refusal: SourceRefused) -> None:
+    def told_refusal(self, path: str, refusal: SourceRefused) -> RewindError:
+        """Tells in the console what is wrong with a source; the sentence for the response, with what to write instead."""
         try:
             found = explain_refusal(read_program(path).text, refusal.code, refusal.line, refusal.column)
         except RewindError:
             self.adapter.say("stderr", str(refusal))
-            return
+            return refusal
         shift = (self.adapter.first_line - 1, self.adapter.first_column - 1)
         place = {"source": described(path), "line": refusal.line + shift[0], "column": refusal.column + shift[1]}
         self.adapter.say("stderr", "%s (%s)" % (found.text(path), refusal.code), place if refusal.line else None)
+        sentence = found.text(path).split("\n")[0]
+        instead = "; write instead: %s" % found.instead if found.instead else ""
+        return BadRequest("%s%s (%s)" % (sentence, instead, refusal.code))
 
     def attach(self, _arguments: Arguments) -> None:
         raise BadRequest("Rewind runs programs itself and attaches to none: use launch")

@@ -5,11 +5,12 @@ import re
 from typing import TYPE_CHECKING, Any, Callable, Dict, List, Optional, TypeVar
 
 from rewind_client.explanations import explain
-from rewind_client.names import is_goroutine
+from rewind_client.names import is_channel, is_goroutine
 from rewind_client.sentences import Sentences
-from rewind_client.watches import Watch
+from rewind_client.watched import ChannelWatch, Watch, Watched, Way
 
 from .arguments import Arguments, BadRequest
+from .capabilities import Filter
 from .debuggee import Debuggee
 
 if TYPE_CHECKING:
@@ -31,7 +32,8 @@ class Looks:
     def handlers(self) -> Dict[str, Callable[[Arguments], Optional[Body]]]:
         return {
             "setBreakpoints": self.set_breakpoints,
-            "setExceptionBreakpoints": lambda arguments: None,
+            "setFunctionBreakpoints": self.set_function_breakpoints,
+            "setExceptionBreakpoints": self.set_exception_breakpoints,
             "setDataBreakpoints": self.set_data_breakpoints,
             "breakpointLocations": self.breakpoint_locations,
             "threads": self.threads,
@@ -50,17 +52,26 @@ class Looks:
         path = arguments.object("source").text("path", "")
         return {"breakpoints": debuggee.breakpoints.replace(path, arguments.objects("breakpoints"))}
 
+    def set_function_breakpoints(self, arguments: Arguments) -> Body:
+        """Sets the breakpoints at functions."""
+        return {"breakpoints": self.adapter.any_debuggee().breakpoints.replace_functions(arguments.objects("breakpoints"))}
+
+    def set_exception_breakpoints(self, arguments: Arguments) -> Body:
+        """Sets which ends of a program are shown as exceptions; it may come before the launch."""
+        wanted = arguments.texts("filters")
+        self.adapter.filters = frozenset(it for it in Filter if it.value in wanted)
+        known = [it.value for it in Filter]
+        return {"breakpoints": [{"verified": name in known} for name in wanted]}
+
     def set_data_breakpoints(self, arguments: Arguments) -> Body:
-        """Watches variables, in place of those before."""
+        """Watches variables and channels, in place of those before."""
         debuggee, bodies = self.adapter.any_debuggee(), []
         debuggee.watches = {}
         for wanted in arguments.objects("breakpoints"):
-            words = wanted.text("dataId").split(" ")
+            watches = watched(wanted.text("dataId"), wanted.text("accessType", "write"))
             number = debuggee.breakpoints.next_number()
-            is_watch = len(words) == 2 and is_goroutine(words[0]) and words[1].isidentifier()
-            if is_watch:
-                debuggee.watches[Watch(words[0], words[1])] = number
-            bodies.append({"id": number, "verified": is_watch})
+            debuggee.watches.update({watch: number for watch in watches})
+            bodies.append({"id": number, "verified": bool(watches)})
         return {"breakpoints": bodies}
 
     def breakpoint_locations(self, arguments: Arguments) -> Body:
@@ -86,8 +97,12 @@ class Looks:
         return {"scopes": self.adapter.stopped_debuggee().view.scopes(arguments.number("frameId"))}
 
     def variables(self, arguments: Arguments) -> Body:
-        bodies = self.adapter.stopped_debuggee().view.variables(arguments.number("variablesReference"))
-        return {"variables": portion(bodies, arguments, "start", "count")}
+        """The members of a list, or a part of them: the indexed ones, those with names, or all."""
+        wanted, values = arguments.text("filter", ""), self.adapter.stopped_debuggee().view.current()
+        if wanted not in ("", "indexed", "named"):
+            raise BadRequest("arguments: filter must be 'indexed' or 'named'")
+        start, count = arguments.number("start", 0), arguments.number("count", 0)
+        return {"variables": values.part_of(arguments.number("variablesReference"), wanted, start, count)}
 
     def exception_info(self, _arguments: Arguments) -> Body:
         """The fault that stopped the program, in Go's words, with where and why in sentences."""
@@ -95,7 +110,7 @@ class Looks:
         stop = debuggee.fault
         if stop is None:
             raise BadRequest("no fault stopped the program")
-        name, session = stop.description.split(" ")[-1], debuggee.session
+        name, session = stop.name, debuggee.session
         told = "\n".join(Sentences(session).all(explain(session)))
         details = {"message": stop.text, "typeName": name, "stackTrace": told}
         return {"exceptionId": name, "description": stop.text, "breakMode": "always", "details": details}
@@ -112,6 +127,15 @@ class Looks:
         entries = self.adapter.stopped_debuggee().session.log()
         bodies = [{"step": entry.step, "kind": str(entry.kind)} for entry in entries]
         return {"steps": portion(bodies, arguments, "start", "count"), "total": len(entries)}
+
+
+def watched(data: str, access: str) -> List[Watched]:
+    """What a data breakpoint is about, by the name that `dataBreakpointInfo` gave it; nothing where it is no such name."""
+    words = data.split(" ")
+    if len(words) == 2 and is_goroutine(words[0]) and words[1].isidentifier():
+        return [Watch(words[0], words[1])]
+    ways = {"write": [Way.SEND], "read": [Way.RECEIVE], "readWrite": [Way.SEND, Way.RECEIVE]}
+    return [ChannelWatch(data, way) for way in ways.get(access, [])] if is_channel(data) else []
 
 
 def portion(members: List[Part], arguments: Arguments, start: str, count: str) -> List[Part]:

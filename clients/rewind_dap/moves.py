@@ -57,7 +57,7 @@ class Moves:
         self.adapter.begin(along(self.focused(goroutine), goroutine, self.adapter.say, how, leaves))
 
     def step_in(self, arguments: Arguments) -> None:
-        """One step; the target is a clause of the select at which the goroutine stands."""
+        """One step; the target is a case of the select at which the goroutine stands."""
         clause = arguments.number("targetId", ONE_STEP)
         self.along(self.goroutine(arguments), lambda session, one, lines, hit: motion.some_steps(session, one.name, 1, clause))
 

@@ -1,10 +1,11 @@
-"""Requests that ask what one could do next: clauses of a select, lines to go back to, words of the console, variables to watch."""
+"""Requests that ask what one could do next: cases of a select, lines to go back to, words of the console, variables to watch."""
 from __future__ import annotations
 
+import re
 from typing import TYPE_CHECKING, Any, Callable, Dict, List, Optional
 
 from rewind_client.motion import last_at_line
-from rewind_client.names import step_owner
+from rewind_client.names import CHANNEL, is_channel, step_owner
 from rewind_client.replies import State
 
 from .arguments import Arguments
@@ -16,7 +17,9 @@ if TYPE_CHECKING:
 Body = Dict[str, Any]
 
 MAX_OFFERS = 50
-# The target of a step that leaves the choice to Rewind: the first clause that can proceed.
+# A channel as lists and the console name it: `jobs (g0/c1)`, or `g0/c1`.
+CHANNEL_NAME = re.compile(r"(?:^|\()(%s)\)?$" % CHANNEL.pattern)
+# The target of a step that leaves the choice to Rewind: the first case that can proceed.
 ONE_STEP = 0
 
 
@@ -34,7 +37,7 @@ class Offers:
         }
 
     def step_in_targets(self, arguments: Arguments) -> Body:
-        """The clauses of a select that can be taken now; the number of a target is that of its clause."""
+        """The cases of a select that can be taken now; the number of a target is that of its case."""
         debuggee = self.adapter.stopped_debuggee()
         goroutine = debuggee.view.place(arguments.number("frameId")).goroutine
         clauses = debuggee.session.program.selects.get(goroutine.line, [])
@@ -44,7 +47,7 @@ class Offers:
         targets: List[Body] = [{"id": ONE_STEP, "label": "one step"}]
         for number in ready:
             clause = clauses[number - 1]
-            label = "clause %d: %s" % (number, clause.text)
+            label = "case %d: %s" % (number, clause.text.replace("case ", "", 1))
             targets.append({"id": number, "label": label, "line": clause.line + debuggee.first_line - 1})
         return {"targets": targets}
 
@@ -65,14 +68,28 @@ class Offers:
         return {"id": number, "label": "back to %s before %s" % (name, step), "line": line + debuggee.first_line - 1}
 
     def data_breakpoint_info(self, arguments: Arguments) -> Body:
-        """Whether one can watch a variable: of the goroutine of a frame, or of a list of variables."""
+        """Whether one can watch a variable of a frame or of a list of variables, or a channel that is shown by its name."""
         view = self.adapter.stopped_debuggee().view
-        name = arguments.text("name").split(" ")[0]
+        name = arguments.text("name")
+        channel = CHANNEL_NAME.search(name)
+        if channel:
+            return self.of_channel(channel[1])
         if arguments.has("variablesReference"):
-            goroutine = view.owners.get(arguments.number("variablesReference"), "")
+            number = arguments.number("variablesReference")
+            goroutine, bodies = view.owners.get(number, ""), view.current().children_of(number)
         else:
-            goroutine = view.place(arguments.number("frameId")).goroutine.name
+            number = arguments.number("frameId")
+            goroutine, bodies = view.place(number).goroutine.name, view.of_frame(number)
+        value = next((str(body["value"]).split(" ")[0] for body in bodies if body["name"] == name), "")
+        if is_channel(value):
+            return self.of_channel(value)
+        name = name.split(" ")[0]
         if not goroutine or not name.isidentifier():
-            return {"dataId": None, "description": "only variables of a frame can be watched"}
+            return {"dataId": None, "description": "only variables of a frame and channels can be watched"}
         words = "%s of %s is given a value" % (name, goroutine)
         return {"dataId": "%s %s" % (goroutine, name), "description": words, "accessTypes": ["write"], "canPersist": False}
+
+    def of_channel(self, channel: str) -> Body:
+        """A write is a send, and a read is a receive."""
+        words = "%s: a write is a send, a read is a receive" % self.adapter.stopped_debuggee().session.name_of(channel)
+        return {"dataId": channel, "description": words, "accessTypes": ["read", "write", "readWrite"], "canPersist": False}

@@ -21,7 +21,7 @@ How = Callable[[Session, Goroutine, motion.Lines, motion.Hit], motion.Motion]
 
 
 def forward(debuggee: Debuggee, say: Say) -> Motion:
-    """Runs all by turns. A breakpoint whose condition does not hold, or that only writes a message, is passed."""
+    """Runs all, round robin. A breakpoint whose condition does not hold, or that only writes a message, is passed."""
     session, lines, hit = debuggee.session, debuggee.breakpoints.lines, hits(debuggee, say)
     while True:
         if debuggee.watches:
@@ -51,14 +51,17 @@ def hits(debuggee: Debuggee, say: Say) -> motion.Hit:
     """Whether the program stops at a breakpoint to which a goroutine has come; messages are written on the way."""
 
     def hit(name: str, line: int) -> bool:
-        wishes = debuggee.breakpoints.wishes.get(line)
-        if not wishes:
+        conditions = debuggee.breakpoints.conditions(line)
+        if not conditions:
             return True
         goroutine, stops = debuggee.session.goroutine(name), False
-        for condition in [wish.condition for wish in wishes]:
-            if condition.holds(goroutine):
+        for condition in conditions:
+            if condition.holds(debuggee.session, goroutine):
+                news = condition.news(line)
+                if news:
+                    say("important", news)
                 if condition.message:
-                    say("console", condition.written(goroutine))
+                    say("console", condition.written(debuggee.session, goroutine))
                 else:
                     stops = True
         return stops

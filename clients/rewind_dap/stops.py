@@ -1,30 +1,39 @@
 """Why a program stopped, in the words of the protocol and for the user."""
 from __future__ import annotations
 
-from typing import Generator, List, NamedTuple
+from typing import AbstractSet, Generator, List, NamedTuple, Optional
 
 from rewind_client import motion
+from rewind_client.endings import Ending, fates_of
 from rewind_client.errors import RewindError
+from rewind_client.explanations import explain
+from rewind_client.follower import NOTED
 from rewind_client.meanings import DEADLOCK, FAULTS
 from rewind_client.motion import StopReason
 from rewind_client.names import step_owner
-from rewind_client.replies import Goroutine
+from rewind_client.replies import Entry, Goroutine, Reason
+from rewind_client.sentences import Sentences
 from rewind_client.session import Session
+from rewind_client.watched import Watched
 
+from .capabilities import Filter
 from .view import View
 
 LISTED = 20
+# The status with which Go ends after a panic or a deadlock.
+FAILED = 2
 
 
 class Stop(NamedTuple):
-    """Why a goroutine stopped: a reason of the protocol, a line of words, more words, a breakpoint's line, a watched variable."""
+    """Why a goroutine stopped: a reason of the protocol, a line of words, more words, a breakpoint's line, a watch, an exception."""
 
     reason: str
     goroutine: str
     description: str
     text: str = ""
     line: int = 0
-    variable: str = ""
+    watch: Optional[Watched] = None
+    name: str = ""
 
 
 # A movement in portions, which returns where and why it stopped.
@@ -44,12 +53,10 @@ def in_words(session: Session, view: View, found: motion.Stop) -> Stop:
     if reason is StopReason.BREAKPOINT:
         before = ", before %s" % found.before if found.before else ""
         return Stop("breakpoint", name, "Breakpoint on line %d%s" % (found.line, before), line=found.line)
-    if reason is StopReason.VALUE and found.entry:
-        did = "%s gave %s a value" % (found.entry.step, found.before)
-        return Stop("data breakpoint", name, did, variable=found.before)
+    if reason in (StopReason.VALUE, StopReason.VALUE_TAKEN_BACK) and found.entry and found.watch:
+        return Stop("data breakpoint", name, watch_in_words(session, found.entry, found), watch=found.watch)
     if reason is StopReason.DEADLOCK:
-        words = "\n".join([DEADLOCK] + view.waits_in_words(LISTED))
-        return Stop("deadlock", name, "Deadlock: every goroutine that is left waits", words)
+        return Stop("deadlock", name, "Deadlock: no goroutine is ready", deadlock(session))
     if reason is StopReason.FULL:
         return Stop("pause", name, "The log is full: take steps back to go on")
     if reason is StopReason.MEMORY:
@@ -59,13 +66,56 @@ def in_words(session: Session, view: View, found: motion.Stop) -> Stop:
     return Stop("step", name, "After %s %s" % found.entry if found.entry else "Stopped")
 
 
+def deadlock(session: Session) -> str:
+    """Who waits for whom; of a log that is long to read, only that `why` tells it."""
+    if len(session.log()) > NOTED:
+        return DEADLOCK + "\n'why' tells who waits for whom"
+    return "\n".join(Sentences(session).all(explain(session)))
+
+
 def end(session: Session) -> Stop:
     """The program has ended, or a fault stopped it."""
     found = motion.end(session)
     if found.reason is StopReason.ENDED or found.entry is None:
         return Stop("ended", "g0", "The program has ended; steps can be taken back")
     fault = found.entry.kind.fault
-    return Stop("exception", found.goroutine, "Fault: " + fault, FAULTS.get(fault, fault))
+    text = FAULTS.get(fault, fault)
+    what = "Panic" if text.startswith("panic") else "Fault"
+    return Stop("exception", found.goroutine, "%s: %s" % (what, fault), text, name=fault)
+
+
+def watch_in_words(session: Session, entry: Entry, found: motion.Stop) -> str:
+    """What a step did that is watched; on the way back it was taken back."""
+    assert found.watch
+    told = (entry.step, found.watch.did(session.name_of, entry.kind.waits))
+    return "Took back %s, which %s" % told if found.reason is StopReason.VALUE_TAKEN_BACK else "%s %s" % told
+
+
+def with_filters(session: Session, stop: Stop, filters: AbstractSet[Filter]) -> Stop:
+    """A stop as the editor wants it shown: an end of the program as an exception, or as a stop like others."""
+    if stop.reason == "exception" and Filter.PANICS not in filters:
+        return stop._replace(reason="ended")
+    if stop.reason == "deadlock" and Filter.DEADLOCKS not in filters:
+        return stop._replace(reason="pause")
+    fates, _ = fates_of(session) if stop.reason == "ended" and Filter.LEAKS in filters else ([], [])
+    left = [fate for fate in fates if fate.ending is Ending.WAIT]
+    if not left:
+        return stop
+    lines = ["leak: %s blocked for ever" % ("1 goroutine is" if len(left) == 1 else "%d goroutines are" % len(left))]
+    places = [(fate.goroutine, fate.place.line) for fate in left[:LISTED]]
+    lines += ["%s at line %d: %s" % (name, line, session.program.line(line)) for name, line in places]
+    return Stop("exception", left[0].goroutine, "Leak: main has returned", "\n".join(lines), name="Leak")
+
+
+def exit_code(session: Session) -> Optional[int]:
+    """The status with which Go would have ended; none where the program can go on, or is not known any more."""
+    try:
+        if session.core.process.ended is not None:
+            return None
+        by = session.stopped_by()
+        return 0 if by is Reason.ENDED else FAILED if by or not session.ready() else None
+    except RewindError:
+        return None
 
 
 def step_back(session: Session, goroutine: Goroutine, whole: bool) -> Motion:

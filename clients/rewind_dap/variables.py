@@ -1,7 +1,7 @@
 """Variables, goroutines and channels as lists that an editor opens, by the numbers that the protocol wants."""
 from __future__ import annotations
 
-from typing import Any, Callable, Dict, List, Sequence, TypeVar
+from typing import Any, Callable, Dict, List, Sequence, Tuple, TypeVar
 
 from rewind_client.names import is_channel
 from rewind_client.replies import Channel, Goroutine, Variable, Waiter
@@ -22,6 +22,8 @@ class Variables:
         self.session = session
         self.next_number = next_number
         self.children: Dict[int, Callable[[], List[Body]]] = {}
+        # Lists of which an editor asks for a part: how many members, and one of them.
+        self.indexed: Dict[int, Tuple[int, Callable[[int], Body]]] = {}
 
     def reference(self, children: Callable[[], List[Body]]) -> int:
         number = self.next_number()
@@ -32,6 +34,20 @@ class Variables:
         if number not in self.children:
             raise BadRequest("there are no variables %d in the present state" % number)
         return self.children[number]()
+
+    def part_of(self, number: int, wanted: str, start: int, count: int) -> List[Body]:
+        """The members of a list that are wanted: the `indexed` ones, the `named` ones, or all; from a place on, 0 is all of them."""
+        if number in self.indexed:
+            length, show = self.indexed[number]
+            if wanted == "named":
+                return []
+            if count or wanted or start:
+                return [show(place) for place in range(min(start, length), min(start + (count or MAX_SHOWN), length))]
+        elif wanted == "indexed":
+            self.children_of(number)
+            return []
+        bodies = self.children_of(number)
+        return bodies[start : start + count] if count else bodies[start:]
 
     def scope(self, name: str, expensive: bool, children: Callable[[], List[Body]], hint: str = "") -> Body:
         body = {"name": name, "variablesReference": self.reference(children), "expensive": expensive}
@@ -74,10 +90,18 @@ class Variables:
         return [
             {**plain("capacity", str(channel.capacity)), "type": "int"},
             plain("state", state_of(channel)),
-            self.branch("items", channel.items, self.item),
+            self.items(channel.items),
             self.branch("senders", channel.senders, self.waiter),
             self.branch("receivers", channel.receivers, self.waiter),
         ]
+
+    def items(self, items: Sequence[str]) -> Body:
+        """The items of a channel, of which an editor may ask for a part."""
+        body = self.branch("items", items, self.item)
+        if items:
+            self.indexed[body["variablesReference"]] = (len(items), lambda place: self.item(place, items[place]))
+            body["indexedVariables"] = len(items)
+        return body
 
     def branch(self, name: str, members: Sequence[Member], show: Callable[[int, Member], Body]) -> Body:
         """A list of values, the first of which is told first."""
@@ -95,8 +119,8 @@ class Variables:
         return self.variable("[%d]" % place, value)
 
     def waiter(self, _place: int, one: Waiter) -> Body:
-        """A goroutine that waits: at which clause of a select, and with which value to send, or at which line."""
-        at = " (clause %d)" % one.clause if one.clause else ""
+        """A goroutine that waits: at which case of a select, and with which value to send, or at which line."""
+        at = " (case %d)" % one.clause if one.clause else ""
         if one.value:
             return self.variable(one.goroutine + at, one.value)
         shown = self.session.goroutine(one.goroutine)

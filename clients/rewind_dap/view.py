@@ -8,7 +8,7 @@ from typing import Any, Dict, List, NamedTuple, Optional, Tuple
 
 from rewind_client.core import Refused
 from rewind_client.errors import ProcessError
-from rewind_client.replies import Goroutine, State, Variable
+from rewind_client.replies import Frame, Goroutine, State, Variable
 from rewind_client.session import Session
 
 from .arguments import BadRequest
@@ -17,7 +17,6 @@ from .variables import Variables
 Body = Dict[str, Any]
 
 MAX_THREADS = 1000
-NIL_WISH = "send to or receive from a nil channel"
 
 
 class FramePlace(NamedTuple):
@@ -154,6 +153,11 @@ class View:
         self.renew()
         return self.frames[number].goroutine if number in self.frames else None
 
+    def frame_at(self, number: int) -> Optional[Frame]:
+        """The frame of a number, with its variables; none where its goroutine is done."""
+        place = self.place(number)
+        return place.goroutine.frames[place.depth] if place.goroutine.frames else None
+
     def variables_of(self, place: FramePlace) -> Tuple[Variable, ...]:
         frames = place.goroutine.frames
         return frames[place.depth].variables if frames else ()
@@ -171,29 +175,16 @@ class View:
             values.scope("Channels", True, values.of_channels),
         ]
 
-    def variables(self, number: int) -> List[Body]:
+    def current(self) -> Variables:
+        """The lists of the present state."""
         self.renew()
-        return self.values.children_of(number)
+        return self.values
 
     def of_frame(self, number: int) -> List[Body]:
         """The variables of the frame of a number."""
         return self.values.of_frame(self.variables_of(self.place(number)))
 
     # In words.
-
-    def waits_in_words(self, most: int) -> List[str]:
-        """Who waits for what, a line for each goroutine that waits, up to a number of lines."""
-        waits: Dict[str, List[str]] = {}
-        for channel in self.session.channels():
-            for word, waiters in (("send to", channel.senders), ("receive from", channel.receivers)):
-                for one in waiters:
-                    waits.setdefault(one.goroutine, []).append("%s %s" % (word, channel.name))
-        waiting = [one for one in self.session.goroutines(self.listed("g0")) if one.state is State.WAITING]
-        return [
-            "%s waits at line %d to %s" % (one.name, one.line, " or ".join(waits.get(one.name, [NIL_WISH])))
-            for one in waiting[:most]
-        ]
-
 
 
 def thread_name(goroutine: Goroutine) -> str:

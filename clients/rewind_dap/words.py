@@ -5,13 +5,14 @@ from typing import TYPE_CHECKING, Callable, Dict, List, Optional
 
 from rewind_client import motion
 from rewind_client.breakpoints import place_of
-from rewind_client.core import words_of
+from rewind_client.core import with_plain_blanks, words_of
 from rewind_client.errors import RewindError
 from rewind_client.names import is_step
 from rewind_client.replies import Goroutine, is_ok
 from rewind_shell.looking import Looking
+from rewind_shell.moving import never_there, no_variable
 from rewind_shell.saving import read_script, write_script
-from rewind_shell.words import HINTS
+from rewind_shell.words import HINTS, too_many
 
 from .answer import Answer
 from .arguments import Arguments, BadRequest
@@ -48,6 +49,9 @@ class Words:
 
     def obey(self, name: str, words: List[str], chosen: str) -> Optional[str]:
         """What a word answers, about the chosen goroutine; None where it is no such word."""
+        why = too_many(name, words)
+        if why:
+            raise BadRequest(why)
         if name in self.movements:
             debuggee = self.adapter.stopped_debuggee()
             goroutine = debuggee.session.goroutine(chosen) or debuggee.session.goroutine("g0")
@@ -93,17 +97,20 @@ class Words:
 
     def load(self, debuggee: Debuggee, goroutine: Goroutine, words: List[str]) -> None:
         """Takes the commands of a script."""
-        if len(words) != 1:
+        if not words:
             raise BadRequest("load wants a file: load session.script")
-        refused = 0
-        for line in read_script(words[0]):
+        path, refused = " ".join(words), 0
+        saved = read_script(path)
+        if not saved.is_of(debuggee.session.program):
+            self.adapter.say("important", "%s is of another source: its commands may mean something else here" % path)
+        for line in map(with_plain_blanks, saved.commands):
             given = words_of(line)
             if given and given[0] != "quit":
                 reply = debuggee.session.ask(line)
                 refused += not is_ok(reply)
                 if given[0] in ("break", "clear") and is_ok(reply):
                     debuggee.breakpoints.note_command(given)
-        stop = Stop("step", goroutine.name, "After the commands of %s, %d of them refused" % (words[0], refused))
+        stop = Stop("step", goroutine.name, "After the commands of %s, %d of them refused" % (path, refused))
         self.adapter.stop_at(end(debuggee.session) if debuggee.session.stopped_by() else stop)
 
     # Looks.
@@ -122,10 +129,10 @@ def preview(desk: Answer, words: List[str]) -> None:
 
 def save(desk: Answer, words: List[str]) -> None:
     """Writes the commands that changed the session to a file."""
-    if len(words) != 1:
+    if not words:
         raise BadRequest("save wants a file: save session.script")
-    write_script(words[0], desk.session.core.given)
-    desk.screen.say("%d commands are in %s" % (len(desk.session.core.given), words[0]))
+    write_script(" ".join(words), desk.session.core.given, desk.program)
+    desk.screen.say("%d commands are in %s" % (len(desk.session.core.given), " ".join(words)))
 
 
 def target_of(debuggee: Debuggee, name: str, words: List[str]) -> str:
@@ -133,10 +140,13 @@ def target_of(debuggee: Debuggee, name: str, words: List[str]) -> str:
     if len(words) == 1 and words[0].isdigit():
         step = motion.last_at_line(debuggee.session, name, int(words[0]))
         if not step:
-            raise RewindError("%s was not on line %s in the steps that are noted" % (name, words[0]))
+            raise RewindError(never_there(debuggee.session, name, words[0]))
         return step
     variable = words[1] if len(words) == 2 and words[0] == "var" else words[0] if len(words) == 1 else ""
     if variable.isidentifier():
+        why = no_variable(debuggee.session, variable)
+        if why:
+            raise BadRequest(why)
         return "var %s %s" % (name, variable)
     target = " ".join(words)
     if is_step(target) or (len(words) > 1 and words[0] in ("go", "send", "recv", "var")):

@@ -11,8 +11,6 @@ from typing import Any, Dict
 sys.path.insert(0, os.path.dirname(os.path.abspath(__file__)))
 from client import ADAPTER, DATA, HERE, REWIND, Client, framed  # noqa: E402
 
-from rewind_client.meanings import REFUSED_SOURCES  # noqa: E402
-
 MAX = 16 * 1024 * 1024
 PING = b'{"seq":1,"type":"request","command":"initialize"}'
 
@@ -136,9 +134,10 @@ class Sources(unittest.TestCase):
             if text.startswith("rewind: "):
                 code, place = text.split()[1], text.split()[3]
                 path = expected.replace(".expect", ".go")
-                wanted = "%s:%s: %s (%s)" % (path, place, REFUSED_SOURCES[code], code)
-                self.assertEqual(client.ask("launch", {"program": path})["message"], wanted)
+                message = client.ask("launch", {"program": path})["message"]
                 event = client.event("output")["body"]
+                self.assertTrue(message.startswith(event["output"].split("\n")[0]), message)
+                self.assertTrue(message.startswith(path + ":") and message.endswith(" (%s)" % code), message)
                 self.assertEqual("%d:%d" % (event["line"], event["column"]), place)
                 number += 1
         self.assertGreater(number, 20)

@@ -170,9 +170,13 @@ class Moves(unittest.TestCase):
     def test_the_output_of_a_deadlock(self) -> None:
         self.client.launch("deadlock.go", stopOnEntry=False)
         wanted = "fatal error: all goroutines are asleep - deadlock!\n"
-        wanted += "g0 waits at line 18 to receive from g0/c3\n"
-        wanted += "g0.1 waits at line 5 to receive from g0/c2\n"
-        wanted += "g0.2 waits at line 5 to receive from g0/c1\n"
+        wanted += "g0 waits to receive from done (g0/c3) at line 18: <-done\n"
+        wanted += "    it waits for g0.1 or g0.2, which may still send to it\n"
+        wanted += "g0.1 waits to receive from to (g0/c2) at line 5: y := <-to\n"
+        wanted += "    g0.2, which may still send to it, took the last item of to at line 4: x := <-from ('back g0.2#1' takes that back)\n"
+        wanted += "g0.2 waits to receive from to (g0/c1) at line 5: y := <-to\n"
+        wanted += "    g0.1, which may still send to it, took the last item of to at line 4: x := <-from ('back g0.1#1' takes that back)\n"
+        wanted += "A cycle: g0.1 waits for g0.2, g0.2 waits for g0.1.\n"
         self.assertEqual(self.client.event("output")["body"], {"category": "stderr", "output": wanted})
 
     def test_a_fault_in_words_of_go(self) -> None:

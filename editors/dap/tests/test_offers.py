@@ -1,5 +1,6 @@
 """What an editor offers beside steps: clauses, lines to go back to, watched variables, conditions, words of the console."""
 import os
+import signal
 import sys
 import unittest
 from typing import Any, Dict, List
@@ -27,6 +28,47 @@ func main() {
 		sum = sum + square(i)
 	}
 	println(sum)
+}
+"""
+
+
+# A channel of many items, and one over which two goroutines meet.
+CHANNELS = """\
+package main
+
+func put(c chan int) {
+	c <- 1
+	c <- 2
+}
+
+func main() {
+	c := make(chan int)
+	many := make(chan int, 2000)
+	for i := 0; i < 1500; i++ {
+		many <- i
+	}
+	go put(c)
+	println(<-c)
+	println(<-c)
+	println(len(many))
+}
+"""
+LEAK = """\
+package main
+
+func wait(c chan int) {
+	<-c
+}
+
+func end(done chan bool) {
+	done <- true
+}
+
+func main() {
+	c, done := make(chan int), make(chan bool, 1)
+	go wait(c)
+	go end(done)
+	println("over")
 }
 """
 
@@ -70,7 +112,34 @@ class Conditions(Desk):
 
     def test_a_condition_of_a_variable_that_is_not_there_is_refused(self) -> None:
         body = self.start_with(condition="sum > 3")
-        self.assertEqual((body["verified"], body["message"]), (False, "There is no variable 'sum' on this line"))
+        self.assertEqual((body["verified"], body["message"]), (False, "'sum > 3' is no condition: there is no variable 'sum' here"))
+
+    def test_a_condition_that_cannot_be_read_or_is_no_truth_value_is_refused(self) -> None:
+        path = self.file("l.go", LOOP)
+        self.start(path)
+        for condition in ("n >", "(n", "n && 1", "n", "n = 5", "n / 2", "n ==", "f(n)", "n > 1)", "\u00e9", "n > 1 n", "!n"):
+            body = self.set_breakpoints(path, {"line": 4, "condition": condition})[0]
+            self.assertFalse(body["verified"], condition)
+            self.assertTrue(body["message"].startswith("'%s' is no condition: " % condition), body)
+        self.assertEqual(self.move("continue")["reason"], "ended")
+        for condition in ("n > 1 && n / 1 == 2", "true", " ", "!(n > 3) || false"):
+            self.assertTrue(self.set_breakpoints(path, {"line": 4, "condition": condition})[0]["verified"], condition)
+
+    def test_a_division_by_zero_in_a_condition_is_told_once(self) -> None:
+        self.assertTrue(self.start_with(condition="n / 0 == 1")["verified"])
+        for times in (1, 0, 0):
+            self.assertEqual(self.move("continue")["reason"], "breakpoint")
+            told = [body["output"] for body in self.told("output") if "has no truth value: it divides by zero" in body["output"]]
+            self.assertEqual(len(told), times)
+            self.client.events = []
+
+    def test_an_expression_of_an_outer_frame(self) -> None:
+        self.start_with()
+        self.move("continue")
+        frames = self.client.body("stackTrace", {"threadId": 1})["stackFrames"]
+        self.assertEqual(self.typed("i+1", frameId=frames[1]["id"]), "2")
+        asked = {"expression": "1/0", "context": "watch", "frameId": frames[0]["id"]}
+        self.assertIn("it divides by zero", self.client.ask("evaluate", asked)["message"])
 
     def test_a_count_of_hits(self) -> None:
         self.start_with(hitCondition="== 3")
@@ -120,7 +189,7 @@ class Offers(Desk):
                 self.move("stepIn")
         labels = [(one["id"], one["label"], one.get("line")) for one in targets]
         self.assertEqual(labels[0], (0, "one step", None))
-        self.assertEqual(labels[1:], [(1, "clause 1: case v := <- left", 12), (2, "clause 2: case v := <- right", 14)])
+        self.assertEqual(labels[1:], [(1, "case 1: v := <- left", 12), (2, "case 2: v := <- right", 14)])
         self.assertTrue(self.move("stepIn", targetId=2)["description"].endswith("pick 2"))
 
     def test_back_to_a_line(self) -> None:
@@ -279,6 +348,10 @@ class Words(Desk):
         targets = self.client.body("completions", {"text": "bt g0.", "column": 7})["targets"]
         self.assertEqual([one["label"] for one in targets], ["g0.1", "g0.2", "g0.3"])
         self.assertEqual({(one["start"], one["length"]) for one in targets}, {(4, 3)})
+        frame = self.client.body("stackTrace", {"threadId": 2})["stackFrames"][0]["id"]
+        for text, label in (("print ba", "balance"), ("ba", "balance"), ("print 2*ba", "2*balance")):
+            targets = self.client.body("completions", {"text": text, "column": len(text) + 1, "frameId": frame})["targets"]
+            self.assertIn(label, [one["label"] for one in targets])
         targets = self.client.body("completions", {"text": "gor", "column": 4})["targets"]
         self.assertIn("goroutines", [one["label"] for one in targets])
 
@@ -288,6 +361,138 @@ class Words(Desk):
         self.move("next")
         self.assertIn("undo = 7", self.typed("print undo"))
         self.assertEqual(self.typed("n", frameId=self.frame()), "8")
+
+
+class Functions(Desk):
+    def functions(self, *wishes: Any) -> List[Any]:
+        return self.client.body("setFunctionBreakpoints", {"breakpoints": list(wishes)})["breakpoints"]
+
+    def test_a_breakpoint_at_a_function(self) -> None:
+        path = self.file("l.go", LOOP)
+        self.start(path)
+        wishes = ({"name": "square", "condition": "n == 3"}, {"name": "nobody"}, {"name": "main", "condition": "n >"})
+        good, bad, strange = self.functions(*wishes)
+        self.assertEqual((good["verified"], good["line"]), (True, 4))
+        self.assertEqual((bad["verified"], bad["message"]), (False, "there is no function nobody: the functions are main, square"))
+        self.assertFalse(strange["verified"])
+        stop = self.move("continue")
+        self.assertEqual((stop["reason"], stop["hitBreakpointIds"]), ("breakpoint", [good["id"]]))
+        self.assertEqual(self.typed("n", frameId=self.frame()), "3")
+        self.assertEqual(self.move("restart")["reason"], "entry")
+        self.move("continue")
+        self.assertEqual(self.frames()[0], ("square", 4))
+        self.functions()
+        self.assertEqual(self.move("continue")["reason"], "ended")
+
+
+class Exceptions(Desk):
+    def stop_of(self, program: str, *filters: str) -> Any:
+        """How a program stops at its end where some filters are set."""
+        self.client.body("initialize")
+        self.client.body("launch", {"program": program, "stopOnEntry": False})
+        self.client.event("initialized")
+        self.client.body("setExceptionBreakpoints", {"filters": list(filters)})
+        self.client.body("configurationDone")
+        return self.client.stop()
+
+    def test_the_filters_are_offered(self) -> None:
+        offered = self.client.body("initialize")["exceptionBreakpointFilters"]
+        self.assertEqual([(one["filter"], one["default"]) for one in offered], [("panics", True), ("deadlocks", True), ("leaks", False)])
+
+    def test_each_filter(self) -> None:
+        leak = self.file("leak.go", LEAK)
+        cases = (
+            ("send_on_closed.go", ("panics",), "exception"),
+            ("send_on_closed.go", (), "ended"),
+            ("deadlock.go", ("deadlocks",), "deadlock"),
+            ("deadlock.go", ("panics",), "pause"),
+            (leak, (), "ended"),
+            (leak, ("leaks",), "exception"),
+            ("fibonacci_range.go", ("leaks",), "ended"),
+        )
+        for program, filters, reason in cases:
+            desk = Exceptions()
+            desk.setUp()
+            self.assertEqual(desk.stop_of(os.path.join(DATA, program), *filters)["reason"], reason, (program, filters))
+            if program is leak and filters:
+                info = desk.client.body("exceptionInfo", {"threadId": 1})
+                self.assertEqual(info["exceptionId"], "Leak")
+                self.assertIn("leak: 1 goroutine is blocked for ever\ng0.1 at line 4: <-c", info["description"])
+            desk.doCleanups()
+
+
+class WatchedChannels(Desk):
+    def watch(self, access: str) -> Any:
+        """Watches the channel that is called c."""
+        info = self.client.body("dataBreakpointInfo", {"name": "c", "frameId": self.frame()})
+        self.assertEqual(info["accessTypes"], ["read", "write", "readWrite"])
+        wish = {"dataId": info["dataId"], "accessType": access}
+        return self.client.body("setDataBreakpoints", {"breakpoints": [wish]})["breakpoints"][0]
+
+    def test_sends_forward_and_back(self) -> None:
+        self.start(self.file("c.go", CHANNELS), 14)
+        self.move("continue")
+        number = self.watch("write")
+        self.assertTrue(number["verified"])
+        stop = self.move("continue")
+        self.assertEqual((stop["reason"], stop["hitBreakpointIds"]), ("data breakpoint", [number["id"]]))
+        self.assertRegex(stop["description"], r"^g0\.1#\d+ (sent a value|began to wait to send) to c \(g0/c1\)$")
+        second = self.move("continue")
+        self.assertRegex(second["description"], r"to c \(g0/c1\)$")
+        self.assertNotEqual(second["description"], stop["description"])
+        back = self.move("reverseContinue")
+        self.assertRegex(back["description"], r"^Took back g0\.1#\d+, which .* to c \(g0/c1\)$")
+
+    def test_receives(self) -> None:
+        self.start(self.file("c.go", CHANNELS), 14)
+        self.move("continue")
+        self.watch("read")
+        self.assertRegex(self.move("continue")["description"], r"^g0#\d+ (received|began to wait to receive) from c \(g0/c1\)$")
+
+    def test_a_value_is_told_to_be_taken_back(self) -> None:
+        self.start(LOST_UPDATE)
+        self.move("continue")
+        self.client.body("setDataBreakpoints", {"breakpoints": [{"dataId": "g0.1 balance"}]})
+        self.assertRegex(self.move("reverseContinue")["description"], r"^Took back g0\.1#\d+, which gave balance a value$")
+
+    def test_a_part_of_many_items(self) -> None:
+        self.start(self.file("c.go", CHANNELS), 14)
+        self.move("continue")
+        scopes = self.client.body("scopes", {"frameId": self.frame()})["scopes"]
+        many = next(it for it in self.variables(scopes[0]) if it["name"] == "many")
+        items = next(it for it in self.variables(many) if it["name"] == "items")
+        self.assertEqual(items["indexedVariables"], 1500)
+        part = self.variables(items, filter="indexed", start=1200, count=3)
+        self.assertEqual([(it["name"], it["value"]) for it in part], [("[1200]", "1200"), ("[1201]", "1201"), ("[1202]", "1202")])
+        self.assertEqual(self.variables(items, filter="named"), [])
+        self.assertEqual(self.variables(items, filter="indexed", start=1499, count=5)[0]["value"], "1499")
+        self.assertEqual(self.variables(many, filter="indexed"), [])
+        self.assertEqual(len(self.variables(many, filter="named")), 5)
+
+    def variables(self, of: Any, **more: Any) -> List[Dict[str, Any]]:
+        return self.client.body("variables", {"variablesReference": of["variablesReference"], **more})["variables"]
+
+
+class Ends(Desk):
+    def test_exited_comes_before_terminated(self) -> None:
+        """Where the program has come to an end; there is none where it was ended on the way."""
+        ends = (("fibonacci_range.go", True, 0), ("send_on_closed.go", True, 2), ("deadlock.go", True, 2), ("deadlock.go", False, None))
+        for program, runs, status in ends:
+            desk = Ends()
+            desk.setUp()
+            desk.start(os.path.join(DATA, program))
+            if runs:
+                desk.move("continue")
+            desk.client.body("terminate")
+            desk.client.event("terminated")
+            self.assertEqual(desk.told("exited"), [{"exitCode": status}] if runs else [])
+            desk.doCleanups()
+
+    def test_a_ctrl_c(self) -> None:
+        self.start(LOST_UPDATE)
+        self.client.process.send_signal(signal.SIGINT)
+        self.assertEqual(self.client.process.wait(20), 130)
+        self.assertEqual(self.client.process.stderr.read(), b"")
 
 
 class Output(Desk):

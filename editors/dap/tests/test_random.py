@@ -14,6 +14,7 @@ from typing import Any, Dict, List, Tuple
 sys.path.insert(0, os.path.dirname(os.path.abspath(__file__)))
 from client import DATA, REWIND, Client, Message  # noqa: E402
 
+OFFERED = ("setDataBreakpoints", "setFunctionBreakpoints", "setExceptionBreakpoints", "goto", "restartFrame", "stepIn", "completions")
 PROGRAMS = ("lost_update", "deadlock", "prime_sieve", "race_in_select", "send_on_closed", "buffered_channel", "leaked_goroutine")
 REQUESTS = 1000
 SEED = int(sys.argv.pop(sys.argv.index("--seed") + 1)) if "--seed" in sys.argv else 1
@@ -30,6 +31,10 @@ WORDS += ("goroutine g0", "goroutine g0.1")
 GOING = ("next", "step", "step 3", "finish", "until 9", "continue", "reverse-next", "reverse-continue", "back 12", "c", "n")
 GOING += ("back var x",)
 VARIABLES = ("balance", "x", "v", "i", "ch", "a", "done", "n")
+# Of these and of variables conditions are made that mostly mean nothing.
+PARTS = ("(", ")", "&&", "||", "==", "=", "<", "/ 0", "%", "!", "-", "1", "0x", "true", "len(", "cap(ch)")
+PARTS += ("\u00a0", "\x00", '"', "<-", "{", ";")
+FUNCTIONS = ("main", "deposit", "nobody", "12", "", "worker")
 ODD = (None, -1, 0, 3.5, True, "g0", "g0#1", [], {}, 2**70, "\x00", "x" * 5000)
 
 
@@ -90,14 +95,21 @@ class Wanderer:
     def condition(self) -> Dict[str, Any]:
         """What a breakpoint may want besides a line."""
         holds = {"condition": "%s > 1" % self.chance.choice(VARIABLES)}
-        return self.chance.choice(({}, holds, {"hitCondition": "2"}, {"logMessage": "{x} {balance}"}))
+        parts = self.chance.choices((*VARIABLES, *PARTS), k=self.chance.randint(1, 5))
+        malformed = {"condition": self.chance.choice(("", " ")).join(parts)}
+        return self.chance.choice(({}, holds, malformed, malformed, {"hitCondition": "2"}, {"logMessage": "{x} {balance} {x +}"}))
 
     def offered(self, thread: int) -> Tuple[str, Dict[str, Any]]:
         """A request for what an editor offers: variables to watch, lines and frames to go back to, clauses."""
-        command = self.chance.choice(("setDataBreakpoints", "goto", "restartFrame", "stepIn", "completions"))
+        command = self.chance.choice(OFFERED)
         if command == "setDataBreakpoints":
             watches = [{"dataId": "g0%s %s" % (self.chance.choice(("", ".1")), self.chance.choice(VARIABLES))}]
-            return command, {"breakpoints": self.chance.choice(([], watches))}
+            channels = [{"dataId": "g0/c%d" % self.chance.randint(1, 3), "accessType": self.chance.choice(("read", "write", "readWrite"))}]
+            return command, {"breakpoints": self.chance.choice(([], watches, channels))}
+        if command == "setFunctionBreakpoints":
+            return command, {"breakpoints": [{"name": self.chance.choice(FUNCTIONS), **self.condition()}]}
+        if command == "setExceptionBreakpoints":
+            return command, {"filters": self.chance.sample(("panics", "deadlocks", "leaks", "all"), 2)}
         if command == "goto":
             arguments = {"source": {"path": self.path}, "line": self.chance.randint(1, 30)}
             targets = self.client.body("gotoTargets", arguments)["targets"]
