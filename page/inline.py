@@ -101,6 +101,11 @@ def faults():
     return {row[0]: row[1] for row in rows("COMMANDS.md", "Faults") if row[0] != "Fault"}
 
 
+def words_of_go():
+    """Faults, and a deadlock, in the words of Go."""
+    return json.loads(read(f"{ROOT}/clients/rewind_client/words.json"))["go"]
+
+
 def narrations():
     """What docs/SESSIONS.md tells of each story: before each command the text that leads to it."""
     told = {}
@@ -174,7 +179,7 @@ def given():
     refusals = json.loads(read(f"{ROOT}/clients/rewind_client/refusals.json"))
     licence = notices.of_page(kit.folder(), read(LICENCE))
     told = {"stories": stories(), "exercises": exercises(), "refusals": refusals, "licence": licence}
-    return {"codes": codes(), "kinds": kinds(), "faults": faults(), "commands": commands(), **told}
+    return {"codes": codes(), "kinds": kinds(), "faults": faults(), "go": words_of_go(), "commands": commands(), **told}
 
 
 def program(wasm):

@@ -1,7 +1,7 @@
 #!/usr/bin/env python3
 """Compiles a module of the program `rewind` to WebAssembly, and links it with the C files of this folder.
 
-    page/module/build.py MODULE.bc OUT.wasm
+    page/module/build.py [--quick] MODULE.bc OUT.wasm      (--quick: less is inlined, in half the time)
 """
 import os
 import subprocess
@@ -19,6 +19,7 @@ TARGET = ["--no-default-config", "--target=wasm64-unknown-unknown", "-mcpu=lime1
 AS_TEXT = ["--no-default-config", "--target=x86_64-unknown-linux-gnu", "-S", "-emit-llvm", "-O0", "-Xclang", "-disable-llvm-passes"]
 # Neither a division nor a conversion of 128 bits may call a library that is not there.
 PLAIN = ["-mllvm", "-expand-div-rem-bits=64", "-mllvm", "-expand-fp-convert-bits=64", "-mllvm", "-trap-unreachable"]
+FAST_TO_BUILD = ["-mllvm", "-inline-threshold=75"]
 SECTIONS = ["-ffunction-sections", "-fdata-sections"]
 C_WORDS = ["-O2", "-ffreestanding", "-fno-builtin", "-fno-strict-aliasing", "-nostdinc", "-ffunction-sections", "-Wall"]
 
@@ -62,9 +63,9 @@ def retargeted(module, work, tools):
     return after
 
 
-def build(module, out, work, tools):
+def build(module, out, work, tools, more):
     parts = [f"{work}/program.o"]
-    tools.clang(*TARGET, *PLAIN, *SECTIONS, "-O2", "-Werror", "-c", "-x", "ir", retargeted(module, work, tools), "-o", parts[0])
+    tools.clang(*TARGET, *PLAIN, *SECTIONS, *more, "-O2", "-Werror", "-c", "-x", "ir", retargeted(module, work, tools), "-o", parts[0])
     for name in ("heap", "system", "threads"):
         parts.append(f"{work}/{name}.o")
         tools.clang(*TARGET, *C_WORDS, "-Werror", "-c", f"{HERE}/{name}.c", "-o", parts[-1])
@@ -74,15 +75,16 @@ def build(module, out, work, tools):
 
 
 def main():
-    if len(sys.argv) != 3:
+    more = FAST_TO_BUILD if sys.argv[1:2] == ["--quick"] else []
+    if len(sys.argv) != (4 if more else 3):
         sys.exit(__doc__)
-    module, out = sys.argv[1:]
+    module, out = sys.argv[-2:]
     if not os.path.isfile(module):
         kit.stop(f"there is no module {module}")
     kit.writable(out)
     tools = Tools(kit.folder())
     with tempfile.TemporaryDirectory(prefix="rewind-page-") as work:
-        build(module, out, work, tools)
+        build(module, out, work, tools, more)
 
 
 main()

@@ -2,7 +2,7 @@
 
 import { asPng } from "./saved.js";
 import { bringBack } from "./losses.js";
-import { download, field, find } from "./element.js";
+import { counted, download, field, find } from "./element.js";
 import { fromFiles, toFile, toHash } from "./linking.js";
 import { MOST_STEPS } from "./page.js";
 import { runAlone, runToLine, stepOver } from "./moves.js";
@@ -16,7 +16,7 @@ import { openTask } from "./tasks.js";
 // A run of as many steps as the field says.
 /** @param {Page} page */
 function run(page) {
-  const text = field("count").value.trim();
+  const text = field("count").value.trim().replace(/^\d{1,3}([, ]\d{3})+$/, (count) => count.replace(/\D/g, ""));
   const count = Number(text);
   if (!/^\d+$/.test(text) || count < 1 || count > MOST_STEPS) return page.say("Run takes a whole number of steps, from 1 to 1,000,000.", "bad");
   return page.perform(`run ${count}`);
@@ -36,12 +36,14 @@ async function nextOfStory(page) {
 /** @param {Page} page */
 const shared = (page) => ({ ...page.work, chosen: page.pointing.pinned, theme: document.documentElement.dataset.theme || "" });
 
+const OF_DISK = "It holds the whole session, but begins with the place of this page on your disk. Who has the page too puts the part from #s= on behind its address. For others press Save, and send the file: the page opens it.";
+
 /** @param {Page} page */
 async function copyLink(page) {
   const address = location.href.split("#")[0] + (await toHash(shared(page)));
   try {
     await navigator.clipboard.writeText(address);
-    page.say(`The link is copied: ${address.length.toLocaleString("en")} letters. Whoever opens it sees this session.`);
+    page.say(`The link is copied: ${counted(address.length, "letter")}. ${location.protocol === "file:" ? OF_DISK : "Whoever opens it sees this session."}`);
   } catch {
     history.replaceState(null, "", address);
     page.say("The link stands in the address until the next change: copy it from there.");
@@ -65,7 +67,7 @@ export async function openFiles(page, files) {
     if (!(await page.open())) return;
   }
   await page.replay(commands);
-  if (commands.length) page.say(`${commands.length} commands were done.`);
+  if (commands.length) page.say(`${counted(commands.length, "command")} ${commands.length === 1 ? "was" : "were"} done.`);
 }
 
 /** @param {Page} page */
@@ -118,7 +120,7 @@ const ACTIONS = {
   undo: (page) => page.perform("undo"),
   redo: (page) => page.perform("redo"),
   stop: (page) => page.stop(),
-  back: (page) => page.pointing.takeBack(),
+  back: (page) => page.pointing.takeBack(page.pointing.pinned),
   earlier: (page) => page.pointing.moveBy(-1),
   later: (page) => page.pointing.moveBy(1),
   smaller: (page) => page.views.picture.zoom(-1),

@@ -1,8 +1,9 @@
 // Finds in the background what the log does not tell, and shows it as it is found: clauses that are ready, statements, prints, edges.
 
-import { SessionGone, Unanswered } from "./remote.js";
-import { cycleIn, waitGraph, waitsOf } from "./waits.js";
+import { isUnanswered } from "./remote.js";
+import { erred } from "./losses.js";
 import { pause } from "./element.js";
+import { standingOf } from "./standing.js";
 import { starterOf } from "./finding.js";
 
 const WHOLE = 20000; // a log of up to this many steps is followed from its start; of a longer one what is in view
@@ -38,8 +39,8 @@ export class Annotating {
 
   /** @param {unknown} fault */
   failed(fault) {
-    if (!(fault instanceof SessionGone || fault instanceof Unanswered)) throw fault;
     this.done = this.page.stamp;
+    if (!isUnanswered(fault)) erred(this.page, fault);
   }
 
   // Resolves when everything about the present state is found and shown.
@@ -65,7 +66,8 @@ export class Annotating {
     if (isOld()) return;
     if (session.log.length <= FOLLOWED) await this.follow(session, isOld);
     if (isOld()) return;
-    this.findCycle(session);
+    await this.findStanding(session, isOld);
+    if (isOld()) return;
     this.done = stamp;
     this.show();
     page.tell();
@@ -158,7 +160,7 @@ export class Annotating {
     try {
       for (const { id } of log.steps(...this.page.views.picture.stepsInView())) if (!isOver() && !known.has(id)) await known.of(id);
     } catch (fault) {
-      if (!(fault instanceof SessionGone || fault instanceof Unanswered)) throw fault;
+      if (!isUnanswered(fault)) throw fault;
     }
   }
 
@@ -171,11 +173,16 @@ export class Annotating {
     this.timer = window.setTimeout(() => this.done === page.stamp && this.begin(page.stamp), 80);
   }
 
-  /** @param {import("./session.js").Session} session */
-  findCycle(session) {
+  // Where the program goes on no more, who waits for whom.
+  /**
+   * @param {import("./session.js").Session} session
+   * @param {() => boolean} isOld
+   */
+  async findStanding(session, isOld) {
     const { scene, log } = session;
-    const isStuck = log.length > 0 && !log.isOver && scene.isStuck && !scene.isPartial;
-    this.page.cycle = isStuck ? cycleIn(waitGraph(waitsOf(scene), scene, this.page.note, (id) => log.kindOf(id))) : [];
+    const goesOn = !log.length || !(log.isOver || scene.isStuck);
+    const found = goesOn || log.length > FOLLOWED || session.follower.lost ? null : await standingOf(session, this.page.given);
+    if (!isOld()) this.page.standing = found;
   }
 
   // The edges that are found, of the whole log or around the view.

@@ -3,7 +3,7 @@
 import { giverOf, lastOf, printerOf, senderOf, starterOf, stepsOfLine, stepsWith } from "./finding.js";
 import { courseOf, courseRow } from "./course.js";
 import { find, inSteps } from "./element.js";
-import { SessionGone, Unanswered } from "./remote.js";
+import { isUnanswered } from "./remote.js";
 
 /** @typedef {import("./page.js").Page} Page */
 
@@ -43,12 +43,12 @@ async function findStep(page, what) {
   try {
     const id = await stepBehind(session, what);
     if (session !== page.session) return;
-    if (!id) return page.say("No kept step gave this: it is a parameter, or its step is not found yet.", "bad");
+    if (!id) return page.say("No step of the log gave this: it is a parameter, or its step is not found yet.", "bad");
     page.say(`${id} is the step behind it: see what depends on it, or take it back.`);
     await page.pointing.show(id);
     if (what.variable) await showCourse(page, session, what.variable);
   } catch (fault) {
-    if (!(fault instanceof SessionGone || fault instanceof Unanswered)) throw fault;
+    if (!isUnanswered(fault)) throw fault;
   }
 }
 
@@ -81,7 +81,7 @@ export function showStepsOf(page, line) {
  */
 export function search(page, text) {
   if (!page.session || !text.trim()) {
-    page.pointing.found = null;
+    page.pointing.forgetFound();
     return page.pointing.draw();
   }
   const ids = stepsWith(page.session, text.trim());
@@ -91,6 +91,13 @@ export function search(page, text) {
   return mark(page, ids, `with “${text.trim()}”`, next);
 }
 
+// Of which steps the statements and prints are read, where these are not all.
+/** @param {Page} page */
+function amongRead({ session }) {
+  const read = session?.follower.notes.size || 0;
+  return !session || read >= session.log.length ? "" : `, among the ${inSteps(read)} whose statements are read`;
+}
+
 /**
  * @param {Page} page
  * @param {string[]} ids
@@ -98,7 +105,7 @@ export function search(page, text) {
  */
 async function mark(page, ids, what, shown = ids[ids.length - 1]) {
   page.pointing.found = new Set(ids);
-  find("found").textContent = `${inSteps(ids.length)} ${what}`;
+  find("found").textContent = `${inSteps(ids.length)} ${what}${amongRead(page)}`;
   if (shown) await page.pointing.show(shown);
   else page.pointing.draw();
 }

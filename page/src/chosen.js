@@ -2,7 +2,7 @@
 
 import { enable, find, inSteps, make } from "./element.js";
 import { differences, previewList } from "./preview.js";
-import { SessionGone, Unanswered } from "./remote.js";
+import { isUnanswered } from "./remote.js";
 import { withoutStep } from "./finding.js";
 
 /** @typedef {import("./page.js").Page} Page */
@@ -17,9 +17,11 @@ const PREVIEWED = 20000; // steps: of a longer log no preview is made
  */
 export function describeStep({ id, kind, row }, note, count) {
   const statement = note?.statement ? `, ${note.statement.text.replace(/\s+/g, " ")}` : "";
+  const taken = note?.taken ? `, case ${note.taken.replace(/\s+/g, " ")}` : "";
+  const received = note?.received ? `, received ${note.received}${note.part ? ` by ${note.part}` : ""}` : "";
   const line = note?.line ? `, line ${note.line}` : "";
   const printed = note?.printed.length ? `, printed ${note.printed.join("; ")}` : "";
-  return `${id}, ${kind}${line}${statement}${printed}, ${row + 1} of ${count}`;
+  return `${id}, ${kind}${line}${statement}${taken}${received}${printed}, ${row + 1} of ${count}`;
 }
 
 // What is said where no step is chosen.
@@ -34,9 +36,9 @@ function hint({ session }) {
 export function showChosen(page) {
   const { session } = page;
   const { about, pinned } = page.pointing;
-  for (const id of ["back", "earlier", "later"]) enable(id, Boolean(about) && !page.past.isOn);
+  for (const id of ["back", "earlier", "later"]) enable(id, Boolean(about && pinned) && !page.past.isOn);
   const back = /** @type {ChildNode} */ (find("back").firstChild);
-  back.textContent = about ? `Take back ${about.consequences + 1}` : "Take back";
+  back.textContent = about && pinned ? `Take back ${about.consequences + 1}` : "Take back";
   if (!pinned) find("course").replaceChildren();
   if (!about || !session) {
     find("chosen-text").replaceChildren(hint(page));
@@ -75,6 +77,6 @@ async function showPreview(page, id) {
     if (host.dataset.of !== key || page.session !== session || !without) return;
     host.replaceChildren(make("p", {}, make("strong", {}, `Taken back, ${inSteps(without.count)} would go:`)), previewList(differences(session.scene, without.scene)));
   } catch (fault) {
-    if (!(fault instanceof SessionGone || fault instanceof Unanswered)) throw fault;
+    if (!isUnanswered(fault)) throw fault;
   }
 }

@@ -1,8 +1,9 @@
 // Two runs side by side: where the log that was kept and the log of now part, and what an order changed.
 
 import { find, inSteps, make } from "./element.js";
+import { shortened } from "./labels.js";
 
-/** @typedef {{id: string, kind: string}} Row */
+/** @typedef {{id: string, kind: string, statement?: string}} Row */
 
 // Pairs the rows of two logs: those that both have stand beside each other where their order is the same.
 /**
@@ -35,16 +36,22 @@ const isSame = (one, other) => one.id === other.id && one.kind === other.kind;
 
 /** @type {Row[] | null} */
 let kept = null;
+const STATEMENT = 40; // letters of a statement
 const SHOWN = 400; // rows from where the logs part
 
 /** @param {import("./page.js").Page} page */
 function rowsOf(page) {
   const { session } = page;
-  return session ? session.log.steps(0, session.log.length).map(({ id, kind }) => ({ id, kind })) : [];
+  const statement = (/** @type {string} */ id) => shortened(page.note(id)?.statement?.text || "", STATEMENT);
+  return session ? session.log.steps(0, session.log.length).map(({ id, kind }) => ({ id, kind, statement: statement(id) })) : [];
 }
 
-/** @param {{id: string, kind: string, note: string} | undefined} row */
-const cell = (row) => (row ? make("td", { class: row.note ? "differs" : "" }, `${row.id} ${row.kind}`, ...(row.note ? [make("small", {}, ` ${row.note}`)] : [])) : make("td"));
+/** @param {Row & {note: string} | undefined} row */
+function cell(row) {
+  if (!row) return make("td");
+  const { id, kind, statement, note } = row;
+  return make("td", { class: note ? "differs" : "" }, `${id} ${kind} `, make("code", {}, statement || ""), ...(note ? [make("small", {}, ` ${note}`)] : []));
+}
 
 // The first time it keeps the log of now; later it shows both.
 /** @param {import("./page.js").Page} page */

@@ -3,10 +3,13 @@
 // A step of one goroutine depends directly on a step of another where that is the last of the other in its causes, is not in the causes
 // of its own goroutine's step before, and is in those of no third such step. To these come who woke whom, and whose value was taken.
 
-import { edgeKind, endsAll, isWait, mayWake, restsOnOthers, takesFrom } from "./edges.js";
+import { outOfBuffers } from "./buffers.js";
+import { edgeKind, endsAll, isWait, mayWake, restsOnOthers, takesFrom, word } from "./edges.js";
 import { goroutineOf, numberOf, stepName } from "./protocol.js";
 
 const AT_ONCE = 50; // steps whose causes are asked in one exchange
+const FOLLOWED = 20000; // steps up to which it is followed what comes out of buffers
+const OUT_OF_BUFFERS = new Set(["take", "pick"]);
 
 export class DirectEdges {
   /** @param {import("./follower.js").Follower} follower */
@@ -14,6 +17,8 @@ export class DirectEdges {
     this.follower = follower;
     /** @type {Map<string, Map<string, number>>} */
     this.known = new Map(); // causes of steps without notes, for one search
+    /** @type {Map<string, string>} */
+    this.out = new Map(); // what takes and picks received
   }
 
   get log() {
@@ -42,14 +47,30 @@ export class DirectEdges {
     const resting = open.filter(({ id, kind }) => restsOnOthers(kind, this.log.kindOf(this.log.before(id))));
     await this.askCauses(resting.flatMap(({ id }) => [id, this.log.before(id)]));
     const sources = new Map(resting.map((step) => [step.id, this.newSources(step)]));
+    const last = open.length ? open[open.length - 1].row + 1 : 0;
+    this.out = last <= FOLLOWED ? outOfBuffers(this.log, this.follower.notes, last) : new Map();
     await this.askCauses([...sources.values()].flat());
     open.forEach((step, at) => {
       const note = notes[at];
       if (!note || this.note(step.id) !== note) return; // the step was taken back meanwhile
       note.edges = sources.has(step.id) ? this.into(step, sources.get(step.id) || []) : [];
-      const message = note.edges.find(({ kind }) => kind === "message");
-      note.received = message ? this.note(message.from)?.sent || "" : "";
+      this.takeMessage(step, note, sources.get(step.id) || []);
     });
+  }
+
+  // The value that a step received. What ended a wait gave its value to that wait, whose statement it is.
+  /**
+   * @param {Step} step
+   * @param {Note} note
+   * @param {string[]} sources
+   */
+  takeMessage({ id, kind }, note, sources) {
+    const before = endsAll(kind) ? "" : this.log.before(id);
+    const waker = this.wakerOf(before, sources);
+    if (waker) this.follower.meet(before, waker);
+    const message = note.edges?.find((edge) => edge.kind === "message" && edge.from !== waker);
+    if (OUT_OF_BUFFERS.has(word(kind))) note.received = this.out.get(id) || "";
+    else if (message) note.received = this.note(message.from)?.over.sent || "";
   }
 
   /** @param {string[]} ids */

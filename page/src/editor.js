@@ -2,6 +2,7 @@
 
 import { decoder, encoder } from "./protocol.js";
 import { make } from "./element.js";
+import { takeInsertions } from "./insertions.js";
 
 const SHOWN = 2; // names beside a line; of more the first, and how many more
 
@@ -43,6 +44,7 @@ export class Editor {
       if (gutter === "where") on.stepsOf(line + 1);
       else on.toggleBreak(line + 1);
     });
+    takeInsertions(this.editor);
     this.editor.refresh();
   }
 
@@ -117,7 +119,9 @@ export class Editor {
   get breaks() {
     /** @type {number[]} */
     const lines = [];
-    this.editor.eachLine((/** @type {any} */ line) => line.gutterMarkers?.breaks && lines.push(this.editor.getLineNumber(line) + 1));
+    this.editor.eachLine((/** @type {any} */ line) => {
+      if (line.gutterMarkers?.breaks) lines.push(this.editor.getLineNumber(line) + 1); // a value would end the way over the lines
+    });
     return lines;
   }
 

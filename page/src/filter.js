@@ -1,6 +1,7 @@
 // What of the picture is shown: the columns of goroutines, the operations of one channel or of all, and arrows of the order of waiting.
 
 import { make } from "./element.js";
+import { calledBy, holdersOf } from "./holders.js";
 
 const MOST = 200; // goroutines, and channels, that can be chosen
 
@@ -23,8 +24,9 @@ export class Filter {
   show(page) {
     const { picture } = this;
     const names = page.session?.log.names.slice(0, MOST) || [];
-    const channels = page.session?.log.channels.slice(0, MOST) || [];
-    const shown = [...names.map((name) => `${name} ${page.annotating.functionOf.get(name)} ${picture.hidden.has(name)}`), ...channels, picture.channel, page.annotating.isWhole].join();
+    const holders = holdersOf(page.session?.scene.goroutines || []);
+    const channels = (page.session?.log.channels.slice(0, MOST) || []).map((name) => ({ name, called: calledBy(holders, name) }));
+    const shown = [...names.map((name) => `${name} ${page.annotating.functionOf.get(name)} ${picture.hidden.has(name)}`), ...channels.map(({ called }) => called), picture.channel, page.annotating.isWhole].join();
     if (this.shown === shown) return;
     this.shown = shown;
     const box = (/** @type {string} */ name) => make("label", {}, make("input", { type: "checkbox", checked: !picture.hidden.has(name), onchange: () => this.toggle(name) }), ` ${name} ${page.annotating.functionOf.get(name) || ""}`);
@@ -34,12 +36,12 @@ export class Filter {
 
   // The channel whose operations alone are shown. Of a log that is not followed whole, it is not known which these are.
   /**
-   * @param {string[]} channels
+   * @param {{name: string, called: string}[]} channels
    * @param {boolean} isKnown
    */
   menu(channels, isKnown) {
-    const option = (/** @type {string} */ name) => make("option", { value: name, selected: this.picture.channel === name }, name || "all");
-    const menu = /** @type {HTMLSelectElement} */ (make("select", { disabled: !isKnown }, ...["", ...channels].map(option)));
+    const option = ({ name, called } = { name: "", called: "all" }) => make("option", { value: name, selected: this.picture.channel === name }, called);
+    const menu = /** @type {HTMLSelectElement} */ (make("select", { disabled: !isKnown }, option(), ...channels.map((it) => option(it))));
     menu.addEventListener("change", () => this.choose(menu.value));
     return make("label", {}, "channel ", menu);
   }

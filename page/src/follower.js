@@ -7,8 +7,8 @@ import { openExpanded, stepCommand } from "./mirror.js";
 import { compareNames, goroutineOf, parseGoroutine } from "./protocol.js";
 import { readScene } from "./scene.js";
 import { printsOf } from "./statements.js";
+import { caseOf, isReceive, metCase, operationOf, receivedPart } from "./messages.js";
 import { channelsOf } from "./operations.js";
-import { sentValue } from "./values.js";
 
 const AT_ONCE = 2000; // steps taken, or undone, in one exchange without questions
 const ASKED = 200; // and with questions
@@ -75,14 +75,31 @@ export class Follower {
     return this.remote;
   }
 
+  // Begins anew, and knows nothing of any step.
+  renew() {
+    this.remote?.close();
+    this.remote = null;
+    this.notes.clear();
+    this.wakers.clear();
+    this.lost = "";
+  }
+
   // Forgets steps that are no longer kept.
   /** @param {string[]} ids */
   forget(ids) {
     for (const id of ids) {
-      for (const wait of this.notes.get(id)?.woke || []) this.wakers.delete(wait);
+      for (const wait of this.notes.get(id)?.woke || []) this.unmeet(wait);
       this.notes.delete(id);
       this.wakers.delete(id);
     }
+  }
+
+  // The step that ended a wait is gone.
+  /** @param {string} wait */
+  unmeet(wait) {
+    this.wakers.delete(wait);
+    const waited = this.notes.get(wait);
+    if (waited) waited.taken = waited.received = "";
   }
 
   // Goes to where this many steps of the log are taken, while somebody wants it. The log may change meanwhile.
@@ -206,14 +223,34 @@ export class Follower {
   noteOf({ step, sleepers, commands }, replies) {
     const { line, frames } = parseGoroutine(replies[0]);
     const statement = this.statements.at(line) || null;
-    const clause = /^pick (\d+)$/.exec(step.kind);
+    const number = /^pick (\d+)$/.exec(step.kind)?.[1] || this.clauses.get(step.id);
     const variables = frames[0]?.variables || [];
-    const sent = sentValue((clause ? statement?.clauses[Number(clause[1]) - 1] : statement?.text) || "", variables);
+    const taken = (number && statement?.clauses[Number(number) - 1]) || "";
+    const text = taken || statement?.text || "";
     const channels = channelsOf(step.kind, statement, variables);
     const states = replies.slice(commands.length - sleepers.length);
     const woke = sleepers.filter((id, at) => parseGoroutine(states[at]).state !== "waiting" && !this.wakers.has(id));
     const printed = this.isUnsure && step.kind === "pure" ? newLines(replies[1], replies[3]) : [];
-    return { line: this.statements.lineOf(line), statement, printed, woke, causes: null, edges: null, sent, received: "", channels };
+    const cases = step.kind === "select-wait" ? (statement?.clauses || []).map((it) => caseOf(it, variables)) : [];
+    const turn = this.turnOf(step, statement);
+    const part = isReceive(step.kind) ? receivedPart(text, turn) : "";
+    return {
+      line: this.statements.lineOf(line), statement, printed, woke, causes: null, edges: null, channels, cases, turn, taken,
+      received: "", part, over: taken ? caseOf(taken, variables) : operationOf(step.kind, text, part, variables),
+    };
+  }
+
+  // How many receives of its statement the goroutine has done before a step; NaN where the step before is not known.
+  /**
+   * @param {Step} step
+   * @param {Statement | null} statement
+   */
+  turnOf({ id }, statement) {
+    const before = this.log.before(id);
+    if (!before) return 0;
+    const note = this.notes.get(before);
+    if (!note) return NaN;
+    return note.statement === statement && isReceive(this.log.kindOf(before)) ? note.turn + 1 : 0;
   }
 
   /**
@@ -221,8 +258,26 @@ export class Follower {
    * @param {Note} note
    */
   keep({ id }, note) {
-    for (const wait of note.woke) this.wakers.set(wait, id);
     this.notes.set(id, note);
+    for (const wait of note.woke) {
+      this.wakers.set(wait, id);
+      this.meet(wait, id);
+    }
+  }
+
+  // A wait that another step met ended there: its select took a case, and its receive got the value. A take has the first item of a
+  // buffer, and not what the sender that it woke put behind the others.
+  /**
+   * @param {string} wait
+   * @param {string} by
+   */
+  meet(wait, by) {
+    const [waited, note] = [this.notes.get(wait), this.notes.get(by)];
+    if (!waited || !note || this.log.kindOf(by) === "close") return;
+    const met = metCase(waited.cases, note.over);
+    waited.taken = met?.text || "";
+    if (note.over.isSend) waited.received = note.over.sent;
+    else if (this.log.kindOf(by) !== "take") note.received ||= met?.sent || "";
   }
 
   // Gives each step of a `println` the line that it printed, from the end of the text of its goroutine. Of a step that was taken back

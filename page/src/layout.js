@@ -32,6 +32,16 @@ export const BESIDE = 15; // from the middle of a mark to its label, past the ti
  * @property {number} first
  */
 
+// The statement of a step. Of a select that took a case it is the case.
+/**
+ * @param {Step} step
+ * @param {Note} note
+ */
+function statementText({ kind }, { taken, statement }) {
+  if (kind === "default") return "default";
+  return taken ? `case ${taken}` : statement?.text || "";
+}
+
 // What the label of a step says; a statement has `most` letters at most.
 /**
  * @param {Step} step
@@ -43,9 +53,9 @@ export function labelParts(step, note, { labels, most }) {
   const kind = step.kind === "pure" ? "" : step.kind;
   const line = note?.line ? `:${note.line}` : "";
   if (labels === "kind" || !note?.statement) return { number: `#${step.number}`, kind, received: "", line, printed };
-  const fault = step.kind.startsWith("fault") ? `${step.kind}: ` : "";
-  const statement = printed ? "println" : shortened(fault + note.statement.text, most);
-  const received = note.received && `← ${shortened(note.received, 12)}`;
+  const fault = step.kind.startsWith("fault") ? `panic ${step.kind.slice("fault ".length)}: ` : "";
+  const statement = printed ? "println" : shortened(fault + statementText(step, note), most);
+  const received = note.received && `${note.part ? `${note.part} ` : ""}← ${shortened(note.received, 12)}`;
   return { number: `#${step.number}`, kind: note.statement.text === "}" ? kind : statement, received, line, printed };
 }
 
@@ -68,7 +78,7 @@ export function labelWidth(step, note, { labels, letter, most }) {
  * @param {number} letter
  */
 function pitchOf(names, heads, room, letter) {
-  const wide = (/** @type {string[]} */ texts) => Math.round(Math.max(...texts.map((text) => text.length)) * (letter + 0.3)) + 12;
+  const wide = (/** @type {string[]} */ texts) => Math.round(texts.reduce((most, { length }) => Math.max(most, length), 0) * (letter + 0.3)) + 12;
   const least = wide(names);
   const usual = Math.max(names.length > 12 ? 60 : names.length > 6 ? 78 : 100, least, wide(heads));
   const fitting = Math.floor((room - LAST_LABEL) / Math.max(1, names.length - 1));

@@ -6,7 +6,7 @@ const MARK_NAMES = [
   ["wait", '<rect class="mark" x="3" y="3" width="10" height="10"/>', "begins to wait"],
   ["", '<path class="mark" d="M8 2l6 6l-6 6l-6 -6z"/>', "starts, makes"],
   ["", '<path class="mark" d="M2 4h12v8h-12z"/>', "closes"],
-  ["fault", '<path class="mark" d="M3 3l10 10m0 -10l-10 10"/>', "fault"],
+  ["fault", '<path class="mark" d="M3 3l10 10m0 -10l-10 10"/>', "panic"],
   ["", '<line class="asleep" x1="8" y1="0" x2="8" y2="16"/>', "waits"],
 ];
 const EDGE_NAMES = [["message", "message"], ["start", "start"], ["close", "close"], ["order", "order of waiting"]];

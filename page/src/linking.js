@@ -70,7 +70,7 @@ export function checked(read) {
 /** @param {Shared} shared */
 export const toFile = ({ source, commands }) => source + (commands.length ? `${COMMANDS}${commands.map((it) => `// ${it}`).join("\n")}\n` : "");
 
-// What files hold: `NAME.go` a source, `NAME.script` commands, or both in one.
+// What files hold: `NAME.go` a source, `NAME.script` commands, or both in one. The first line of a script of the shell names its source.
 /**
  * @param {{name: string, text: string}[]} files
  * @returns {{source: string | null, commands: string[], name: string}}
@@ -80,13 +80,13 @@ export function fromFiles(files) {
   const found = { source: null, commands: [], name: "" };
   for (const { name, text } of files) {
     if (/\.script$/.test(name)) {
-      found.commands.push(...text.split("\n").filter((line) => line.trim()));
+      found.commands = found.commands.concat(text.split("\n").filter((line) => line.trim() && !line.startsWith("//")));
       continue;
     }
     const [source, behind] = text.split(COMMANDS);
     found.source = source;
     found.name = name.replace(/\.\w+$/, "");
-    if (behind) found.commands.push(...behind.split("\n").map((line) => line.replace(/^\/\/ ?/, "")).filter((line) => line.trim()));
+    if (behind) found.commands = found.commands.concat(behind.split("\n").map((line) => line.replace(/^\/\/ ?/, "")).filter((line) => line.trim()));
   }
   return found;
 }

@@ -231,7 +231,7 @@ export class Log {
   /** @param {string[]} ids */
   remove(ids) {
     const going = new Set(ids);
-    const first = Math.min(...ids.map((id) => this.row(id)).filter((row) => row >= 0), this.length);
+    const first = ids.reduce((least, id) => (this.row(id) < 0 ? least : Math.min(least, this.row(id))), this.length);
     this.gone = new Map(ids.map((id) => [id, this.kindOf(id)]));
     const rest = this.steps(first, this.length).filter(({ id }) => !going.has(id));
     this.restart(rest, first);

@@ -1,8 +1,10 @@
 // Puts the page together: it draws menu and source first, then compiles the program, and begins with a link, kept work or a story.
 
+import { toggleBreak } from "./breaks.js";
 import { canSuspend, Session as Engine } from "./engine.js";
 import { fromHash, inflated, LINK } from "./linking.js";
 import { kept, keep, keepSettings, settings } from "./keeping.js";
+import { erred } from "./losses.js";
 import { legend } from "./legend.js";
 import { act, listenToActions, openStory } from "./actions.js";
 import { listenInPicture, listenToKeys } from "./shortcuts.js";
@@ -11,17 +13,19 @@ import { makeViews } from "./views.js";
 import { explain } from "./refusals.js";
 import { Page } from "./page.js";
 import { parseFault } from "./protocol.js";
+import { isUnanswered } from "./remote.js";
 import { asPng } from "./saved.js";
 import { savePicture } from "./saving.js";
 import { paletteRules } from "./palette.js";
 import { PICTURE_RULES } from "./picture.js";
 import { Words } from "./words.js";
-import { field, find, make, tableRow } from "./element.js";
+import { counted, field, find, make, tableRow } from "./element.js";
 import { makePanes } from "./splitters.js";
 import { paneEvents, showStepsOf } from "./asking.js";
 import { watchExercise } from "./tasks.js";
 
 const FIRST = "deadlock";
+const DAMAGED = "The link is damaged, and no session can be read of it: ask for it anew.";
 const BROWSERS = "Rewind needs a browser with WebAssembly: Chrome or Edge 103, Firefox 113, Safari 16.4, or newer ones.";
 
 /** @returns {Given} */
@@ -56,10 +60,11 @@ function fillHelp({ given: { commands, licence } }) {
 /** @param {Page} page */
 async function linked(page) {
   try {
-    return await fromHash(location.hash);
-  } catch (fault) {
-    page.say(`The link is damaged: ${fault instanceof Error ? fault.message : fault}.`, "bad");
-    return null;
+    return { link: await fromHash(location.hash), isDamaged: false };
+  } catch {
+    page.views.transcript.fault(DAMAGED);
+    page.say(DAMAGED, "bad");
+    return { link: null, isDamaged: true };
   }
 }
 
@@ -68,20 +73,20 @@ async function linked(page) {
 /** @param {Page} page */
 async function begin(page) {
   const { editor, stories } = page.views;
-  const [link, work] = [await linked(page), kept()];
+  const [{ link, isDamaged }, work] = [await linked(page), kept()];
   const shared = link || work;
   const source = stories.choose(shared ? shared.name || "" : FIRST);
   editor.begin(work ? work.source : link ? "" : source);
   if (link) editor.text = link.source;
   if (link?.theme) setTheme(link.theme);
-  return shared;
+  return { shared, isDamaged };
 }
 
 // A link that is put into the address of the open page.
 /** @param {Page} page */
 function listenToLinks(page) {
   window.addEventListener("hashchange", async () => {
-    const link = await linked(page);
+    const { link } = await linked(page);
     if (!link) return;
     page.views.stories.choose(link.name || "");
     page.views.editor.text = link.source;
@@ -99,7 +104,7 @@ async function openBeginning(page, shared) {
   if (!(await page.open()) || !shared?.commands.length) return;
   await page.replay(shared.commands);
   page.views.stories.catchUp(shared.commands);
-  page.say(`${shared.commands.length} commands were done again.`);
+  page.say(`${counted(shared.commands.length, "command")} ${shared.commands.length === 1 ? "was" : "were"} done again.`);
   if (shared.chosen && page.session && page.session.log.row(shared.chosen) >= 0) await page.pointing.show(shared.chosen);
 }
 
@@ -134,10 +139,18 @@ function keepWork(page) {
   window.addEventListener("pagehide", now);
 }
 
+// An error of the page that nothing else met. What the browser tells of its own work has no error with it.
+/** @param {Page} page */
+function listenToErrors(page) {
+  window.addEventListener("error", ({ error }) => error && erred(page, error));
+  window.addEventListener("unhandledrejection", ({ reason }) => isUnanswered(reason) || erred(page, reason)); // a session may be left meanwhile
+}
+
 async function start() {
   document.head.append(make("style", {}, paletteRules(":root") + PICTURE_RULES));
   takeSettings();
   const page = makePage();
+  listenToErrors(page);
   listenToActions(page);
   listenToKeys(page);
   listenInPicture(page);
@@ -145,7 +158,7 @@ async function start() {
   makePanes(page);
   fillHelp(page);
   watchExercise(page);
-  const shared = await begin(page);
+  const { shared, isDamaged } = await begin(page);
   page.showControls();
   try {
     page.machine = await makeMachine();
@@ -155,8 +168,9 @@ async function start() {
     return page.say("The program cannot run in this browser."), false;
   }
   // The tests and the pictures of the documents reach the page by this name.
-  window.rewind = { page, program: page.machine.program, Session: Engine, act, openStory, savePicture, asPng, explain, parseFault };
+  window.rewind = { page, program: page.machine.program, Session: Engine, act, openStory, toggleBreak, savePicture, asPng, explain, parseFault };
   await openBeginning(page, shared);
+  if (isDamaged) page.say(DAMAGED, "bad");
   keepWork(page);
   listenToLinks(page);
   return true;

@@ -1,11 +1,11 @@
 // The moves of every debugger: over a statement, on with one goroutine until it waits, and to a line. Each step is one of the user's
 // session, as if it were commanded by hand.
 
+import { showBreaks } from "./breaks.js";
 import { isWait } from "./edges.js";
 import { lost } from "./losses.js";
 import { parseGoroutine } from "./protocol.js";
 import { placed } from "./scene.js";
-import { SessionGone } from "./remote.js";
 
 const MOST = 2000; // steps of one move
 export const LONGEST_RUN = 1000000;
@@ -37,7 +37,6 @@ async function stepUntil(page, isThere) {
       page.say(end);
       page.showPlace();
     } catch (fault) {
-      if (!(fault instanceof SessionGone)) throw fault;
       lost(page, session, fault);
     }
   });
@@ -114,10 +113,18 @@ export async function runToLine(page, line) {
   if (!session || page.hindrance) return page.say(page.hindrance, "bad");
   const goal = session.statements.snap(line);
   if (!goal) return page.say("There is no statement at this line or below.", "bad");
+  if (session.breakpoints.has(goal)) return page.run(LONGEST_RUN);
+  session.goal = goal;
   return page.doing(async () => {
-    const had = session.breakpoints.has(goal);
-    if (!had) await session.perform(`break ${goal}`);
-    await page.run(LONGEST_RUN);
-    if (!had && !session.gone) await session.perform(`clear ${goal}`);
+    try {
+      await session.perform(`break ${goal}`);
+      await page.run(LONGEST_RUN);
+      if (!session.gone) await session.perform(`clear ${goal}`);
+    } catch (fault) {
+      lost(page, session, fault);
+    } finally {
+      session.goal = 0;
+      showBreaks(page);
+    }
   });
 }

@@ -2,11 +2,12 @@
 
 import { CHANGES, parseFault, wordsOf } from "./protocol.js";
 import { Annotating } from "./annotating.js";
+import { showBreaks, takeBreaks } from "./breaks.js";
 import { SessionGone } from "./remote.js";
 import { Refused, Session } from "./session.js";
 import { endOfRun } from "./words.js";
 import { explain } from "./refusals.js";
-import { blinded, lost } from "./losses.js";
+import { blinded, erred, lost } from "./losses.js";
 import { Past } from "./past.js";
 import { Pointing } from "./pointing.js";
 
@@ -34,9 +35,10 @@ export class Page {
     this.openings = 0;
     this.busy = 0; // how many things are being done
     this.isMoving = false;
+    this.isMending = false; // after an error of the page
     this.stamp = 0; // of the state that is shown
-    /** @type {string[]} */
-    this.cycle = [];
+    /** @type {import("./standing.js").Standing | null} */
+    this.standing = null;
     this.pointing = new Pointing(this);
     this.past = new Past(this);
     this.annotating = new Annotating(this);
@@ -95,13 +97,16 @@ export class Page {
    */
   refuse(text, fault) {
     const refusal = fault instanceof Refused && parseFault(fault.errors);
-    if (!refusal) return this.say(`No session could be opened: ${fault instanceof SessionGone ? fault.message : String(fault)}`, "bad");
+    if (fault instanceof SessionGone) return this.say(`No session could be opened: ${fault.message}.`, "bad");
+    if (!refusal) return erred(this, fault);
     const explained = explain(this.given.refusals, text, refusal);
     const instead = explained.instead ? ` Write instead: ${explained.instead}` : "";
-    const message = `${explained.sentence}.${instead} (${refusal.text})`;
+    const hint = explained.hint ? ` Hint: ${explained.hint}.` : "";
+    const message = `${explained.sentence}.${instead}${hint} (${refusal.text})`;
     const isAtItsLine = this.views.editor.refuse(explained, message);
     this.views.refusal.show(explained.line ? `Refused at line ${explained.line}: ${message}` : `Refused: ${message}`, isAtItsLine);
     const kept = this.session ? " The session is still that of the text before." : "";
+    this.views.transcript.fault(`The source in the editor is refused.${kept}`);
     this.say(`${explained.line ? `The source is refused at line ${explained.line}: ` : "The source is refused: "}${explained.sentence}.${kept}`, "bad");
   }
 
@@ -110,7 +115,7 @@ export class Page {
     this.session?.leave();
     this.session = session;
     this.chosen = "g0";
-    this.cycle = [];
+    this.standing = null;
     this.pointing.clear();
     this.past.leave();
     this.views.picture.hidden.clear();
@@ -119,18 +124,14 @@ export class Page {
     this.views.transcript.clear();
     this.views.transcript.remark("The source is checked, and its program stands before its first step.");
     this.say("The program stands before its first step.");
-    await this.takeBreaks();
+    await takeBreaks(this);
     await this.refresh();
     this.showPlace();
   }
 
-  // Sets the breakpoints of the editor, each at the first statement at its line or below.
-  async takeBreaks() {
-    const { session, views } = this;
-    if (!session) return;
-    const wanted = views.editor.breaks.map((line) => session.statements.snap(line)).filter((line) => line);
-    await session.setBreaks(wanted);
-    views.editor.markBreaks(session.breakpoints);
+  // The goroutines that wait for each other, where it was found that some do.
+  get cycle() {
+    return this.standing?.cycle || [];
   }
 
   // Why no command can be given now, or "".
@@ -185,7 +186,7 @@ export class Page {
     this.say(this.words.reply(line, reply), reply.isOk ? "" : "bad");
     if (word === "quit" && reply.isOk) this.say("The session is ended. Start it to begin anew.");
     if (CHANGES.has(word)) await this.refresh();
-    if (this.session) this.views.editor.markBreaks(this.session.breakpoints);
+    showBreaks(this);
     if (reply.words[1] === "B4") this.pointing.forbid(reply.words.slice(2));
   }
 
@@ -260,19 +261,21 @@ export class Page {
     if (!session) return false;
     const stamp = ++this.stamp;
     let isShown = false;
-    this.cycle = [];
+    this.past.leave();
+    this.standing = null;
     try {
-      await session.look();
+      const { missing } = await session.look();
       if (stamp !== this.stamp) return true;
+      if (missing) blinded(this, missing);
       if (!session.log.names.includes(this.chosen)) this.chosen = "g0";
       this.pointing.keepKnown();
       this.showScene(session.scene);
       this.showPicture();
       await this.pointing.color();
       this.tell();
-      isShown = true;
+      isShown = !missing;
     } catch (fault) {
-      if (stamp === this.stamp) blinded(this, session, fault);
+      if (stamp === this.stamp) lost(this, session, fault);
     }
     this.annotating.begin(stamp);
     return isShown;
@@ -288,9 +291,9 @@ export class Page {
     const { views, session, chosen } = this;
     const isOver = Boolean(session?.log.isOver) && !isPast;
     const canStep = !isOver && !isPast && !this.hindrance;
-    views.panes.goroutines(scene, { chosen, isOver, canStep });
+    views.panes.goroutines(scene, { chosen, isOver, canStep, program: session?.program || null });
     views.panes.channels(scene);
-    views.panes.console(scene.console);
+    views.panes.console(scene);
     if (session && views.editor.text === session.source) views.editor.markPlaces(scene.goroutines);
     else views.editor.clearPlaces();
     this.showControls();
@@ -348,23 +351,8 @@ export class Page {
     const { session } = this;
     if (!session || this.hindrance) return this.say(this.hindrance, "bad");
     const ready = session.scene.clauses.get(this.chosen) || (await session.mirror.readyClauses(session.scene.goroutines)).get(this.chosen) || [];
-    if (!ready.some((it) => it.number === number)) return this.say(`${this.chosen} has no ready clause ${number}.`, "bad");
+    if (!ready.some((it) => it.number === number)) return this.say(`${this.chosen} has no ready case ${number}.`, "bad");
     return this.step(this.chosen, number);
-  }
-
-  // Sets or removes a breakpoint: at the first statement at this line or below.
-  /** @param {number} line */
-  async toggleBreak(line) {
-    const { session, views } = this;
-    if (session && views.editor.text === session.source && !this.hindrance) {
-      const snapped = session.statements.snap(line);
-      if (!snapped) return this.say("There is no statement at this line or below.", "bad");
-      await this.perform(`${session.breakpoints.has(snapped) ? "clear" : "break"} ${snapped}`);
-      return this.say(session.breakpoints.has(snapped) ? `A run stops before line ${snapped}.` : `The breakpoint in line ${snapped} is gone.`);
-    }
-    const lines = new Set(views.editor.breaks);
-    if (!lines.delete(line)) lines.add(line);
-    views.editor.markBreaks(lines);
   }
 
   // What is kept of the work, and shared: the text, the commands of the session where it is of that text, breakpoints and the story.

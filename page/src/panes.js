@@ -2,8 +2,10 @@
 // line is a button that finds the step behind it.
 
 import { button, inSteps, make } from "./element.js";
+import { holdersOf } from "./holders.js";
 import { parseWaiter } from "./protocol.js";
-import { waitText, waitsOf } from "./waits.js";
+import { wishesText } from "./sentences.js";
+import { NIL, Wishes } from "./waits.js";
 
 const FRAMES = 8; // of more frames the innermost are shown until the others are unfolded
 const MANY = 8; // cards: above more of them stand the channels
@@ -16,6 +18,15 @@ const LINES = 1000; // of more lines of the console the last are shown
  * @property {(name: string) => void} choose
  * @property {(what: {go?: string, variable?: [string, string], item?: [string, number], waiter?: string, line?: number}) => void} findStep
  */
+
+const UNSHOWN = "This state cannot be shown."; // why, says the status
+
+// What stands in an empty pane.
+/**
+ * @param {Scene} scene
+ * @param {string} text
+ */
+const none = ({ missing }, text) => make("p", { class: "none" }, missing ? UNSHOWN : text);
 
 /**
  * @param {string} title
@@ -69,7 +80,7 @@ function stateText({ state, steps, line }, isOver) {
 function stepButtons({ name }, clauses, on) {
   const step = button({ onclick: () => on.step(name), "aria-label": `Step ${name}` }, "Step");
   const picks = clauses.map(({ number, text }) =>
-    button({ onclick: () => on.step(name, number), "aria-label": `Clause ${number}: ${text}, of ${name}` }, `${number}: `, make("code", {}, text)),
+    button({ onclick: () => on.step(name, number), "aria-label": `Case ${number}: ${text}, of ${name}` }, `${number}: `, make("code", {}, text)),
   );
   return make("div", { class: "buttons" }, step, ...picks);
 }
@@ -91,24 +102,31 @@ function goroutineCard(goroutine, { clauses, isChosen, isOver, canStep, wait }, 
   return card;
 }
 
+// What a goroutine waits for, by its own names for the channels.
+/** @param {{wishes: import("./waits.js").Wish[]}} wait */
+function waitText({ wishes }) {
+  if (!wishes.length) return "waits for ever: its select has no cases";
+  return wishes[0].channel === NIL ? `waits to ${wishesText({ wishes })}: a nil channel blocks for ever` : `waits to ${wishesText({ wishes })}`;
+}
+
 // The card of a goroutine, but for those that are done: these stand in one line.
 /**
  * @param {HTMLElement} host
  * @param {Scene} scene
- * @param {{chosen: string, isOver: boolean, canStep: boolean}} how
+ * @param {{chosen: string, isOver: boolean, canStep: boolean, program: import("./flows.js").Program | null}} how
  * @param {PaneEvents} on
  */
-export function showGoroutines(host, scene, { chosen, isOver, canStep }, on) {
+export function showGoroutines(host, scene, { chosen, isOver, canStep, program }, on) {
   const focused = /** @type {HTMLElement | null} */ (host.contains(document.activeElement) ? document.activeElement : null);
   const label = focused && (focused.getAttribute("aria-label") || focused.textContent);
-  const waits = new Map(waitsOf(scene).map((it) => [it.name, waitText(it).replace(/^\S+ waits( at line \d+)? /, "waits ")]));
+  const waits = new Map(program ? new Wishes(program, scene.goroutines, scene.channels).shown(scene.hidden > 0).map((it) => [it.goroutine, waitText(it)]) : []);
   const done = scene.goroutines.filter(({ name, state }) => state === "done" && name !== chosen);
   const cards = scene.goroutines.filter((it) => !done.includes(it));
   const how = (/** @type {string} */ name) => ({ clauses: scene.clauses.get(name) || [], isChosen: name === chosen, isOver, canStep, wait: waits.get(name) || "" });
   host.replaceChildren(...cards.map((it) => goroutineCard(it, how(it.name), on)));
   if (done.length) host.append(make("p", { class: "done" }, "done: ", ...done.map(({ name, steps }) => button({ "data-goroutine": name, onclick: () => on.choose(name) }, `${name}, ${inSteps(steps)}`))));
   document.body.classList.toggle("many-cards", cards.length > MANY);
-  if (!scene.goroutines.length) host.append(make("p", { class: "none" }, "There is no session."));
+  if (!scene.goroutines.length) host.append(none(scene, "There is no session."));
   if (scene.hidden) host.append(make("p", { class: "none" }, `${scene.hidden} goroutines and channels more: ask for them by name.`));
   if (!label) return;
   const same = [...host.querySelectorAll("button")].find((it) => (it.getAttribute("aria-label") || it.textContent) === label);
@@ -121,18 +139,6 @@ export function showGoroutines(host, scene, { chosen, isOver, canStep }, on) {
  */
 function listed(title, values) {
   return make("div", {}, make("dt", {}, title), make("dd", { class: values.length ? "" : "none" }, ...(values.length ? values : ["none"])));
-}
-
-// The names of the variables that hold each channel, the outermost frames first.
-/** @param {Goroutine[]} goroutines */
-function holdersOf(goroutines) {
-  /** @type {Map<string, Set<string>>} */
-  const holders = new Map();
-  const variables = goroutines.flatMap(({ frames }) => [...frames].reverse().flatMap((frame) => frame.variables));
-  for (const { name, value } of variables) {
-    if (value.includes("/c")) holders.set(value, (holders.get(value) || new Set()).add(name));
-  }
-  return holders;
 }
 
 /**
@@ -158,21 +164,21 @@ function channelCard({ name, capacity, isClosed, items, senders, receivers }, ho
 export function showChannels(host, scene, on) {
   const holders = holdersOf(scene.goroutines);
   host.replaceChildren(...scene.channels.map((it) => channelCard(it, [...(holders.get(it.name) || [])], on)));
-  if (!scene.channels.length) host.append(make("p", { class: "none" }, "No channel was made yet."));
+  if (!scene.channels.length) host.append(none(scene, "No channel was made yet."));
 }
 
 /**
  * @param {HTMLElement} host
- * @param {Tail} tail
+ * @param {Scene} scene
  * @param {PaneEvents} on
  */
-export function showConsole(host, { isOk, count, lines }, on) {
+export function showConsole(host, { console: { isOk, count, lines }, missing }, on) {
   const shown = lines.slice(-LINES);
   const before = count - shown.length;
   const line = (/** @type {string} */ text, /** @type {number} */ at) =>
     make("li", {}, asked("Find the step that printed it", text || " ", () => on.findStep({ line: before + at })));
   host.replaceChildren(...(before ? [make("li", { class: "none" }, `${before.toLocaleString("en")} lines before`)] : []), ...shown.map(line));
-  const none = isOk ? "Nothing was printed yet." : "More was printed than there is memory to show. Take steps back to see it.";
-  if (!count) host.append(make("li", { class: "none" }, none));
+  const empty = isOk ? "Nothing was printed yet." : "More was printed than there is memory to show. Take steps back to see it.";
+  if (!count) host.append(make("li", { class: "none" }, missing ? UNSHOWN : empty));
   host.scrollTop = host.scrollHeight;
 }

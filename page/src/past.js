@@ -1,6 +1,7 @@
 // Looks at a past state: the panes show it, the picture dims what came later, and the session is left as it is.
 
-import { SessionGone, Unanswered } from "./remote.js";
+import { isUnanswered } from "./remote.js";
+import { unshown } from "./scene.js";
 
 const TELLING = 200; // milliseconds between two words on how far the way to a state is done
 
@@ -10,7 +11,7 @@ const TELLING = 200; // milliseconds between two words on how far the way to a s
  * @returns {null}
  */
 function noScene(fault) {
-  if (!(fault instanceof SessionGone || fault instanceof Unanswered)) throw fault;
+  if (!isUnanswered(fault)) throw fault;
   return null;
 }
 
@@ -45,8 +46,9 @@ export class Past {
     const scene = await session.follower.inTurn(async () => session.follower.sceneAt(row, isAsked)).catch(noScene).finally(() => clearInterval(telling));
     if (!isAsked()) return;
     this.isMissed = !scene;
-    if (scene) this.show(session, scene);
-    else this.page.views.past.show(this.page);
+    if (scene) return this.show(session, scene);
+    this.page.views.past.show(this.page);
+    this.page.showScene(unshown("it cannot be found"), true);
   }
 
   // Shows the state that was looked for.
@@ -59,6 +61,7 @@ export class Past {
     this.scene = scene;
     this.found = row;
     page.views.past.show(page);
+    page.say("The panes show a past state. A command acts on the present one.");
     page.showScene(scene, true);
     page.pointing.draw();
     if (row) page.views.picture.reveal(log.id(row - 1));
@@ -77,6 +80,7 @@ export class Past {
   back() {
     if (!this.isOn) return;
     this.leave();
+    this.page.say("The panes show the present state.");
     if (this.page.session) this.page.showScene(this.page.session.scene);
     this.page.pointing.draw();
   }

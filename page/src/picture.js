@@ -10,7 +10,7 @@ import { isWait, word } from "./edges.js";
 /** @typedef {import("./layout.js").Place} Place */
 
 export const PICTURE_RULES = `
-.picture text{font:var(--picture-size,12px) ui-monospace,Menlo,Consolas,monospace;fill:var(--text)}
+.picture text{font:var(--picture-size,12px) Menlo,Consolas,"DejaVu Sans Mono","Liberation Mono",monospace;fill:var(--text)}
 .picture tspan.muted{font-size:.92em}
 .picture .halo{paint-order:stroke;stroke:var(--page);stroke-width:4px;stroke-linejoin:round}
 .picture .muted,.picture .number,.picture .of{fill:var(--muted)}
@@ -93,8 +93,9 @@ function lastAtMost(rows, row) {
  * @param {string} name
  * @param {number} from
  * @param {number} to
+ * @param {number} last the first step of the log that came later than the state that is looked at
  */
-function drawLife(place, name, from, to) {
+function drawLife(place, name, from, to, last) {
   const { log, rows } = place;
   const own = log.byName.get(name)?.rows || [];
   const x = place.lefts.get(name);
@@ -105,7 +106,10 @@ function drawLife(place, name, from, to) {
     const end = at + 1 < own.length ? rows.place(own[at + 1]) : waits ? rows.length - 0.5 : start;
     if (end < from) continue;
     const [top, bottom] = [place.y(Math.max(start, from - 1)), place.y(Math.min(end, to + 1))];
-    if (bottom > top) drawn.push(`<line class="${waits ? "asleep" : "life"}" x1="${x}" y1="${top}" x2="${x}" y2="${bottom}"/>`);
+    const now = last < log.length ? Math.max(top, Math.min(bottom, place.y(rows.place(last) - 0.5))) : bottom;
+    const line = (/** @type {number} */ y1, /** @type {number} */ y2, later = "") => `<line class="${waits ? "asleep" : "life"}${later}" x1="${x}" y1="${y1}" x2="${x}" y2="${y2}"/>`;
+    if (now > top) drawn.push(line(top, now));
+    if (bottom > now) drawn.push(line(now, bottom, " later"));
   }
   return drawn.join("");
 }
@@ -299,7 +303,7 @@ export function drawRows(place, edges, drawing, from, to) {
     return place.rows.place(one) <= last && place.rows.place(other) >= from;
   };
   const arrows = edges.filter(crosses).map((edge) => drawEdge(place, edge, view, near));
-  const lives = place.rows.length ? place.names.map((name) => drawLife(place, name, from, last)) : [];
+  const lives = place.rows.length ? place.names.map((name) => drawLife(place, name, from, last, view.last)) : [];
   const isWhole = view.cycle.every((name) => place.lefts.has(name));
   const cycle = view.cycle.length && isWhole && last === place.rows.length - 1 ? drawCycle(place, view.cycle) : "";
   const margin = left ? drawMargin(place, drawn, left) : "";

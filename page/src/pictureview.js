@@ -1,8 +1,10 @@
 // The space-time picture in the page: only the rows in view are drawn. It tells of pointing, choosing and dragging.
 
+import { Hand } from "./hand.js";
 import { worksOn } from "./operations.js";
 import { headOf, labelWidth, layOut } from "./layout.js";
 import { DEFINITIONS, NOTHING_POINTED, cycleHeight, cycleWidth, drawNames, drawRows } from "./picture.js";
+import { goroutineOf } from "./protocol.js";
 import { Rows } from "./rows.js";
 
 const SIZES = [[14, 10], [18, 11], [22, 12], [28, 14], [36, 18], [44, 22]]; // heights of rows, and of their letters
@@ -64,13 +66,12 @@ export class PictureView {
     this.hasOrder = true; // whether arrows of the order of waiting are drawn
     /** @type {{log: import("./log.js").Log, functions: Map<string, string>, notes: (id: string) => Note | undefined} | null} */
     this.shown = null;
-    /** @type {{from: number, row: number} | null} */
-    this.drag = null;
-    /** @type {number | null} */
-    this.pressedRow = null;
     this.frame = 0;
     this.isToMeasure = false;
     this.version = -1; // of the log that is laid out
+    this.rowsVersion = -1; // and of the one whose rows these are
+    /** @type {Rows | null} */
+    this.rowsNow = null;
     this.length = 0;
     this.room = 0; // its height when that was last seen
     this.wasAtEnd = true;
@@ -80,6 +81,7 @@ export class PictureView {
     this.body.innerHTML = `${DEFINITIONS}<g class="drawn" role="none"></g><g class="above" aria-hidden="true"></g>`;
     this.drawn = /** @type {Element} */ (this.body.querySelector(".drawn"));
     this.above = /** @type {Element} */ (this.body.querySelector(".above"));
+    this.hand = new Hand(this);
     this.listen();
   }
 
@@ -91,10 +93,6 @@ export class PictureView {
       this.on.scrolled();
     });
     new ResizeObserver(() => this.resized()).observe(host);
-    host.addEventListener("pointermove", (event) => this.moved(event));
-    host.addEventListener("pointerdown", (event) => this.pressed(event));
-    host.addEventListener("pointerup", (event) => this.released(event));
-    host.addEventListener("pointercancel", () => this.endDrag());
   }
 
   // The step that stays in view: the one that is kept chosen, or the last one of a past state. The log may have become shorter since.
@@ -114,6 +112,18 @@ export class PictureView {
     this.place();
     if (wasInView) this.reveal(staying);
     else if (this.wasAtEnd) this.host.scrollTop = this.host.scrollHeight;
+  }
+
+  // The rows of the log as it is now.
+  get rows() {
+    if (this.shown && this.rowsVersion !== this.shown.log.version) this.renewRows(this.shown);
+    return this.rowsNow;
+  }
+
+  /** @param {NonNullable<PictureView["shown"]>} shown */
+  renewRows(shown) {
+    this.rowsVersion = shown.log.version;
+    this.rowsNow = this.rowsOf(shown);
   }
 
   get rowHeight() {
@@ -172,7 +182,6 @@ export class PictureView {
 
   place() {
     if (!this.shown) return;
-    this.rows = this.rowsOf(this.shown);
     this.measure();
     this.host.style.setProperty("--picture-size", `${SIZES[this.size][1]}px`);
     this.drawSoon();
@@ -191,14 +200,15 @@ export class PictureView {
 
   // Lays out the rows around the view; of a log that has changed, these are other ones.
   measure() {
-    if (!this.shown || !this.rows) return;
-    this.rows = this.rowsOf(this.shown);
+    if (!this.shown) return;
+    this.renewRows(this.shown);
+    const rows = /** @type {Rows} */ (this.rowsNow);
     this.version = this.shown.log.version;
     const [from, to] = this.inView();
     const { clientWidth: room } = this.host;
-    const how = { rowHeight: this.rowHeight, letter: this.letter, room, first: from, last: this.rows.length > MEASURED ? to : Infinity, top: this.top };
-    this.layout = layOut({ ...this.shown, rows: this.rows, labels: this.labels }, how);
-    const height = this.layout.y(this.rows.length) + 6 + cycleHeight(this.layout, this.view.cycle);
+    const how = { rowHeight: this.rowHeight, letter: this.letter, room, first: from, last: rows.length > MEASURED ? to : Infinity, top: this.top };
+    this.layout = layOut({ ...this.shown, rows, labels: this.labels }, how);
+    const height = this.layout.y(rows.length) + 6 + cycleHeight(this.layout, this.view.cycle);
     const width = Math.max(this.layout.width, room, cycleWidth(this.layout, this.view.cycle));
     change(this.head, { width, height: this.headHeight });
     change(this.body, { width, height });
@@ -244,8 +254,8 @@ export class PictureView {
   /** @returns {[number, number]} */
   stepsInView() {
     if (!this.rows || !this.rows.length) return [0, 0];
-    const [from, to] = this.inView();
-    return [this.rows.at(from), this.rows.at(Math.min(to, this.rows.length - 1)) + 1];
+    const [from, to] = this.inView().map((place) => Math.min(place, Number(this.rows?.length) - 1));
+    return [this.rows.at(from), this.rows.at(to) + 1];
   }
 
   // Whatever the browser measures is read before anything is changed, so that it lays out the page once.
@@ -278,11 +288,14 @@ export class PictureView {
    */
   drawTakeBack(right, left) {
     const row = this.row(this.view.pointed);
-    if (row === null || this.drag || !this.view.count || !this.layout) return "";
+    if (row === null || this.hand.drag || !this.view.count || !this.layout) return "";
     const text = `take back ${this.view.count}`;
     const width = text.length * (this.letter + 0.4) + 14;
     const x = this.besideStep(row, width, right, left);
-    const y = this.layout.y(row) - BUTTON / 2;
+    const mark = Number(this.layout.lefts.get(goroutineOf(this.view.pointed)));
+    const isOver = x < mark + 12 && x + width > mark - 12; // then it stands below, or above the last row
+    const below = row + 1 < Number(this.rows?.length) ? BUTTON : -BUTTON;
+    const y = this.layout.y(row) - BUTTON / 2 + (isOver ? below : 0);
     return `<g class="take-back"><rect x="${x}" y="${y}" width="${width}" height="${BUTTON}"/><text x="${x + width / 2}" y="${y + 16}">${text}</text></g>`;
   }
 
@@ -302,8 +315,9 @@ export class PictureView {
   }
 
   drawDrop() {
-    if (!this.drag || this.drag.row === this.drag.from || !this.layout) return "";
-    const y = this.layout.y(this.drag.row + (this.drag.row > this.drag.from ? 0.5 : -0.5));
+    const { drag } = this.hand;
+    if (!drag || drag.row === drag.from || !this.layout) return "";
+    const y = this.layout.y(drag.row + (drag.row > drag.from ? 0.5 : -0.5));
     return `<line class="drop" x1="0" y1="${y}" x2="${this.layout.width}" y2="${y}"/>`;
   }
 
@@ -321,47 +335,7 @@ export class PictureView {
 
   /** @param {number} row */
   idAt(row) {
-    return this.shown && this.rows ? this.shown.log.id(this.rows.at(row)) : "";
-  }
-
-  /** @param {PointerEvent} event */
-  moved(event) {
-    const row = this.rowOf(event);
-    if (this.drag) return this.dragTo(row);
-    if (row !== null) this.on.point(this.idAt(row));
-  }
-
-  /** @param {PointerEvent} event */
-  pressed(event) {
-    const row = this.rowOf(event);
-    const target = /** @type {Element} */ (event.target);
-    if (row === null || event.button || target.closest(".take-back")) return;
-    this.pressedRow = row;
-    if (event.pointerType === "touch" || !target.closest("[data-step]")) return;
-    this.host.setPointerCapture(event.pointerId);
-    this.drag = { from: row, row };
-  }
-
-  /** @param {number | null} row */
-  dragTo(row) {
-    if (row === null || !this.drag) return;
-    this.drag.row = row;
-    this.draw();
-  }
-
-  /** @param {PointerEvent} event */
-  released(event) {
-    const { drag } = this;
-    this.endDrag();
-    if (/** @type {Element} */ (event.target).closest(".take-back")) return this.on.takeBack(this.view.pointed);
-    if (drag && drag.row !== drag.from) return this.on.move(this.idAt(drag.from), this.rows?.at(drag.row) || 0);
-    const row = this.rowOf(event);
-    if (row !== null && row === this.pressedRow) this.on.choose(this.idAt(row));
-  }
-
-  endDrag() {
-    this.drag = null;
-    this.draw();
+    return this.shown && this.rows && row < this.rows.length ? this.shown.log.id(this.rows.at(row)) : "";
   }
 
   /** @param {string} id */

@@ -1,7 +1,8 @@
 // The step that is pointed at or chosen: its causes and its consequences get a colour, and it can be taken back or moved.
 
+import { field, find } from "./element.js";
 import { NOTHING_POINTED } from "./picture.js";
-import { SessionGone, Unanswered } from "./remote.js";
+import { isUnanswered } from "./remote.js";
 import { goroutineOf, numberOf } from "./protocol.js";
 
 export class Pointing {
@@ -24,22 +25,32 @@ export class Pointing {
 
   clear() {
     this.pinned = this.pointed = "";
-    this.about = this.found = null;
+    this.about = null;
     this.forbids = [];
     this.view = NOTHING_POINTED;
+    this.forgetFound();
+    field("search-text").value = "";
+  }
+
+  // What was found is of the log as it was.
+  forgetFound() {
+    this.found = null;
+    find("found").textContent = "";
   }
 
   get log() {
     return this.page.session?.log;
   }
 
+  /** @param {string} id */
+  isKept = (id) => (this.log?.row(id) ?? -1) >= 0;
+
   // Lets go of steps that are no longer kept.
   keepKnown() {
-    const isKept = (/** @type {string} */ id) => (this.log?.row(id) ?? -1) >= 0;
-    if (!isKept(this.pinned)) this.pinned = "";
-    if (!isKept(this.pointed)) this.pointed = "";
-    this.forbids = this.forbids.every(isKept) ? this.forbids : [];
-    this.found = null;
+    if (!this.isKept(this.pinned)) this.pinned = "";
+    if (!this.isKept(this.pointed)) this.pointed = "";
+    this.forbids = this.forbids.every(this.isKept) ? this.forbids : [];
+    this.forgetFound();
   }
 
   get atHand() {
@@ -106,12 +117,13 @@ export class Pointing {
       this.view = { ...NOTHING_POINTED, causes: causes.spans, consequences: consequences.spans };
       this.draw();
     } catch (fault) {
-      if (!(fault instanceof SessionGone || fault instanceof Unanswered)) throw fault; // else the step is gone
+      if (!isUnanswered(fault)) throw fault; // else the step is gone
     }
   }
 
-  // Shows what is known in picture, source and text.
+  // Shows what is known in picture, source and text. The step may have gone since.
   draw() {
+    if (this.about && !this.isKept(this.about.id)) this.about = null;
     const { page, about } = this;
     const note = about ? page.note(about.id) : undefined;
     const isDirect = this.isDirect && Boolean(about);

@@ -1,6 +1,7 @@
 // What would go if a step were taken back: lines of the console, values of variables, and what channels hold.
 
 import { make } from "./element.js";
+import { calledBy, holdersOf } from "./holders.js";
 
 const SHOWN = 8; // changes of a kind; of more the first
 
@@ -37,7 +38,8 @@ export function differences(now, then) {
   const lines = [...now.console.lines];
   for (const line of then.console.lines) lines.splice(Math.max(0, lines.indexOf(line)), lines.includes(line) ? 1 : 0);
   const places = (/** @type {Scene} */ { goroutines }) => new Map(goroutines.map(({ name, state, line }) => [name, line ? `${state} at line ${line}` : state]));
-  const channels = (/** @type {Scene} */ scene) => new Map(scene.channels.map((it) => [it.name, channelText(it)]));
+  const holders = holdersOf([...now.goroutines, ...then.goroutines]);
+  const channels = (/** @type {Scene} */ scene) => new Map(scene.channels.map((it) => [calledBy(holders, it.name), channelText(it)]));
   return {
     lines,
     places: changesOf(places(now), places(then)),

@@ -14,6 +14,10 @@ export class Unanswered extends Error {
   }
 }
 
+// Whether it is a session that did not answer, and not an error of the page.
+/** @param {unknown} fault */
+export const isUnanswered = (fault) => fault instanceof SessionGone || fault instanceof Unanswered;
+
 export class RemoteSession {
   /** @param {Machine} machine */
   constructor(machine) {

@@ -24,7 +24,7 @@ export async function readScene(remote, names, channels, statements) {
   const goroutines = shown.map((_, at) => placed(parseGoroutine(replies[at]), statements));
   const isPartial = names.length > shown.length;
   const isStuck = !isPartial && !goroutines.some(({ state }) => state === "ready");
-  return { goroutines, channels: made.map((name, at) => parseChannel(name, replies[shown.length + at])), console, hidden, isPartial, isStuck, clauses: new Map() };
+  return { goroutines, channels: made.map((name, at) => parseChannel(name, replies[shown.length + at])), console, hidden, isPartial, isStuck, clauses: new Map(), missing: "" };
 }
 
 // A goroutine with its place in the user's source.
@@ -39,4 +39,11 @@ export function placed(goroutine, statements) {
 }
 
 /** @type {Scene} */
-export const NOTHING = { goroutines: [], channels: [], console: { isOk: true, count: 0, lines: [] }, hidden: 0, isPartial: false, isStuck: false, clauses: new Map() };
+export const NOTHING = { goroutines: [], channels: [], console: { isOk: true, count: 0, lines: [] }, hidden: 0, isPartial: false, isStuck: false, clauses: new Map(), missing: "" };
+
+// The scene of a state that cannot be shown.
+/**
+ * @param {string} reason
+ * @returns {Scene}
+ */
+export const unshown = (reason) => ({ ...NOTHING, clauses: new Map(), missing: reason });

@@ -3,12 +3,13 @@
 
 import { CHANGES, wordsOf } from "./protocol.js";
 import { DirectEdges } from "./direct.js";
+import { Program } from "./flows.js";
 import { Follower } from "./follower.js";
 import { Known } from "./known.js";
 import { Log } from "./log.js";
 import { Mirror } from "./mirror.js";
-import { NOTHING } from "./scene.js";
-import { RemoteSession, SessionGone } from "./remote.js";
+import { NOTHING, unshown } from "./scene.js";
+import { isUnanswered, RemoteSession, SessionGone } from "./remote.js";
 import { runInPortions } from "./runs.js";
 import { Statements } from "./statements.js";
 
@@ -33,6 +34,7 @@ export class Session {
     this.source = source;
     this.user = user;
     this.statements = new Statements(source);
+    this.program = new Program(source);
     this.log = new Log();
     /** @type {Map<string, string>} */
     this.clauses = new Map(); // that were named in a step that was a fault
@@ -44,9 +46,11 @@ export class Session {
     this.commands = []; // that changed it
     /** @type {Set<number>} */
     this.breakpoints = new Set(); // lines of the user's source
+    this.goal = 0; // the line of a breakpoint that is set for one run, or 0
     this.scene = NOTHING;
     this.isLeft = false;
     this.isRunning = false;
+    this.isUnsure = false; // of the steps that `redo` would take
     this.turn = Promise.resolve();
   }
 
@@ -97,8 +101,12 @@ export class Session {
 
   /** @param {string} line */
   async performNow(line) {
+    const [word] = wordsOf(line);
+    const isUnknown = word === "redo" && this.isUnsure;
+    if (isUnknown) this.mirror.isBehind = true;
     const reply = await this.command(line);
-    if (wordsOf(line)[0] === "run" && reply.isOk) await this.readLog();
+    if (reply.isOk && (word === "run" || isUnknown)) await this.readLog();
+    if (reply.isOk && CHANGES.has(word)) this.isUnsure = false;
     return reply;
   }
 
@@ -148,6 +156,17 @@ export class Session {
     this.log.load(columns);
   }
 
+  // Reads everything anew of the user's own session. What can be done again is not known then.
+  async renew() {
+    await this.turn;
+    const [columns] = await this.user.questions(["log"], "columns");
+    this.log.load(columns);
+    this.log.gone.clear();
+    this.isUnsure = true;
+    this.mirror.isBehind = true;
+    this.follower.renew();
+  }
+
   // Sets the breakpoints of the page, none of which is new to a person: no transcript has them.
   /** @param {Iterable<number>} lines */
   async setBreaks(lines) {
@@ -192,7 +211,12 @@ export class Session {
 
   // Reads what the panes show.
   async look() {
-    this.scene = await this.mirror.scene();
+    try {
+      this.scene = await this.mirror.scene();
+    } catch (fault) {
+      if (this.gone || !isUnanswered(fault)) throw fault;
+      this.scene = unshown(/** @type {Error} */ (fault).message);
+    }
     return this.scene;
   }
 }

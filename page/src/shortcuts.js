@@ -2,6 +2,7 @@
 
 import { Keys } from "./keys.js";
 import { act } from "./actions.js";
+import { toggleBreak } from "./breaks.js";
 import { field, find, tableRow } from "./element.js";
 
 const IN_PICTURE = [
@@ -23,12 +24,12 @@ export function listenToKeys(page) {
     { keys: ["a"], says: "the chosen goroutine alone, until it waits", act: does("alone") },
     { keys: ["l"], says: "run to the line of the cursor in the source", act: does("to-line") },
     { keys: ["r", "F5"], shown: "r, F5", says: "run", act: does("run") },
-    { keys: ["F9"], says: "set or remove a breakpoint at the line of the cursor", act: () => void page.toggleBreak(page.views.editor.line) },
-    { keys: [..."123456789"], shown: "1 to 9", says: "the clause of its select with this number", act: (/** @type {string} */ key) => void page.stepClause(Number(key)) },
+    { keys: ["F9"], says: "set or remove a breakpoint at the line of the cursor", act: () => void toggleBreak(page, page.views.editor.line) },
+    { keys: [..."123456789"], shown: "1 to 9", says: "the case of its select with this number", act: (/** @type {string} */ key) => void page.stepClause(Number(key)) },
     { keys: ["]"], says: "choose the next goroutine", act: () => page.nextGoroutine(1) },
     { keys: ["["], says: "choose the goroutine before", act: () => page.nextGoroutine(-1) },
     { keys: ["x"], says: "stop a long run", act: () => page.stop() },
-    { keys: ["u"], says: "undo the last step", act: does("undo") },
+    { keys: ["u"], says: "take the last step back", act: does("undo") },
     { keys: ["b"], says: "take the chosen step back, with all that depends on it", act: () => void page.pointing.takeBack() },
     { keys: ["y"], says: "take again what was taken back", act: does("redo") },
     { keys: ["n"], says: "the next command of the story", act: does("next") },

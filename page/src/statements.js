@@ -27,13 +27,13 @@ export function tokensOf(source) {
 }
 
 /** @param {Token} token */
-const isBlank = ({ text }) => /^\s+$/.test(text) || text.startsWith("//") || text.startsWith("/*");
+export const isBlank = ({ text }) => /^\s+$/.test(text) || text.startsWith("//") || text.startsWith("/*");
 /** @param {Token} token */
 const endsLine = ({ text }) => text.includes("\n") && !text.startsWith('"');
 
 // Whether the end of a line after this token ends a statement.
 /** @param {Token | undefined} token */
-const mayEnd = (token) => Boolean(token && ENDS_STATEMENT.test(token.text) && !GOES_ON.has(token.text));
+export const mayEnd = (token) => Boolean(token && ENDS_STATEMENT.test(token.text) && !GOES_ON.has(token.text));
 
 // Goes through the tokens, and collects statements. What stands in parentheses, `struct{}{}`, and the whole heading of an `if` or a
 // `for` are parts of one statement.
@@ -216,7 +216,7 @@ export class Statements {
   /** @param {number} line */
   snap(line) {
     const lines = this.all.filter((it) => it.line >= line && !/^func\b/.test(it.text)).map((it) => it.line);
-    return lines.length ? Math.min(...lines) : 0;
+    return lines.reduce((least, it) => Math.min(least, it), lines[0] || 0);
   }
 }
 

@@ -80,8 +80,11 @@ export class Stories {
   }
 
   show() {
-    const told = this.commands[this.at]?.text || (this.at && this.at >= this.commands.length ? "That was the story. Go on by yourself: point at steps, take them back." : "");
+    const isOver = this.at > 0 && this.at >= this.commands.length;
+    const last = this.commands.slice(0, this.at + 1).filter(({ text }) => text).at(-1)?.text || "";
+    const told = isOver ? "That was the story. Go on by yourself: point at steps, take them back." : last;
     const shows = this.story?.shows || "";
-    this.about.replaceChildren(...(told && this.at ? [told] : [/\w$/.test(shows) && told ? `${shows}.` : shows, ...(told ? [make("span", { class: "told" }, ` ${told}`)] : [])]));
+    if (told && this.at) return this.about.replaceChildren(told);
+    this.about.replaceChildren(/\w$/.test(shows) && told ? `${shows}.` : shows, ...(told ? [make("span", { class: "told" }, ` ${told}`)] : []));
   }
 }

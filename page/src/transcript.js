@@ -1,6 +1,7 @@
 // Commands and replies, in their order, with the meaning of each refusal in words.
 
 import { make } from "./element.js";
+import { noCommand } from "./elsewhere.js";
 
 const LINES = 300; // of a longer reply the first are shown
 const LETTERS = 400; // of a longer line the first are shown until it is unfolded
@@ -11,7 +12,9 @@ const ENTRIES = 400; // of more entries the last are shown
 function folded(text) {
   if (text.length <= LETTERS) return [text];
   const left = (text.length - LETTERS).toLocaleString("en");
-  return [text.slice(0, LETTERS), make("details", {}, make("summary", {}, `.. and ${left} letters more`), text.slice(LETTERS))];
+  const rest = make("details", {}, make("summary", {}, `.. and ${left} letters more`));
+  rest.addEventListener("toggle", () => rest.append(text.slice(LETTERS)), { once: true });
+  return [text.slice(0, LETTERS), rest];
 }
 
 export class Transcript {
@@ -34,17 +37,20 @@ export class Transcript {
    */
   add(command, reply) {
     const entry = make("div", {}, make("div", { class: "asked" }, ...folded(`> ${command}`)));
-    if (reply) entry.append(...this.lines(reply));
+    if (reply) entry.append(...this.lines(command, reply));
     this.put(entry);
   }
 
-  /** @param {Reply} reply */
-  lines(reply) {
+  /**
+   * @param {string} command
+   * @param {Reply} reply
+   */
+  lines(command, reply) {
     const shown = reply.lines.slice(0, LINES).map((line) => make("div", {}, ...folded(`| ${line}`)));
     const left = reply.lines.length - shown.length;
     if (left) shown.push(make("div", { class: "meaning" }, `.. and ${left.toLocaleString("en")} lines more`));
     shown.push(make("div", { class: reply.isOk ? "" : "refused" }, ...folded(reply.last)));
-    const means = reply.isOk ? "" : reply.last === "? bad command" ? "This line is no command: Help lists them." : this.meaning(reply.words[1]);
+    const means = reply.isOk ? "" : reply.last === "? bad command" ? noCommand(command) : this.meaning(reply.words[1]);
     if (means) shown.push(make("div", { class: "meaning" }, means));
     return shown;
   }

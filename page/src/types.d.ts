@@ -14,8 +14,12 @@ interface Step { id: string; goroutine: string; number: number; kind: string; ro
 interface Edge { from: string; to: string; kind: string }
 interface Note {
   line: number; statement: Statement | null; printed: string[]; woke: string[];
-  causes: Map<string, number> | null; edges: Edge[] | null; sent: string; received: string; channels: string[];
+  causes: Map<string, number> | null; edges: Edge[] | null; channels: string[];
+  over: Operation; // what it does over a channel
+  received: string; part: string; turn: number; // what it received, by which part of its statement, after so many others
+  taken: string; cases: Operation[]; // the case that its select took, and those that it waits with
 }
+interface Operation { text: string; isSend: boolean; channel: string; sent: string }
 
 interface Token { text: string; at: number; line: number; column: number }
 interface Statement { line: number; column: number; start: number; end: number; text: string; expandedLine: number; clauses: string[]; func: string }
@@ -24,6 +28,7 @@ interface Statement { line: number; column: number; start: number; end: number; 
 // Of many goroutines some are not shown: then `isPartial`, and whether none is ready is asked of the session.
 interface Scene {
   goroutines: Goroutine[]; channels: Channel[]; console: Tail; hidden: number; isPartial: boolean; isStuck: boolean; clauses: Map<string, Clause[]>;
+  missing: string; // why it cannot be shown, or ""
 }
 interface Clause { number: number; text: string }
 
@@ -32,13 +37,13 @@ interface Told { text: string; command: string }
 interface Exercise { name: string; title: string; level: number; source: string; task: string; hint: string; goal: Goal; before: string[] }
 interface Goal { printed?: string; end?: string; most?: number; only?: string; kept?: string[]; without?: string[]; chosen?: string }
 interface Given {
-  codes: {[code: string]: string}; kinds: {[kind: string]: string}; faults: {[fault: string]: string}; commands: string[][];
+  codes: {[code: string]: string}; kinds: {[kind: string]: string}; faults: {[fault: string]: string}; go: {[fault: string]: string}; commands: string[][];
   stories: Story[]; exercises: Exercise[]; refusals: {[code: string]: RefusalTable}; licence: string;
 }
 interface RefusalTable { meaning: string; forms: RefusalForm[] }
 interface RefusalForm {
-  form: string; sentence: string; instead?: string; at?: string; before?: string; inside?: string; column?: number;
-  words?: number[]; back_to?: string;
+  form: string; sentence: string; instead?: string; hint?: string; put?: string; of?: string; names?: string[];
+  at?: string; before?: string; inside?: string; column?: number; words?: number[];
 }
 
 // A source that was refused, as it is read to say what is wrong in it.
@@ -46,7 +51,10 @@ type GoConstant = bigint | boolean | null;
 interface GoToken { kind: string; text: string; line: number; column: number; offset: number }
 interface GoValue { kind: string; own: string; first: number; last: number; constant: GoConstant }
 interface GoFunction { name: string; parameters: [string, string][]; result: string | null; line: number; heading: string }
+type GoNames = Map<string, Map<string, string>>;
 type Fields = {[name: string]: string};
+// Where the groups of a match are, which the check of types does not know.
+interface RegExpExecArray { indices?: {groups?: {[name: string]: [number, number]}} }
 interface FormFault { form: string; first: number; last: number; fields: Fields }
 
 interface PointedView {

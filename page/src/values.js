@@ -1,5 +1,13 @@
 // The value of a message, where the text of its send tells it: a number, a variable, or a sum or product of these.
 
+// The values of variables by their names. Of several of one name it is not told which one a statement means, unless all are alike.
+/** @param {Variable[]} variables */
+function valuesOf(variables) {
+  const values = new Map(variables.map(({ name, value }) => [name, value]));
+  for (const { name, value } of variables) if (values.has(name) && values.get(name) !== value) values.delete(name);
+  return values;
+}
+
 const PARTS = /\d+|[A-Za-z_]\w*|[-+*()]|\S/g;
 
 // Reads sums and products of numbers and variables as the language computes them, in 64 bits. Nothing where there is anything else.
@@ -10,7 +18,7 @@ class Sum {
    */
   constructor(text, variables) {
     this.parts = text.match(PARTS) || [];
-    this.values = new Map(variables.map(({ name, value }) => [name, value]));
+    this.values = valuesOf(variables);
     this.at = 0;
   }
 
@@ -66,8 +74,8 @@ class Sum {
 export function sentValue(text, variables) {
   const sent = /^[A-Za-z_]\w*\s*<-(.*)$/s.exec(text)?.[1].trim() || "";
   if (sent === "true" || sent === "false") return sent;
-  const named = variables.find(({ name }) => name === sent);
-  if (named) return named.value;
+  const named = valuesOf(variables).get(sent);
+  if (named !== undefined) return named;
   return sent ? String(new Sum(sent, variables).read() ?? "") : "";
 }
 
@@ -80,5 +88,5 @@ const CHANNEL = /^g0(\.\d+)*\/c\d+$/;
  */
 export function channelsIn(text, variables) {
   const named = new Set(text.match(/[A-Za-z_]\w*/g));
-  return variables.filter(({ name, value }) => named.has(name) && CHANNEL.test(value)).map(({ value }) => value);
+  return [...valuesOf(variables)].filter(([name, value]) => named.has(name) && CHANNEL.test(value)).map(([, value]) => value);
 }

@@ -1,5 +1,6 @@
 // The views of the page over its elements.
 
+import { toggleBreak } from "./breaks.js";
 import { describeStep, showChosen } from "./chosen.js";
 import { Editor } from "./editor.js";
 import { Filter } from "./filter.js";
@@ -90,11 +91,14 @@ const controls = {
 // How the program stands where it goes on no more.
 const state = {
   /** @param {Page} page */
-  show({ session, words, cycle, note, past }) {
-    const found = session && !past.isOn ? words.state(session.log, session.scene, cycle, note) : null;
+  show({ session, words, standing, note, past }) {
+    const found = session && !past.isOn ? words.state(session, standing, note) : null;
     find("state").hidden = !found;
     find("state").className = found?.tone || "";
     find("state").textContent = found?.text || "";
+    const lines = (found && standing?.lines) || [];
+    find("why").hidden = lines.length < 2;
+    find("why-lines").textContent = lines.join("\n");
   },
 };
 
@@ -104,7 +108,7 @@ const past = {
     const { past: it, session } = page;
     find("then").hidden = !it.isOn;
     document.body.classList.toggle("is-past", it.isOn);
-    if (it.isOn && session) {
+    if (it.isOn && session && it.row <= session.log.length) {
       const after = it.row ? `after step ${it.row.toLocaleString("en")}, ${session.log.id(it.row - 1)},` : "before the first step";
       const of = `the state ${after} of ${inSteps(session.log.length)}`;
       const onTheWay = it.isMissed ? `This page cannot find ${of}.` : `On the way to ${of}: now at step ${session.follower.at.toLocaleString("en")}.`;
@@ -137,7 +141,7 @@ export function makeViews(given, later, words, on, stepsOf) {
   const editorEvents = {
     open: () => void later().open(),
     change: () => later() && later().tell(),
-    toggleBreak: (/** @type {number} */ line) => void later().toggleBreak(line),
+    toggleBreak: (/** @type {number} */ line) => void toggleBreak(later(), line),
     stepsOf,
   };
   return {
@@ -149,7 +153,7 @@ export function makeViews(given, later, words, on, stepsOf) {
     panes: {
       goroutines: (/** @type {Scene} */ scene, /** @type {Parameters<typeof showGoroutines>[2]} */ how) => showGoroutines(find("goroutines"), scene, how, on),
       channels: (/** @type {Scene} */ scene) => showChannels(find("channels"), scene, on),
-      console: (/** @type {Tail} */ tail) => showConsole(find("console"), tail, on),
+      console: (/** @type {Scene} */ scene) => showConsole(find("console"), scene, on),
     },
     status, refusal, controls, state, past,
     columns: new Filter(find("columns-list"), picture, later),

@@ -16,7 +16,7 @@ async function screenReader(hands) {
   const steps = options.filter((it) => /, row|of 16$/.test(it.name.value));
   holds("each drawn step is an option", steps.length >= 10 && steps.length === (await hands.drawn()).length);
   holds("it is read with its statement and line", steps.some((it) => it.name.value === "g0.2#3, recv-wait, line 5, y := <-to, 16 of 16"));
-  const box = nodes.find((it) => it.role?.value === "listbox" && /Kept steps/.test(it.name.value));
+  const box = nodes.find((it) => it.role?.value === "listbox" && /Steps, in the order/.test(it.name.value));
   const active = property(box, "activedescendant");
   holds("the step that arrows reach is the active one", active !== undefined || (await browser.run("document.getElementById('picture').getAttribute('aria-activedescendant')")) === "row-15");
   equal("and is selected", await browser.run("[...document.querySelectorAll('[role=option][aria-selected=true]')].map((it) => [it.id, it.getAttribute('aria-posinset'), it.getAttribute('aria-setsize')])"), [["row-15", "16", "16"]]);

@@ -289,10 +289,68 @@ async function pictures(hands) {
   equal("no word of a saved picture is cut", await browser.run(cut), []);
 }
 
+// Values of several kinds that go hand to hand, through buffers, by selects and after a close.
+const MESSAGES = `package main
+
+func give(a chan int, b chan bool, cc chan chan int, own chan int) {
+	a <- 7
+	b <- true
+	cc <- own
+	{
+		a := own
+		a <- 9
+	}
+	select {
+	case a <- 1:
+	case b <- false:
+	}
+	close(own)
+}
+
+func main() {
+	a, b, cc, own := make(chan int), make(chan bool), make(chan chan int), make(chan int, 1)
+	go give(a, b, cc, own)
+	println(<-a, <-b)
+	c := <-cc
+	println(<-c)
+	select {
+	case <-a:
+	case x := <-b:
+		println(x)
+	}
+	println(<-c)
+}
+`;
+
+const FIRST = ["g0#7 | println(<-a, <-b) | <-a ← 7", "g0#8 | println(<-a, <-b) | <-b ← true"];
+const REST = ["g0#10 | c := <-cc | ← g0/c4", "g0#12 | println(<-c) | ← 9", "g0.1#6 | case a <- 1 | ", "g0#14 | case <-a | ← 1"];
+
+// The labels of the steps of some kinds, with what they received.
+const LABELS = `[...document.querySelectorAll("#picture [data-step]")].map((it) => [it.dataset.step, ...["kind", "received"].map((part) => it.querySelector("text ." + part)?.textContent.trim() || "")])
+  .filter(([, kind, received]) => received || /^case|^select/.test(kind)).map((it) => it.join(" | "))`;
+
 async function messages(hands) {
+  const { browser } = hands;
+  await browser.size(1280, 1600);
   await hands.story("send_on_closed");
   await hands.key("r");
-  equal("the step that takes a message has its value", await hands.browser.run("document.querySelector('[data-step=\"g0#5\"] .received').textContent.trim()"), "← 0");
+  equal("the step that takes a message has its value", await browser.run("document.querySelector('[data-step=\"g0#4\"] .received').textContent.trim()"), "← 0");
+  await hands.story("lost_update");
+  await hands.perform("run 100");
+  const waited = ["g0#8 | <-done | ← true", "g0#9 | <-done | ← true", 'g0#10 | println("balance", <-read) | ← 20'];
+  equal("a value that ended a wait stands at the wait", (await browser.run(LABELS)).filter((it) => it.startsWith("g0#")), waited);
+  holds("a select shows the case that it took", (await browser.run(LABELS)).includes("g0.1#3 | case read <- balance | "));
+  await hands.perform("back g0.3#4");
+  equal("and goes with its sender", (await browser.run(LABELS)).filter((it) => it.startsWith("g0#")), waited.slice(0, 1));
+  holds("it is spoken too", /g0#8, recv-wait, line 24, <-done, received true,/.test(await browser.run("document.querySelector('[data-step=\"g0#8\"]').getAttribute('aria-label')")));
+  await hands.source(MESSAGES);
+  await hands.perform("run 100");
+  equal("each value stands at its part, and fits its channel", await browser.run(LABELS), [...FIRST, ...REST]);
+  await hands.perform("back g0.1#1");
+  await hands.perform("step g0");
+  await hands.perform("run 100");
+  equal("also where the receiver waits first", [await browser.run(LABELS), await hands.browser.run("rewind.page.session.log.kindOf('g0#7')")], [[...FIRST, ...REST], "recv-wait"]);
+  await browser.size(1280, 800);
 }
 
 async function comparisons(hands) {
@@ -305,6 +363,7 @@ async function comparisons(hands) {
   await hands.act("compare");
   holds("two runs are shown side by side, from where they part", /The first \d+ steps are the same\. There the logs part\./.test(await hands.text("#compared-text")));
   holds("with what differs", (await hands.texts("#compared .differs")).length > 1);
+  holds("and with their statements", (await hands.texts("#compared code")).some((it) => /^select|<-/.test(it)));
   await hands.browser.run("document.getElementById('forget').click()");
 }
 

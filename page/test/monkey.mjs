@@ -1,5 +1,5 @@
 // A monkey: random commands, clicks and looks in the page, with a native program beside it that gets the same commands. After each round
-// what the page shows is what the program answers.
+// what the page shows is what the program answers. A hasty one does not wait between its moves.
 
 import { existsSync } from "node:fs";
 import { spawn } from "node:child_process";
@@ -91,25 +91,64 @@ async function toldNatively(native, names, channels) {
   return { log: (await native.ask("log")).lines, console: printed, goroutines, channels: rows, printed };
 }
 
-async function round(hands, program, seed) {
+// What a hasty monkey does between commands.
+const LOOKS = ["rewind.act(rewind.page, 'fold')", "rewind.act(rewind.page, 'direct')", "rewind.act(rewind.page, 'fit')", "rewind.page.nextGoroutine(1)",
+  "rewind.act(rewind.page, 'to-line')", "rewind.act(rewind.page, 'over')", "rewind.act(rewind.page, 'alone')", "rewind.act(rewind.page, 'back')", "rewind.act(rewind.page, 'later')",
+  "rewind.page.views.columns.toggle('g0.1')", "rewind.page.views.picture.host.scrollTop = 1e6", "rewind.page.pointing.takeBack()", "rewind.page.past.back()",
+  "document.getElementById('search-text').value = 'o', document.getElementById('search').onsubmit(new Event('submit'))",
+  "document.querySelector('#goroutines .asked-value, #channels .asked-value')?.click()"];
+
+// The commands that the page gave to the user's session, in their order.
+const RECORDING = `(() => { const { user } = rewind.page.session, { ask } = user; window.given = [];
+  user.ask = function (line, shape) { window.given.push(line); return ask.call(this, line, shape); }; })()`;
+
+// Moves that wait for nothing. The session beside gets the commands that came to the page's.
+async function hastyMoves(hands, native, roll) {
+  const { browser } = hands;
+  await browser.run(RECORDING);
+  for (let move = 0; move < 2 * MOVES; move++) {
+    const [ids, names] = [await hands.ids(), await browser.run("rewind.page.session.log.names")];
+    if (ids.length > 400) break;
+    const id = ids[roll(ids.length || 1)] || "";
+    const looks = [...LOOKS, `rewind.page.past.lookAt(${roll(ids.length + 1)})`, `rewind.page.pointing.choose(${JSON.stringify(id)})`, `rewind.page.pointing.point(${JSON.stringify(id)})`,
+      `rewind.page.pointing.move(${JSON.stringify(id)}, ${roll(ids.length + 1)})`, `rewind.toggleBreak(rewind.page, ${1 + roll(25)})`];
+    for (let look = roll(4); look > 0; look--) await browser.run(`${looks[roll(looks.length)]}, 0`);
+    await browser.run(`rewind.page.perform(${JSON.stringify(commandFor(roll, ids, names))}), 0`);
+  }
+  await browser.run("rewind.page.stop()");
+  await hands.idle();
+  await browser.run("rewind.page.past.back(), rewind.page.pointing.clear(), rewind.page.views.picture.hidden.clear()");
+  await hands.idle();
+  const given = (await browser.run("window.given")).filter((line) => line.trim());
+  for (const line of given) await native.ask(line);
+  return given;
+}
+
+// Moves of which each is waited for, or not.
+async function moves(hands, native, roll) {
+  const done = [];
+  for (let move = 0; move < MOVES; move++) {
+    const [ids, names] = [await hands.ids(), await hands.browser.run("rewind.page.session.log.names")];
+    if (ids.length > 400) break;
+    if (!roll(5)) await hands.browser.run(`rewind.page.past.lookAt(${roll(ids.length + 1)}), 0`);
+    if (!roll(5)) await hands.browser.run(`rewind.page.pointing.choose(${JSON.stringify(ids[roll(ids.length || 1)] || "")}), 0`);
+    const line = commandFor(roll, ids, names);
+    done.push(line);
+    await hands.browser.run(`rewind.page.perform(${JSON.stringify(line)})${roll(2) ? ".then(() => 1)" : ", 0"}`);
+    await native.ask(line);
+  }
+  await hands.idle();
+  return done;
+}
+
+async function round(hands, program, seed, act) {
   const roll = dice(seed * 7919 + 13);
   const name = STORIES[roll(STORIES.length)];
   await hands.browser.run("rewind.page.views.editor.markBreaks([])"); // breakpoints of the round before would stay with their text
   await hands.program(name);
   const native = new Native(program, `${SESSIONS}${name}.go`);
   try {
-    const done = [];
-    for (let move = 0; move < MOVES; move++) {
-      const [ids, names] = [await hands.ids(), await hands.browser.run("rewind.page.session.log.names")];
-      if (ids.length > 400) break;
-      if (!roll(5)) await hands.browser.run(`rewind.page.past.lookAt(${roll(ids.length + 1)}), 0`);
-      if (!roll(5)) await hands.browser.run(`rewind.page.pointing.choose(${JSON.stringify(ids[roll(ids.length || 1)] || "")}), 0`);
-      const line = commandFor(roll, ids, names);
-      done.push(line);
-      await hands.browser.run(`rewind.page.perform(${JSON.stringify(line)})${roll(2) ? ".then(() => 1)" : ", 0"}`);
-      await native.ask(line);
-    }
-    await hands.idle();
+    const done = await act(hands, native, roll);
     const shown = await hands.browser.run(`(${shownInPage})()`);
     const told = await toldNatively(native, shown.goroutines.map(([it]) => it), shown.channels.map(([it]) => it));
     const before = counts.failed;
@@ -117,6 +156,8 @@ async function round(hands, program, seed) {
     equal(`round ${seed}, ${name}: every step has its edges`, [shown.noted, shown.lost], [shown.log.length, ""]);
     await listsAgree(hands, native, shown.log, roll, `round ${seed}, ${name}`);
     await clausesAgree(native, shown, `round ${seed}, ${name}`);
+    const dots = await hands.browser.run("rewind.page.views.editor.breaks");
+    equal(`round ${seed}, ${name}: a dot for each breakpoint`, dots, [...shown.breaks].sort((one, other) => one - other));
     if (counts.failed > before) console.log(done.join(" | "));
   } finally {
     native.close();
@@ -155,8 +196,10 @@ async function clausesAgree(native, { clauses, log }, what) {
 }
 
 // Rounds of a monkey with this program, from a seed on.
-export async function monkey(browser, program, rounds, seed) {
+export async function monkey(browser, program, rounds, seed, act = moves) {
   if (!existsSync(program)) return failed(`there is no program ${program} to compare the page with`);
   const hands = new Hands(browser);
-  for (let at = 0; at < rounds; at++) await round(hands, program, seed + at);
+  for (let at = 0; at < rounds; at++) await round(hands, program, seed + at, act);
 }
+
+export const hastyMonkey = (browser, program, rounds, seed) => monkey(browser, program, rounds, seed, hastyMoves);

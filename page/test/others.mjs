@@ -1,6 +1,7 @@
 // The example sessions and a story in the browsers beside Chromium: Firefox, and WebKitGTK, whose engine is Safari's.
 
 import { spawnSync } from "node:child_process";
+import { insertions } from "./insertions.mjs";
 import { sessions } from "./sessions.mjs";
 import { firstStory } from "./story.mjs";
 import { BROWSERS, DrivenBrowser } from "./webdriver.mjs";
@@ -10,6 +11,7 @@ const isThere = (program) => spawnSync("sh", ["-c", 'command -v "$0"', program])
 async function sessionsAndStory(browser) {
   await sessions(browser);
   await firstStory(browser);
+  await insertions(browser);
   await browser.takeFaults();
 }
 

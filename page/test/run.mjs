@@ -5,6 +5,7 @@ import { spawnSync } from "node:child_process";
 import { basename } from "node:path";
 import { Browser, DidNotStart } from "./browser.mjs";
 import { counts, equal, failed, noFaults, skipped } from "./checks.mjs";
+import { inputMethods } from "./insertions.mjs";
 import { looks } from "./looks.mjs";
 import { others } from "./others.mjs";
 import { sessions } from "./sessions.mjs";
@@ -12,7 +13,7 @@ import { firstStory, stories } from "./story.mjs";
 import { access } from "./access.mjs";
 import { lessons } from "./lesson.mjs";
 import { saidWords } from "./words.mjs";
-import { monkey } from "./monkey.mjs";
+import { hastyMonkey, monkey } from "./monkey.mjs";
 import { speed } from "./speed.mjs";
 import { truths } from "./truths.mjs";
 import { wideModule } from "./wide.mjs";
@@ -59,10 +60,12 @@ const ALL = [
   { name: "true in every state", part: truths },
   { name: "work that is kept", part: works },
   { name: "words", part: saidWords },
+  { name: "input methods", part: inputMethods },
   { name: "for everybody", part: access },
   { name: "for a lesson", part: lessons },
   { name: "long logs", part: speed },
   { name: "a monkey", part: (browser) => monkey(browser, page.replace(/\.html$/, ""), Number(process.env.ROUNDS) || 25, Number(process.env.SEED) || 1) },
+  { name: "a hasty monkey", part: (browser) => hastyMonkey(browser, page.replace(/\.html$/, ""), Number(process.env.ROUNDS) || 15, Number(process.env.SEED) || 5000) },
   { name: "a monkey without suspension", part: (browser) => monkey(browser, page.replace(/\.html$/, ""), Number(process.env.ROUNDS) || 10, 1000), hash: "#repeat" },
   { name: "looks", part: (browser) => looks(browser, folder) },
   ...others,

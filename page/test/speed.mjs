@@ -88,6 +88,8 @@ async function clicksAtLength(hands) {
   holds("causes and consequences of a step that came into view are asked before they are wanted", true);
   holds(`the page is laid out at most ${LAYOUTS} times for each, on the mean`, layouts <= LAYOUTS);
   await hands.idle();
+  await hands.browser.run("document.getElementById('search-text').value = 'total', document.getElementById('search').onsubmit(new Event('submit'))");
+  holds("of a long log, a search says how many steps were read", /^[\d,]+ steps with “total”, among the [\d,]+ steps whose statements are read$/.test(await hands.text("#found")));
   const past = await timesOf(hands, (at) => `rewind.page.past.lookAt(99900 - ${at})`, 3);
   holds("a past state near the end shows soon there", past < LOOKING);
   await hands.act("now");
@@ -116,8 +118,20 @@ async function drawingMeanwhile(hands) {
   await hands.source("package main\nfunc main() {}\n");
 }
 
+// Very many steps go at once, and come again: the page has those of the program.
+async function longBacks(hands) {
+  await hands.source(LOOP);
+  await hands.perform("run 220000");
+  const counts = "rewind.page.session.user.ask('log', 'columns').then(({ of }) => [rewind.page.session.log.length, of.length, rewind.page.session.gone])";
+  for (const [line, count] of [["back g0#4", 5], ["redo", 220000]]) {
+    await hands.perform(line);
+    equal(`after '${line}' of 220,000 steps the page has the steps of the program`, await hands.browser.run(counts), [count, count, ""]);
+  }
+}
+
 export async function speed(browser) {
   const hands = new Hands(browser);
+  await longBacks(hands);
   await prints(hands, PRINTS, 20000);
   await prints(hands, LONG_PRINTS, 2000);
   await clicksAtLength(hands);

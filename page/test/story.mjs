@@ -9,7 +9,7 @@ const ALT = 1;
 async function takeBackAndDoAgain(hands) {
   await hands.story("send_on_closed");
   await hands.key("r");
-  equal("the end of the run", await hands.text("#status"), "13 steps taken: a fault stopped the program.");
+  equal("the end of the run", await hands.text("#status"), "13 steps taken: a panic stopped the program.");
   const log = "g0#1 g0#2 g0#3 g0.1#1 g0#4 g0.1#2 g0.1#3 g0#5 g0.1#4 g0#6 g0.1#5 g0#7 g0.1#6".split(" ");
   equal("rows of the picture", await hands.drawn(), log);
   const edges = ["g0#3 start g0.1#1", "g0#4 order g0.1#3", "g0.1#3 message g0#5", "g0#6 close g0.1#6"];
@@ -39,7 +39,7 @@ async function messages(hands) {
   const starts = ["g0#4 start g0.1#1", "g0#5 start g0.2#1", "g0#12 start g0.3#1", "g0#13 start g0.4#1"];
   equal("starts and messages", edges.sort(), [...starts, "g0.1#1 message g0#6", "g0.3#1 message g0#14"].sort());
   equal("what is printed", await hands.texts("#console li"), ["100", "100"]);
-  equal("the one that leaks", await hands.goroutine("g0.2"), "g0.2 waiting at line 4, 1 step started by g0 waits to send 200 to g0/c1 ask server = 2 answers = g0/c1");
+  equal("the one that leaks", await hands.goroutine("g0.2"), "g0.2 waiting at line 4, 1 step started by g0 waits to send 200 to answers (g0/c1) ask server = 2 answers = g0/c1");
 }
 
 // A race in a select: the steps of goroutines and clauses by their buttons.
@@ -50,7 +50,7 @@ async function pickClauses(hands) {
   await hands.clickLabel("Step g0.2");
   equal("both clauses are offered", await hands.goroutine("g0"), "g0 ready at line 11, 5 steps main left = g0/c1 right = g0/c2 Step 1: v := <-left 2: v := <-right");
   equal("a sender waits", await hands.channel("g0/c2"), "g0/c2 right, out open, room for 0 items none senders g0.2=2 receivers none");
-  await hands.clickLabel("Clause 2: v := <-right, of g0");
+  await hands.clickLabel("Case 2: v := <-right, of g0");
   equal("the second clause", await hands.lastReply(), ["> step g0 2", "ok g0#6 pick 2"]);
   await hands.key("u");
   await hands.browser.run("rewind.page.chooseGoroutine('g0')");

@@ -104,7 +104,7 @@ const dots = "[...document.querySelectorAll('.break-mark')].map((it) => it.title
 
 async function breakpointsOfThePage(hands) {
   await hands.source(PLAIN);
-  await hands.browser.run("rewind.page.toggleBreak(4)");
+  await hands.browser.run("rewind.toggleBreak(rewind.page, 4)");
   await hands.idle();
   equal("a breakpoint on an empty line stands at the next statement", await hands.browser.run(dots), ["breakpoint at line 5"]);
   await hands.act("start");
@@ -117,6 +117,18 @@ async function breakpointsOfThePage(hands) {
   await hands.act("run");
   equal("and stops a run there", await hands.text("#status"), "1 step taken: stopped at the breakpoint in line 6.");
   await hands.perform("clear 6");
+  await hands.browser.run("rewind.page.views.editor.editor.setCursor({ line: 2, ch: 0 }), rewind.act(rewind.page, 'to-line'), rewind.page.perform('log'), 0");
+  await hands.idle();
+  equal("the line to which a run goes is no breakpoint, also where a command comes between", [await hands.browser.run(dots), await hands.browser.run("[...rewind.page.session.breakpoints]")], [[], []]);
+}
+
+async function severalBreakpoints(hands) {
+  await hands.story("deadlock");
+  for (const line of [5, 9, 14]) await hands.browser.run(`rewind.toggleBreak(rewind.page, ${line})`);
+  await hands.act("start");
+  equal("several breakpoints are there after a new start", await hands.browser.run("[rewind.page.views.editor.breaks.length, rewind.page.session.breakpoints.size]"), [3, 3]);
+  await hands.browser.run("rewind.page.views.editor.markBreaks([])");
+  await hands.act("start");
 }
 
 async function clausesAtAnyLength(hands) {
@@ -159,6 +171,50 @@ async function deaths(hands) {
   await hands.idle();
   equal("where more was printed than there is memory to show, the page says so", await hands.texts("#console li"), ["More was printed than there is memory to show. Take steps back to see it."]);
   equal("and the session goes on", [await hands.browser.run("rewind.page.session.gone"), await hands.browser.run("rewind.page.session.log.length")], ["", 100400]);
+  await hands.source(long);
+  await hands.browser.run("rewind.page.perform('run 100000'), 0");
+  await hands.idle();
+  const panes = await hands.browser.run("['goroutines', 'channels', 'console'].map((id) => document.getElementById(id).innerText)");
+  equal("where there is no memory for the panes, they are empty and say so", panes, Array(3).fill("This state cannot be shown."));
+  holds("and the page says why", /^The session goes on, but its panes cannot be shown: there was no more memory/.test(await hands.text("#status")));
+}
+
+// What the page throws once, in the midst of a command.
+const throwing = (owner, name) => `{ const owner = ${owner}, act = owner.${name}; owner.${name} = function () { owner.${name} = act; throw new TypeError("a trial"); }; }`;
+
+// An error of the page is told as one, and what is shown after it is what the session holds.
+async function errors(hands) {
+  const { browser } = hands;
+  for (const [owner, name] of [["rewind.page.session.log", "remove"], ["rewind.page.views.picture", "show"], ["rewind.page.views.panes", "channels"], ["rewind.page.annotating", "findStanding"]]) {
+    await hands.story("deadlock");
+    await hands.perform("run 100");
+    await browser.run(throwing(owner, name));
+    await hands.perform("back g0.2#1");
+    await hands.until("!rewind.page.isMending");
+    await hands.idle();
+    holds(`an error in ${name} is told as one of the page, with what to do`, /^This page has made an error of its own: TypeError: a trial\. The session goes on, .* reload the page/.test(await hands.text("#status")));
+    holds("and not as the end of the session", !/session is gone/.test(await hands.text("#transcript")));
+    equal("the page has the steps of the program", await hands.ids(), await browser.run("rewind.page.session.user.ask('log').then(({ lines }) => lines.map((line) => line.split(' ')[0]))"));
+    await hands.perform("redo");
+    equal("and goes on", [await browser.run("rewind.page.session.log.kinds"), await hands.text("#status")], [await browser.run("rewind.page.session.user.ask('log').then(({ lines }) => lines.map((line) => line.replace(/^\\S+ /, '')))"), "4 steps taken again."]);
+  }
+}
+
+// A chosen step goes while something of it is drawn.
+async function goingSteps(hands) {
+  await hands.story("deadlock");
+  await hands.perform("run 100");
+  const last = (await hands.ids()).at(-1);
+  await hands.browser.run(`rewind.page.pointing.show(${JSON.stringify(last)})`);
+  await hands.browser.run("rewind.act(rewind.page, 'fold')");
+  const going = `(async ({ page } = rewind) => { const { length } = page.session.log; const done = page.perform("undo");
+    while (page.session.log.length === length) await new Promise((go) => setTimeout(go, 0));
+    rewind.act(page, "direct"); page.views.overview.drawNow(); page.views.picture.hand.endDrag(); page.views.picture.stepsInView(); await done; })()`;
+  await hands.browser.run(going);
+  await hands.idle();
+  await hands.act("direct");
+  await hands.act("fold");
+  equal("a chosen step may go while it is drawn", [await hands.browser.run("rewind.page.pointing.about"), await hands.text("#status")], [null, `${last} is taken back.`]);
 }
 
 async function journals(hands) {
@@ -178,7 +234,7 @@ async function journals(hands) {
   holds("and answers", (await hands.goroutine("g0")).includes("total ="));
 }
 
-const TRUTHS = [openingDuringARun, savedPictures, breakpointsOfManyGoroutines, breakpointsOfThePage, clausesAtAnyLength, faultsInClauses, deaths, journals];
+const TRUTHS = [openingDuringARun, savedPictures, breakpointsOfManyGoroutines, breakpointsOfThePage, severalBreakpoints, clausesAtAnyLength, faultsInClauses, deaths, errors, goingSteps, journals];
 
 export async function truths(browser) {
   for (const truth of TRUTHS) await truth(new Hands(browser));

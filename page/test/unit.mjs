@@ -1,6 +1,7 @@
 // unit.mjs: the modules that need no browser. The last line counts the checks.
 
 import { counts, failed } from "./checks.mjs";
+import { buffers } from "./unit/buffers.mjs";
 import { followers } from "./unit/follower.mjs";
 import { knownLists, lists } from "./unit/known.mjs";
 import { lesson } from "./unit/lesson.mjs";
@@ -10,8 +11,9 @@ import { refusals } from "./unit/refusals.mjs";
 import { replies } from "./unit/replies.mjs";
 import { runs } from "./unit/runs.mjs";
 import { statements } from "./unit/statements.mjs";
+import { waits } from "./unit/waits.mjs";
 
-const PARTS = { logs, followers, statements, refusals, replies, lists, knownLists, runs, picture, lesson };
+const PARTS = { logs, followers, statements, refusals, replies, lists, knownLists, runs, picture, lesson, waits, buffers };
 
 for (const [name, part] of Object.entries(PARTS)) {
   try {

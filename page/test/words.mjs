@@ -1,4 +1,4 @@
-// What the page says of deadlocks, faults and ends, what follows in the source, and how it holds long texts.
+// What the page says of deadlocks, panics and ends, what follows in the source, and how it holds long texts.
 
 import { Hands } from "./hands.mjs";
 import { equal, holds } from "./checks.mjs";
@@ -8,18 +8,29 @@ async function states(hands) {
   await hands.story("deadlock");
   await hands.key("r");
   const said = await hands.text("#state");
-  holds("a deadlock is called so", said.startsWith("Deadlock: no goroutine is ready. g0 waits at line 18 to receive from g0/c3; g0.1 waits at line 5"));
-  holds("with its cycle", said.endsWith("g0.1 waits for g0.2 waits for g0.1."));
+  holds("a deadlock is called so", said.startsWith("Deadlock: no goroutine is ready. g0 waits to receive from done (g0/c3) at line 18; g0.1 waits to receive from to (g0/c2) at line 5"));
+  holds("with its cycle", said.endsWith("A cycle: g0.1 waits for g0.2, g0.2 waits for g0.1."));
+  holds("and who holds what", (await why(hands)).includes("g0.2, which may still send to it, took the last item of to at line 4: x := <-from ('back g0.2#1' takes that back)"));
   equal("which is drawn", await hands.browser.run("[...document.querySelectorAll('#picture .cycle-word')].map((it) => it.textContent)"), ["g0.1 waits for g0.2", "g0.2 waits for g0.1"]);
   await hands.story("send_on_closed");
   await hands.key("r");
-  equal("a fault is told with its step, line, meaning and cause", await hands.text("#state"), "Fault in g0.1#6 at line 5: a send on a closed channel (SendOnClosed). It depends on g0#6.");
-  equal("nobody is called ready after a fault", await hands.browser.run("/\\bready\\b/.test(document.getElementById('goroutines').innerText)"), false);
+  equal("a panic is told with its step, line, meaning and cause", await hands.text("#state"), "Panic in g0.1#6 at line 5: a send on a closed channel (SendOnClosed). It depends on g0#6.");
+  equal("nobody is called ready after a panic", await hands.browser.run("/\\bready\\b/.test(document.getElementById('goroutines').innerText)"), false);
   await hands.story("leaked_goroutine");
   await hands.key("r");
   await hands.act("run");
-  holds("what is left at the end is told", /^The program has ended\. Left behind: g0\.2 \(waiting at line 4\), g0\.4/.test(await hands.text("#state")));
+  holds("a leak is told", /^The program has ended\. .* and 2 are leaks\. g0\.2 would wait for ever at line 4, g0\.4/.test(await hands.text("#state")));
 }
+
+// The first sender of two finds nobody to take its second value.
+async function holders(hands) {
+  await hands.source("package main\nfunc count(c chan int) {\n\tc <- 1\n\tc <- 2\n}\nfunc main() {\n\tc, done := make(chan int), make(chan bool)\n\tgo count(c)\n\tprintln(<-c)\n\t<-done\n}\n");
+  await hands.perform("run 100");
+  equal("no cycle is drawn of one that is a mere holder of a channel", await hands.browser.run("document.querySelectorAll('#picture .cycle-word').length"), 0);
+  holds("and it is told that nobody can serve", (await why(hands)).includes("no other goroutine can still receive from c"));
+}
+
+const why = (hands) => hands.browser.run("document.getElementById('why-lines').textContent");
 
 async function manyGoroutines(hands) {
   await hands.source("package main\nfunc wait(c chan int) { <-c }\nfunc main() {\n\tc := make(chan int)\n\tfor i := 0; i < 40; i++ { go wait(c) }\n\tc <- 1\n}\n");
@@ -40,7 +51,7 @@ async function unseenGoroutines(hands) {
   holds("a deadlock of many goroutines is told", (await hands.text("#state")).startsWith("Deadlock: no goroutine is ready. g0 waits"));
   await hands.source("package main\nfunc work() { }\nfunc wait(c chan int) { <-c }\nfunc main() {\n\tc := make(chan int)\n\tfor i := 0; i < 230; i++ { go work() }\n\tfor i := 0; i < 1500; i++ { }\n\tgo wait(c)\n}\n");
   await hands.perform("run 9000");
-  holds("of an end nothing is told of goroutines that are not shown", /^The program has ended\. The first 200 goroutines are done; the others are not shown\./.test(await hands.text("#state")));
+  equal("a leak that is not shown is told", await hands.text("#state"), "The program has ended. 1 goroutine was not done when main returned, and 1 is a leak. g0.231 would wait for ever at line 3.");
 }
 
 async function ends(hands) {
@@ -67,15 +78,89 @@ async function places(hands) {
   equal("two names beside a line are whole", [await hands.texts(".at-line"), await hands.browser.run(clipped)], [["g0.1 g0.2", "g0"], 0]);
 }
 
+// The buttons under the picture are of the chosen step, whatever the pointer passes on its way to them.
 async function byMouse(hands) {
   await hands.story("send_on_closed");
   await hands.key("r");
   await hands.point("g0#6");
+  equal("a step that is only pointed at has no buttons", await hands.browser.run("['back', 'earlier', 'later'].every((id) => document.getElementById(id).disabled)"), true);
+  await hands.click(hands.mark("g0#6"));
   const [x, y] = await hands.place("#back");
-  await hands.browser.mouse("mouseMoved", x, y - 30);
+  for (const id of ["g0.1#5", "g0.1#6"]) await hands.browser.mouse("mouseMoved", ...(await hands.place(hands.mark(id))));
   await hands.browser.click(x, y);
   await hands.idle();
-  equal("the button under the picture takes the pointed step back", (await hands.lastReply())[0], "> back g0#6");
+  equal("the button under the picture takes the chosen step back", (await hands.lastReply())[0], "> back g0#6");
+}
+
+async function wordsOfTheShell(hands) {
+  await hands.story("deadlock");
+  for (const [line, said] of [["why", /'why' is a word of the shell\. Here the line above/], ["history 3", /here the picture shows/i], ["run 1,000", /digits alone, as in 'run 1000'/], ["nothing", /Help lists them/]]) {
+    await hands.perform(line);
+    holds(`'${line}' is answered with where it is to be had`, said.test(await hands.text("#status")) && said.test((await hands.lastReply()).join(" ")));
+  }
+  await hands.perform("run 100");
+  equal("a run that ends in a deadlock says so", await hands.text("#status"), "16 steps taken: a deadlock, since no goroutine is ready.");
+}
+
+const RUN_SEARCH = "document.getElementById('search').onsubmit(new Event('submit'))";
+
+async function searches(hands) {
+  await hands.story("deadlock");
+  await hands.perform("run 100");
+  const top = "document.getElementById('picture').getBoundingClientRect().top";
+  const before = await hands.browser.run(top);
+  await hands.browser.run(`document.getElementById('search-text').value = "from", ${RUN_SEARCH}`);
+  await hands.idle();
+  equal("what was found is told in one line that pushes nothing", await hands.browser.run(`[document.getElementById('found').textContent, document.getElementById('found').clientHeight < 30, ${top}]`), ["4 steps with “from”", true, before]);
+  await hands.story("lost_update");
+  equal("and goes with its session", await hands.browser.run("[document.getElementById('found').textContent, document.getElementById('search-text').value]"), ["", ""]);
+}
+
+async function toldStories(hands) {
+  await hands.story("deadlock");
+  const said = [];
+  for (let count = 0; count < 15; count++) {
+    await hands.act("next");
+    said.push(await hands.text("#about-story"));
+  }
+  const told = await hands.browser.run("rewind.page.views.stories.commands.map(({ text }) => text).filter((it) => it)");
+  equal("a story keeps the paragraph that it told last", said.filter((it) => !told.some((text) => text.toLowerCase() === it.toLowerCase()) && !it.startsWith("That was")), []);
+}
+
+async function pastStates(hands) {
+  await hands.story("lost_update");
+  await hands.perform("run 40");
+  await hands.browser.run("rewind.page.past.lookAt(8)");
+  await hands.until("document.querySelector('#picture .life.later, #picture .asleep.later')");
+  const y = "Math.max(...[...document.querySelectorAll('#picture .life:not(.later), #picture .asleep:not(.later)')].map((it) => Number(it.getAttribute('y2'))))";
+  holds("in a past state the lives of goroutines after it are dimmed", (await hands.browser.run(y)) < (await hands.browser.run("rewind.page.views.picture.layout.y(8)")));
+  equal("and the status tells of it", await hands.text("#status"), "The panes show a past state. A command acts on the present one.");
+  await hands.act("now");
+  equal("also of the way back", await hands.text("#status"), "The panes show the present state.");
+}
+
+async function manyWaiters(hands) {
+  await hands.source("package main\nfunc give(c chan int, n int) { c <- n }\nfunc main() {\n\tc := make(chan int)\n\tfor i := 0; i < 60; i++ { go give(c, i) }\n\tfor { }\n}\n");
+  await hands.perform("run 600");
+  const heights = await hands.browser.run("[...document.querySelectorAll('#channels .queues dt')].map((it) => it.clientHeight)");
+  holds("the names of queues stand in one line, also beside many waiters", heights.length === 3 && heights.every((it) => it < 30));
+}
+
+// On a narrow screen the button beside a step leaves its mark free.
+async function narrow(hands) {
+  await hands.browser.size(390, 844);
+  await hands.story("deadlock");
+  await hands.perform("run 100");
+  const covered = [];
+  for (const id of await hands.ids()) {
+    await hands.browser.run(`rewind.page.pointing.show(${JSON.stringify(id)})`);
+    await hands.idle();
+    const over = `(() => { const [one, other] = [document.querySelector('#picture .take-back rect'), document.querySelector('[data-step="${id}"] .mark')].map((it) => it.getBoundingClientRect());
+      return one.left < other.right && other.left < one.right && one.top < other.bottom && other.top < one.bottom; })()`;
+    if (await hands.browser.run(over)) covered.push(id);
+  }
+  equal("on a narrow screen no 'take back' covers the mark of its step", covered, []);
+  await hands.browser.size(1280, 800);
 }
 
 async function longTexts(hands) {
@@ -122,7 +207,7 @@ async function arrows(hands) {
   await hands.browser.size(1280, 800);
 }
 
-const WORDS = [states, ends, unseenGoroutines, manyGoroutines, places, byMouse, longTexts, arrows];
+const WORDS = [holders, states, ends, unseenGoroutines, manyGoroutines, places, byMouse, wordsOfTheShell, searches, toldStories, pastStates, manyWaiters, narrow, longTexts, arrows];
 
 export async function saidWords(browser) {
   for (const words of WORDS) await words(new Hands(browser));

@@ -16,7 +16,7 @@ async function reload(browser, hands) {
 async function overAReload(hands) {
   const { browser } = hands;
   await hands.source(OWN);
-  await hands.browser.run("rewind.page.toggleBreak(3)");
+  await hands.browser.run("rewind.toggleBreak(rewind.page, 3)");
   await hands.perform("step g0");
   await hands.browser.run("document.getElementById('theme').value = 'dark', document.getElementById('theme').onchange()");
   await new Promise((go) => setTimeout(go, 400));
@@ -24,7 +24,7 @@ async function overAReload(hands) {
   equal("a reload keeps the source", await browser.run("rewind.page.views.editor.text"), OWN);
   equal("and the session", [await hands.ids(), await hands.texts("#console li")], [["g0#1"], ["7"]]);
   equal("and the breakpoint, and the colours", await browser.run("[[...rewind.page.session.breakpoints], document.documentElement.dataset.theme]"), [[3], "dark"]);
-  await hands.browser.run("rewind.page.toggleBreak(3), document.getElementById('theme').value = '', document.getElementById('theme').onchange()");
+  await hands.browser.run("rewind.toggleBreak(rewind.page, 3), document.getElementById('theme').value = '', document.getElementById('theme').onchange()");
   await hands.idle();
 }
 
@@ -54,6 +54,7 @@ async function refusedTexts(hands) {
   holds("the page says so", /The session is still that of the text before/.test(await hands.text("#status")));
   holds("and names what is not declared", /undeclared name: seven/.test(await hands.text(".refusal-note")));
   equal("and marks it", await hands.texts(".refused-word"), ["seven"]);
+  equal("the commands and replies tell of it last", await hands.lastReply(), ["The source in the editor is refused. The session is still that of the text before."]);
   equal("lines of another text are not marked", await hands.texts("#editor .at-line"), []);
   await hands.source(`package main\nimport "fmt"\nfunc main() {}\n`);
   holds("an import is refused in words for students", /import/.test(await hands.text(".refusal-note")) && !/a syntax error/.test(await hands.text(".refusal-note")));
@@ -81,7 +82,23 @@ async function numbersOfRuns(hands) {
     await hands.act("run");
     equal(`a run of ${count} steps is refused in words`, await hands.text("#status"), "Run takes a whole number of steps, from 1 to 1,000,000.");
   }
+  await hands.source(OWN.replace("println(7)", "for { }"));
+  await hands.browser.run("document.getElementById('count').value = '1,000'");
+  await hands.act("run");
+  equal("a run of 1,000 steps may be written so", await hands.text("#status"), "1,000 steps taken: as many as asked.");
   await hands.browser.run("document.getElementById('count').value = '100'");
+}
+
+async function links(hands) {
+  const { browser } = hands;
+  await browser.run("navigator.clipboard.writeText = async () => {}");
+  await hands.act("copy-link");
+  holds("a link that is made from disk says what it holds, and how to use it", /^The link is copied: .* holds the whole session, .* press Save, and send the file/.test(await hands.text("#status")));
+  await browser.run("location.hash = '#s=abcdef'");
+  await hands.until("/damaged/.test(document.getElementById('status').textContent)");
+  await reload(browser, hands);
+  equal("a damaged link is told, and stays told", await hands.text("#status"), "The link is damaged, and no session can be read of it: ask for it anew.");
+  await browser.run("history.replaceState(null, '', location.href.split('#')[0])");
 }
 
 async function storyOfAnother(hands) {
@@ -99,8 +116,8 @@ async function saidInPage(source) {
   const { Session, program, explain, parseFault, page } = window.rewind;
   const session = await Session.open(program, new TextEncoder().encode(source));
   const refusal = parseFault(session.errors);
-  const { line, column, sentence, instead } = explain(page.given.refusals, source, refusal);
-  return [line ? `${line}:${column}: ${sentence}` : sentence, ...(instead ? [`write instead: ${instead}`] : [])];
+  const { line, column, sentence, instead, hint } = explain(page.given.refusals, source, refusal);
+  return [line ? `${line}:${column}: ${sentence}` : sentence, ...(instead ? [`write instead: ${instead}`] : []), ...(hint ? [`hint: ${hint}`] : [])];
 }
 
 // Refusals come out as the clients have them.
@@ -112,12 +129,12 @@ async function refusalsAsTold(hands) {
     if (source.includes("\ufffd")) continue; // it is no text
     const said = await hands.browser.run(`(${saidInPage})(${JSON.stringify(source)})`);
     const [told, ...more] = readFileSync(REFUSED + file.replace(/go$/, "expect"), "utf8").trimEnd().split("\n");
-    const all = [told.replace(/^[^:]*: ?/, ""), ...more.filter((line) => line.startsWith("write instead: "))];
+    const all = [told.replace(/^[^:]*: ?/, ""), ...more.filter((line) => /^(?:write instead|hint): /.test(line))];
     if (JSON.stringify(all) === JSON.stringify(said)) same++;
     else other.push(file);
   }
   equal("each refusal of a source is told as the clients tell it", other, []);
-  holds(`${same} of them`, same > 390);
+  holds(`${same} of them`, same > 540);
 }
 
 // A browser that cannot compile the program.
@@ -135,7 +152,7 @@ async function otherBrowsers(hands) {
   holds("another one goes on", (await hands.ids()).length >= 0);
 }
 
-const WORKS = [overAReload, storiesOverAReload, overAChangeOfStory, refusedTexts, keptLines, numbersOfRuns, storyOfAnother, refusalsAsTold, otherBrowsers];
+const WORKS = [overAReload, storiesOverAReload, overAChangeOfStory, refusedTexts, keptLines, numbersOfRuns, links, storyOfAnother, refusalsAsTold, otherBrowsers];
 
 export async function works(browser) {
   for (const work of WORKS) await work(new Hands(browser));

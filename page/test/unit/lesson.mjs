@@ -1,7 +1,6 @@
-// Waits and their cycle, the words for states, exercises, links, files, comparisons and keys.
+// The words for states, exercises, links, files, comparisons and keys.
 
 import { checked, fromFiles, fromHash, toFile, toHash } from "../../src/linking.js";
-import { cycleIn, waitGraph, waitsOf, waitText } from "../../src/waits.js";
 import { isReached } from "../../src/exercises.js";
 import { Log } from "../../src/log.js";
 import { meantKey } from "../../src/keys.js";
@@ -14,20 +13,7 @@ import { equal, holds } from "../checks.mjs";
 const one = (name, state, line, variables = {}) => ({
   name, state, line, steps: 1, frames: [{ name: "f", variables: Object.entries(variables).map(([key, value]) => ({ name: key, value })) }],
 });
-const channel = (name, capacity, senders, receivers, items = []) => ({ name, capacity, isClosed: false, items, senders, receivers });
 const CONSOLE = { isOk: true, count: 1, lines: ["20"] };
-
-function waits() {
-  const scene = {
-    goroutines: [one("g0", "waiting", 3, { a: "g0/c1" }), one("g0.1", "waiting", 7, { a: "g0/c1", b: "g0/c2" }), one("g0.2", "done", null)],
-    channels: [channel("g0/c1", 0, [], ["g0"]), channel("g0/c2", 0, ["g0.1=5"], [])], console: CONSOLE, hidden: 0, isPartial: false, isStuck: true, clauses: new Map(),
-  };
-  equal("who waits for what", waitsOf(scene).map(waitText), ["g0 waits at line 3 to receive from g0/c1", "g0.1 waits at line 7 to send 5 to g0/c2"]);
-  const graph = waitGraph(waitsOf(scene), scene, () => undefined, () => "");
-  equal("who could help", [...graph], [["g0", ["g0.1"]], ["g0.1", []]]);
-  equal("no cycle", cycleIn(graph), []);
-  equal("a cycle", cycleIn(new Map([["g0", ["g0.1"]], ["g0.1", ["g0.2"]], ["g0.2", ["g0.1"]]])), ["g0.1", "g0.2"]);
-}
 
 function exercises() {
   const log = new Log();
@@ -48,7 +34,10 @@ async function links() {
   equal("what is read has the types that it must have", checked({ source: "x", commands: ["a", 7, "", "step g0\nstep g0"], breaks: [1, "2"], theme: 5 }), { source: "x", commands: ["a"], breaks: [1], chosen: "", theme: "", name: "" });
   const file = { name: "a.go", text: toFile(shared) };
   equal("one file holds source and commands", fromFiles([file]), { source: shared.source, commands: shared.commands, name: "a" });
+  const script = { name: "a.script", text: "step g0\n".repeat(200000) };
+  equal("a script may be very long", fromFiles([script]).commands.length, 200000);
   equal("so do two", fromFiles([{ name: "a.go", text: "package main\n" }, { name: "a.script", text: "step g0\n\nrun 3\n" }]), { source: "package main\n", commands: ["step g0", "run 3"], name: "a" });
+  equal("the line with which the shell names the source is no command", fromFiles([{ name: "a.script", text: "// commands for a.go, SHA-256 00\nrun 3\n" }]).commands, ["run 3"]);
 }
 
 function comparisons() {
@@ -77,7 +66,6 @@ function values() {
 
 export async function lesson() {
   values();
-  waits();
   exercises();
   await links();
   comparisons();

@@ -13,7 +13,21 @@ function filled() {
   return log;
 }
 
+const MANY = 200000; // steps: more than a call takes arguments
+
+// Takes very many steps back, and takes them again.
+function longBacks() {
+  const log = new Log();
+  for (let step = 0; step < MANY; step++) log.append(step % 2 ? "g0.1" : "g0", "pure");
+  const listed = `ok ${MANY - 1} ${ids(log).slice(1).join(" ")}`;
+  log.apply("back g0.1#1", reply(listed));
+  equal("a back of very many steps takes them", [ids(log), log.gone.size], [["g0#1"], MANY - 1]);
+  log.apply("redo", reply(listed));
+  equal("and redo gives them back, each once", [log.length, new Set(ids(log)).size, log.gone.size], [MANY, MANY, 0]);
+}
+
 export function logs() {
+  longBacks();
   const log = filled();
   equal("steps join the log", ids(log), ["g0#1", "g0#2", "g0.1#1", "g0#3", "g0.1#2"]);
   equal("names of goroutines and channels", [log.names, log.channels], [["g0", "g0.1"], ["g0/c1"]]);

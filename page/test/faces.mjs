@@ -1,0 +1,47 @@
+// What the page's modules say of states of programs, without a browser: node faces.mjs PROGRAM WORDS. Each line of standard input is an
+// object with a source and commands, and each line of standard output what is said behind them. The native PROGRAM stands for the
+// module, and WORDS has the words of faults.
+
+import { createInterface } from "node:readline";
+import { readFileSync } from "node:fs";
+import { workersOf } from "./native.mjs";
+
+const [program, words] = process.argv.slice(2);
+globalThis.Worker = workersOf(program);
+const { Session } = await import("../src/session.js");
+const { standingOf } = await import("../src/standing.js");
+const { waitsFor } = await import("../src/waits.js");
+const { Words } = await import("../src/words.js");
+const { go, faults } = JSON.parse(readFileSync(words, "utf8"));
+const LAST = 200; // steps of which lines and values are told
+const machine = { program: null, script: "", suspends: true };
+
+async function told({ source, commands }) {
+  const session = await Session.open(machine, source);
+  for (const command of commands) await session.perform(command);
+  const { follower, log, direct } = session;
+  await session.look();
+  if (session.scene.isPartial) session.scene.isStuck = await session.mirror.isStuck();
+  while (!(await follower.inTurn(() => follower.annotate(0, log.length))));
+  const first = Math.max(0, log.length - LAST);
+  await follower.inTurn(() => direct.find(log.steps(first, log.length)));
+  const standing = await standingOf(session, { go, faults });
+  const state = new Words({ codes: {}, kinds: {}, faults, go }).state(session, standing, (id) => follower.notes.get(id));
+  const steps = log.steps(first, log.length).map(({ id }) => {
+    const { line, over, received } = follower.notes.get(id) || {};
+    return { id, line, value: over ? received || over.sent : "" };
+  });
+  const waits = standing?.waits.map((wait) => [wait.goroutine, waitsFor(wait)]) || [];
+  session.leave();
+  return { lines: standing?.lines || [], cycle: standing?.cycle || [], waits, state: state?.text || "", steps };
+}
+
+for await (const line of createInterface({ input: process.stdin })) {
+  let found;
+  try {
+    found = await told(JSON.parse(line));
+  } catch (fault) {
+    found = { fault: String(fault.stack) };
+  }
+  process.stdout.write(`${JSON.stringify(found)}\n`);
+}

@@ -1,0 +1,76 @@
+// A stand-in for the workers of the page: each holds a session of the native program, so that the page's modules run without a browser.
+
+import { spawn } from "node:child_process";
+import { mkdtempSync, rmSync, writeFileSync } from "node:fs";
+import { tmpdir } from "node:os";
+import { join } from "node:path";
+import { shaped } from "../src/shapes.js";
+
+const folder = mkdtempSync(join(tmpdir(), "rewind-faces-"));
+process.on("exit", () => rmSync(folder, { recursive: true, force: true }));
+const QUIET = "clear 4294967295"; // a command whose reply tells that those before it are answered
+let count = 0;
+
+class NativeSession {
+  /**
+   * @param {string} program
+   * @param {Uint8Array} source
+   */
+  constructor(program, source) {
+    const path = join(folder, `${++count}.go`);
+    writeFileSync(path, source);
+    this.child = spawn(program, [path], { stdio: ["pipe", "pipe", "pipe"] });
+    this.text = "";
+    this.errors = "";
+    this.status = null;
+    this.wanted = () => {};
+    this.child.stdout.setEncoding("utf8").on("data", (text) => this.take(text));
+    this.child.stderr.setEncoding("utf8").on("data", (text) => (this.errors += text));
+    this.ended = new Promise((end) => this.child.on("close", (status) => end((this.status = status ?? -1))));
+    this.child.stdin.on("error", () => {});
+    this.ended.then(() => this.wanted());
+  }
+
+  take(text) {
+    this.text += text;
+    this.lines = (this.lines || 0) + text.split("\n").filter((line) => line && !line.startsWith("|")).length;
+    if (this.text.endsWith("\n")) this.wanted();
+  }
+
+  // The text of the replies to some commands.
+  async ask(commands) {
+    this.text = "";
+    this.child.stdin.write(commands.map((line) => `${line}\n`).join(""));
+    while (this.status === null && this.replies() < commands.length) await new Promise((go) => (this.wanted = go));
+    return this.text;
+  }
+
+  replies() {
+    return this.text.endsWith("\n") ? (this.text.match(/^(?!\|).+$/gm) || []).length : 0;
+  }
+}
+
+// What stands for `Worker`; `program` is the path of the native program.
+export function workersOf(program) {
+  return class {
+    postMessage(data) {
+      this.turn = (this.turn || Promise.resolve()).then(() => this.answer(data));
+    }
+
+    async answer({ id, source, commands, shape }) {
+      let answers = [];
+      if (source) {
+        this.session = new NativeSession(program, source);
+        await Promise.race([this.session.ended, this.session.ask([QUIET])]);
+      } else {
+        answers = shaped(await this.session.ask(commands), shape);
+      }
+      const { status, errors } = this.session;
+      this.onmessage({ data: { id, answers, status, errors, fault: "" } });
+    }
+
+    terminate() {
+      this.session?.child.kill();
+    }
+  };
+}
