@@ -3,8 +3,9 @@
 
     tests/dist.py [FOLDER]      (dist)
 
-The files and their sums are those that SHA256SUMS and README.md tell. Archive, program, CHANGELOG.md, the words of the
-program and the manual page have one version. README.md names the commit and the toolchain that the archive names, and git
+The files and their sums are those that SHA256SUMS and README.md tell. Archive, program and CHANGELOG.md have one version. The
+words of the program, the manual page and the extension have that one too, or all a later one that is not released (1.2.0-dev).
+README.md names the commit and the toolchain that the archive names, and git
 has that commit before the present one. Where no release is committed, the test says so and passes.
 """
 import hashlib
@@ -18,9 +19,9 @@ import tempfile
 TOP = os.path.dirname(os.path.dirname(os.path.abspath(__file__)))
 ARCHIVE = re.compile(r"rewind-(\d+\.\d+\.\d+)-x86_64-linux\.tar\.xz")
 ORIGIN = re.compile(r"from commit `([0-9a-f]{40})` of [\w ]+, with the toolchain `(\S+ logic [0-9a-f]{16})`")
-# Where the version stands.
+RELEASED = r"^## (\d+\.\d+\.\d+)$"
+# Where the version of the repository stands.
 VERSIONS = {
-    "CHANGELOG.md": r"^## (\d+\.\d+\.\d+)$",
     "words/program.txt": r"^version\n    text: (\S+)$",
     "docs/rewind.1": r'^\.TH REWIND 1 "" "Rewind (\S+)"',
     "editors/vscode/package.json": r'^  "version": "(\S+)",$',
@@ -89,15 +90,26 @@ def check_texts(folder, told):
     version = ARCHIVE.fullmatch(name)[1]
     said, verified = archived(f"{folder}/{name}", name.removesuffix(".tar.xz"))
     yield "the program of the archive is proved, and of its version", said == f"rewind {version}", said
+    newest = first(RELEASED, read(f"{TOP}/CHANGELOG.md"))
+    yield "the newest release of CHANGELOG.md is the archive", newest == version, f"{newest} and {version}"
+    here = first(VERSIONS["words/program.txt"], read(f"{TOP}/words/program.txt")) or ""
+    yield "the version here is that of the archive, or a later one that is not released", follows(here, version), f"{here} and {version}"
     for path, pattern in VERSIONS.items():
         there = first(pattern, read(f"{TOP}/{path}"))
-        yield f"{path} has the version of the archive", there == version, f"{there} and {version}"
+        yield f"{path} has the version of the words", there == here, f"{there} and {here}"
     origin = ORIGIN.search(told)
     yield "README.md names a commit and a toolchain", origin, told[:200]
     if origin:
         same = ORIGIN.search(verified)
         yield "the archive names the same ones", same and same.groups() == origin.groups(), verified[:400]
         yield from check_commit(origin[1])
+
+
+def follows(version, released):
+    """Whether a version is one that was released, or a later one that is not."""
+    found = re.fullmatch(r"(\d+)\.(\d+)\.(\d+)-dev", version)
+    numbers = [int(number) for number in released.split(".")]
+    return version == released or bool(found) and [int(number) for number in found.groups()] > numbers
 
 
 def check_commit(commit):

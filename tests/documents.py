@@ -4,7 +4,7 @@
     tests/documents.py PROGRAM
 
 Each code block of a Markdown file, of the manual page and of `--help` is run; a configuration is read, and a target of
-`make` looked up. So are the examples in tables, links, pictures, and the crates, functions and files that are named.
+`make` looked up. So are the examples in tables, links, pictures, recipes, and the crates, functions and files that are named.
 The head of each module of the folder `documents` says what it checks. A comment `<!-- not run: REASON -->` before a
 block says why that one is not run.
 
@@ -19,11 +19,11 @@ import traceback
 
 sys.dont_write_bytecode = True
 
-from documents import blocks, commands, editors, figures, files, language, made, manual, names, stories  # noqa: E402
+from documents import blocks, commands, contracts, editors, figures, files, keys, language, made, manual, names, recipes, stories  # noqa: E402
 from documents.checks import Checks  # noqa: E402
 from documents.program import Program  # noqa: E402
 
-PARTS = (blocks, stories, manual, commands, language, editors, files, names, made, figures)
+PARTS = (blocks, stories, manual, commands, language, editors, files, names, contracts, recipes, keys, made, figures)
 
 
 def run_part(part, checks, program):

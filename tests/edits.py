@@ -9,7 +9,7 @@ crates/NAME/must-fail and crates/NAME/edits:
 - each applies to its files, no two of a crate have one name or make one change;
 - each changes code and not only what is said of it, but for those of definitions in crates/NAME/edits of a crate whose
   functions do nothing;
-- must-fail has at most 48, docs/EDITS.md has one row for each of these, and its functions and clauses are there;
+- must-fail has at most 49, docs/EDITS.md has one row for each of these, and its functions and clauses are there;
 - the numbers of the others in docs/EDITS.md are right.
 """
 import glob
@@ -20,7 +20,7 @@ from collections import Counter
 
 TOP = os.path.dirname(os.path.dirname(os.path.abspath(__file__)))
 TABLE = "docs/EDITS.md"
-MOST = 48
+MOST = 49
 GATE, OTHERS = "must-fail", "edits"
 # The crates whose functions do nothing: their contracts are examples and laws.
 WITHOUT_CODE = {"gr_code", "gr_laws", "gr_rules", "litmus"}

@@ -32,7 +32,11 @@ PARTS = {
     "growth of workers": ["tests/hostile/beside.py", "PROGRAM"],
     "growth of channels": ["tests/refusals.sh"],
     "test_parts": ["tests/crate.py", "test_parts"],
-    "devices": ["tests/hostile/devices.py", "PROGRAM", "--sessions", "1", "--jobs", "1"],
+    "hostile texts": ["tests/hostile/texts.py", "PROGRAM", "--short", "1", "--random", "100", "--jobs", "1"],
+    "hostile commands": ["tests/hostile/commands.py", "PROGRAM", "--short", "1", "--lines", "4000", "--jobs", "1"],
+    "limits": ["tests/hostile/limits.py", "PROGRAM", "--jobs", "1"],
+    "devices": ["tests/hostile/devices.py", "PROGRAM", "--short", "1", "--jobs", "1"],
+    "faces": ["tests/faces.py", "--programs", "30", "--random", "10", "--jobs", "2", "PROGRAM"],
     "documents": ["tests/documents.py", "PROGRAM"],
     "command line": ["tests/command_line.py", "PROGRAM"],
     "adapter": ["editors/dap/tests/run"],
@@ -41,6 +45,7 @@ PARTS = {
     "edits": ["tests/edits.py", "PROGRAM"],
     "shown": ["tests/shown.py"],
     "workers": ["tests/workers.py", "PROGRAM"],
+    "beside Go": ["tests/beside_go.py", "PROGRAM", "--short", "1", "--jobs", "1"],
     "release files": ["tests/dist.py"],
 }
 

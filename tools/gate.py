@@ -14,6 +14,7 @@ system's own and exact; the row `others` has what no crate was seen to take. A p
 Ctrl-C ends the gate.
 """
 import argparse
+import json
 import os
 import re
 import signal
@@ -195,6 +196,14 @@ def markdown(below, watch, wall, processor, ended):
     return "\n".join(lines + ["", "Last line of the gate: `%s`" % ended, ""])
 
 
+def write_minutes(path, rows):
+    """Writes the processor minutes of each crate's proof, by which tools/prove.py orders its checks."""
+    minutes = {crate: round(own[0], 1) for crate, own, _, _ in rows if own[0] >= 0.05 and crate != "together"}
+    with open(path, "w", encoding="utf-8") as file:
+        json.dump(minutes, file, indent=1)
+        file.write("\n")
+
+
 def measure(folder, log, table):
     below = crates_below(folder)
     watch, wall, processor, status = run_gate(folder, log)
@@ -203,13 +212,14 @@ def measure(folder, log, table):
     if table:
         with open(table, "w", encoding="utf-8") as file:
             file.write(text)
+        write_minutes(os.path.join(os.path.dirname(table), "minutes.json"), rows_of(below, watch, processor))
     return 0 if status == 0 else 1
 
 
 def main():
     options = argparse.ArgumentParser(description="Runs the gate and tells where its time goes, crate by crate.")
     options.add_argument("--here", metavar="FOLDER", help="run in this clone, in place of a fresh one")
-    options.add_argument("--table", metavar="FILE", help="write the table here, as Markdown")
+    options.add_argument("--table", metavar="FILE", help="write the table here, as Markdown, and minutes.json beside it")
     options.add_argument("--log", metavar="FILE", default="gate.log", help="the gate's own output (gate.log)")
     given = options.parse_args()
     signal.signal(signal.SIGTERM, lambda *_: sys.exit(143))

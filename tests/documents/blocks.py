@@ -1,7 +1,7 @@
 """Runs the code blocks of the documents. The kind of a block is seen by what is in it; a block of no known kind is
 a failure, so that none stands untested. A comment `<!-- not run: REASON -->` before a block says why it is not run."""
 
-from . import diagrams, editors, fragments, repository, shell, stories
+from . import contracts, diagrams, editors, fragments, repository, shell, stories
 from .markdown import page
 
 
@@ -15,10 +15,14 @@ def begins(block, start):
 
 def kind_of(block):
     """The function that checks blocks of this kind, if one does."""
+    if contracts.is_quote(block):
+        return contracts.check_quote
     if fragments.is_go_file(block):
         return fragments.check_source
     if begins(block, "$ "):
         return shell.check_transcript
+    if first_line(block).startswith("from rewind_client"):
+        return fragments.check_python
     if begins(block, "> "):
         return stories.check_session
     if begins(block, "(rewind) "):

@@ -1,6 +1,9 @@
 """Sources and pieces of Go in a document: the program accepts them, unless they have what the language leaves out."""
 
 import re
+import sys
+
+from . import repository
 
 
 def is_go_file(block):
@@ -31,3 +34,11 @@ def readings(text):
 def check_fragment(checks, program, block):
     told = [program.check(it) for it in readings(block.text)]
     checks.holds(block.place(), "" in told, f"a piece of Go that is refused: {' or '.join(told)}")
+
+
+def check_python(checks, program, block):
+    """A piece of Python over the library of the clients: each `print` gives what the remark beside it says."""
+    name = program.write("piece.py", "import sys\nsys.path.insert(0, sys.argv[1])\n" + block.text)
+    got = program.shell(f"{sys.executable} {name} {repository.path_of('clients')}").out
+    told = re.findall(r"^print\(.*\)\s+# (.*)$", block.text, re.M)
+    checks.same(block.place(), "what this piece of Python prints", "".join(it + "\n" for it in told), got)

@@ -193,21 +193,6 @@ def check_map(checks):
     checks.same(f"{MAP}:1", "crates that are not on the map", [], missing)
 
 
-def check_lemmas(checks, document):
-    """The table of theorems with their lemmas: functions and lemmas of the crate that its section names first."""
-    for row in [it for it in document.rows if it.heads[-1] == "Lemmas"]:
-        words = "\n".join(reversed(document.words_before(row.line)))
-        crate = next(it for it in re.findall(r"`(\w+)`", words) if is_crate(it))
-        for name in re.findall(r"\w+", row.cells[0]):
-            fault = fault_of_promise(sources.crate(crate), name)
-            checks.holds(row.place, fault is None, fault)
-        for module, several, one in re.findall(r"(\w+)\.(?:\{([^}]*)\}|([\w-]+))", row.cells[1]):
-            path = f"crates/{crate}/proofs/{module}.antt"
-            known = set(re.findall(r"[^\s(){}]+", repository.read(path))) if repository.exists(path) else set()
-            for name in re.findall(r"[\w-]+", several or one):
-                checks.holds(row.place, name in known, f"{path} has no {name}")
-
-
 def check(checks, program):
     for name in PROMISING:
         check_tables(checks, page(name))
@@ -215,4 +200,3 @@ def check(checks, program):
         check_prose(checks, page(name))
         check_everywhere(checks, page(name))
     check_map(checks)
-    check_lemmas(checks, page(MAP))

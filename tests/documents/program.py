@@ -3,6 +3,7 @@ the repository's folders, and the program as `rewind`, `bin/rewind` and `bin/rew
 
 import os
 import pty
+import re
 import select
 import subprocess
 import termios
@@ -12,7 +13,8 @@ from . import repository
 
 SECONDS = 50
 PROMPT = "(rewind) "
-UNPROVED = " (unproved build)"
+# What the version of the quick build has more than that of the proved program.
+UNPROVED = re.compile(r"(\+[0-9a-f]+(\.changed)?)? \(unproved build\)")
 
 
 class Ran:
@@ -24,7 +26,7 @@ class Ran:
 
 def proved(text):
     """A text as the proved program writes it, which does not say that it is unproved."""
-    return text.replace(UNPROVED, "")
+    return UNPROVED.sub("", text)
 
 
 def replies_of(lines):
@@ -98,7 +100,7 @@ class Program:
             os.symlink(self.path, os.path.join(folder, name))
         for name in sorted({it.split("/")[0] for it in repository.files()} - {"bin"}):
             os.symlink(repository.path_of(name), os.path.join(folder, name))
-        self.environment = {**os.environ, "PATH": f"{folder}:{os.environ.get('PATH', '')}"}
+        self.environment = {**os.environ, "PATH": f"{folder}:{os.environ.get('PATH', '')}", "REWIND": self.path}
 
     def write(self, name, text):
         """Makes a file of the scratch folder."""

@@ -11,8 +11,13 @@ from .program import PROMPT
 PROGRAMS = {"rewind", "bin/rewind", "bin/rewind-quick", "./bin/rewind", "./bin/rewind-quick"}
 # Commands that ask for lines, with the prompt of each.
 PROMPTS = {it: PROMPT for it in PROGRAMS}
+# Clients of the program, which are run too, and the prompt of the one that asks for lines.
+HUNT, ASKING = "clients/rewind-hunt", "clients/rewind-shell"
+ASKED = re.compile(r"^\(rewind g[0-9.]*\) ")
 # Commands that are run, with the program among them or alone.
-RUN = {"cat", "printf", "echo", "grep", "head", "tail", "diff", "wc", "sort"}
+RUN = {"cat", "printf", "echo", "grep", "head", "tail", "diff", "wc", "sort", HUNT, ASKING}
+# What differs from run to run.
+TIMING = re.compile(r"in [0-9]+\.[0-9] seconds$")
 # Commands that change the machine or want a person: only the files that they name are looked for.
 NAMED = set(
     "apt apt-get cd chmod code cp curl docker emacs export git hx install ln ls man mkdir mv nvim python3 rlwrap rm rt "
@@ -57,8 +62,14 @@ def is_file(name):
     return bare in repository.files() or bare.rstrip("/") in repository.folders()
 
 
+def is_of_archive(name):
+    """Whether a path is one of the clients as the archive of a release has them."""
+    folder, _, client = name.rpartition("/")
+    return folder == "bin" and is_file(f"clients/{client}")
+
+
 def is_known(name):
-    return name in PROGRAMS | RUN | NAMED | {"make"} or ("/" in name and is_file(name))
+    return name in PROGRAMS | RUN | NAMED | {"make"} or ("/" in name and (is_file(name) or is_of_archive(name)))
 
 
 def first_word(line):
@@ -174,6 +185,8 @@ def filled(printed, got):
 def output_of(program, line, printed):
     """The lines that a terminal shows for a line, with what is typed at the prompts that are printed."""
     words = command_of(shlex.split(line))
+    if words[0] == ASKING:
+        return asked_by_the_shell(program, line, printed)
     prompt = PROMPTS.get(words[0])
     typed = [it[len(prompt):] for it in printed if it.startswith(prompt)] if prompt else []
     if not typed:
@@ -183,10 +196,18 @@ def output_of(program, line, printed):
     return got[:-1] if got[-1] == prompt else got
 
 
+def asked_by_the_shell(program, line, printed):
+    """What the shell of the clients shows at its prompts: it echoes what it reads from a pipe."""
+    prompts = [ASKED.match(it).group() for it in printed if ASKED.match(it)]
+    typed = [ASKED.sub("", it) for it in printed if ASKED.match(it)]
+    got = program.shell("printf '%s\\n' " + " ".join(map(shlex.quote, typed)) + " | " + line).out.splitlines()
+    return [prompts.pop(0) + it[2:] if it.startswith("> ") and prompts else it for it in got]
+
+
 def compare_output(checks, program, block, number, line, printed):
     """Whether a line of a transcript gives the output that is printed below it."""
-    got = output_of(program, line, printed)
-    wanted = filled(printed, got)
+    got = [TIMING.sub("in N seconds", it) for it in output_of(program, line, printed)]
+    wanted = filled([TIMING.sub("in N seconds", it) for it in printed], got)
     numbers = [it for it, _ in wanted] + [len(printed)]
     checks.same_lines(lambda n: block.place(number + 1 + numbers[n]), f"output of {line!r}", [it for _, it in wanted], got)
 

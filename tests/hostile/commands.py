@@ -1,20 +1,24 @@
 #!/usr/bin/env python3
 """Hostile commands: each line gets the one reply that docs/COMMANDS.md gives it, and a rejected line changes nothing.
 
-    tests/hostile/commands.py [PROGRAM] [--jobs N] [--seed S] [--lines N]      (bin/rewind, all processors, seed 1, 400,000 random lines)
+    tests/hostile/commands.py [PROGRAM] [--jobs N] [--seed S] [--lines N] [--short S]
+
+(bin/rewind, all processors, seed 1, 400,000 random lines, S = 0.)
 
 Random bytes and random words; every command with every kind of wrong word, with a word too many and one too few; lines of up
 to 16 MiB. Which lines are commands is said here once more, by patterns. A line that is one gets a reply of its form, a blank line
 none, every other line `? bad command`; and before and after every hundred rejected lines all is the same that the session tells:
 its log, console, goroutines, texts and channels, and what `redo` takes again. 2,000,000 commands fill the journal: the next gets
 `no Q1`, and rejected lines among them take no place in it.
+
+With `--short 1` the wrong words are those of one session, and no line is longer than the limit and one byte.
 """
 import random
 import re
 import sys
 
 from program import (
-    FAULTS, KIND, NAMED, STEP, Program, Tally, asked, cut, examples, given, in_parts, questions, replies, script_of, steps_of)
+    FAULTS, KIND, NAMED, STEP, Program, Tally, all_of, asked, cut, examples, given, questions, replies, script_of, steps_of)
 from sources import KEYWORDS
 
 LIMIT = 1 << 20
@@ -137,7 +141,7 @@ def random_line(chance):
 
 def long_lines():
     """Lines up to the limit and past it."""
-    for length in (LIMIT - 1, LIMIT, LIMIT + 1, LIMIT + 2, 2 * LIMIT, 16 * LIMIT):
+    for length in (LIMIT, LIMIT + 1) if settings.short else (LIMIT - 1, LIMIT, LIMIT + 1, LIMIT + 2, 2 * LIMIT, 16 * LIMIT):
         for beginning, filling, end in (
                 (b"log", b" ", b""), (b"", b" ", b"log"), (b"log", b" ", b"\r"), (b"", b"log ", b""), (b"", b"\t", b""), (b"", b"x", b""),
                 (b"", b"\x00", b""), (b"run ", b"0", b""), (b"run ", b"9", b""), (b"show g0", b".1", b""), (b"order", b" g0#1", b""),
@@ -248,14 +252,12 @@ NAMES = ("swapped_variables", "lost_update", "deadlock", "send_on_closed", "buff
 
 
 def main():
-    status = 0
     seeds = range(settings.seed, settings.seed + settings.lines // 1000)
-    for title, work, parts in (("wrong words", of_words, NAMES), ("random lines", of_seed, seeds), ("long lines", of_length, [0]),
-                               ("full journal", of_journal, [0])):
-        status |= in_parts(settings.jobs, work, parts).tell(title)
-    return status
+    return all_of(settings.jobs, [
+        ("wrong words", of_words, NAMES[:1] if settings.short else NAMES), ("random lines", of_seed, seeds),
+        ("long lines", of_length, [0]), ("full journal", of_journal, [0])])
 
 
-settings = given("Hostile commands.", lines=400000)
+settings = given("Hostile commands.", lines=400000, short=0)
 if __name__ == "__main__":
     sys.exit(main())

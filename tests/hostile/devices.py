@@ -1,9 +1,9 @@
 #!/usr/bin/env python3
 """Devices that fail, stop, are interrupted, or take and give one byte at a time, at every place of an example session.
 
-    tests/hostile/devices.py [PROGRAM] [--jobs N] [--sessions S]      (bin/rewind, all processors, all sessions)
+    tests/hostile/devices.py [PROGRAM] [--jobs N] [--short S]      (bin/rewind, all processors, S = 0)
 
-For every k and j, under each example session that has commands:
+For every k and j, under each example session that has commands, or with `--short 1` under SHORT alone:
 
 - The k-th read of the commands fails: status 3, `rewind: read`, and the replies to the whole lines before it went out, no more.
   It is interrupted: nothing comes of it. From it on the commands are at their end: the replies are those to what was read.
@@ -18,6 +18,9 @@ failed would succeed if it were tried again, so that it was not is seen from the
 import sys
 
 from program import Preloaded, Program, Tally, cut, examples, given, in_parts, sessions
+
+
+SHORT = "hand_over"
 
 
 class Session:
@@ -94,17 +97,12 @@ def of_session(part):
     return session.tally
 
 
-def chosen():
-    """The sessions that are asked for: the given number of those that have commands, or all."""
-    with_commands = [name for name in sessions() if examples(".script")[name]]
-    return with_commands[:settings.sessions] if settings.sessions else sessions()
-
-
 def main():
-    parts = [(name, what) for what in ("writes", "reads", "sources") for name in chosen()]
+    names = [SHORT] if settings.short else sessions()
+    parts = [(name, what) for what in ("writes", "reads", "sources") for name in names]
     return in_parts(settings.jobs, of_session, parts).tell("devices")
 
 
-settings, library = given("Devices that fail.", sessions=0), Preloaded()
+settings, library = given("Devices that fail.", short=0), Preloaded()
 if __name__ == "__main__":
     sys.exit(main())

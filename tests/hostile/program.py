@@ -192,6 +192,19 @@ def given(description, **more):
     return parser.parse_args()
 
 
+def all_of(jobs, groups):
+    """Runs groups of parts, each with its title and what makes a tally of a part, and answers the status. The last line is of all."""
+    tally = Tally()
+    for title, work, parts in groups:
+        if not parts:
+            continue
+        found = in_parts(jobs, work, parts)
+        found.tell(title)
+        tally.add(found)
+    print("in all")
+    return tally.close(sum(tally.ends.values()))
+
+
 def in_parts(jobs, work, parts):
     """The tally of all parts, each of which `work` makes a tally of."""
     tally = Tally()

@@ -1,14 +1,16 @@
 #!/usr/bin/env python3
 """Hostile sources: each must be opened, or refused by an S, P or C code at a place inside the text.
 
-    tests/hostile/texts.py [PROGRAM] [--jobs N] [--seed S] [--random N]
+    tests/hostile/texts.py [PROGRAM] [--jobs N] [--seed S] [--random N] [--short S]
 
-(bin/rewind, all processors, seed 1, 6,000 of each random kind.)
+(bin/rewind, all processors, seed 1, 6,000 of each random kind, S = 0.)
 
 Every beginning of each example source, and each of its bytes replaced by 00, 22 and FF; random bytes and random tokens;
 well-typed programs, which must be opened; files of the grammar, which only the checker may refuse; both broken in one place;
 forms nested up to the limit of levels, past it, and as deep as a text can be; texts of 1 MiB that are one token, or one
 token over and over; and the time of 1,000 texts of 64 KiB, of which the worst takes at most 5 times as long as the median.
+
+With `--short 1` the examples are those in SHORT, no form is as deep as a text can be, and no text is of 1 MiB or timed.
 """
 import random
 import re
@@ -17,10 +19,13 @@ import sys
 from concurrent.futures import ProcessPoolExecutor
 
 from nesting import FORMS, MIB, depths
-from program import Program, Tally, cut, examples, given, in_parts
+from program import Program, Tally, all_of, cut, examples, given
 from sources import KEYWORDS, LITERALS, MALFORMED, NAMES, OPERATORS, Grammar, Typed, broken, random_bytes, token_list
 
 REFUSED = re.compile(rb"rewind: (S[1-6]|P[1-3]|C[1-9]|C10) at (\d+):(\d+)\n")
+# Examples that are cut and changed in a short run, and how deep a form is nested there at most.
+SHORT = ("deadlock", "hand_over", "lost_update")
+SHORT_DEPTH = 2000
 RUN = re.compile(rb"ok \d+ (ended|fault|count|stuck)\n")
 REPLACED = (0x00, 0x22, 0xFF)
 # How many texts are timed, and what they are by turns.
@@ -89,6 +94,8 @@ def of_form(form):
     tally, program = Tally(), Program(settings.program)
     text, most = FORMS[form]
     for depth in depths(form):
+        if settings.short and depth > SHORT_DEPTH:
+            break
         what, _ = tried(tally, program, text(depth).encode())
         if most and (what == "P3") != (depth > most):
             tally.failures.append("%s, %d deep: %s, with a limit of %d" % (form, depth, what, most))
@@ -173,15 +180,14 @@ def tell_times():
 
 
 def main():
-    status = 0
-    for title, work, parts in (
-            ("examples cut and changed", of_example, examples()),
-            ("random texts", of_seed, range(settings.seed, settings.seed + settings.random // 100)),
-            ("nesting", of_form, FORMS), ("texts of 1 MiB, and the same of 64 KiB", of_long, range(settings.jobs))):
-        status |= in_parts(settings.jobs, work, parts).tell(title)
-    return status | tell_times()
+    status = all_of(settings.jobs, [
+        ("examples cut and changed", of_example, SHORT if settings.short else examples()),
+        ("random texts", of_seed, range(settings.seed, settings.seed + settings.random // 100)),
+        ("nesting", of_form, FORMS),
+        ("texts of 1 MiB, and the same of 64 KiB", of_long, () if settings.short else range(settings.jobs))])
+    return status if settings.short else status | tell_times()
 
 
-settings = given("Hostile sources.", random=6000)
+settings = given("Hostile sources.", random=6000, short=0)
 if __name__ == "__main__":
     sys.exit(main())

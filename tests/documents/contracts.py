@@ -1,0 +1,35 @@
+"""Contracts and definitions that a document quotes: a block of `rattle` or `antt` stands in a source, line by line. And links whose
+text is a function: the file that they lead to has that function."""
+
+import os
+import re
+
+from . import repository
+from .markdown import page
+
+ENDINGS = {"rattle": ".rt", "antt": ".antt"}
+LINK = re.compile(r"\[`(\w+::)?(\w+)`\]\(([^)#]+\.rt)\)")
+
+
+def stripped(lines):
+    return "\n".join(line.strip() for line in lines if line.strip())
+
+
+def is_quote(block):
+    return block.info in ENDINGS
+
+
+def check_quote(checks, program, block):
+    """The lines of a block stand in a source, one behind the other, whatever their margin."""
+    wanted = stripped(block.lines)
+    known = (it for it in repository.files() if it.startswith("crates/") and it.endswith(ENDINGS[block.info]))
+    checks.holds(block.place(), any(wanted in stripped(repository.read(it).split("\n")) for it in known), "no source has these lines")
+
+
+def check(checks, program):
+    for name in repository.documents():
+        for number, line in enumerate(page(name).prose):
+            for _, function, link in LINK.findall(line):
+                path = os.path.normpath(os.path.join(os.path.dirname(name), link))
+                has = path in repository.files() and re.search(rf"\bfn {function}\b", repository.read(path))
+                checks.holds(f"{name}:{number + 1}", has, f"{link} has no function {function}")
