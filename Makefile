@@ -11,8 +11,8 @@ RT = $(if $(HAS_RT),rt,$(error rewind: 'rt' is not on the path: install the Ratt
 NEEDS_RT = @: $(RT)
 
 .DEFAULT_GOAL := $(if $(HAS_RT),all,help)
-.PHONY: all help quick quick-page demo test gate edits words command-line-test bench replay second-opinion hostile times gate-times make-times \
-	dap-test page page-test vsix dist quick-dist dist-check page-pictures install uninstall clean
+.PHONY: all help quick quick-page demo test gate edits words command-line-test bench replay second-opinion beside-go hostile times gate-times make-times faces \
+	dap-test page page-test vsix dist quick-dist dist-check release-check page-pictures install uninstall clean
 
 ## Use it
 
@@ -60,7 +60,7 @@ PAGE_COMPILER := page/module/build.py page/module/retarget.py $(wildcard page/mo
 
 page/out/rewind-quick.wide.wasm: bin/quick/rewind.bc $(PAGE_COMPILER)
 	$(NEEDS_RT)
-	page/module/build.py $< $@
+	page/module/build.py --quick $< $@
 
 page/out/rewind.wide.wasm: page/out/rewind.bc $(PAGE_COMPILER)
 	$(NEEDS_RT)
@@ -87,6 +87,9 @@ dist-check: ## makes the release in two fresh clones, and compares the files byt
 	$(NEEDS_RT)
 	tools/dist_check.sh
 
+release-check: ## checks the committed release without the toolchain: it starts, a plain model answers alike, the documents hold (30 seconds)
+	tests/released.sh
+
 install: ## installs the program, its manual page and the clients (PREFIX=/usr/local, DESTDIR)
 	tools/install.sh "$(DESTDIR)" "$(PREFIX)"
 
@@ -95,7 +98,7 @@ uninstall: ## removes what install installed
 
 ## Test it
 
-test: bin/rewind-quick ## every test, without proofs (7 minutes on two processors)
+test: bin/rewind-quick ## every test, without proofs (10 minutes on two processors)
 	tests/run.py bin/rewind-quick
 
 gate: ## the gate: each proof from nothing, edits that must be refused, all tests and programs (an hour on four processors)
@@ -114,6 +117,12 @@ replay: $(REWIND) ## steps of 1,000 random sessions, taken again in fresh sessio
 
 second-opinion: $(REWIND) ## random sessions, answered by a plain model too (10 minutes; SECONDS=N)
 	tests/second.py --sessions 1000000 --seconds $(or $(SECONDS),600) $(REWIND)
+
+faces: $(REWIND) ## what page, shell and adapter say of all programs and of 2,000 random ones, compared (10 minutes on four processors)
+	tests/faces.py --random 2000 $(REWIND)
+
+beside-go: $(REWIND) ## programs as Go runs them: some schedule of the rules comes to each outcome (2 minutes; needs go)
+	tests/beside_go.py $(REWIND)
 
 dap-test: $(REWIND) ## the adapter for editors (1 minute)
 	REWIND=$(REWIND) editors/dap/tests/run

@@ -30,7 +30,7 @@ SESSIONS = f"{kit.ROOT}/crates/sessions/data"
 EXAMPLES = ("deadlock", "leaked_goroutine", "lost_update", "prime_sieve", "race_in_select", "send_on_closed")
 PAGE = "rewind.html"
 # What a folder of a release may hold, and how many bytes of each.
-NAMES = re.compile(r"rewind\.html|rewind-[\d.]+-x86_64-linux\.tar\.xz|SHA256SUMS|README\.md")
+NAMES = re.compile(r"rewind\.html|rewind-[\d.]+(-dev)?-x86_64-linux\.tar\.xz|SHA256SUMS|README\.md")
 MOST = {"html": 2_500_000, "xz": 1_500_000}
 UNPROVED = "(unproved build)"
 PROVED = "The program is the proved one."
@@ -64,6 +64,8 @@ def check_tree():
     changed = said_by("git", "status", "--porcelain", "--", ".", ":!dist")
     if changed:
         kit.stop(f"a release is of a commit, and the tree has changed: {changed.splitlines()[0]}")
+    if not re.fullmatch(r"\d+\.\d+\.\d+", version()):
+        kit.stop(f"{version()} is no version of a release: CONTRIBUTING.md says how to make one")
     newest = re.search(r"^## (.*)$", read(f"{kit.ROOT}/CHANGELOG.md"), re.M)[1]
     if newest != version():
         kit.stop(f"CHANGELOG.md begins with '{newest}', and the program's version is {version()}")
@@ -73,7 +75,8 @@ def check_program(program, is_trial):
     """Ends the program where that of the release has another version, or is not proved."""
     said = said_by(program, "--version")
     wanted = f"rewind {version()}"
-    if said != wanted and not (is_trial and said == f"{wanted} {UNPROVED}"):
+    is_of_trial = said.startswith(wanted) and said.endswith(UNPROVED)
+    if said != wanted and not (is_trial and is_of_trial):
         kit.stop(f"the program says '{said}', and that of a release says '{wanted}'")
 
 

@@ -4,7 +4,7 @@
 #     tools/edits.sh [NAME ..]      (without a name: every crate that has such edits)
 #
 # Works in a clone of HEAD below $TMPDIR (/var/tmp where that is not set), which may take as much room as the kept proofs
-# (docs/PROVING.md). It begins with the proofs that a check of the same files kept on this machine, so run `make` first. A crate
+# (docs/TOOLCHAIN.md). It begins with the proofs that a check of the same files kept on this machine, so run `make` first. A crate
 # that was not checked is proved before its edits. $RT_JOBS edits are tried side by side.
 #
 # The crates come from the lowest up, two at a time. Each has one line, with the number of its edits

@@ -1,6 +1,6 @@
 #!/bin/sh
-# install.sh [--remove] DESTDIR PREFIX: installs the program, its manual page, the shell, the hunt and the adapter for editors under
-# DESTDIR/PREFIX, or removes them. The program is bin/rewind if it is there, else bin/rewind-quick.
+# install.sh [--remove] DESTDIR PREFIX: installs the program, its manual page and documents, the shell, the hunt and the adapter for
+# editors under DESTDIR/PREFIX, or removes them. The program is bin/rewind if it is there, else bin/rewind-quick.
 set -eu
 top=$(cd "$(dirname "$0")/.." && pwd)
 
@@ -25,7 +25,7 @@ if [ -n "$removes" ]; then
   for name in rewind rewind-shell rewind-hunt rewind-dap; do
     rm -f "$to/bin/$name"
   done
-  rm -rf "$to/share/man/man1/rewind.1" "$to/lib/rewind"
+  rm -rf "$to/share/man/man1/rewind.1" "$to/share/doc/rewind" "$to/lib/rewind"
   echo "removed rewind from $to"
   exit 0
 fi
@@ -42,6 +42,10 @@ mkdir -p "$to/bin" "$to/share/man/man1" "$to/lib/rewind/bin" "$to/lib/rewind/edi
 
 install -m 755 "$program" "$to/bin/rewind"
 install -m 644 "$top/docs/rewind.1" "$to/share/man/man1/rewind.1"
+rm -rf "$to/share/doc/rewind"
+(cd "$top" && find README.md CHANGELOG.md docs clients/README.md page/README.md -name '*.md' -o -name '*.svg') | while read -r file; do
+  install -D -m 644 "$top/$file" "$to/share/doc/rewind/$file"
+done
 rm -rf "$to/lib/rewind/editors/dap" "$to/lib/rewind/clients"
 mkdir -p "$to/lib/rewind/editors/dap"
 install -m 755 "$top/editors/dap/rewind-dap" "$to/lib/rewind/editors/dap/rewind-dap"

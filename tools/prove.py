@@ -8,11 +8,11 @@ Leaves the program as PROGRAM, and what the toolchain says in make.log beside it
 
 The toolchain keeps a crate and all below it to itself while it proves one. So crates that are proved side by side have a
 room each: a folder with a copy of the sources, to which the libraries below are lent. No file of a room changes, so the stamp
-of a crate is made once for each command there.
+of a crate is made once for each command there. What was proved in a room is moved here, and noted for checks in other clones.
 """
 import functools
+import json
 import os
-import re
 import shutil
 import subprocess
 import sys
@@ -30,7 +30,7 @@ STANDS_BACK = 10
 # What stands beside the longest chain is done long before its end.
 MOST_ROOMS = 3
 RT = f"{kit.ROOT}/tools/rt_once.py"
-# The minutes of a crate whose time bench/GATE.md does not tell.
+# The minutes of a crate that bench/minutes.json does not have: there are those of each crate's proof, by the last `make gate-times`.
 UNTOLD = 0.1
 # The memory for which there may be a room: two jobs of some 2.3 GB.
 ROOM_BYTES = 5 << 30
@@ -45,10 +45,9 @@ def order(crate, found):
 
 
 def times():
-    """The processor minutes of each crate's proof, as bench/GATE.md tells them."""
-    with open(f"{kit.ROOT}/bench/GATE.md", encoding="utf-8") as lines:
-        rows = [[cell.strip() for cell in line.split("|")] for line in lines if line.startswith("| ")]
-    return {row[1]: float(row[2]) for row in rows if len(row) > 2 and re.fullmatch(r"[0-9]+\.[0-9]", row[2])}
+    """The processor minutes of each crate's proof."""
+    with open(f"{kit.ROOT}/bench/minutes.json", encoding="utf-8") as file:
+        return json.load(file)
 
 
 def heights(crates):
@@ -113,11 +112,16 @@ class Check:
         return ended == 0
 
 
+def note(rt, crate):
+    """Notes where the kept work of a proved crate is, so that checks in other clones on this machine begin with it."""
+    rt.offer(crate, crate.stamp())
+
+
 class Prover:
     """The crates that wait for their proof, and the checks that run."""
 
-    def __init__(self, crates, rooms, processors, log):
-        self.waiting, self.rooms, self.processors, self.log = list(crates), rooms, processors, log
+    def __init__(self, rt, crates, rooms, processors, log):
+        self.rt, self.waiting, self.rooms, self.processors, self.log = rt, list(crates), rooms, processors, log
         self.running, self.height, self.count, self.start = [], heights(crates), len(crates), time.monotonic()
 
     def minutes(self):
@@ -153,6 +157,7 @@ class Prover:
             for other in self.running:
                 other.end(self.log)
             kit.fail(f"{check.crate.name} is not proved: see {self.log.name}")
+        note(self.rt, check.crate)
 
     def prove(self):
         while self.waiting or self.running:
@@ -178,13 +183,17 @@ def run(program, room, words, log):
     return said.returncode == 0
 
 
-def prove_all(program, words, processors, log):
+def prove_all(rt, program, words, processors, log):
     """Proves the crates that are not proved yet, and then the program."""
     crates = order(program, [])
     count = max(1, min(processors, MOST_ROOMS, memory() // ROOM_BYTES))
     with tempfile.TemporaryDirectory(prefix="rooms-", dir=os.path.dirname(log.name)) as place:
         rooms = [Room(f"{place}/{number}") for number in range(count)]
-        prover = Prover([it for it in crates if not it.is_built()], rooms, processors, log)
+        unproved = [it for it in crates if not it.is_built()]
+        for crate in crates:
+            if crate not in unproved:
+                note(rt, crate)
+        prover = Prover(rt, unproved, rooms, processors, log)
         prover.prove()
         print(f"the program: {program.name} ({prover.minutes()} so far)", flush=True)
         if not run(program, rooms[0], words, log):
@@ -201,13 +210,14 @@ def main():
     if not os.path.isdir(place):
         kit.stop(f"there is no crate {name}")
     processors = int(os.environ.get("RT_JOBS") or len(os.sched_getaffinity(0)))
-    library = kit.library(kit.folder())
+    rt = kit.command(kit.folder())
+    library = rt.rtlib
     # A stamp is made of those of all crates below: each is made once.
     library.Crate.stamp = functools.lru_cache(maxsize=None)(library.Crate.stamp)
     os.chdir(place)
     program = library.Crate(place, kit.ROOT, {}, ())
     with open(f"{os.path.dirname(out)}/make.log", "a", encoding="utf-8") as log:
-        prove_all(program, sys.argv[3:], processors, log)
+        prove_all(rt, program, sys.argv[3:], processors, log)
     shutil.copy(f"{place}/out/{name}", f"{out}.part")
     os.replace(f"{out}.part", out)
 

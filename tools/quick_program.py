@@ -15,10 +15,13 @@ import kit
 TARGET = ["--target=x86_64-unknown-linux-gnu", "-march=x86-64", "--no-default-config", "-no-canonical-prefixes", "-fintegrated-cc1"]
 STATIC = ["-static-pie", "-s", "-Wl,--build-id=none"]
 CODE = ["-ffunction-sections", "-fdata-sections", "-mllvm", "-no-trap-after-noreturn", "-mllvm", "-trap-unreachable", "-fPIE", "-O2"]
+# Less is inlined than in a release: it compiles in half the time, and a step takes a fifth more instructions.
+FAST_TO_BUILD = ["-mllvm", "-inline-threshold=75"]
 
 
 def main():
     static = STATIC if sys.argv[1:2] == ["--static"] else []
+    code = CODE if static else CODE + FAST_TO_BUILD
     if len(sys.argv) != (4 if static else 3):
         sys.exit(__doc__)
     module, program = sys.argv[-2:]
@@ -30,7 +33,7 @@ def main():
         kit.stop(f"there is no C compiler '{linker[0]}' to link with: install one, or name one in CC")
     folder = kit.folder()
     with tempfile.TemporaryDirectory(prefix="rewind-quick-") as work:
-        words = ["clang", *TARGET, *CODE, "-c", "-x", "ir", module, "-o", f"{work}/program.o"]
+        words = ["clang", *TARGET, *code, "-c", "-x", "ir", module, "-o", f"{work}/program.o"]
         subprocess.run(words, executable=f"{folder}/toolchain/bin/clang", check=True)
         parts = [f"{work}/program.o", f"{folder}/c/libos_c.a", f"{folder}/c/liblibc_c.a"]
         subprocess.run([*linker, *parts, "-o", f"{program}.part", "-Wl,--gc-sections", *static], check=True)

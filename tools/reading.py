@@ -1,11 +1,11 @@
 #!/usr/bin/env python3
-"""Counts the lines of the definitions that docs/THEOREMS.md lists under 'What to read', and finds those that are missing there.
+"""Counts the lines of the definitions that docs/THEOREMS.md and docs/CLAIM.md list, and finds those that THEOREMS lacks.
 
     tools/reading.py [--check]
 
-Writes the last column of that table anew: the lines of the named modules without imports, comments and empty lines.
+Writes the last column of their tables 'To believe' anew: the lines of the named modules without imports, comments and empty lines.
 With --check it changes nothing, and tells each number that is not right. It tells, and changes nothing, where a row has
-another form or names a module that is not there. It always tells which modules the table lacks of those that the
+another form or names a module that is not there. It always tells which modules the table of THEOREMS lacks of those that the
 promises above it need (tools/cited.py has the rule), and which of its modules no promise needs.
 """
 import os
@@ -15,7 +15,8 @@ import sys
 import cited
 
 TOP = os.path.dirname(os.path.dirname(os.path.abspath(__file__)))
-PAGE = os.path.join(TOP, "docs", "THEOREMS.md")
+WHOLE = "docs/THEOREMS.md"
+PAGES = (WHOLE, "docs/CLAIM.md")
 HEAD = "| To believe | Read | Lines |"
 ROW = re.compile(r"(\| .* \| (`gr_\w+`: .*|`\w+`: .*) \|) [\d,]+ \|")
 
@@ -38,21 +39,21 @@ def modules_of(reading):
             yield crate.strip(" `"), module.strip()
 
 
-def rows(lines):
-    """(place, row) of each row of the table; a row that is not as it should be is None."""
+def rows(page, lines):
+    """(place, row) of each row of the table of a page; a row that is not as it should be is None."""
     head = lines.index(HEAD)
     for number, line in enumerate(lines[head + 2:], head + 3):
         if not line.startswith("|"):
             return
-        yield f"docs/THEOREMS.md:{number}", ROW.fullmatch(line)
+        yield f"{page}:{number}", ROW.fullmatch(line)
 
 
-def faults(lines):
+def faults(page, lines):
     """What is wrong with the table itself: it is not there, a row has another form, or names what is not there."""
     if HEAD not in lines:
-        yield f"docs/THEOREMS.md: no table '{HEAD}'"
+        yield f"{page}: no table '{HEAD}'"
         return
-    for place, row in rows(lines):
+    for place, row in rows(page, lines):
         if not row:
             yield f"{place}: a row of another form than '| WORDS | `CRATE`: MODULE, MODULE | NUMBER |'"
         for crate, module in modules_of(row[2]) if row else ():
@@ -69,9 +70,9 @@ def counted(line):
     return f"{row[1]} {total:,} |"
 
 
-def differences(lines):
+def differences(page, lines):
     """What to tell of each number that is not right."""
-    for place, row in rows(lines):
+    for place, row in rows(page, lines):
         told, right = row[0].split("|")[-2].strip(), counted(row[0]).split("|")[-2].strip()
         if told != right:
             what = row[0].split("|")[1].strip()
@@ -81,7 +82,7 @@ def differences(lines):
 def strangers(lines):
     """What to tell of each module that is needed and not listed, or listed and not needed."""
     needed = cited.needed(lines)
-    listed = {it for _, row in rows(lines) for it in modules_of(row[2])}
+    listed = {it for _, row in rows(WHOLE, lines) for it in modules_of(row[2])}
     for crate, module in sorted(needed.keys() - listed):
         why = needed[crate, module]
         yield f"docs/THEOREMS.md: the table 'To believe' lacks {module} of {crate}: a promise needs its {why}"
@@ -89,17 +90,24 @@ def strangers(lines):
         yield f"docs/THEOREMS.md: no promise above needs {module} of {crate}, which is in the table 'To believe'"
 
 
-def main():
-    with open(PAGE, encoding="utf-8") as file:
+def of_page(page, only_checks):
+    """What is wrong with a page, the numbers of which are written anew unless it is only checked."""
+    path = os.path.join(TOP, page)
+    with open(path, encoding="utf-8") as file:
         lines = file.read().split("\n")
-    wrong = list(faults(lines))
-    if not wrong:
-        wrong = list(strangers(lines))
-        if "--check" in sys.argv[1:]:
-            wrong += differences(lines)
-        else:
-            with open(PAGE, "w", encoding="utf-8") as file:
-                file.write("\n".join(map(counted, lines)))
+    wrong = list(faults(page, lines))
+    if wrong:
+        return wrong
+    wrong = list(strangers(lines)) if page == WHOLE else []
+    if only_checks:
+        return wrong + list(differences(page, lines))
+    with open(path, "w", encoding="utf-8") as file:
+        file.write("\n".join(map(counted, lines)))
+    return wrong
+
+
+def main():
+    wrong = [it for page in PAGES for it in of_page(page, "--check" in sys.argv[1:])]
     for line in wrong:
         print(line)
     return 1 if wrong else 0
