@@ -102,13 +102,23 @@ class DirectCauses:
         note = self.follower.notes.get(step)
         return note.channel if note else ""
 
+    def puts(self, step: str, word: KindWord) -> bool:
+        """Whether a step put a value into a buffer. A select that woke a receiver gave its value to that one."""
+        note = self.follower.notes.get(step)
+        return word is KindWord.BUFFER or (word is KindWord.PICK and note is not None and note.sends() and not note.woke)
+
+    def takes(self, step: str, word: KindWord) -> bool:
+        """Whether a step took a value out of a buffer."""
+        note = self.follower.notes.get(step)
+        return word is KindWord.TAKE or (word is KindWord.PICK and not (note and note.sends()))
+
     def edge_kind(self, source: str, step: str, is_met: bool, is_waker: bool) -> EdgeKind:
         from_word, to_word = self.kinds[source].word, self.kinds[step].word
         if from_word is KindWord.GO:
             return EdgeKind.START
         if from_word is KindWord.CLOSE:
             return EdgeKind.CLOSE
-        if is_met or (from_word is KindWord.BUFFER and to_word in (KindWord.TAKE, KindWord.PICK)):
+        if is_met or (self.puts(source, from_word) and self.takes(step, to_word)):
             return EdgeKind.MESSAGE
         return EdgeKind.WAIT if is_waker else EdgeKind.ORDER
 

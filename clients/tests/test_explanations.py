@@ -6,6 +6,7 @@ from typing import Dict, List
 from rewind_client.direct import DirectCauses, EdgeKind
 from rewind_client.endings import Ending
 from rewind_client.explanations import Explanation, Standing, explain
+from rewind_client.replies import KindWord
 from rewind_client.sentences import Sentences
 from rewind_client.session import Session
 
@@ -115,3 +116,24 @@ def test_the_direct_cause_of_a_wait(session: Open) -> None:  # noqa: F811
     found = DirectCauses(one).of("g0.1#3")
     assert [(edge.source, edge.kind) for edge in found] == [("g0.2#1", EdgeKind.ORDER)]
     assert len(one.core.causes("g0.1#3")) > 10
+
+
+SENDS = "package main\nfunc put(c chan int) {\n\t%s\n}\nfunc main() {\n\tc := make(chan int, 2)\n\tgo put(c)\n\t%s\n\tprintln(0)\n}\n"
+SELECT = "select {\n\tcase c <- 1:\n\t}"
+
+
+def kinds_into(one: Session, word: KindWord) -> List[EdgeKind]:
+    """What the steps of `put` were to the first step of main of this kind."""
+    for word_of_go, steps in (("g0", 3), ("g0.1", 2), ("g0", 1)):
+        for _ in range(steps):
+            one.step(word_of_go)
+    step = next(it.step for it in one.log() if it.kind.word is word and it.step.startswith("g0#"))
+    return [edge.kind for edge in DirectCauses(one).of(step)]
+
+
+def test_a_select_that_sends_takes_nothing_out(session: Open) -> None:  # noqa: F811
+    assert kinds_into(session(SENDS % ("c <- 1", SELECT)), KindWord.PICK) == [EdgeKind.ORDER]
+
+
+def test_what_a_select_sent_into_a_buffer_is_a_message(session: Open) -> None:  # noqa: F811
+    assert kinds_into(session(SENDS % (SELECT, "<-c")), KindWord.TAKE) == [EdgeKind.MESSAGE]

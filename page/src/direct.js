@@ -121,9 +121,19 @@ export class DirectEdges {
     const waker = endsAll(step.kind) ? "" : this.wakerOf(own, sources);
     const met = (this.note(step.id)?.woke || []).filter((wait) => takesFrom(step.kind, this.log.kindOf(wait)));
     return [...new Set([...direct, ...met, ...(waker ? [waker] : [])])].map((from) => {
-      const how = { isMet: met.includes(from), wait: from === waker ? this.log.kindOf(own) : "" };
+      const how = {
+        isMet: met.includes(from), wait: from === waker ? this.log.kindOf(own) : "",
+        fills: this.fills(from), isSend: this.note(step.id)?.over.isSend,
+      };
       return { from, to: step.id, kind: edgeKind(this.log.kindOf(from), step.kind, how) };
     });
+  }
+
+  // Whether a step sent into a buffer: one that woke a receiver gave its value to that one.
+  /** @param {string} id */
+  fills(id) {
+    const note = this.note(id);
+    return Boolean(note?.over.isSend && !note.woke.length);
   }
 
   // The step that woke a goroutine which waited: the one that was seen to, or else the only one that can have.

@@ -29,18 +29,30 @@ export const restsOnOthers = (kind, kindBefore) => !LOCAL.has(kind) || !kindBefo
  */
 export const takesFrom = (kind, wait) => word(kind) === "meet" || (word(kind) === "pick" && wait === "send-wait");
 
+// Whether a step put a value into a buffer, and whether one took a value out of it: a select may do either.
+/**
+ * @param {string} kind
+ * @param {boolean} fills
+ */
+const puts = (kind, fills) => kind === "buffer" || (kind === "pick" && fills);
+/**
+ * @param {string} kind
+ * @param {boolean} isSend
+ */
+const takes = (kind, isSend) => kind === "take" || (kind === "pick" && !isSend);
+
 // An edge is the start of a goroutine, a close, a message, or else mere order: who was first in a queue, who made room, who let go
 // on. `isMet`: the first step offered what the second took. `wait`: how the goroutine of the second step had waited, if the first
-// step woke it.
+// step woke it. `fills`: whether the first step sent into a buffer. `isSend`: whether the second one sends.
 /**
  * @param {string} from
  * @param {string} to
  */
-export function edgeKind(from, to, { isMet = false, wait = "" } = {}) {
+export function edgeKind(from, to, { isMet = false, wait = "", fills = false, isSend = false } = {}) {
   const [source, target] = [word(from), word(to)];
   if (source === "go") return "start";
   if (source === "close") return "close";
-  if (isMet || (source === "buffer" && (target === "take" || target === "pick"))) return "message";
+  if (isMet || (puts(source, fills) && takes(target, isSend))) return "message";
   const gives = source === "hand" || source === "pick";
   return gives && wait && wait !== "send-wait" ? "message" : "order";
 }

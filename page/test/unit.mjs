@@ -2,6 +2,7 @@
 
 import { counts, failed } from "./checks.mjs";
 import { buffers } from "./unit/buffers.mjs";
+import { edges } from "./unit/edges.mjs";
 import { followers } from "./unit/follower.mjs";
 import { knownLists, lists } from "./unit/known.mjs";
 import { lesson } from "./unit/lesson.mjs";
@@ -13,7 +14,7 @@ import { runs } from "./unit/runs.mjs";
 import { statements } from "./unit/statements.mjs";
 import { waits } from "./unit/waits.mjs";
 
-const PARTS = { logs, followers, statements, refusals, replies, lists, knownLists, runs, picture, lesson, waits, buffers };
+const PARTS = { logs, followers, statements, refusals, replies, lists, knownLists, runs, picture, lesson, waits, buffers, edges };
 
 for (const [name, part] of Object.entries(PARTS)) {
   try {
