@@ -46,7 +46,7 @@ page: page-needs page/out/rewind.wasm ## the debugger in a web page of the prove
 # What is missing of Debian's packages is installed before anything is built.
 .PHONY: page-needs browser-needs other-browsers
 page-needs:
-	@page/needs.sh libjs-codemirror
+	@page/needs.sh libjs-codemirror esbuild
 
 browser-needs:
 	@page/needs.sh chromium nodejs node-typescript eslint

@@ -10,6 +10,7 @@ import base64
 import json
 import os
 import re
+import subprocess
 import sys
 import zlib
 
@@ -21,10 +22,8 @@ import notices  # noqa: E402
 
 MIRROR = "/usr/share/javascript/codemirror"
 LICENCE = "/usr/share/doc/libjs-codemirror/copyright"
-IMPORT = re.compile(r'^import \{[^}]*\} from "\./(\w+\.js)";\n', re.M)
-IMPORT_OF = re.compile(r'^import \{([^}]*)\} from "\./(\w+\.js)";\n', re.M)
-EXPORT = re.compile(r"^export (?:async )?(?:function|class|const) (\w+)", re.M)
-COMMENTS = re.compile(r"^ */\*\*(?:(?!\*/).)*\*/\n", re.M | re.S)
+# Names stay as they are, so that a report of an error names functions of the source.
+BUNDLE = ["--bundle", "--minify-whitespace", "--minify-syntax", "--charset=utf8", "--target=es2022", "--log-level=warning"]
 # What page.html says of a program that is not proved.
 OF_UNPROVED = re.compile(r"<!--unproved:(.*?)-->")
 
@@ -38,31 +37,17 @@ def read(path):
         kit.stop(f"cannot read {path} ({error.strerror}){package}")
 
 
-def modules(name, done):
-    """Returns the names of the modules that this one needs, each after those that it needs itself."""
-    if name not in done:
-        done[name] = None
-        for below in IMPORT.findall(read(f"{HERE}/src/{name}")):
-            modules(below, done)
-        done[name] = done.pop(name)
-    return list(done)
-
-
-def one_script(entry):
-    """Joins a module and those that it needs to one script. Each becomes a function that gives what it exports."""
-    parts = []
-    for name in modules(entry, {}):
-        text = read(f"{HERE}/src/{name}")
-        text = IMPORT_OF.sub(lambda it: f"const {{{it[1].replace(' as ', ': ')}}} = {variable(it[2])};\n", text)
-        exported = EXPORT.findall(text)
-        body = COMMENTS.sub("", re.sub(r"^export ", "", text, flags=re.M))
-        parts.append(f"// {name}\nconst {variable(name)} = (() => {{\n{body}return {{ {', '.join(exported)} }};\n}})();")
-    return "\n".join(parts)
-
-
-def variable(name):
-    """The name of what a module exports."""
-    return f"module_{name.removesuffix('.js')}"
+def one_script(entry, form):
+    """Joins a module and those that it needs to one script without comments, in a form that esbuild knows."""
+    words = ["esbuild", f"src/{entry}", *BUNDLE, f"--format={form}"]
+    try:
+        ran = subprocess.run(words, cwd=HERE, stdout=subprocess.PIPE, stderr=subprocess.PIPE, encoding="utf-8")
+    except OSError:
+        kit.stop("there is no 'esbuild' on the path: install Debian's package esbuild")
+    if ran.returncode:
+        sys.stderr.write(ran.stderr)
+        kit.stop(f"page/src/{entry} and the modules that it needs cannot be joined: see what esbuild says above")
+    return ran.stdout
 
 
 def plain(cell):
@@ -198,9 +183,9 @@ def page(wasm, is_proved):
     safe = json.dumps(given()).replace("</", "<\\/")
     parts = [f'<script id="program" type="application/octet-stream">{program(wasm)}</script>']
     parts += [f'<script id="given" type="application/json">{safe}</script>']
-    parts += [f'<script id="worker" type="text/plain">\n{one_script("worker.js")}</script>']
+    parts += [f'<script id="worker" type="text/plain">\n{one_script("engine/worker.js", "iife")}</script>']
     parts += ["<script>" + it.replace("</script", "<\\/script") + "</script>" for it in scripts]
-    parts += [f'<script type="module">\n{one_script("main.js")}</script>']
+    parts += [f'<script type="module">\n{one_script("main.js", "esm")}</script>']
     text = OF_UNPROVED.sub("" if is_proved else r"\1", read(f"{HERE}/src/page.html"))
     text = text.replace("<!--STYLES-->", "".join(f"<style>{read(it)}</style>\n" for it in styles))
     return text.replace("<!--SCRIPTS-->", "\n".join(parts))

@@ -1,13 +1,13 @@
 #!/bin/sh
-# needs.sh PACKAGE..: installs what is missing of Debian's packages chromium, nodejs, libjs-codemirror, node-typescript, eslint,
-# firefox-esr, webkit2gtk-driver and xvfb. Where that cannot be done, one sentence says what to install, and the status is 2.
+# needs.sh PACKAGE..: installs what is missing of Debian's packages chromium, nodejs, libjs-codemirror, esbuild, node-typescript,
+# eslint, firefox-esr, webkit2gtk-driver and xvfb. Where that cannot be done, one sentence says what to install, and the status is 2.
 
 is_there() {
   case $1 in
     chromium) command -v chromium ;;
     nodejs) command -v node ;;
     node-typescript) command -v tsc ;;
-    eslint | firefox-esr) command -v "$1" ;;
+    esbuild | eslint | firefox-esr) command -v "$1" ;;
     webkit2gtk-driver) command -v WebKitWebDriver ;;
     xvfb) command -v Xvfb ;;
     libjs-codemirror) ls /usr/share/javascript/codemirror/lib/codemirror.js ;;

@@ -11,7 +11,7 @@ import subprocess
 import sys
 
 TOP = os.path.dirname(os.path.dirname(os.path.abspath(__file__)))
-PACKAGES = ["chromium", "nodejs", "libjs-codemirror", "node-typescript", "eslint"]
+PACKAGES = ["chromium", "nodejs", "libjs-codemirror", "esbuild", "node-typescript", "eslint"]
 
 
 def stop(sentence):

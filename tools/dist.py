@@ -40,6 +40,7 @@ PACKAGES = {
     "libc6-dev": "the C library, in the program",
     "binutils": "the linker of the program",
     "libjs-codemirror": "the editor, in the page",
+    "esbuild": "how the page's modules are joined",
     "zlib1g": "how the page is compressed",
     "liblzma5": "how the archive is compressed",
 }

@@ -1,28 +1,28 @@
 // Puts the page together: it draws menu and source first, then compiles the program, and begins with a link, kept work or a story.
 
-import { toggleBreak } from "./breaks.js";
-import { canSuspend, Session as Engine } from "./engine.js";
-import { fromHash, inflated, LINK } from "./linking.js";
-import { kept, keep, keepSettings, settings } from "./keeping.js";
-import { erred } from "./losses.js";
-import { legend } from "./legend.js";
-import { act, listenToActions, openStory } from "./actions.js";
-import { listenInPicture, listenToKeys } from "./shortcuts.js";
-import { makeToolbar } from "./toolbars.js";
-import { makeViews } from "./views.js";
-import { explain } from "./refusals.js";
-import { Page } from "./page.js";
-import { parseFault } from "./protocol.js";
-import { isUnanswered } from "./remote.js";
-import { asPng } from "./saved.js";
-import { savePicture } from "./saving.js";
-import { paletteRules } from "./palette.js";
-import { PICTURE_RULES } from "./picture.js";
-import { Words } from "./words.js";
+import { toggleBreak } from "./control/breaks.js";
+import { canSuspend, Session as Engine } from "./engine/engine.js";
+import { fromHash, inflated, LINK } from "./control/linking.js";
+import { kept, keep, keepSettings, settings } from "./control/keeping.js";
+import { erred } from "./control/losses.js";
+import { legend } from "./picture/legend.js";
+import { act, listenToActions, openStory } from "./control/actions.js";
+import { listenInPicture, listenToKeys } from "./control/shortcuts.js";
+import { makeToolbar } from "./panes/toolbars.js";
+import { makeViews } from "./panes/views.js";
+import { explain } from "./refused/refusals.js";
+import { Page } from "./control/page.js";
+import { parseFault } from "./engine/protocol.js";
+import { isUnanswered } from "./engine/remote.js";
+import { asPng } from "./picture/saved.js";
+import { savePicture } from "./picture/saving.js";
+import { paletteRules } from "./picture/palette.js";
+import { PICTURE_RULES } from "./picture/picture.js";
+import { Words } from "./panes/words.js";
 import { counted, field, find, make, tableRow } from "./element.js";
-import { makePanes } from "./splitters.js";
-import { paneEvents, showStepsOf } from "./asking.js";
-import { watchExercise } from "./tasks.js";
+import { makePanes } from "./panes/splitters.js";
+import { paneEvents, showStepsOf } from "./control/asking.js";
+import { watchExercise } from "./lessons/tasks.js";
 
 const FIRST = "deadlock";
 const DAMAGED = "The link is damaged, and no session can be read of it: ask for it anew.";
@@ -97,7 +97,7 @@ function listenToLinks(page) {
 // Opens what the page began with, and does its commands again.
 /**
  * @param {Page} page
- * @param {import("./linking.js").Shared | null} shared
+ * @param {import("./control/linking.js").Shared | null} shared
  */
 async function openBeginning(page, shared) {
   page.views.editor.markBreaks(shared?.breaks || []);

@@ -2,7 +2,7 @@
 // gets a list of [line, column, sentence, instead, hint]. clients/tests/test_refusals_of_the_page.py compares these with the clients'.
 
 import { readFileSync } from "node:fs";
-import { explain } from "../src/refusals.js";
+import { explain } from "../src/refused/refusals.js";
 
 const TABLE = JSON.parse(readFileSync(new URL("../../clients/rewind_client/refusals.json", import.meta.url), "utf8"));
 

@@ -8,10 +8,10 @@ import { workersOf } from "./native.mjs";
 
 const [program, words] = process.argv.slice(2);
 globalThis.Worker = workersOf(program);
-const { Session } = await import("../src/session.js");
-const { standingOf } = await import("../src/standing.js");
-const { waitsFor } = await import("../src/waits.js");
-const { Words } = await import("../src/words.js");
+const { Session } = await import("../src/session/session.js");
+const { standingOf } = await import("../src/waiting/standing.js");
+const { waitsFor } = await import("../src/waiting/waits.js");
+const { Words } = await import("../src/panes/words.js");
 const { go, faults } = JSON.parse(readFileSync(words, "utf8"));
 const LAST = 200; // steps of which lines and values are told
 const machine = { program: null, script: "", suspends: true };

@@ -4,7 +4,7 @@ import { spawn } from "node:child_process";
 import { mkdtempSync, rmSync, writeFileSync } from "node:fs";
 import { tmpdir } from "node:os";
 import { join } from "node:path";
-import { shaped } from "../src/shapes.js";
+import { shaped } from "../src/engine/shapes.js";
 
 const folder = mkdtempSync(join(tmpdir(), "rewind-faces-"));
 process.on("exit", () => rmSync(folder, { recursive: true, force: true }));

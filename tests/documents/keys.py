@@ -5,7 +5,7 @@ import re
 from . import repository
 from .markdown import page
 
-GUIDE, SHORTCUTS = "docs/PAGE.md", "page/src/shortcuts.js"
+GUIDE, SHORTCUTS = "docs/PAGE.md", "page/src/control/shortcuts.js"
 ROW = re.compile(r'\{ keys: \[(.*?)\],(?: shown: "([^"]+)",)? says: "([^"]+)"')
 IN_PICTURE = re.compile(r'^  \["([^"]+)", "([^"]+)"\],$', re.M)
 

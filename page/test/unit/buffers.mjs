@@ -1,6 +1,6 @@
 // What comes out of buffers: first in, first out, also where a sender moves up behind the others, and where nothing is in them.
 
-import { outOfBuffers } from "../../src/buffers.js";
+import { outOfBuffers } from "../../src/session/buffers.js";
 import { equal } from "../checks.mjs";
 
 // Steps as [name, kind, operation, the wait that it ended].

@@ -1,10 +1,10 @@
 // The session that goes along the log: a step keeps the line that it printed, also where a later step is taken back meanwhile.
 
-import { Follower } from "../../src/follower.js";
-import { Log } from "../../src/log.js";
-import { parseReplies } from "../../src/protocol.js";
-import { shaped } from "../../src/shapes.js";
-import { Statements } from "../../src/statements.js";
+import { Follower } from "../../src/session/follower.js";
+import { Log } from "../../src/session/log.js";
+import { parseReplies } from "../../src/engine/protocol.js";
+import { shaped } from "../../src/engine/shapes.js";
+import { Statements } from "../../src/session/statements.js";
 import { equal } from "../checks.mjs";
 
 const SOURCE = "package main\nfunc main() {\nprintln(2)\nprintln(3)\nprintln(5)\n}\n";

@@ -1,9 +1,9 @@
 // Causes and consequences: each list is asked once, and none that the notes tell.
 
-import { Known } from "../../src/known.js";
-import { Log } from "../../src/log.js";
-import { parseReplies } from "../../src/protocol.js";
-import { shaped } from "../../src/shapes.js";
+import { Known } from "../../src/session/known.js";
+import { Log } from "../../src/session/log.js";
+import { parseReplies } from "../../src/engine/protocol.js";
+import { shaped } from "../../src/engine/shapes.js";
 import { equal } from "../checks.mjs";
 
 const ANSWERS = {

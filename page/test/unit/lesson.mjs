@@ -1,13 +1,13 @@
 // The words for states, exercises, links, files, comparisons and keys.
 
-import { checked, fromFiles, fromHash, toFile, toHash } from "../../src/linking.js";
-import { isReached } from "../../src/exercises.js";
-import { Log } from "../../src/log.js";
-import { meantKey } from "../../src/keys.js";
-import { paired } from "../../src/compare.js";
-import { differences } from "../../src/preview.js";
-import { endOfRun } from "../../src/words.js";
-import { sentValue } from "../../src/values.js";
+import { checked, fromFiles, fromHash, toFile, toHash } from "../../src/control/linking.js";
+import { isReached } from "../../src/lessons/exercises.js";
+import { Log } from "../../src/session/log.js";
+import { meantKey } from "../../src/control/keys.js";
+import { paired } from "../../src/panes/compare.js";
+import { differences } from "../../src/panes/preview.js";
+import { endOfRun } from "../../src/panes/words.js";
+import { sentValue } from "../../src/session/values.js";
 import { equal, holds } from "../checks.mjs";
 
 const one = (name, state, line, variables = {}) => ({

@@ -1,7 +1,7 @@
 // The log follows replies, step by step, as the session's own log would say.
 
-import { Log } from "../../src/log.js";
-import { parseReplies } from "../../src/protocol.js";
+import { Log } from "../../src/session/log.js";
+import { parseReplies } from "../../src/engine/protocol.js";
 import { equal } from "../checks.mjs";
 
 const reply = (text) => parseReplies(text)[0];

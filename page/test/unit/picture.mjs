@@ -1,12 +1,12 @@
 // The picture: rows and folds, edges that keep clear of the marks of others, and texts that XML can hold.
 
-import { Log } from "../../src/log.js";
-import { Rows } from "../../src/rows.js";
-import { edgePath } from "../../src/curves.js";
-import { channelsOf, worksOn } from "../../src/operations.js";
-import { escaped, shortened } from "../../src/labels.js";
-import { layOut } from "../../src/layout.js";
-import { drawRows, NOTHING_POINTED, sideOf } from "../../src/picture.js";
+import { Log } from "../../src/session/log.js";
+import { Rows } from "../../src/picture/rows.js";
+import { edgePath } from "../../src/picture/curves.js";
+import { channelsOf, worksOn } from "../../src/session/operations.js";
+import { escaped, shortened } from "../../src/picture/labels.js";
+import { layOut } from "../../src/picture/layout.js";
+import { drawRows, NOTHING_POINTED, sideOf } from "../../src/picture/picture.js";
 import { equal, holds } from "../checks.mjs";
 
 function logOf(...steps) {

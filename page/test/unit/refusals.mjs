@@ -1,9 +1,9 @@
 // What is wrong in a source that is refused.
 
 import { readFileSync } from "node:fs";
-import { explain } from "../../src/refusals.js";
-import { goTokens, openBrackets } from "../../src/refusedtokens.js";
-import { mostLike } from "../../src/similar.js";
+import { explain } from "../../src/refused/refusals.js";
+import { goTokens, openBrackets } from "../../src/refused/tokens.js";
+import { mostLike } from "../../src/refused/similar.js";
 import { equal, holds } from "../checks.mjs";
 
 const TABLE = JSON.parse(readFileSync(new URL("../../../clients/rewind_client/refusals.json", import.meta.url), "utf8"));

@@ -1,7 +1,7 @@
 // Replies, and what a worker hands on of them.
 
-import { compareNames, parseChannel, parseFault, parseGoroutine, parseReplies, parseWaiter } from "../../src/protocol.js";
-import { shaped } from "../../src/shapes.js";
+import { compareNames, parseChannel, parseFault, parseGoroutine, parseReplies, parseWaiter } from "../../src/engine/protocol.js";
+import { shaped } from "../../src/engine/shapes.js";
 import { equal } from "../checks.mjs";
 
 export function replies() {

@@ -1,6 +1,6 @@
 // Long runs go in portions: none passes a breakpoint, and each can be stopped.
 
-import { runInPortions } from "../../src/runs.js";
+import { runInPortions } from "../../src/session/runs.js";
 import { equal, holds } from "../checks.mjs";
 
 // A session whose step number `at` is the only one that begins at a breakpoint.

@@ -1,6 +1,6 @@
 // The statements of a source, and the same source with each on a line of its own.
 
-import { Statements, printsOf } from "../../src/statements.js";
+import { Statements, printsOf } from "../../src/session/statements.js";
 import { equal } from "../checks.mjs";
 
 const SOURCE = `package main

@@ -1,9 +1,9 @@
 // Who waits for whom: what goroutines wait for by their own names, what they may still do, and the cycle among them.
 
-import { Program } from "../../src/flows.js";
-import { Roles } from "../../src/roles.js";
-import { Sentences, wishesText } from "../../src/sentences.js";
-import { Wishes, cycleAmong, waitsFor } from "../../src/waits.js";
+import { Program } from "../../src/waiting/flows.js";
+import { Roles } from "../../src/waiting/roles.js";
+import { Sentences, wishesText } from "../../src/waiting/sentences.js";
+import { Wishes, cycleAmong, waitsFor } from "../../src/waiting/waits.js";
 import { equal, holds } from "../checks.mjs";
 
 const SOURCE = `package main

@@ -1,0 +1,218 @@
+// What the buttons of the page do.
+
+import { asPng } from "../picture/saved.js";
+import { bringBack } from "./losses.js";
+import { counted, download, field, find } from "../element.js";
+import { fromFiles, toFile, toHash } from "./linking.js";
+import { MOST_STEPS } from "./page.js";
+import { runAlone, runToLine, stepOver } from "./moves.js";
+import { savePicture } from "../picture/saving.js";
+import { search } from "./asking.js";
+import { showCompared } from "../panes/compare.js";
+import { openTask } from "../lessons/tasks.js";
+
+/** @typedef {import("./page.js").Page} Page */
+
+// A run of as many steps as the field says.
+/** @param {Page} page */
+function run(page) {
+  const text = field("count").value.trim().replace(/^\d{1,3}([, ]\d{3})+$/, (count) => count.replace(/\D/g, ""));
+  const count = Number(text);
+  if (!/^\d+$/.test(text) || count < 1 || count > MOST_STEPS) return page.say("Run takes a whole number of steps, from 1 to 1,000,000.", "bad");
+  return page.perform(`run ${count}`);
+}
+
+/** @param {Page} page */
+async function nextOfStory(page) {
+  const { stories } = page.views;
+  const line = stories.next;
+  if (line === undefined) return page.say("The story gives no more commands.");
+  if (page.busy || page.hindrance) return page.say(page.hindrance || "The page is busy: wait a moment.", "bad");
+  const reply = await page.perform(line);
+  if (reply) stories.take();
+  page.showControls();
+}
+
+/** @param {Page} page */
+const shared = (page) => ({ ...page.work, chosen: page.pointing.pinned, theme: document.documentElement.dataset.theme || "" });
+
+const OF_DISK = "It holds the whole session, but begins with the place of this page on your disk. Who has the page too puts the part from #s= on behind its address. For others press Save, and send the file: the page opens it.";
+
+/** @param {Page} page */
+async function copyLink(page) {
+  const address = location.href.split("#")[0] + (await toHash(shared(page)));
+  try {
+    await navigator.clipboard.writeText(address);
+    page.say(`The link is copied: ${counted(address.length, "letter")}. ${location.protocol === "file:" ? OF_DISK : "Whoever opens it sees this session."}`);
+  } catch {
+    history.replaceState(null, "", address);
+    page.say("The link stands in the address until the next change: copy it from there.");
+  }
+}
+
+/** @param {Page} page */
+const saveFile = (page) => download(new Blob([toFile(shared(page))], { type: "text/plain" }), `${page.views.stories.name}.go`);
+
+// Opens what files hold. Undoing in the editor brings the text before back.
+/**
+ * @param {Page} page
+ * @param {Iterable<File>} files
+ */
+export async function openFiles(page, files) {
+  const read = await Promise.all([...files].map(async (file) => ({ name: file.name, text: await file.text() })));
+  const { source, commands } = fromFiles(read);
+  if (source !== null) {
+    page.views.stories.choose("");
+    page.views.editor.text = source;
+    if (!(await page.open())) return;
+  }
+  await page.replay(commands);
+  if (commands.length) page.say(`${counted(commands.length, "command")} ${commands.length === 1 ? "was" : "were"} done.`);
+}
+
+/** @param {Page} page */
+async function saveSvg(page) {
+  const text = await savePicture(page);
+  if (text) download(new Blob([text], { type: "image/svg+xml" }), `${page.views.stories.name}.svg`);
+}
+
+/** @param {Page} page */
+async function savePng(page) {
+  const text = await savePicture(page);
+  const blob = text && (await asPng(text));
+  if (blob) download(blob, `${page.views.stories.name}.png`);
+}
+
+// Presentation: picture and source alone, in large letters. Its own button leads out of it, since the header is gone.
+/** @param {Page} page */
+function present(page) {
+  const isOn = document.body.classList.toggle("presentation");
+  find("present").setAttribute("aria-pressed", String(isOn));
+  page.views.picture.zoom(isOn ? 2 : -2);
+  page.views.editor.refresh();
+}
+
+/** @param {Page} page */
+function fold(page) {
+  const { picture } = page.views;
+  picture.isFolded = !picture.isFolded;
+  find("fold").setAttribute("aria-pressed", String(picture.isFolded));
+  picture.place();
+  page.views.overview.draw();
+}
+
+/** @param {Page} page */
+function direct(page) {
+  page.pointing.isDirect = !page.pointing.isDirect;
+  find("direct").setAttribute("aria-pressed", String(page.pointing.isDirect));
+  page.pointing.draw();
+}
+
+/** @type {{[name: string]: (page: Page) => unknown}} */
+const ACTIONS = {
+  start: (page) => page.open(),
+  next: nextOfStory,
+  step: (page) => page.step(page.chosen),
+  over: stepOver,
+  alone: runAlone,
+  "to-line": (page) => runToLine(page, page.views.editor.line),
+  run,
+  undo: (page) => page.perform("undo"),
+  redo: (page) => page.perform("redo"),
+  stop: (page) => page.stop(),
+  back: (page) => page.pointing.takeBack(page.pointing.pinned),
+  earlier: (page) => page.pointing.moveBy(-1),
+  later: (page) => page.pointing.moveBy(1),
+  smaller: (page) => page.views.picture.zoom(-1),
+  larger: (page) => page.views.picture.zoom(1),
+  fit: (page) => page.views.picture.fit(),
+  fold,
+  direct,
+  save: saveSvg,
+  "save-png": savePng,
+  help: () => /** @type {HTMLDialogElement} */ (find("help-dialog")).showModal(),
+  "copy-link": copyLink,
+  "save-file": saveFile,
+  "open-file": () => field("file").click(),
+  present,
+  leave: present,
+  now: (page) => page.past.back(),
+  "bring-back": bringBack,
+  compare: showCompared,
+};
+
+// Does what the button of this name does, where it can be used.
+/**
+ * @param {Page} page
+ * @param {string} name
+ */
+export function act(page, name) {
+  if (field(name).disabled || find(name).hidden) return;
+  return void ACTIONS[name](page);
+}
+
+// Turns to a story, an exercise or a program of one's own. The text before can be brought back by undoing in the editor.
+/**
+ * @param {Page} page
+ * @param {string} name
+ */
+export async function openStory(page, name) {
+  const source = page.views.stories.choose(name);
+  if (source) page.views.editor.text = source;
+  const isOpen = await page.open();
+  if (isOpen) await openTask(page);
+  return isOpen;
+}
+
+// The lines that were typed, which arrow keys bring back.
+function listenToHistory() {
+  /** @type {string[]} */
+  const lines = [];
+  let at = 0;
+  find("line").addEventListener("keydown", (event) => {
+    if (event.key === "Enter" && field("line").value.trim()) at = lines.push(field("line").value);
+    const by = { ArrowUp: -1, ArrowDown: 1 }[event.key];
+    if (!by || !lines.length) return;
+    event.preventDefault();
+    at = Math.max(0, Math.min(lines.length, at + by));
+    field("line").value = lines[at] || "";
+  });
+}
+
+/** @param {Page} page */
+function listenToFields(page) {
+  listenToHistory();
+  find("story").onchange = () => void openStory(page, field("story").value);
+  find("ask").onsubmit = async (event) => {
+    event.preventDefault();
+    const line = field("line").value;
+    field("line").value = "";
+    const isDone = (await page.perform(line)) !== null;
+    if (!isDone && line.trim() && !field("line").value) field("line").value = line;
+  };
+  find("search").onsubmit = (event) => {
+    event.preventDefault();
+    void search(page, field("search-text").value);
+  };
+  find("moment").oninput = () => void page.past.lookAt(Number(field("moment").value));
+  find("file").onchange = () => void openFiles(page, field("file").files || []);
+}
+
+/** @param {Page} page */
+function listenToDrops(page) {
+  const hasFiles = (/** @type {DragEvent} */ event) => event.dataTransfer?.types.includes("Files");
+  document.addEventListener("dragover", (event) => hasFiles(event) && event.preventDefault(), true);
+  document.addEventListener("drop", (event) => {
+    if (!hasFiles(event)) return;
+    event.preventDefault();
+    event.stopPropagation();
+    void openFiles(page, event.dataTransfer?.files || []);
+  }, true);
+}
+
+/** @param {Page} page */
+export function listenToActions(page) {
+  for (const name of Object.keys(ACTIONS)) find(name).onclick = () => void ACTIONS[name](page);
+  listenToFields(page);
+  listenToDrops(page);
+}

@@ -1,0 +1,239 @@
+// Finds in the background what the log does not tell, and shows it as it is found: clauses that are ready, statements, prints, edges.
+
+import { isUnanswered } from "../engine/remote.js";
+import { erred } from "./losses.js";
+import { pause } from "../element.js";
+import { standingOf } from "../waiting/standing.js";
+import { starterOf } from "./finding.js";
+
+const WHOLE = 20000; // a log of up to this many steps is followed from its start; of a longer one what is in view
+const FOLLOWED = 300000; // a longer log is not followed at all
+export const ALL_EDGES = 5000; // of a longer log only the edges into the steps around the view are found
+const NEAR = 10; // so many steps above and below it
+const EDGES_AT_ONCE = 60;
+const EDGES_OF_LONG = 4; // at once of a longer log, whose causes take their time
+const AHEAD = 150000; // steps: in a longer log, consequences are asked only when they are wanted
+const REST = 300; // milliseconds with nothing new, after which they are asked ahead
+
+export class Annotating {
+  /** @param {import("./page.js").Page} page */
+  constructor(page) {
+    this.page = page;
+    this.done = -1; // the stamp up to which everything is found
+    this.timer = 0;
+    this.rest = 0;
+    this.work = Promise.resolve();
+    this.turns = 0; // how often something was looked for
+    /** @type {Map<string, string>} */
+    this.functionOf = new Map();
+    /** @type {import("../session/session.js").Session | null} */
+    this.session = null;
+  }
+
+  /** @param {number} stamp */
+  begin(stamp) {
+    const turn = ++this.turns;
+    clearTimeout(this.rest);
+    this.work = this.work.then(() => this.find(stamp, turn)).then(() => {}, (fault) => this.failed(fault));
+  }
+
+  /** @param {unknown} fault */
+  failed(fault) {
+    this.done = this.page.stamp;
+    if (!isUnanswered(fault)) erred(this.page, fault);
+  }
+
+  // Resolves when everything about the present state is found and shown.
+  async settled() {
+    while (this.page.session && !this.page.session.gone && this.done !== this.page.stamp) {
+      await this.work;
+      await pause();
+    }
+    await new Promise((go) => requestAnimationFrame(go));
+    await pause();
+  }
+
+  /**
+   * @param {number} stamp
+   * @param {number} turn
+   */
+  async find(stamp, turn) {
+    const { page } = this;
+    const { session } = page;
+    const isOld = () => stamp !== page.stamp || session !== page.session;
+    if (!session || isOld()) return;
+    await this.findClauses(session);
+    if (isOld()) return;
+    if (session.log.length <= FOLLOWED) await this.follow(session, isOld);
+    if (isOld()) return;
+    await this.findStanding(session, isOld);
+    if (isOld()) return;
+    this.done = stamp;
+    this.show();
+    page.tell();
+    const isOver = () => isOld() || turn !== this.turns;
+    await this.findCauses(session, isOver);
+    const { length } = session.log;
+    if (length > ALL_EDGES && length <= AHEAD && !isOver()) this.rest = window.setTimeout(() => this.askAhead(session, isOver), REST);
+  }
+
+  // Shows what was found since.
+  show() {
+    const { page } = this;
+    this.functions();
+    page.views.picture.update(this.edges());
+    page.views.overview.draw();
+    page.views.columns.show(page);
+    page.pointing.draw();
+    page.showControls();
+  }
+
+  /** @param {import("../session/session.js").Session} session */
+  async findClauses(session) {
+    const { scene } = session;
+    if (session.log.isOver) return;
+    if (scene.isPartial) scene.isStuck = await session.mirror.isStuck();
+    const clauses = await session.mirror.readyClauses(scene.goroutines);
+    scene.clauses = clauses;
+    if (clauses.size && scene === this.page.session?.scene && !this.page.past.isOn) this.page.showScene(scene);
+  }
+
+  // The rows that are to have notes, and those that are to have edges.
+  /** @param {import("../session/session.js").Session} session */
+  wanted({ log }) {
+    const [from, to] = this.page.views.picture.stepsInView();
+    const near = [Math.max(0, from - NEAR), Math.min(log.length, to + NEAR)];
+    return { notes: log.length <= WHOLE ? [0, log.length] : near, edges: log.length <= ALL_EDGES ? [0, log.length] : near };
+  }
+
+  /**
+   * @param {import("../session/session.js").Session} session
+   * @param {() => boolean} isOld
+   */
+  async follow(session, isOld) {
+    let shown = performance.now();
+    const ranges = [this.wanted(session).edges, this.wanted(session).notes]; // what is in view comes first
+    for (const [from, to] of session.log.length <= WHOLE ? ranges.slice(1) : ranges) {
+      while (!isOld() && !(await session.follower.inTurn(() => session.follower.annotate(from, to)))) {
+        if (performance.now() - shown < 400) continue;
+        this.page.views.picture.update(this.edges());
+        shown = performance.now();
+      }
+    }
+    await this.findEdges(session, isOld);
+  }
+
+  // Finds edges, a few steps at once, so that whoever wants the follower meanwhile gets it.
+  /**
+   * @param {import("../session/session.js").Session} session
+   * @param {() => boolean} isOld
+   */
+  async findEdges(session, isOld, [from, to] = this.wanted(session).edges) {
+    const { log, follower, direct } = session;
+    const some = log.length > ALL_EDGES ? EDGES_OF_LONG : EDGES_AT_ONCE;
+    for (let row = from; row < to && !isOld(); row += some) {
+      const missing = log.steps(row, Math.min(to, row + some)).filter(({ id }) => follower.notes.has(id) && !follower.notes.get(id)?.edges);
+      if (missing.length) await follower.inTurn(async () => (isOld() ? undefined : direct.find(missing)));
+    }
+  }
+
+  // Finds the causes of the other steps around the view of a long log, so that pointing at one of them need not ask for a long list.
+  /**
+   * @param {import("../session/session.js").Session} session
+   * @param {() => boolean} isOld
+   */
+  async findCauses(session, isOld, [from, to] = this.wanted(session).edges) {
+    const { log, follower, direct } = session;
+    if (log.length <= ALL_EDGES || log.length > FOLLOWED) return;
+    for (let row = from; row < to && !isOld(); row += EDGES_OF_LONG) {
+      const ids = log.steps(row, Math.min(to, row + EDGES_OF_LONG)).map(({ id }) => id).filter((id) => follower.notes.get(id)?.causes === null);
+      if (ids.length) await follower.inTurn(async () => (isOld() ? undefined : direct.askCauses(ids)));
+    }
+  }
+
+  // Asks the consequences of the steps in view too, one after another, so that a command waits for one answer at most.
+  /**
+   * @param {import("../session/session.js").Session} session
+   * @param {() => boolean} isOver
+   */
+  async askAhead({ log, known }, isOver) {
+    try {
+      for (const { id } of log.steps(...this.page.views.picture.stepsInView())) if (!isOver() && !known.has(id)) await known.of(id);
+    } catch (fault) {
+      if (!isUnanswered(fault)) throw fault;
+    }
+  }
+
+  // After scrolling in a long log, finds what came into view.
+  scrolled() {
+    const { page } = this;
+    page.views.overview.draw();
+    clearTimeout(this.timer);
+    if (!page.session || page.session.log.length <= ALL_EDGES) return;
+    this.timer = window.setTimeout(() => this.done === page.stamp && this.begin(page.stamp), 80);
+  }
+
+  // Where the program goes on no more, who waits for whom.
+  /**
+   * @param {import("../session/session.js").Session} session
+   * @param {() => boolean} isOld
+   */
+  async findStanding(session, isOld) {
+    const { scene, log } = session;
+    const goesOn = !log.length || !(log.isOver || scene.isStuck);
+    const found = goesOn || log.length > FOLLOWED || session.follower.lost ? null : await standingOf(session, this.page.given);
+    if (!isOld()) this.page.standing = found;
+  }
+
+  // The edges that are found, of the whole log or around the view.
+  edges() {
+    const { session } = this.page;
+    if (!session) return [];
+    const [from, to] = this.wanted(session).edges;
+    const edges = [];
+    for (let row = from; row < to; row++) edges.push(...(this.page.note(session.log.id(row))?.edges || []));
+    return edges;
+  }
+
+  // The function that each goroutine runs, by its outermost frame or the statement that started it.
+  functions() {
+    const { session } = this.page;
+    if (session !== this.session) this.functionOf = new Map();
+    this.session = session;
+    for (const { name, frames } of session?.scene.goroutines || []) {
+      const outermost = frames[frames.length - 1];
+      if (outermost) this.functionOf.set(name, outermost.name);
+      else if (session && !this.functionOf.has(name)) this.nameByStart(session, name);
+    }
+    return this.functionOf;
+  }
+
+  // A goroutine that is done has no frames: its function stands in the statement that started it.
+  /**
+   * @param {import("../session/session.js").Session} session
+   * @param {string} name
+   */
+  nameByStart(session, name) {
+    const started = name === "g0" ? "" : starterOf(session, name);
+    const called = /^go (\w+)/.exec(this.page.note(started)?.statement?.text || "");
+    if (called) this.functionOf.set(name, called[1]);
+    else if (name === "g0") this.functionOf.set(name, "main");
+  }
+
+  // Whether the statement of each step is found, or will be.
+  get isWhole() {
+    const { session } = this.page;
+    return Boolean(session && session.log.length <= WHOLE && !session.follower.lost);
+  }
+
+  // What the picture does not show, in words, or "".
+  get missing() {
+    const { session } = this.page;
+    if (!session) return "";
+    const { log, follower } = session;
+    if (follower.lost) return `From ${follower.lost} on, lines and arrows cannot be found.`;
+    if (log.length > FOLLOWED) return "Of a log of more than 300,000 steps no lines, prints and arrows are found.";
+    if (log.length > ALL_EDGES) return "Of this long log, arrows are drawn into the steps that are in view.";
+    return "";
+  }
+}

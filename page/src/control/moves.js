@@ -1,0 +1,130 @@
+// The moves of every debugger: over a statement, on with one goroutine until it waits, and to a line. Each step is one of the user's
+// session, as if it were commanded by hand.
+
+import { showBreaks } from "./breaks.js";
+import { isWait } from "../session/edges.js";
+import { lost } from "./losses.js";
+import { parseGoroutine } from "../engine/protocol.js";
+import { placed } from "../session/scene.js";
+
+const MOST = 2000; // steps of one move
+export const LONGEST_RUN = 1000000;
+
+/** @typedef {import("./page.js").Page} Page */
+
+// Where a goroutine stands in the user's session.
+/**
+ * @param {import("../session/session.js").Session} session
+ * @param {string} name
+ */
+async function standing(session, name) {
+  const [reply] = await session.mirror.answer((remote) => remote.questions([`show ${name}`]));
+  return placed(parseGoroutine(reply), session.statements);
+}
+
+// Steps a goroutine until `isThere` holds of where it stands, or it waits, is done, or the program is over.
+/**
+ * @param {Page} page
+ * @param {(at: Goroutine) => boolean} isThere
+ */
+async function stepUntil(page, isThere) {
+  const { session, chosen } = page;
+  if (!session || page.hindrance) return page.say(page.hindrance, "bad");
+  await page.moving(async () => {
+    try {
+      const end = await stepping(page, session, isThere);
+      if (session === page.session) await page.refresh();
+      page.say(end);
+      page.showPlace();
+    } catch (fault) {
+      lost(page, session, fault);
+    }
+  });
+  page.chosen = chosen;
+}
+
+/**
+ * @param {Page} page
+ * @param {import("../session/session.js").Session} session
+ * @param {(at: Goroutine) => boolean} isThere
+ */
+async function stepping(page, session, isThere) {
+  const { chosen, views } = page;
+  for (let count = 1; count <= MOST; count++) {
+    if (!page.isMoving) return `Stopped by you after ${count - 1} steps.`;
+    views.status.progress(count, MOST);
+    const reply = await session.perform(`step ${chosen}`);
+    views.transcript.add(`step ${chosen}`, reply);
+    if (!reply.isOk) return page.words.reply(`step ${chosen}`, reply);
+    const kind = reply.words.slice(2).join(" ");
+    if (isWait(kind)) return `${chosen} waits now: step another goroutine, or run.`;
+    if (session.log.isOver) return page.words.reply(`step ${chosen}`, reply);
+    const at = await standing(session, chosen);
+    if (at.state === "done") return `${chosen} is done.`;
+    if (isThere(at)) return `${chosen} stands at line ${at.line}.`;
+    if (at.line && session.breakpoints.has(at.line)) return `${chosen} stopped at the breakpoint in line ${at.line}.`;
+  }
+  return `${MOST.toLocaleString("en")} steps were taken, and no end is in sight.`;
+}
+
+// Goes on to the next statement of the frame, or out of it; what it calls is passed. One that waits is helped: the others run until it
+// goes on.
+/** @param {Page} page */
+export async function stepOver(page) {
+  const { session, chosen } = page;
+  if (!session || page.hindrance) return page.say(page.hindrance, "bad");
+  return page.doing(async () => {
+    const start = await standing(session, chosen);
+    if (start.state === "waiting") return helpOn(page, session);
+    const deep = start.frames.length;
+    return stepUntil(page, ({ frames, statement }) => frames.length < deep || (frames.length === deep && statement !== start.statement));
+  });
+}
+
+// Lets the others run, a step each, until the chosen goroutine is ready.
+/**
+ * @param {Page} page
+ * @param {import("../session/session.js").Session} session
+ */
+const helpOn = (page, session) => page.moving(async () => {
+  for (let count = 0; count < MOST && page.isMoving; count++) {
+    page.views.status.progress(count, MOST);
+    const reply = await session.perform("run 1");
+    if (!reply.isOk || reply.words[1] === "0") break;
+    page.views.transcript.add("run 1", reply);
+    if ((await standing(session, page.chosen)).state !== "waiting") break;
+  }
+  await page.refresh();
+  const { state, line } = await standing(session, page.chosen);
+  page.say(state === "waiting" ? `${page.chosen} still waits, and nobody helped it on.` : `${page.chosen} goes on at line ${line}: the others ran until then.`);
+});
+
+// Steps the chosen goroutine until it waits or is done.
+/** @param {Page} page */
+export const runAlone = (page) => stepUntil(page, () => false);
+
+// Runs all goroutines to a line of the source.
+/**
+ * @param {Page} page
+ * @param {number} line
+ */
+export async function runToLine(page, line) {
+  const { session } = page;
+  if (!session || page.hindrance) return page.say(page.hindrance, "bad");
+  const goal = session.statements.snap(line);
+  if (!goal) return page.say("There is no statement at this line or below.", "bad");
+  if (session.breakpoints.has(goal)) return page.run(LONGEST_RUN);
+  session.goal = goal;
+  return page.doing(async () => {
+    try {
+      await session.perform(`break ${goal}`);
+      await page.run(LONGEST_RUN);
+      if (!session.gone) await session.perform(`clear ${goal}`);
+    } catch (fault) {
+      lost(page, session, fault);
+    } finally {
+      session.goal = 0;
+      showBreaks(page);
+    }
+  });
+}

@@ -1,0 +1,81 @@
+// The keys of the page and of the picture.
+
+import { Keys } from "./keys.js";
+import { act } from "./actions.js";
+import { toggleBreak } from "./breaks.js";
+import { field, find, tableRow } from "../element.js";
+
+const IN_PICTURE = [
+  ["Arrows", "go along the steps"],
+  ["Enter", "keep a step chosen, or let it go"],
+  ["Alt+Up, Alt+Down", "exchange it with its neighbour"],
+  ["Escape", "choose none"],
+];
+
+/** @typedef {import("./page.js").Page} Page */
+
+/** @param {Page} page */
+export function listenToKeys(page) {
+  const focus = (/** @type {string} */ id) => find(id).focus();
+  const does = (/** @type {string} */ name) => () => act(page, name);
+  const table = [
+    { keys: ["s", "F11"], shown: "s, F11", says: "a step of the chosen goroutine", act: does("step") },
+    { keys: ["o", "F10"], shown: "o, F10", says: "over the statement of the chosen goroutine", act: does("over") },
+    { keys: ["a"], says: "the chosen goroutine alone, until it waits", act: does("alone") },
+    { keys: ["l"], says: "run to the line of the cursor in the source", act: does("to-line") },
+    { keys: ["r", "F5"], shown: "r, F5", says: "run", act: does("run") },
+    { keys: ["F9"], says: "set or remove a breakpoint at the line of the cursor", act: () => void toggleBreak(page, page.views.editor.line) },
+    { keys: [..."123456789"], shown: "1 to 9", says: "the case of its select with this number", act: (/** @type {string} */ key) => void page.stepClause(Number(key)) },
+    { keys: ["]"], says: "choose the next goroutine", act: () => page.nextGoroutine(1) },
+    { keys: ["["], says: "choose the goroutine before", act: () => page.nextGoroutine(-1) },
+    { keys: ["x"], says: "stop a long run", act: () => page.stop() },
+    { keys: ["u"], says: "take the last step back", act: does("undo") },
+    { keys: ["b"], says: "take the chosen step back, with all that depends on it", act: () => void page.pointing.takeBack() },
+    { keys: ["y"], says: "take again what was taken back", act: does("redo") },
+    { keys: ["n"], says: "the next command of the story", act: does("next") },
+    { keys: [",", "."], shown: ", and .", says: "look at the state one step before, or after", act: (/** @type {string} */ key) => look(page, key === "," ? -1 : 1) },
+    { keys: ["v"], says: "presentation: picture and source alone, in large letters", act: does("present") },
+    { keys: ["p"], says: "to the picture", act: () => focus("picture") },
+    { keys: ["/"], says: "to the field of commands", act: () => focus("line") },
+    { keys: ["e"], says: "to the source (Ctrl+Enter starts it, Tab leaves it)", act: () => page.views.editor.focus() },
+    { keys: ["?"], says: "this page of keys", act: () => find("help").click() },
+  ];
+  const keys = new Keys(table, () => field("letters").checked);
+  keys.show(find("keys"));
+  find("keys").append(...IN_PICTURE.map(([key, says]) => tableRow("kbd", key, `in the picture: ${says}`)));
+}
+
+/**
+ * @param {Page} page
+ * @param {number} by
+ */
+function look(page, by) {
+  const count = page.session?.log.length || 0;
+  const row = page.past.isOn ? page.past.row : count;
+  if (count && row + by >= 0) void page.past.lookAt(row + by);
+}
+
+/** @param {Page} page */
+export function listenInPicture(page) {
+  const { pointing, views } = page;
+  const go = async (/** @type {number} */ by, columns = 0) => {
+    const id = views.picture.neighbour(pointing.atHand, by, columns);
+    if (!id) return;
+    pointing.pinned = "";
+    pointing.pointed = id;
+    views.picture.reveal(id);
+    await pointing.color();
+  };
+  const acts = /** @type {{[key: string]: () => unknown}} */ ({
+    ArrowUp: () => go(-1), ArrowDown: () => go(1), ArrowLeft: () => go(0, -1), ArrowRight: () => go(0, 1),
+    Enter: () => pointing.atHand && pointing.choose(pointing.atHand),
+    Escape: () => pointing.pinned && pointing.choose(pointing.pinned),
+  });
+  const moves = /** @type {{[key: string]: () => unknown}} */ ({ ArrowUp: () => pointing.moveBy(-1), ArrowDown: () => pointing.moveBy(1) });
+  find("picture").addEventListener("keydown", (event) => {
+    const done = (event.altKey ? moves : acts)[event.key];
+    if (!done) return;
+    event.preventDefault();
+    void done();
+  });
+}

@@ -1,0 +1,90 @@
+// The menu of stories and exercises, the commands that a story gives one after another, and what is told before each of them.
+
+import { make } from "../element.js";
+
+const LEVELS = ["", "Exercises: first steps", "Exercises: find the cause", "Exercises: make it happen"];
+
+export class Stories {
+  /**
+   * @param {HTMLSelectElement} menu
+   * @param {HTMLElement} about
+   * @param {Given} given
+   */
+  constructor(menu, about, given) {
+    this.menu = menu;
+    this.about = about;
+    this.stories = given.stories;
+    this.exercises = given.exercises;
+    /** @type {Story | null} */
+    this.story = null;
+    /** @type {Exercise | null} */
+    this.exercise = null;
+    this.at = 0;
+    const option = (/** @type {{name: string, title: string}} */ { name, title }) => make("option", { value: name }, title);
+    const shown = this.stories.filter(({ level }) => level);
+    const groups = [...new Set(shown.map(({ level }) => level))].map((level) => make("optgroup", { label: level }, ...shown.filter((it) => it.level === level).map(option)));
+    const exercises = [1, 2, 3].map((level) => make("optgroup", { label: LEVELS[level] }, ...this.exercises.filter((it) => it.level === level).map(option)));
+    menu.append(make("option", { value: "" }, "your own program"), ...groups, ...exercises);
+  }
+
+  // Turns to a story or an exercise; of another name to a program of one's own. Gives its source, or "".
+  /** @param {string} name */
+  choose(name) {
+    this.story = this.stories.find((it) => it.name === name) || null;
+    this.exercise = this.exercises.find((it) => it.name === name) || null;
+    this.at = 0;
+    this.menu.value = this.story || this.exercise ? name : "";
+    this.show();
+    return (this.story || this.exercise)?.source || "";
+  }
+
+  get name() {
+    return (this.story || this.exercise)?.name || "program";
+  }
+
+  // Whether a text is that of the story or exercise.
+  /** @param {string} text */
+  isOf(text) {
+    return (this.story || this.exercise)?.source === text;
+  }
+
+  get commands() {
+    return this.story?.told || [];
+  }
+
+  get next() {
+    return this.commands[this.at]?.command;
+  }
+
+  // Goes to the next command.
+  take() {
+    this.at++;
+    this.show();
+  }
+
+  restart() {
+    this.at = 0;
+    this.show();
+  }
+
+  // Goes to where these commands that changed a session have led.
+  /** @param {string[]} done */
+  catchUp(done) {
+    let matched = 0;
+    this.commands.forEach(({ command }, at) => {
+      if (command !== done[matched]) return;
+      matched++;
+      this.at = at + 1;
+    });
+    this.show();
+  }
+
+  show() {
+    const isOver = this.at > 0 && this.at >= this.commands.length;
+    const last = this.commands.slice(0, this.at + 1).filter(({ text }) => text).at(-1)?.text || "";
+    const told = isOver ? "That was the story. Go on by yourself: point at steps, take them back." : last;
+    const shows = this.story?.shows || "";
+    if (told && this.at) return this.about.replaceChildren(told);
+    this.about.replaceChildren(/\w$/.test(shows) && told ? `${shows}.` : shows, ...(told ? [make("span", { class: "told" }, ` ${told}`)] : []));
+  }
+}

@@ -1,0 +1,184 @@
+// The panes: goroutines with their frames and buttons, channels with their queues, and the console. Each variable, item, waiter and
+// line is a button that finds the step behind it.
+
+import { button, inSteps, make } from "../element.js";
+import { holdersOf } from "./holders.js";
+import { parseWaiter } from "../engine/protocol.js";
+import { wishesText } from "../waiting/sentences.js";
+import { NIL, Wishes } from "../waiting/waits.js";
+
+const FRAMES = 8; // of more frames the innermost are shown until the others are unfolded
+const MANY = 8; // cards: above more of them stand the channels
+const HOLDERS = 4; // variables that are named beside a channel
+const LINES = 1000; // of more lines of the console the last are shown
+
+/**
+ * @typedef {object} PaneEvents
+ * @property {(name: string, clause?: number) => void} step
+ * @property {(name: string) => void} choose
+ * @property {(what: {go?: string, variable?: [string, string], item?: [string, number], waiter?: string, line?: number}) => void} findStep
+ */
+
+const UNSHOWN = "This state cannot be shown."; // why, says the status
+
+// What stands in an empty pane.
+/**
+ * @param {Scene} scene
+ * @param {string} text
+ */
+const none = ({ missing }, text) => make("p", { class: "none" }, missing ? UNSHOWN : text);
+
+/**
+ * @param {string} title
+ * @param {string} text
+ * @param {() => void} onclick
+ */
+const asked = (title, text, onclick) => button({ class: "asked-value", title, onclick }, text);
+
+/**
+ * @param {Goroutine} goroutine
+ * @param {Frame} frame
+ * @param {PaneEvents} on
+ */
+function frameRows({ name: goroutine }, { name, variables }, on) {
+  const value = (/** @type {Variable} */ it) =>
+    make("dd", {}, asked(`Find the step that gave ${it.name} its value`, `${it.name} = ${it.value}`, () => on.findStep({ variable: [goroutine, it.name] })));
+  return [make("dt", {}, name), ...(variables.length ? variables.map(value) : [make("dd", { class: "none" }, "no variables")])];
+}
+
+/**
+ * @param {Goroutine} goroutine
+ * @param {PaneEvents} on
+ */
+function framesOf(goroutine, on) {
+  const { frames } = goroutine;
+  if (!frames.length) return [];
+  const list = make("dl", {}, ...frames.slice(0, FRAMES).flatMap((it) => frameRows(goroutine, it, on)));
+  const rest = frames.slice(FRAMES);
+  if (!rest.length) return [list];
+  const more = make("details", {}, make("summary", {}, `${rest.length} frames more`));
+  more.addEventListener("toggle", () => more.childElementCount === 1 && more.append(make("dl", {}, ...rest.flatMap((it) => frameRows(goroutine, it, on)))));
+  return [list, more];
+}
+
+// Where a goroutine stands, in words; after the end of the program nobody is ready.
+/**
+ * @param {Goroutine} goroutine
+ * @param {boolean} isOver
+ */
+function stateText({ state, steps, line }, isOver) {
+  const word = isOver && state === "ready" ? "stopped" : state;
+  return line ? `${word} at line ${line}, ${inSteps(steps)}` : `${word}, ${inSteps(steps)}`;
+}
+
+// The buttons of a goroutine that is ready: one step, or one for each clause of a select that can be taken.
+/**
+ * @param {Goroutine} goroutine
+ * @param {Clause[]} clauses
+ * @param {PaneEvents} on
+ */
+function stepButtons({ name }, clauses, on) {
+  const step = button({ onclick: () => on.step(name), "aria-label": `Step ${name}` }, "Step");
+  const picks = clauses.map(({ number, text }) =>
+    button({ onclick: () => on.step(name, number), "aria-label": `Case ${number}: ${text}, of ${name}` }, `${number}: `, make("code", {}, text)),
+  );
+  return make("div", { class: "buttons" }, step, ...picks);
+}
+
+/**
+ * @param {Goroutine} goroutine
+ * @param {{clauses: Clause[], isChosen: boolean, isOver: boolean, canStep: boolean, wait: string}} how
+ * @param {PaneEvents} on
+ */
+function goroutineCard(goroutine, { clauses, isChosen, isOver, canStep, wait }, on) {
+  const { name, state } = goroutine;
+  const choose = button({ "aria-pressed": String(isChosen), onclick: () => on.choose(name) }, name);
+  const shown = make("span", { class: state === "waiting" ? "state waiting" : "state" }, stateText(goroutine, isOver));
+  const start = name === "g0" ? [] : [asked(`Find the step that started ${name}`, `started by ${name.slice(0, name.lastIndexOf("."))}`, () => on.findStep({ go: name }))];
+  const card = make("div", { class: isChosen ? "card chosen" : "card", "data-goroutine": name }, make("div", { class: "top" }, choose, shown, ...start));
+  if (wait) card.append(make("p", { class: "wait-text" }, wait));
+  card.append(...framesOf(goroutine, on));
+  if (state === "ready" && canStep) card.append(stepButtons(goroutine, clauses, on));
+  return card;
+}
+
+// What a goroutine waits for, by its own names for the channels.
+/** @param {{wishes: import("../waiting/waits.js").Wish[]}} wait */
+function waitText({ wishes }) {
+  if (!wishes.length) return "waits for ever: its select has no cases";
+  return wishes[0].channel === NIL ? `waits to ${wishesText({ wishes })}: a nil channel blocks for ever` : `waits to ${wishesText({ wishes })}`;
+}
+
+// The card of a goroutine, but for those that are done: these stand in one line.
+/**
+ * @param {HTMLElement} host
+ * @param {Scene} scene
+ * @param {{chosen: string, isOver: boolean, canStep: boolean, program: import("../waiting/flows.js").Program | null}} how
+ * @param {PaneEvents} on
+ */
+export function showGoroutines(host, scene, { chosen, isOver, canStep, program }, on) {
+  const focused = /** @type {HTMLElement | null} */ (host.contains(document.activeElement) ? document.activeElement : null);
+  const label = focused && (focused.getAttribute("aria-label") || focused.textContent);
+  const waits = new Map(program ? new Wishes(program, scene.goroutines, scene.channels).shown(scene.hidden > 0).map((it) => [it.goroutine, waitText(it)]) : []);
+  const done = scene.goroutines.filter(({ name, state }) => state === "done" && name !== chosen);
+  const cards = scene.goroutines.filter((it) => !done.includes(it));
+  const how = (/** @type {string} */ name) => ({ clauses: scene.clauses.get(name) || [], isChosen: name === chosen, isOver, canStep, wait: waits.get(name) || "" });
+  host.replaceChildren(...cards.map((it) => goroutineCard(it, how(it.name), on)));
+  if (done.length) host.append(make("p", { class: "done" }, "done: ", ...done.map(({ name, steps }) => button({ "data-goroutine": name, onclick: () => on.choose(name) }, `${name}, ${inSteps(steps)}`))));
+  document.body.classList.toggle("many-cards", cards.length > MANY);
+  if (!scene.goroutines.length) host.append(none(scene, "There is no session."));
+  if (scene.hidden) host.append(make("p", { class: "none" }, `${scene.hidden} goroutines and channels more: ask for them by name.`));
+  if (!label) return;
+  const same = [...host.querySelectorAll("button")].find((it) => (it.getAttribute("aria-label") || it.textContent) === label);
+  /** @type {HTMLElement | null} */ (same || host.querySelector(".chosen button"))?.focus();
+}
+
+/**
+ * @param {string} title
+ * @param {HTMLElement[]} values
+ */
+function listed(title, values) {
+  return make("div", {}, make("dt", {}, title), make("dd", { class: values.length ? "" : "none" }, ...(values.length ? values : ["none"])));
+}
+
+/**
+ * @param {Channel} channel
+ * @param {string[]} holders
+ * @param {PaneEvents} on
+ */
+function channelCard({ name, capacity, isClosed, items, senders, receivers }, holders, on) {
+  const called = holders.length ? [make("span", { class: "state", title: "the variables that hold it" }, holders.slice(0, HOLDERS).join(", "))] : [];
+  const top = make("div", { class: "top" }, make("strong", {}, name), ...called, make("span", { class: "state" }, `${isClosed ? "closed" : "open"}, room for ${capacity}`));
+  const sending = senders.filter((it) => !parseWaiter(it).clause).length; // their sends come after those of the items
+  const item = (/** @type {string} */ it, /** @type {number} */ at) => asked("Find the step that sent it", it, () => on.findStep({ item: [name, items.length - at + sending] }));
+  const waiter = (/** @type {string} */ it) => asked("Find the step in which it began to wait", it, () => on.findStep({ waiter: parseWaiter(it).goroutine }));
+  const rows = [listed("items", items.slice(0, 60).map(item)), listed("senders", senders.map(waiter)), listed("receivers", receivers.map(waiter))];
+  return make("div", { class: "card", "data-channel": name }, top, make("dl", { class: "queues" }, ...rows));
+}
+
+/**
+ * @param {HTMLElement} host
+ * @param {Scene} scene
+ * @param {PaneEvents} on
+ */
+export function showChannels(host, scene, on) {
+  const holders = holdersOf(scene.goroutines);
+  host.replaceChildren(...scene.channels.map((it) => channelCard(it, [...(holders.get(it.name) || [])], on)));
+  if (!scene.channels.length) host.append(none(scene, "No channel was made yet."));
+}
+
+/**
+ * @param {HTMLElement} host
+ * @param {Scene} scene
+ * @param {PaneEvents} on
+ */
+export function showConsole(host, { console: { isOk, count, lines }, missing }, on) {
+  const shown = lines.slice(-LINES);
+  const before = count - shown.length;
+  const line = (/** @type {string} */ text, /** @type {number} */ at) =>
+    make("li", {}, asked("Find the step that printed it", text || " ", () => on.findStep({ line: before + at })));
+  host.replaceChildren(...(before ? [make("li", { class: "none" }, `${before.toLocaleString("en")} lines before`)] : []), ...shown.map(line));
+  const empty = isOk ? "Nothing was printed yet." : "More was printed than there is memory to show. Take steps back to see it.";
+  if (!count) host.append(make("li", { class: "none" }, missing ? UNSHOWN : empty));
+  host.scrollTop = host.scrollHeight;
+}

@@ -1,0 +1,49 @@
+// Saves the picture: with every edge where the log is short enough, else the part around the view, which the file says.
+
+import { ALL_EDGES } from "../control/annotating.js";
+import { Rows } from "./rows.js";
+import { savedPicture } from "./saved.js";
+
+const PARTS = [[20000, 800], [Infinity, 60]]; // up to so many steps of a longer log, how many above and below the view are saved
+
+// The SVG text of the picture.
+/**
+ * @param {import("../control/page.js").Page} page
+ * @param {{title?: string, labels?: string, hasLegend?: boolean}} how
+ */
+export async function savePicture(page, { title = "", labels = "", hasLegend = true } = {}) {
+  const { session, views, annotating } = page;
+  if (!session) return "";
+  const { log, follower } = session;
+  const isWhole = log.length <= ALL_EDGES;
+  const [inView, below] = views.picture.stepsInView();
+  const [, part] = /** @type {number[]} */ (PARTS.find(([most]) => log.length <= most));
+  const [from, to] = isWhole ? [0, log.length] : [Math.max(0, inView - part), Math.min(log.length, below + part)];
+  const isOld = () => session.isLeft;
+  while (!isOld() && !(await follower.inTurn(() => follower.annotate(from, to))));
+  await annotating.findEdges(session, isOld, [from, to]);
+  const { picture } = views;
+  const isSplit = !isWhole || Boolean(follower.lost);
+  const rows = new Rows(log, { isFolded: isWhole && picture.isFolded, hidden: isWhole ? picture.hidden : new Set() });
+  const edges = log.steps(from, to).flatMap(({ id }) => (page.note(id)?.edges || []).filter((edge) => log.row(edge.from) >= from));
+  const shown = { log, rows, functions: annotating.functions(), notes: page.note, labels: labels || picture.labels };
+  const name = views.stories.name.replaceAll("_", " ");
+  return savedPicture(shown, edges, picture.view, {
+    title: title || `Steps of ${name}, a column for each goroutine`, rowHeight: picture.rowHeight, from, to: isWhole ? rows.length : to, hasLegend,
+    part: partText(isSplit, from, to, log.length, follower.lost),
+  });
+}
+
+/**
+ * @param {boolean} isSplit
+ * @param {number} from
+ * @param {number} to
+ * @param {number} count
+ * @param {string} lost
+ */
+function partText(isSplit, from, to, count, lost) {
+  if (!isSplit) return "";
+  const words = (/** @type {number} */ it) => it.toLocaleString("en");
+  if (lost) return `From ${lost} on, lines and arrows are missing`;
+  return `Steps ${words(from + 1)} to ${words(to)} of ${words(count)}, with the arrows between them`;
+}

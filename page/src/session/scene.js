@@ -1,0 +1,49 @@
+// What panes show, asked of a session: goroutines, channels and what was printed.
+
+import { parseChannel, parseGoroutine } from "../engine/protocol.js";
+import { Unanswered } from "../engine/remote.js";
+
+const SHOWN = 200; // of more goroutines, and of more channels, the first are shown
+
+// Asks these goroutines and channels of a session that runs the expanded source.
+/**
+ * @param {import("../engine/remote.js").RemoteSession} remote
+ * @param {string[]} names
+ * @param {string[]} channels
+ * @param {import("./statements.js").Statements} statements
+ * @returns {Promise<Scene>}
+ */
+export async function readScene(remote, names, channels, statements) {
+  const [shown, made] = [names.slice(0, SHOWN), channels.slice(0, SHOWN)];
+  const hidden = names.length - shown.length + channels.length - made.length;
+  const commands = [...shown.map((name) => `show ${name}`), ...made.map((name) => `chan ${name}`), "console"];
+  const replies = await remote.askAll(commands, "tail");
+  const console = replies[commands.length - 1]; // where too much was printed, it is refused
+  const refused = replies.slice(0, -1).find((reply) => !reply.isOk);
+  if (refused) throw new Unanswered(refused.last);
+  const goroutines = shown.map((_, at) => placed(parseGoroutine(replies[at]), statements));
+  const isPartial = names.length > shown.length;
+  const isStuck = !isPartial && !goroutines.some(({ state }) => state === "ready");
+  return { goroutines, channels: made.map((name, at) => parseChannel(name, replies[shown.length + at])), console, hidden, isPartial, isStuck, clauses: new Map(), missing: "" };
+}
+
+// A goroutine with its place in the user's source.
+/**
+ * @param {Goroutine} goroutine
+ * @param {import("./statements.js").Statements} statements
+ * @returns {Goroutine}
+ */
+export function placed(goroutine, statements) {
+  const statement = statements.at(goroutine.line);
+  return { ...goroutine, line: goroutine.line && statements.lineOf(goroutine.line), statement };
+}
+
+/** @type {Scene} */
+export const NOTHING = { goroutines: [], channels: [], console: { isOk: true, count: 0, lines: [] }, hidden: 0, isPartial: false, isStuck: false, clauses: new Map(), missing: "" };
+
+// The scene of a state that cannot be shown.
+/**
+ * @param {string} reason
+ * @returns {Scene}
+ */
+export const unshown = (reason) => ({ ...NOTHING, clauses: new Map(), missing: reason });

@@ -1,0 +1,222 @@
+// The owner of a session: the user's own session of the program, the one that mirrors it, the one that follows its log, the log itself
+// and what was commanded. It is made whole and left whole: whatever still runs of a session that was left ends by itself.
+
+import { CHANGES, wordsOf } from "../engine/protocol.js";
+import { DirectEdges } from "./direct.js";
+import { Program } from "../waiting/flows.js";
+import { Follower } from "./follower.js";
+import { Known } from "./known.js";
+import { Log } from "./log.js";
+import { Mirror } from "./mirror.js";
+import { NOTHING, unshown } from "./scene.js";
+import { isUnanswered, RemoteSession, SessionGone } from "../engine/remote.js";
+import { runInPortions } from "./runs.js";
+import { Statements } from "./statements.js";
+
+const KEPT = 5000; // commands that are kept for a link and for a reload
+
+// The source is refused; `errors` says where.
+export class Refused extends Error {
+  /** @param {string} errors */
+  constructor(errors) {
+    super(errors);
+    this.errors = errors;
+  }
+}
+
+export class Session {
+  /**
+   * @param {Machine} machine
+   * @param {string} source
+   * @param {RemoteSession} user
+   */
+  constructor(machine, source, user) {
+    this.source = source;
+    this.user = user;
+    this.statements = new Statements(source);
+    this.program = new Program(source);
+    this.log = new Log();
+    /** @type {Map<string, string>} */
+    this.clauses = new Map(); // that were named in a step that was a fault
+    this.mirror = new Mirror(machine, this.statements, this.log, this.clauses);
+    this.follower = new Follower(machine, this.statements, this.log, this.clauses);
+    this.direct = new DirectEdges(this.follower);
+    this.known = new Known(this.mirror, this.follower, this.log);
+    /** @type {string[]} */
+    this.commands = []; // that changed it
+    /** @type {Set<number>} */
+    this.breakpoints = new Set(); // lines of the user's source
+    this.goal = 0; // the line of a breakpoint that is set for one run, or 0
+    this.scene = NOTHING;
+    this.isLeft = false;
+    this.isRunning = false;
+    this.isUnsure = false; // of the steps that `redo` would take
+    this.turn = Promise.resolve();
+  }
+
+  // Opens a session; throws Refused where the source is no program.
+  /**
+   * @param {Machine} machine
+   * @param {string} source
+   */
+  static async open(machine, source) {
+    const user = await RemoteSession.open(machine, source);
+    if (user.status === null) {
+      const session = new Session(machine, source, user);
+      await session.mirror.open();
+      return session;
+    }
+    user.close();
+    if (user.fault) throw new SessionGone(user.reason);
+    throw new Refused(user.errors);
+  }
+
+  // Why the session answers no more, or "".
+  get gone() {
+    return this.user.status === null ? "" : this.user.reason;
+  }
+
+  get undone() {
+    return this.log.gone.size;
+  }
+
+  leave() {
+    this.isLeft = true;
+    this.isRunning = false;
+    this.user.close();
+    this.mirror.close();
+    this.follower.close();
+  }
+
+  // Performs one line and gives its reply; a blank line has none. The log follows.
+  /**
+   * @param {string} line
+   * @returns {Promise<Reply>}
+   */
+  perform(line) {
+    const done = this.turn.then(() => this.mirror.during(() => this.performNow(line.trim())));
+    this.turn = done.then(() => {}, () => {});
+    return done;
+  }
+
+  /** @param {string} line */
+  async performNow(line) {
+    const [word] = wordsOf(line);
+    const isUnknown = word === "redo" && this.isUnsure;
+    if (isUnknown) this.mirror.isBehind = true;
+    const reply = await this.command(line);
+    if (reply.isOk && (word === "run" || isUnknown)) await this.readLog();
+    if (reply.isOk && CHANGES.has(word)) this.isUnsure = false;
+    return reply;
+  }
+
+  // Gives a command to both sessions.
+  /**
+   * @param {string} line
+   * @returns {Promise<Reply>}
+   */
+  async command(line) {
+    const words = wordsOf(line);
+    const changes = CHANGES.has(words[0]);
+    const begun = changes ? this.mirror.begin(line) : null;
+    const reply = await this.user.ask(line);
+    this.note(words, reply);
+    if (begun) {
+      await this.mirror.follow(line, reply, begun);
+      if (!this.isRunning) this.follower.forget(this.log.apply(line, reply));
+    }
+    if (reply.isOk && (words[0] === "break" || words[0] === "clear")) await this.noteBreak(words);
+    return reply;
+  }
+
+  /**
+   * @param {string[]} words
+   * @param {Reply} reply
+   */
+  note(words, reply) {
+    if (words[0] === "step" && words[2] && reply.words[2] === "fault") this.clauses.set(reply.words[1], words[2]);
+    if (reply.isOk && CHANGES.has(words[0]) && this.commands.length <= KEPT) this.commands.push(words.join(" "));
+  }
+
+  // Whether the commands are all kept, so that the session can be taken again from them.
+  get isKept() {
+    return this.commands.length <= KEPT;
+  }
+
+  /** @param {string[]} words */
+  async noteBreak([word, line]) {
+    if (word === "break") this.breakpoints.add(Number(line));
+    else this.breakpoints.delete(Number(line));
+    await this.mirror.setBreaks(new Set([...this.breakpoints].flatMap((it) => this.statements.runLines(it))));
+  }
+
+  // Reads the log after a run, of the mirror or else of the user's own session.
+  async readLog() {
+    const columns = (await this.mirror.readLog()) || (await this.user.questions(["log"], "columns"))[0];
+    this.log.load(columns);
+  }
+
+  // Reads everything anew of the user's own session. What can be done again is not known then.
+  async renew() {
+    await this.turn;
+    const [columns] = await this.user.questions(["log"], "columns");
+    this.log.load(columns);
+    this.log.gone.clear();
+    this.isUnsure = true;
+    this.mirror.isBehind = true;
+    this.follower.renew();
+  }
+
+  // Sets the breakpoints of the page, none of which is new to a person: no transcript has them.
+  /** @param {Iterable<number>} lines */
+  async setBreaks(lines) {
+    const wanted = new Set(lines);
+    for (const line of this.breakpoints) if (!wanted.has(line)) await this.perform(`clear ${line}`);
+    for (const line of wanted) if (!this.breakpoints.has(line)) await this.perform(`break ${line}`);
+  }
+
+  // A run that shows how far it is: `going(taken)` is told.
+  /**
+   * @param {number} count
+   * @param {(taken: number) => void} going
+   */
+  run(count, going) {
+    const done = this.turn.then(() => this.mirror.during(() => this.runNow(count, going)));
+    this.turn = done.then(() => {}, () => {});
+    return done;
+  }
+
+  /**
+   * @param {number} count
+   * @param {(taken: number) => void} going
+   */
+  async runNow(count, going) {
+    this.isRunning = true;
+    const before = this.commands.length;
+    const goesOn = (/** @type {number} */ taken) => {
+      if (!this.isLeft) going(taken);
+      return this.isRunning;
+    };
+    const both = { run: (/** @type {number} */ steps) => this.command(`run ${steps}`), undo: () => this.command("undo"), hasBreaks: () => this.breakpoints.size > 0 };
+    try {
+      const end = await runInPortions(both, count, goesOn);
+      this.log.gone.clear();
+      if (end.taken) this.commands.splice(before, Infinity, `run ${end.taken}`);
+      await this.readLog();
+      return end;
+    } finally {
+      this.isRunning = false;
+    }
+  }
+
+  // Reads what the panes show.
+  async look() {
+    try {
+      this.scene = await this.mirror.scene();
+    } catch (fault) {
+      if (this.gone || !isUnanswered(fault)) throw fault;
+      this.scene = unshown(/** @type {Error} */ (fault).message);
+    }
+    return this.scene;
+  }
+}
