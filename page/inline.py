@@ -3,8 +3,8 @@
 
     page/inline.py MODULE.wasm OUT.html [--unproved]
 
-With --unproved the page says that its program is not proved. The meanings of codes, kinds and commands and the tales of the stories
-come from docs/, the refusals of sources from clients/, so that nothing is said twice.
+With --unproved the page says that its program is not proved. The meanings of codes, kinds and commands and the texts of the stories
+come from words.json, which `make words` makes, and the refusals of sources from clients/, so that nothing is said twice.
 """
 import base64
 import json
@@ -50,86 +50,27 @@ def one_script(entry, form):
     return ran.stdout
 
 
-def plain(cell):
-    return cell.replace("`", "").replace("\\|", "|").strip()
+def told_words():
+    """What `words/make.py` leaves for the page."""
+    return json.loads(read(f"{HERE}/words.json"))
 
 
-def rows(page, heading=None):
-    """Returns the cells of the tables of a page of docs/, or of one section of it."""
-    text = read(f"{ROOT}/docs/{page}")
-    if heading:
-        found = re.search(rf"^## {heading}\n(.*?)(?=^## |\Z)", text, re.M | re.S)
-        text = found[1] if found else kit.stop(f"docs/{page} has no section '{heading}', which the page takes its words from")
-    lines = [it for it in text.splitlines() if it.startswith("| ") and it.endswith(" |")]
-    return [[plain(cell) for cell in re.split(r"(?<!\\)\|", it)[1:-1]] for it in lines]
-
-
-def codes():
-    found = rows("LANGUAGE.md") + rows("COMMANDS.md")
-    return {row[0]: row[1] for row in found if re.fullmatch(r"[A-Z]\d+", row[0])}
-
-
-def kinds():
-    meanings = {}
-    for names, meaning in rows("COMMANDS.md", "Kinds of steps"):
-        for name in names.split(", "):
-            meanings[name.split(" ")[0]] = meaning
-    meanings.pop("Kind", None)
-    return meanings
-
-
-def commands():
-    return [row[:2] for row in rows("COMMANDS.md", "Commands") if row[0] != "Command"]
-
-
-def faults():
-    return {row[0]: row[1] for row in rows("COMMANDS.md", "Faults") if row[0] != "Fault"}
-
-
-def words_of_go():
-    """Faults, and a deadlock, in the words of Go."""
-    return json.loads(read(f"{ROOT}/clients/rewind_client/words.json"))["go"]
-
-
-def narrations():
-    """What docs/SESSIONS.md tells of each story: before each command the text that leads to it."""
-    told = {}
-    for section in re.split(r"^## ", read(f"{ROOT}/docs/SESSIONS.md"), flags=re.M)[1:]:
-        name = re.search(r"^!\[.*\]\(pictures/(\w+)\.svg\)$", section, re.M)
-        if name:
-            told[name[1]] = (section.split("\n")[0], narration(section.split("\n", 1)[1]))
-    return told
-
-
-def narration(section):
-    """The commands of a section, each with the paragraphs before it. What stands before the source tells of the picture there."""
-    found, said = [], []
-    for at, part in enumerate(section.split("```")):
-        if at % 2 == 0 and at:
-            paragraphs = [it for it in part.strip().split("\n\n") if it and not it.startswith("!")]
-            said += [re.sub(r"\*([^*]+)\*", r"\1", it.replace("`", "").replace("\n", " ")) for it in paragraphs[-2:]]
-        for command in re.findall(r"^> (.*)$", part, re.M) if at % 2 else []:
-            found.append({"text": " ".join(said), "command": command})
-            said = []
-    return found
-
-
-def story(entry, level, shows, told):
+def story(entry, level, words):
     """A story of the menu: its source, and its commands with what is told before each."""
     entry = {"name": entry} if isinstance(entry, str) else entry
     name = entry["name"]
     folders = [f"{ROOT}/crates/sessions/data/{name}", f"{ROOT}/clients/examples/{name}"]
     path = f"{ROOT}/{entry['file']}" if "file" in entry else next(it for it in folders if os.path.exists(f"{it}.go"))
-    title, narrated = told.get(name, ("", []))
+    told = words["stories"].get(name, {"title": "", "told": []})
     script = entry.get("script") or (read(f"{path}.script") if os.path.exists(f"{path}.script") else "run 1000")
     commands = [{"text": "", "command": it} for it in script.splitlines() if it.strip()]
     return {
         "name": name,
-        "title": entry.get("title") or title or name.replace("_", " "),
+        "title": entry.get("title") or told["title"] or name.replace("_", " "),
         "source": read(f"{path}.go"),
-        "shows": (entry.get("shows") or shows.get(name, "")).replace("`", ""),
+        "shows": entry.get("shows") or words["shows"].get(name, ""),
         "level": level,
-        "told": with_texts(commands, narrated),
+        "told": with_texts(commands, told["told"]),
     }
 
 
@@ -144,11 +85,9 @@ def with_texts(commands, narrated):
     return commands
 
 
-def stories():
+def stories(words):
     """Returns the stories of the menu, in its order."""
-    shows = {name: row[1] for row in rows("SESSIONS.md") for name in row[0].split(", ") if len(row) == 2}
-    told = narrations()
-    return [story(it, group["level"], shows, told) for group in json.loads(read(f"{HERE}/menu.json")) for it in group["stories"]]
+    return [story(it, group["level"], words) for group in json.loads(read(f"{HERE}/menu.json")) for it in group["stories"]]
 
 
 def exercises():
@@ -161,10 +100,11 @@ def exercises():
 
 def given():
     """All that the page shows and does not compute."""
+    words = told_words()
     refusals = json.loads(read(f"{ROOT}/clients/rewind_client/refusals.json"))
+    told = {name: words[name] for name in ("codes", "kinds", "faults", "go", "commands")}
     licence = notices.of_page(kit.folder(), read(LICENCE))
-    told = {"stories": stories(), "exercises": exercises(), "refusals": refusals, "licence": licence}
-    return {"codes": codes(), "kinds": kinds(), "faults": faults(), "go": words_of_go(), "commands": commands(), **told}
+    return {**told, "stories": stories(words), "exercises": exercises(), "refusals": refusals, "licence": licence}
 
 
 def program(wasm):

@@ -1,7 +1,8 @@
 #!/usr/bin/env python3
 """Writes what is said of commands, codes and exit statuses from the texts beside this file: the program's constants
 (crates/gr_console/src/words.rt, meanings), the list of the codes (crates/gr_console/specs/Codes.antt), the manual page (docs/rewind.1), the
-marked tables of docs/COMMANDS.md and docs/LANGUAGE.md, and what the clients know of codes (clients/rewind_client/words.json).
+marked tables of docs/COMMANDS.md and docs/LANGUAGE.md, the sessions and stories of docs/SESSIONS.md, and what the clients and the page know
+of these (clients/rewind_client/words.json, page/words.json).
 
     words/make.py           writes them
     words/make.py --check   fails where one does not stand as made, or where a code of the definitions has no text
@@ -13,6 +14,8 @@ import re
 import sys
 import textwrap
 
+import stories
+
 HERE = os.path.dirname(os.path.abspath(__file__))
 ROOT = os.path.dirname(HERE)
 WORDS = "crates/gr_console/src/words.rt"
@@ -20,6 +23,7 @@ MEANINGS = "crates/gr_console/src/meanings/%s.rt"
 NAMES = "crates/gr_console/specs/Codes.antt"
 MANUAL = "docs/rewind.1"
 CLIENTS = "clients/rewind_client/words.json"
+PAGE = "page/words.json"
 WIDTH = 78
 
 
@@ -67,6 +71,7 @@ def sections(name):
 PROGRAM, _ = sections("program.txt")
 CODES, TITLES = sections("codes.txt")
 COMMANDS = sections("commands.txt")[0][""]
+SESSIONS = sections("sessions.txt")[0][""]
 TEXTS = {entry.name: entry.text for entry in PROGRAM["texts"]}
 EXAMPLE = {entry.name: entry.text for entry in PROGRAM["example"]}
 FAULTS = [entry.name for entry in CODES["faults"]]
@@ -294,7 +299,9 @@ def table(head, rows):
 def tables():
     sources = [(it.name, it.means, it.example, it.at) for it in CODES["sources"]]
     replies = [(it.name, it.means, it.example) for it in CODES["replies"]]
+    sessions = [(it.name, it.shows) for it in SESSIONS]
     return {
+        "docs/SESSIONS.md": {"sessions": table(["Session", "What it shows"], sessions), "stories": stories.sections()},
         "docs/LANGUAGE.md": {"sources": table(["Code", "Meaning", "Example", "Refused at"], sources)},
         "docs/COMMANDS.md": {
             "commands": table(
@@ -321,14 +328,36 @@ def with_tables(page_name, made):
     return text
 
 
-# What the clients know.
+# What the clients and the page know.
+
+
+def as_json(told):
+    return json.dumps(told, indent=1, ensure_ascii=False) + "\n"
+
+
+def words_of_go():
+    """What Go says of faults and of a deadlock."""
+    return {it.name: it.go for section in CODES for it in CODES[section] if it.go}
 
 
 def client_words():
     """The meaning of each code by section, and what Go says of faults and of a deadlock."""
     told = {section: {it.name: plain(it.means) for it in CODES[section]} for section in CODES if section}
-    told["go"] = {it.name: it.go for section in CODES for it in CODES[section] if it.go}
-    return json.dumps(told, indent=1, ensure_ascii=False) + "\n"
+    return as_json({**told, "go": words_of_go()})
+
+
+def page_words():
+    """What the page shows of codes, kinds of steps, faults, commands, sessions and stories, without marks."""
+    kinds = {name.split()[0]: bare(it.means) for it in CODES["kinds"] for name in bare(it.row or it.name).split(", ")}
+    return as_json({
+        "codes": {it.name: bare(it.means) for it in CODES["sources"] + CODES["replies"]},
+        "kinds": kinds,
+        "faults": {it.name: bare(it.means) for it in CODES["faults"]},
+        "go": words_of_go(),
+        "commands": [[bare(it.name), bare(it.does)] for it in COMMANDS],
+        "shows": {name: bare(it.shows) for it in SESSIONS for name in bare(it.name).split(", ")},
+        "stories": stories.for_page(),
+    })
 
 
 # That each code has its text.
@@ -362,7 +391,7 @@ def without_text():
 
 
 def main():
-    made = {WORDS: words(), NAMES: names(), MANUAL: manual(), CLIENTS: client_words()}
+    made = {WORDS: words(), NAMES: names(), MANUAL: manual(), CLIENTS: client_words(), PAGE: page_words()}
     made.update((MEANINGS % section, pages(section)) for section in CODES if section)
     made.update((name, with_tables(name, content)) for name, content in tables().items())
     wrong = without_text()
