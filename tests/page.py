@@ -7,10 +7,13 @@ Makes the page where it is missing or, of the quick build, out of date. Installs
 missing. Where that cannot be done, the test is skipped; it fails if the variable CI is set.
 """
 import os
+import re
 import subprocess
 import sys
 
 TOP = os.path.dirname(os.path.dirname(os.path.abspath(__file__)))
+# The last lines of node's report.
+SUMMARY = re.compile(r"^# (pass|fail|skipped) (\d+)$", re.M)
 PACKAGES = ["chromium", "nodejs", "libjs-codemirror", "esbuild", "node-typescript", "eslint"]
 
 
@@ -67,7 +70,10 @@ def main():
     page = f"{program}.html"
     if targets[program] == "quick-page" or not os.path.exists(page):
         make(targets[program])
-    sys.exit(subprocess.run([f"{TOP}/page/test.sh", page, "--short"], stdin=subprocess.DEVNULL).returncode)
+    said, status = run([f"{TOP}/page/test.sh", page, "--short"])
+    print(said, end="")
+    counts = dict(SUMMARY.findall(said))
+    end(int(counts.get("pass", 0)), max(int(counts.get("fail", 0)), int(status != 0)), int(counts.get("skipped", 0)))
 
 
 main()

@@ -1,8 +1,8 @@
 // Text that comes neither by keys nor by paste, as of an input method, dictation, a text expander or an extension: it is in the source as
 // it came, and the editor draws what the source has.
 
+import assert from "node:assert/strict";
 import { Hands } from "./hands.mjs";
-import { equal } from "./checks.mjs";
 
 const START = "package main\nfunc main() {\n\tprintln(1)\n\tprintln(2)\n}\n";
 const LONG = `package main\n\nfunc main() {\n${Array.from({ length: 60 }, (_, at) => `\tprintln(${at})\n`).join("")}}\n`;
@@ -50,28 +50,30 @@ function endOf({ over, text, command }) {
   return [at, lines.at(-1).length + (lines.length === 1 ? over[1] : 0)].join();
 }
 
-export async function insertions(browser) {
+// Text that comes by commands of the document, which every browser knows.
+async function byCommands(browser) {
   for (const it of CASES) {
     const what = it.command ? `'${it.command}' at ${it.over}` : `${JSON.stringify(it.text.slice(0, 20))} at ${it.over}`;
     const is = await browser.run(`(${changed})(${JSON.stringify(START)}, ${JSON.stringify(it)})`);
-    equal(`inserted without keys: ${what}`, is, [it.then, true, endOf(it) ?? is[2]]);
+    assert.deepEqual(is, [it.then, true, endOf(it) ?? is[2]], `inserted without keys: ${what}`);
   }
   const editor = "document.querySelector('.CodeMirror').CodeMirror";
-  equal("undoing takes it back", await browser.run(`(${editor}.undo(), ${editor}.getValue())`), START);
+  assert.deepEqual(await browser.run(`(${editor}.undo(), ${editor}.getValue())`), START, "undoing takes it back");
 }
 
+export const insertions = (t, browser) => t.test("text that comes without keys", () => byCommands(browser));
+
 // By the protocol of Chromium: a text at once over several lines, an input method over several lines, and keys after both.
-export async function inputMethods(browser) {
+async function byProtocol(browser) {
   const hands = new Hands(browser);
-  await insertions(browser);
   const select = "(() => { const { editor } = rewind.page.views.editor; editor.focus(); editor.setSelection({ line: 0, ch: 0 }, { line: editor.lastLine(), ch: 0 }); })()";
   await hands.source(START);
   await browser.run(select);
   await browser.call("Input.insertText", { text: LONG });
   await hands.until("rewind.page.views.editor.text !== rewind.page.session.source");
-  equal("a text that comes at once is whole", await browser.run("rewind.page.views.editor.text"), LONG);
+  assert.deepEqual(await browser.run("rewind.page.views.editor.text"), LONG, "a text that comes at once is whole");
   await hands.act("start");
-  equal("and its program starts", await browser.run("rewind.page.session.source"), LONG);
+  assert.deepEqual(await browser.run("rewind.page.session.source"), LONG, "and its program starts");
   await hands.source(START);
   await browser.run(`${select}, new Promise((go) => setTimeout(go, 120))`);
   await browser.call("Input.imeSetComposition", { text: "// に", selectionStart: 4, selectionEnd: 4 });
@@ -80,6 +82,11 @@ export async function inputMethods(browser) {
   await browser.run("new Promise((go) => setTimeout(go, 300))");
   await browser.key("Enter");
   await browser.key("x");
-  equal("an input method writes over several lines", await browser.run("rewind.page.views.editor.text"), "// 日本\nx");
+  assert.equal(await browser.run("rewind.page.views.editor.text"), "// 日本\nx", "an input method writes over several lines");
   await hands.source(START);
+}
+
+export async function inputMethods(t, browser) {
+  await insertions(t, browser);
+  await t.test("text at once, and an input method, over several lines", () => byProtocol(browser));
 }

@@ -1,8 +1,8 @@
 // For a lesson: links and files, moves, past states, rollback by clicks with its preview, exercises, search, folds, two runs.
 
+import assert from "node:assert/strict";
 import { readFileSync } from "node:fs";
-import { Hands } from "./hands.mjs";
-import { equal, holds } from "./checks.mjs";
+import { inTurn } from "./parts.mjs";
 import { LOOP } from "./truths.mjs";
 
 const EXERCISES = JSON.parse(readFileSync(new URL("../exercises.json", import.meta.url)));
@@ -29,15 +29,15 @@ async function links(hands) {
   await hands.until("location.hash.startsWith('#s=')");
   const hash = await browser.run("location.hash");
   await hands.source(CALLS);
-  equal("after a change the address is no link any more", await browser.run("location.hash"), "");
+  assert.equal(await browser.run("location.hash"), "", "after a change the address is no link any more");
   await new Promise((go) => setTimeout(go, 300));
   await browser.run(`location.hash = ${JSON.stringify(hash)}`);
   await hands.until("rewind.page.pointing.pinned");
   await hands.idle();
-  holds("a link is short", hash.length < 1500);
-  equal("a link opens its source, steps and chosen step", [(await hands.ids()).length, await browser.run("rewind.page.pointing.pinned"), await hands.text("#state")].map((it) => (typeof it === "string" ? it.slice(0, 9) : it)), [16, "g0.2#1", "Deadlock:"]);
+  assert.ok(hash.length < 1500, "a link is short");
+  assert.deepEqual([(await hands.ids()).length, await browser.run("rewind.page.pointing.pinned"), await hands.text("#state")].map((it) => (typeof it === "string" ? it.slice(0, 9) : it)), [16, "g0.2#1", "Deadlock:"], "a link opens its source, steps and chosen step");
   await browser.run("rewind.page.views.editor.editor.undo()");
-  equal("undoing in the editor brings back the text that a link replaced", await browser.run("rewind.page.views.editor.text"), CALLS);
+  assert.deepEqual(await browser.run("rewind.page.views.editor.text"), CALLS, "undoing in the editor brings back the text that a link replaced");
 }
 
 async function files(hands) {
@@ -46,56 +46,56 @@ async function files(hands) {
   await open([["a.go", CALLS], ["a.script", "step g0\nstep g0\n"]]);
   await hands.until("rewind.page.session.log.length === 2");
   await hands.idle();
-  equal("files that are dropped are opened, and their commands done", [await hands.browser.run("rewind.page.views.editor.text"), await hands.ids()], [CALLS, ["g0#1", "g0#2"]]);
+  assert.deepEqual([await hands.browser.run("rewind.page.views.editor.text"), await hands.ids()], [CALLS, ["g0#1", "g0#2"]], "files that are dropped are opened, and their commands done");
   await open([["b.go", `${CALLS}\n// commands of Rewind:\n// run 3\n`]]);
   await hands.until("rewind.page.session.log.length === 3");
   await hands.idle();
-  equal("one file may hold both", (await hands.ids()).length, 3);
+  assert.equal((await hands.ids()).length, 3, "one file may hold both");
 }
 
 async function moves(hands) {
   await hands.source(CALLS);
   await hands.act("over");
-  equal("a step over passes what a statement calls", await hands.text("#status"), "g0 stands at line 8.");
+  assert.equal(await hands.text("#status"), "g0 stands at line 8.", "a step over passes what a statement calls");
   const back = await hands.ids();
   await hands.act("over");
-  equal("and goes on by a statement", [await hands.texts("#console li"), (await hands.ids()).length], [["6"], back.length + 1]);
+  assert.deepEqual([await hands.texts("#console li"), (await hands.ids()).length], [["6"], back.length + 1], "and goes on by a statement");
   await hands.story("lost_update");
   await hands.act("alone");
-  equal("a goroutine goes on alone until it waits", [await hands.text("#status"), new Set((await hands.ids()).map((id) => id.split("#")[0])).size], ["g0 waits now: step another goroutine, or run.", 1]);
+  assert.deepEqual([await hands.text("#status"), new Set((await hands.ids()).map((id) => id.split("#")[0])).size], ["g0 waits now: step another goroutine, or run.", 1], "a goroutine goes on alone until it waits");
   await hands.act("over");
-  holds("one that waits is helped on by the others", /g0 goes on at line|still waits/.test(await hands.text("#status")));
+  assert.ok(/g0 goes on at line|still waits/.test(await hands.text("#status")), "one that waits is helped on by the others");
   await hands.story("lost_update");
   await hands.browser.run("rewind.page.views.editor.editor.setCursor({ line: 14, ch: 0 })");
   await hands.act("to-line");
-  equal("a run to a line stops there", (await hands.text("#status")).replace(/^\d+ steps/, "N steps").replace(/ [\d.]+ s\.$/, ""), "N steps taken: stopped at the breakpoint in line 15.");
-  equal("and leaves no breakpoint", await hands.browser.run("rewind.page.session.breakpoints.size"), 0);
+  assert.equal((await hands.text("#status")).replace(/^\d+ steps/, "N steps").replace(/ [\d.]+ s\.$/, ""), "N steps taken: stopped at the breakpoint in line 15.", "a run to a line stops there");
+  assert.equal(await hands.browser.run("rewind.page.session.breakpoints.size"), 0, "and leaves no breakpoint");
 }
 
 async function usualKeys(hands) {
   await hands.source(CALLS);
   await hands.key("F10");
-  equal("F10 steps over", await hands.text("#status"), "g0 stands at line 8.");
+  assert.equal(await hands.text("#status"), "g0 stands at line 8.", "F10 steps over");
   await hands.act("undo");
   await hands.key("F11");
-  equal("F11 steps", (await hands.lastReply())[0], "> step g0");
+  assert.equal((await hands.lastReply())[0], "> step g0", "F11 steps");
   await hands.browser.run("rewind.page.views.editor.editor.setCursor({ line: 8, ch: 0 })");
   await hands.key("F9");
   await hands.key("F5");
-  equal("F9 sets a breakpoint, at which F5 stops", await hands.text("#status"), "1 step taken: stopped at the breakpoint in line 9.");
+  assert.equal(await hands.text("#status"), "1 step taken: stopped at the breakpoint in line 9.", "F9 sets a breakpoint, at which F5 stops");
   await hands.key("F9");
   await hands.type("show g0");
   await hands.browser.run("document.getElementById('line').focus()");
   await hands.browser.key("ArrowUp");
-  equal("arrows bring typed lines back", await hands.browser.run("document.getElementById('line').value"), "show g0");
+  assert.equal(await hands.browser.run("document.getElementById('line').value"), "show g0", "arrows bring typed lines back");
   await hands.browser.run("document.getElementById('line').value = '', document.activeElement.blur()");
   await hands.source("package main\nfunc main() {\n\tfor { }\n}\n");
   await hands.browser.run("rewind.act(rewind.page, 'alone'), 0");
   await hands.until("rewind.page.session.log.length > 20");
-  holds("a move shows how far it is", await hands.browser.run("!document.getElementById('stop').hidden"));
+  assert.ok(await hands.browser.run("!document.getElementById('stop').hidden"), "a move shows how far it is");
   await hands.browser.run("rewind.page.stop()");
   await hands.idle();
-  holds("and can be stopped", /^Stopped by you after \d+ steps\.$/.test(await hands.text("#status")));
+  assert.ok(/^Stopped by you after \d+ steps\.$/.test(await hands.text("#status")), "and can be stopped");
 }
 
 async function pasts(hands) {
@@ -107,27 +107,27 @@ async function pasts(hands) {
   await hands.idle();
   await hands.browser.size(1280, 600);
   await hands.idle();
-  holds("the last step of a past state stays in view in a smaller window", await isInPicture(hands, '[data-step="g0#1"] .mark'));
+  assert.ok(await isInPicture(hands, '[data-step="g0#1"] .mark'), "the last step of a past state stays in view in a smaller window");
   await hands.browser.size(1280, 800);
   await hands.act("now");
   await hands.browser.run("{ const it = document.getElementById('moment'); it.value = '5'; it.oninput(); }");
   await hands.until("rewind.page.past.scene");
-  equal("the slider shows a past state", [await hands.goroutine("g0"), await hands.text("#then-text")], ["g0 ready at line 15, 5 steps main a = g0/c1 b = g0/c2", "This is the state after step 5, g0#5, of 16 steps. Nothing is changed."]);
-  equal("no step can be taken there", await hands.browser.run("document.querySelectorAll('.buttons').length"), 0);
+  assert.deepEqual([await hands.goroutine("g0"), await hands.text("#then-text")], ["g0 ready at line 15, 5 steps main a = g0/c1 b = g0/c2", "This is the state after step 5, g0#5, of 16 steps. Nothing is changed."], "the slider shows a past state");
+  assert.equal(await hands.browser.run("document.querySelectorAll('.buttons').length"), 0, "no step can be taken there");
   const dim = "['.step.later[data-step]', '.edge.later', '.edge:not(.later)'].map((it) => document.querySelectorAll(`#picture ${it}`).length > 0)";
-  equal("later steps are dim, and the arrows to them", await hands.browser.run(dim), [true, true, false]);
-  equal("the session is as it was", await hands.ids(), before);
+  assert.deepEqual(await hands.browser.run(dim), [true, true, false], "later steps are dim, and the arrows to them");
+  assert.deepEqual(await hands.ids(), before, "the session is as it was");
   await hands.act("now");
-  holds("and one comes back to now", (await hands.goroutine("g0.2")).includes("waiting at line 5"));
+  assert.ok((await hands.goroutine("g0.2")).includes("waiting at line 5"), "and one comes back to now");
   await hands.key(",");
   await hands.until("rewind.page.past.scene");
-  equal("a key looks a step back", await hands.browser.run("rewind.page.past.row"), 15);
+  assert.equal(await hands.browser.run("rewind.page.past.row"), 15, "a key looks a step back");
   await hands.key("u");
-  equal("a command comes back to now, and is done", [await hands.browser.run("rewind.page.past.isOn"), (await hands.ids()).length], [false, 15]);
+  assert.deepEqual([await hands.browser.run("rewind.page.past.isOn"), (await hands.ids()).length], [false, 15], "a command comes back to now, and is done");
   const shorter = "(({ picture } = rewind.page.views) => { picture.mark({ ...picture.view, last: 100 }); picture.resized(); return picture.staying; })()";
-  equal("a log that is shorter than a past state can be shown in another size", await hands.browser.run(shorter), "");
+  assert.equal(await hands.browser.run(shorter), "", "a log that is shorter than a past state can be shown in another size");
   await hands.browser.run("rewind.page.session.follower.lost = 'g0#3', rewind.page.past.lookAt(5)");
-  equal("a state that cannot be found is not said to be shown", await hands.text("#then-text"), "This page cannot find the state after step 5, g0#5, of 15 steps.");
+  assert.equal(await hands.text("#then-text"), "This page cannot find the state after step 5, g0#5, of 15 steps.", "a state that cannot be found is not said to be shown");
 }
 
 // A past state that takes seconds to find: the page says how far it is, and the way there can be left.
@@ -138,13 +138,13 @@ async function farPast(hands) {
   const at = () => browser.run("rewind.page.session.follower.at");
   await browser.run("void rewind.page.past.lookAt(390000)");
   await hands.until("/^On the way to the state after step 390,000, .*: now at step \\d+,000\\.$/.test(document.getElementById('then-text').textContent)");
-  holds("while a past state is looked for, the panes are not said to show it", (await at()) < 390000);
+  assert.ok((await at()) < 390000, "while a past state is looked for, the panes are not said to show it");
   await hands.act("now");
   await browser.run("rewind.page.session.follower.inTurn(async () => 0)");
   const stopped = await at();
-  holds("the way there ends where one comes back to now", stopped < 390000);
+  assert.ok(stopped < 390000, "the way there ends where one comes back to now");
   await browser.run(`rewind.page.past.lookAt(${stopped + 1})`);
-  holds("a state that is near is shown then", /^This is the state after step/.test(await hands.text("#then-text")));
+  assert.ok(/^This is the state after step/.test(await hands.text("#then-text")), "a state that is near is shown then");
   await hands.act("now");
   await hands.source("package main\nfunc main() {}\n");
 }
@@ -152,7 +152,7 @@ async function farPast(hands) {
 async function clicks(hands) {
   const pinned = "rewind.page.pointing.pinned";
   const ask = async (selector, text) => {
-    holds(`${text} can be clicked`, (await hands.texts(selector)).includes(text));
+    assert.ok((await hands.texts(selector)).includes(text), `${text} can be clicked`);
     await hands.browser.run(`rewind.page.pointing.clear(), [...document.querySelectorAll(${JSON.stringify(selector)})].find((it) => it.innerText.trim() === ${JSON.stringify(text)})?.click()`);
     await hands.until(pinned);
     await hands.idle();
@@ -161,24 +161,24 @@ async function clicks(hands) {
   await hands.story("buffered_channel");
   await hands.key("r");
   const items = await hands.texts('[data-channel="g0/c1"] dd .asked-value');
-  equal("items and waiters of a channel can be clicked", items, ["3", "4", "g0=5"]);
-  holds("a channel is shown with the variables that hold it", /^g0.c1\s+ch\s+open/.test(await hands.text('[data-channel="g0/c1"] .top')));
+  assert.deepEqual(items, ["3", "4", "g0=5"], "items and waiters of a channel can be clicked");
+  assert.ok(/^g0.c1\s+ch\s+open/.test(await hands.text('[data-channel="g0/c1"] .top')), "a channel is shown with the variables that hold it");
   const sends = [];
   for (const number of [3, 4]) {
     sends.push(await hands.browser.run(`rewind.page.session.user.ask('back send g0/c1 ${number}').then(async (it) => (await rewind.page.session.user.ask('redo'), it.words[2]))`));
   }
-  equal("an item finds the step that sent it", [await ask('[data-channel="g0/c1"] .asked-value', "3"), await ask('[data-channel="g0/c1"] .asked-value', "4")], sends);
-  equal("a waiter finds its wait", await ask('[data-channel="g0/c1"] .asked-value', "g0=5"), "g0#14");
+  assert.deepEqual([await ask('[data-channel="g0/c1"] .asked-value', "3"), await ask('[data-channel="g0/c1"] .asked-value', "4")], sends, "an item finds the step that sent it");
+  assert.equal(await ask('[data-channel="g0/c1"] .asked-value', "g0=5"), "g0#14", "a waiter finds its wait");
   await hands.story("lost_update");
   await hands.perform("run 100");
-  equal("a goroutine finds the step that started it", await ask('[data-goroutine="g0.1"] .asked-value', "started by g0"), "g0#5");
-  equal("a printed line finds its step", await hands.browser.run(`rewind.page.session.log.kindOf(${JSON.stringify(await ask("#console .asked-value", "balance 20"))})`), "pure");
+  assert.equal(await ask('[data-goroutine="g0.1"] .asked-value', "started by g0"), "g0#5", "a goroutine finds the step that started it");
+  assert.equal(await hands.browser.run(`rewind.page.session.log.kindOf(${JSON.stringify(await ask("#console .asked-value", "balance 20"))})`), "pure", "a printed line finds its step");
   const variable = await ask('[data-goroutine="g0.1"] .asked-value', "balance = 20");
-  equal("a variable finds the step that gave it its value", variable.split("#")[0], "g0.1");
+  assert.equal(variable.split("#")[0], "g0.1", "a variable finds the step that gave it its value");
   await hands.until("document.querySelector('#course p')");
   const course = await hands.text("#course");
-  holds("and its values over time", /^g0\.1 balance over time: 0 \(g0\.1#1\) → .*20 \(g0\.1#\d+\)$/s.test(course.replace(/\s+/g, " ")));
-  equal("which changes nothing", (await hands.ids()).length, 36);
+  assert.ok(/^g0\.1 balance over time: 0 \(g0\.1#1\) → .*20 \(g0\.1#\d+\)$/s.test(course.replace(/\s+/g, " ")), "and its values over time");
+  assert.equal((await hands.ids()).length, 36, "which changes nothing");
 }
 
 async function previews(hands) {
@@ -187,17 +187,17 @@ async function previews(hands) {
   await hands.browser.run("rewind.page.pointing.show('g0.1#3')");
   await hands.until("document.querySelector('#preview s')");
   const said = await hands.text("#preview");
-  holds("a preview tells how many steps would go", /^Taken back, \d+ steps would go:/.test(said));
-  holds("what goes from the console", (await hands.texts("#preview s"))[0] === "0");
-  holds("and how variables and goroutines change", /Goroutines/.test(said) && /Variables/.test(said));
-  equal("nothing is changed by it", (await hands.ids()).length, 13);
+  assert.ok(/^Taken back, \d+ steps would go:/.test(said), "a preview tells how many steps would go");
+  assert.ok((await hands.texts("#preview s"))[0] === "0", "what goes from the console");
+  assert.ok(/Goroutines/.test(said) && /Variables/.test(said), "and how variables and goroutines change");
+  assert.equal((await hands.ids()).length, 13, "nothing is changed by it");
   await hands.story("lost_update");
   await hands.key("r");
   const last = (await hands.ids()).at(-1);
   await hands.browser.run(`rewind.page.pointing.show(${JSON.stringify(last)})`);
   await hands.until("document.querySelector('#preview p')");
   await hands.idle();
-  holds("the chosen step stays in view where a preview takes room", await isInPicture(hands, `[data-step="${last}"] .mark`));
+  assert.ok(await isInPicture(hands, `[data-step="${last}"] .mark`), "the chosen step stays in view where a preview takes room");
 }
 
 // Whether an element of the picture is in view.
@@ -209,148 +209,25 @@ function isInPicture({ browser }, selector) {
 }
 
 async function exercises(hands) {
-  holds("there are at least twelve exercises in three levels", EXERCISES.length >= 12 && new Set(EXERCISES.map(({ level }) => level)).size === 3);
+  assert.ok(EXERCISES.length >= 12 && new Set(EXERCISES.map(({ level }) => level)).size === 3, "there are at least twelve exercises in three levels");
   for (const { name, solution, choose } of EXERCISES) {
     await hands.story(name);
-    equal(`exercise ${name} is not solved at its start`, await hands.text("#task-verdict"), "Not yet.");
+    assert.equal(await hands.text("#task-verdict"), "Not yet.", `exercise ${name} is not solved at its start`);
     const commands = typeof solution === "string" ? readFileSync(TOP + solution, "utf8").split("\n").filter((line) => line.trim()) : solution;
     for (const line of commands) await hands.browser.run(`rewind.page.perform(${JSON.stringify(line)}).then(() => 1)`);
     if (choose) await hands.browser.run(`rewind.page.pointing.show(${JSON.stringify(choose)})`);
     await hands.idle();
-    equal(`exercise ${name} is solved by its solution`, await hands.text("#task-verdict"), "Solved.");
+    assert.equal(await hands.text("#task-verdict"), "Solved.", `exercise ${name} is solved by its solution`);
   }
 }
 
 async function stories(hands) {
   const titles = await hands.texts("#story option");
-  holds("the menu has some twenty stories and no tests", titles.length > 30 && !titles.some((it) => /octal|underscore|wrong words|replayed/.test(it)));
+  assert.ok(titles.length > 30 && !titles.some((it) => /octal|underscore|wrong words|replayed/.test(it)), "the menu has some twenty stories and no tests");
   await hands.story("lost_update");
   while (!(await hands.browser.run("document.getElementById('next').disabled"))) await hands.act("next");
-  holds("a story is told to its end", /That was the story/.test(await hands.text("#about-story")));
-  equal("and comes out as it is told", await hands.texts("#console li"), ["balance 30"]);
-}
-
-// The picture of the operations of one channel: where it was made, and what was done with it, with the arrows between these steps.
-async function oneChannel(hands) {
-  const { browser } = hands;
-  const menu = "document.querySelector('#columns-list select')";
-  await hands.story("deadlock");
-  await hands.key("r");
-  await hands.idle();
-  equal("the channels of the session can be chosen", await browser.run(`[...${menu}.options].map((it) => it.value)`), ["", "g0/c1", "g0/c2", "g0/c3"]);
-  for (const [channel, steps, arrows] of [["g0/c1", ["g0#1", "g0#4", "g0.1#1", "g0.2#3"], 1], ["g0/c3", ["g0#6", "g0#10"], 0]]) {
-    await browser.run(`${menu}.value = "${channel}", ${menu}.dispatchEvent(new Event("change"))`);
-    await hands.idle();
-    equal(`the operations of ${channel} are shown alone`, await hands.drawn(), steps);
-    equal("with the arrows between them", await browser.run("[...document.querySelectorAll('#picture .drawn .edge')].length"), arrows);
-  }
-  await hands.act("undo");
-  await browser.run(`${menu}.value = "", ${menu}.dispatchEvent(new Event("change"))`);
-  await hands.idle();
-  holds("then all are", (await hands.drawn()).length > 10);
-}
-
-async function pictures(hands) {
-  const { browser } = hands;
-  await hands.story("deadlock");
-  await hands.key("r");
-  equal("names of columns have their functions", await browser.run("[...document.querySelectorAll('#picture .of')].map((it) => it.textContent)"), ["main", "transfer", "transfer"]);
-  holds("labels are statements", (await browser.run("document.querySelector('[data-step=\"g0.2#3\"] .kind').textContent")).startsWith("y := <-to"));
-  await browser.run("document.getElementById('search-text').value = 'take', document.getElementById('search').onsubmit(new Event('submit'))");
-  await hands.idle();
-  equal("a search marks what it finds", [await hands.text("#found"), await hands.drawn(".found[data-step]")], ["2 steps with “take”", ["g0.1#1", "g0.2#1"]]);
-  await hands.act("direct");
-  equal("direct causes alone get a colour", await hands.drawn(".cause[data-step]"), ["g0#8"]);
-  await hands.act("direct");
-  await browser.run("document.getElementById('search-text').value = '', document.getElementById('search').onsubmit(new Event('submit'))");
-  await hands.source(LOOP);
-  await hands.perform("run 200");
-  const rows = "rewind.page.views.picture.rows.length";
-  const all = await browser.run(rows);
-  await hands.act("fold");
-  holds("own statements fold", (await browser.run(rows)) <= all);
-  await hands.act("fold");
-  await browser.run("rewind.page.views.columns.toggle('g0.1')");
-  await hands.idle();
-  equal("a goroutine can be hidden", [...new Set((await hands.drawn()).map((id) => id.split("#")[0]))], ["g0"]);
-  await browser.run("rewind.page.views.columns.toggle('g0.1')");
-  await hands.story("deadlock");
-  await hands.key("r");
-  await browser.run("rewind.page.views.columns.toggleOrder()");
-  await hands.idle();
-  equal("the arrows of the order of waiting can be left out", await browser.run("[...document.querySelectorAll('#picture .drawn .edge')].map((it) => it.getAttribute('class'))"), ["edge start", "edge start"]);
-  await browser.run("rewind.page.views.columns.toggleOrder()");
-  const png = await browser.run("rewind.savePicture(rewind.page).then((text) => rewind.asPng(text)).then((it) => [it.type, it.size > 10000])");
-  equal("a picture can be saved as PNG", png, ["image/png", true]);
-  holds("a saved picture has a legend", (await browser.run("rewind.savePicture(rewind.page)")).includes("order of waiting"));
-  const cut = `rewind.savePicture(rewind.page).then((text) => { const host = document.createElement("div"); host.innerHTML = text; document.body.append(host);
-    const svg = host.querySelector("svg"); const { right } = svg.getBoundingClientRect();
-    const found = [...svg.querySelectorAll("text")].filter((it) => it.getBoundingClientRect().right > right).map((it) => it.textContent); host.remove(); return found; })`;
-  equal("no word of a saved picture is cut", await browser.run(cut), []);
-}
-
-// Values of several kinds that go hand to hand, through buffers, by selects and after a close.
-const MESSAGES = `package main
-
-func give(a chan int, b chan bool, cc chan chan int, own chan int) {
-	a <- 7
-	b <- true
-	cc <- own
-	{
-		a := own
-		a <- 9
-	}
-	select {
-	case a <- 1:
-	case b <- false:
-	}
-	close(own)
-}
-
-func main() {
-	a, b, cc, own := make(chan int), make(chan bool), make(chan chan int), make(chan int, 1)
-	go give(a, b, cc, own)
-	println(<-a, <-b)
-	c := <-cc
-	println(<-c)
-	select {
-	case <-a:
-	case x := <-b:
-		println(x)
-	}
-	println(<-c)
-}
-`;
-
-const FIRST = ["g0#7 | println(<-a, <-b) | <-a ← 7", "g0#8 | println(<-a, <-b) | <-b ← true"];
-const REST = ["g0#10 | c := <-cc | ← g0/c4", "g0#12 | println(<-c) | ← 9", "g0.1#6 | case a <- 1 | ", "g0#14 | case <-a | ← 1"];
-
-// The labels of the steps of some kinds, with what they received.
-const LABELS = `[...document.querySelectorAll("#picture [data-step]")].map((it) => [it.dataset.step, ...["kind", "received"].map((part) => it.querySelector("text ." + part)?.textContent.trim() || "")])
-  .filter(([, kind, received]) => received || /^case|^select/.test(kind)).map((it) => it.join(" | "))`;
-
-async function messages(hands) {
-  const { browser } = hands;
-  await browser.size(1280, 1600);
-  await hands.story("send_on_closed");
-  await hands.key("r");
-  equal("the step that takes a message has its value", await browser.run("document.querySelector('[data-step=\"g0#4\"] .received').textContent.trim()"), "← 0");
-  await hands.story("lost_update");
-  await hands.perform("run 100");
-  const waited = ["g0#8 | <-done | ← true", "g0#9 | <-done | ← true", 'g0#10 | println("balance", <-read) | ← 20'];
-  equal("a value that ended a wait stands at the wait", (await browser.run(LABELS)).filter((it) => it.startsWith("g0#")), waited);
-  holds("a select shows the case that it took", (await browser.run(LABELS)).includes("g0.1#3 | case read <- balance | "));
-  await hands.perform("back g0.3#4");
-  equal("and goes with its sender", (await browser.run(LABELS)).filter((it) => it.startsWith("g0#")), waited.slice(0, 1));
-  holds("it is spoken too", /g0#8, recv-wait, line 24, <-done, received true,/.test(await browser.run("document.querySelector('[data-step=\"g0#8\"]').getAttribute('aria-label')")));
-  await hands.source(MESSAGES);
-  await hands.perform("run 100");
-  equal("each value stands at its part, and fits its channel", await browser.run(LABELS), [...FIRST, ...REST]);
-  await hands.perform("back g0.1#1");
-  await hands.perform("step g0");
-  await hands.perform("run 100");
-  equal("also where the receiver waits first", [await browser.run(LABELS), await hands.browser.run("rewind.page.session.log.kindOf('g0#7')")], [[...FIRST, ...REST], "recv-wait"]);
-  await browser.size(1280, 800);
+  assert.ok(/That was the story/.test(await hands.text("#about-story")), "a story is told to its end");
+  assert.deepEqual(await hands.texts("#console li"), ["balance 30"], "and comes out as it is told");
 }
 
 async function comparisons(hands) {
@@ -361,9 +238,9 @@ async function comparisons(hands) {
   await hands.perform("step g0.2");
   await hands.perform("step g0 2");
   await hands.act("compare");
-  holds("two runs are shown side by side, from where they part", /The first \d+ steps are the same\. There the logs part\./.test(await hands.text("#compared-text")));
-  holds("with what differs", (await hands.texts("#compared .differs")).length > 1);
-  holds("and with their statements", (await hands.texts("#compared code")).some((it) => /^select|<-/.test(it)));
+  assert.ok(/The first \d+ steps are the same\. There the logs part\./.test(await hands.text("#compared-text")), "two runs are shown side by side, from where they part");
+  assert.ok((await hands.texts("#compared .differs")).length > 1, "with what differs");
+  assert.ok((await hands.texts("#compared code")).some((it) => /^select|<-/.test(it)), "and with their statements");
   await hands.browser.run("document.getElementById('forget').click()");
 }
 
@@ -371,26 +248,37 @@ async function presentation(hands) {
   const { browser } = hands;
   await hands.story("deadlock");
   await hands.key("v");
-  equal("presentation has letters of 20 pixels", await browser.run("getComputedStyle(document.querySelector('#editor .CodeMirror')).fontSize"), "20px");
-  equal("and picture and source alone", await browser.run("['transcript-pane', 'goroutines', 'legend'].filter((id) => document.getElementById(id).getClientRects().length)"), []);
+  assert.equal(await browser.run("getComputedStyle(document.querySelector('#editor .CodeMirror')).fontSize"), "20px", "presentation has letters of 20 pixels");
+  assert.deepEqual(await browser.run("['transcript-pane', 'goroutines', 'legend'].filter((id) => document.getElementById(id).getClientRects().length)"), [], "and picture and source alone");
   await hands.perform("run 100");
   await hands.click("#leave");
-  holds("a button leads out of it", await browser.run("!document.body.classList.contains('presentation') && !document.getElementById('leave').getClientRects().length"));
+  assert.ok(await browser.run("!document.body.classList.contains('presentation') && !document.getElementById('leave').getClientRects().length"), "a button leads out of it");
   await browser.size(853, 533);
   await hands.key("v");
   await hands.idle();
-  holds("the cycle of a deadlock is in view in a small presentation", await isInPicture(hands, ".cycle-word:last-of-type"));
+  assert.ok(await isInPicture(hands, ".cycle-word:last-of-type"), "the cycle of a deadlock is in view in a small presentation");
   await hands.key("v");
   await browser.size(400, 800);
   const step = await browser.run("document.getElementById('step').getBoundingClientRect().bottom");
-  holds("Step is in reach on a phone", step < 800);
+  assert.ok(step < 800, "Step is in reach on a phone");
   await browser.run("scrollTo(0, 1500)");
-  holds("and stays there", (await browser.run("document.getElementById('step').getBoundingClientRect().top")) >= 0);
+  assert.ok((await browser.run("document.getElementById('step').getBoundingClientRect().top")) >= 0, "and stays there");
   await browser.size(1280, 800);
 }
 
-const LESSONS = [links, files, moves, usualKeys, pasts, farPast, clicks, previews, stories, pictures, oneChannel, messages, comparisons, presentation, exercises];
+const LESSONS = {
+  links,
+  "files that are dropped": files,
+  moves,
+  "the usual keys": usualKeys,
+  "past states": pasts,
+  "a past state that is far": farPast,
+  "clicks on values": clicks,
+  "previews of a rollback": previews,
+  "stories of the menu": stories,
+  "two runs side by side": comparisons,
+  presentation,
+  exercises,
+};
 
-export async function lessons(browser) {
-  for (const lesson of LESSONS) await lesson(new Hands(browser));
-}
+export const lessons = (t, browser) => inTurn(t, browser, LESSONS);

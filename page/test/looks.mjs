@@ -1,10 +1,11 @@
 // Pictures of the page, wide and narrow, light and dark, for people to look at; and what can be measured of a look: nothing is wider
 // than the window, and every text has the contrast that it needs.
 
+import assert from "node:assert/strict";
 import { Hands } from "./hands.mjs";
-import { equal, holds } from "./checks.mjs";
 
 const ENOUGH = 4.5;
+const SCHEMES = ["light", "dark"];
 // Of each width the height that goes with it. The third is the second at a zoom of 150 percent.
 const HEIGHTS = { 1920: 1080, 1280: 800, 853: 533, 400: 800 };
 
@@ -52,8 +53,8 @@ function clippedLabels() {
 // The table of keys, and the ring around what has the focus.
 async function lookAtHelp(browser, folder, name) {
   await browser.run("document.getElementById('help').click()");
-  equal(`faint texts of the help, ${name}`, await browser.run(`(${faintTexts})(${ENOUGH})`), []);
-  equal(`keys that are shown, ${name}`, await browser.run("[...document.querySelectorAll('#keys kbd')].filter((it) => !it.getClientRects().length).length"), 0);
+  assert.deepEqual(await browser.run(`(${faintTexts})(${ENOUGH})`), [], `faint texts of the help, ${name}`);
+  assert.equal(await browser.run("[...document.querySelectorAll('#keys kbd')].filter((it) => !it.getClientRects().length).length"), 0, `keys that are shown, ${name}`);
   await browser.shot(`${folder}/help-${name}.png`);
   await browser.run("document.getElementById('help-dialog').close()");
 }
@@ -66,15 +67,15 @@ async function look(browser, folder, width, scheme) {
   for (let count = 0; count < 19; count++) await hands.act("next");
   await browser.run("rewind.page.pointing.choose('g0.3#3').then(() => rewind.page.views.picture.reveal('g0.2#2'))");
   await hands.idle();
-  equal(`faint texts at ${width}, ${scheme}`, await browser.run(`(${faintTexts})(${ENOUGH})`), []);
-  equal(`controls without a name at ${width}`, await browser.run(`(${unnamed})()`), []);
-  equal(`width of the page at ${width}`, await browser.run("document.documentElement.scrollWidth"), width);
-  equal(`clipped labels at ${width}`, await browser.run(`(${clippedLabels})()`), []);
+  assert.deepEqual(await browser.run(`(${faintTexts})(${ENOUGH})`), [], `faint texts at ${width}, ${scheme}`);
+  assert.deepEqual(await browser.run(`(${unnamed})()`), [], `controls without a name at ${width}`);
+  assert.deepEqual(await browser.run("document.documentElement.scrollWidth"), width, `width of the page at ${width}`);
+  assert.deepEqual(await browser.run(`(${clippedLabels})()`), [], `clipped labels at ${width}`);
   await browser.run("document.getElementById('picture').focus()");
   await browser.shot(`${folder}/page-${width}-${scheme}.png`);
   await hands.program("number_too_large");
-  equal(`faint texts of a refusal at ${width}, ${scheme}`, await browser.run(`(${faintTexts})(${ENOUGH})`), []);
-  holds(`the note of a refusal takes the width at ${width}`, (await browser.run(`(${besideNote})()`)) < 12);
+  assert.deepEqual(await browser.run(`(${faintTexts})(${ENOUGH})`), [], `faint texts of a refusal at ${width}, ${scheme}`);
+  assert.ok((await browser.run(`(${besideNote})()`)) < 12, `the note of a refusal takes the width at ${width}`);
   await browser.shot(`${folder}/refused-${width}-${scheme}.png`);
   await lookAtHelp(browser, folder, `${width}-${scheme}`);
 }
@@ -114,14 +115,14 @@ async function lookAtScenes(browser, folder, width, scheme) {
   for (const [name, show] of Object.entries(SCENES)) {
     await show(hands);
     await hands.idle();
-    if (name !== "past") equal(`faint texts of ${name} at ${width}, ${scheme}`, await browser.run(`(${faintTexts})(${ENOUGH})`), []);
-    equal(`width of ${name} at ${width}`, await browser.run("document.documentElement.scrollWidth"), width);
+    if (name !== "past") assert.deepEqual(await browser.run(`(${faintTexts})(${ENOUGH})`), [], `faint texts of ${name} at ${width}, ${scheme}`);
+    assert.deepEqual(await browser.run("document.documentElement.scrollWidth"), width, `width of ${name} at ${width}`);
     await browser.shot(`${folder}/${name}-${width}-${scheme}.png`);
     if (name === "presentation") await hands.act("present");
   }
 }
 
-export async function looks(browser, folder) {
-  for (const width of [1280, 400]) for (const scheme of ["light", "dark"]) await look(browser, folder, width, scheme);
-  for (const width of Object.keys(HEIGHTS).map(Number)) for (const scheme of ["light", "dark"]) await lookAtScenes(browser, folder, width, scheme);
+export async function looks(t, browser, folder) {
+  for (const width of [1280, 400]) for (const scheme of SCHEMES) await t.test(`page, refusal and help at ${width}, ${scheme}`, () => look(browser, folder, width, scheme));
+  for (const width of Object.keys(HEIGHTS).map(Number)) for (const scheme of SCHEMES) await t.test(`scenes at ${width}, ${scheme}`, () => lookAtScenes(browser, folder, width, scheme));
 }

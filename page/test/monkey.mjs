@@ -1,11 +1,11 @@
 // A monkey: random commands, clicks and looks in the page, with a native program beside it that gets the same commands. After each round
 // what the page shows is what the program answers. A hasty one does not wait between its moves.
 
+import assert from "node:assert/strict";
 import { existsSync } from "node:fs";
 import { spawn } from "node:child_process";
 import { createInterface } from "node:readline";
 import { Hands } from "./hands.mjs";
-import { counts, equal, failed } from "./checks.mjs";
 
 const SESSIONS = new URL("../../crates/sessions/data/", import.meta.url).pathname;
 const STORIES = ["lost_update", "deadlock", "send_on_closed", "leaked_goroutine", "race_in_select", "buffered_channel", "prime_sieve",
@@ -141,24 +141,22 @@ async function moves(hands, native, roll) {
   return done;
 }
 
-async function round(hands, program, seed, act) {
+async function round(hands, t, program, seed, act) {
   const roll = dice(seed * 7919 + 13);
   const name = STORIES[roll(STORIES.length)];
   await hands.browser.run("rewind.page.views.editor.markBreaks([])"); // breakpoints of the round before would stay with their text
   await hands.program(name);
   const native = new Native(program, `${SESSIONS}${name}.go`);
   try {
-    const done = await act(hands, native, roll);
+    t.diagnostic(`${name}: ${(await act(hands, native, roll)).join(" | ")}`);
     const shown = await hands.browser.run(`(${shownInPage})()`);
     const told = await toldNatively(native, shown.goroutines.map(([it]) => it), shown.channels.map(([it]) => it));
-    const before = counts.failed;
-    for (const key of Object.keys(told)) equal(`round ${seed}, ${name}: ${key}`, shown[key], told[key]);
-    equal(`round ${seed}, ${name}: every step has its edges`, [shown.noted, shown.lost], [shown.log.length, ""]);
-    await listsAgree(hands, native, shown.log, roll, `round ${seed}, ${name}`);
-    await clausesAgree(native, shown, `round ${seed}, ${name}`);
+    for (const key of Object.keys(told)) assert.deepEqual(shown[key], told[key], key);
+    assert.deepEqual([shown.noted, shown.lost], [shown.log.length, ""], "every step has its edges");
+    await listsAgree(hands, native, shown.log, roll);
+    await clausesAgree(native, shown);
     const dots = await hands.browser.run("rewind.page.views.editor.breaks");
-    equal(`round ${seed}, ${name}: a dot for each breakpoint`, dots, [...shown.breaks].sort((one, other) => one - other));
-    if (counts.failed > before) console.log(done.join(" | "));
+    assert.deepEqual(dots, [...shown.breaks].sort((one, other) => one - other), "a dot for each breakpoint");
   } finally {
     native.close();
   }
@@ -173,16 +171,16 @@ function spansIn({ last }) {
 }
 
 // Causes and consequences of some steps are those that the program tells.
-async function listsAgree(hands, native, log, roll, what) {
+async function listsAgree(hands, native, log, roll) {
   for (let count = 0; count < LISTS && log.length; count++) {
     const id = log[roll(log.length)].split(" ")[0];
     const shown = await hands.browser.run(`rewind.page.session.known.of(${JSON.stringify(id)}).then((lists) => lists.map((it) => [it.count, [...it.spans].sort()]))`);
-    equal(`${what}: causes and consequences of ${id}`, shown, [spansIn(await native.ask(`causes ${id}`)), spansIn(await native.ask(`deps ${id}`))]);
+    assert.deepEqual(shown, [spansIn(await native.ask(`causes ${id}`)), spansIn(await native.ask(`deps ${id}`))], `causes and consequences of ${id}`);
   }
 }
 
 // The clauses that the page offers are those that the program takes.
-async function clausesAgree(native, { clauses, log }, what) {
+async function clausesAgree(native, { clauses, log }) {
   if (/exit|fault/.test(log.at(-1) || "")) return;
   for (const [name, offered] of clauses) {
     const ready = [];
@@ -191,15 +189,15 @@ async function clausesAgree(native, { clauses, log }, what) {
       await native.ask("undo");
       ready.push(number);
     }
-    equal(`${what}: ready clauses of ${name}`, offered, ready);
+    assert.deepEqual(offered, ready, `ready clauses of ${name}`);
   }
 }
 
 // Rounds of a monkey with this program, from a seed on.
-export async function monkey(browser, program, rounds, seed, act = moves) {
-  if (!existsSync(program)) return failed(`there is no program ${program} to compare the page with`);
+export async function monkey(t, browser, { program, rounds, seed }, act = moves) {
+  assert.ok(existsSync(program), `there is no program ${program} to compare the page with`);
   const hands = new Hands(browser);
-  for (let at = 0; at < rounds; at++) await round(hands, program, seed + at, act);
+  for (let at = seed; at < seed + rounds; at++) await t.test(`round ${at}`, (t) => round(hands, t, program, at, act));
 }
 
-export const hastyMonkey = (browser, program, rounds, seed) => monkey(browser, program, rounds, seed, hastyMoves);
+export const hastyMonkey = (t, browser, given) => monkey(t, browser, given, hastyMoves);

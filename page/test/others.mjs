@@ -8,10 +8,10 @@ import { BROWSERS, DrivenBrowser } from "./webdriver.mjs";
 
 const isThere = (program) => spawnSync("sh", ["-c", 'command -v "$0"', program]).status === 0;
 
-async function sessionsAndStory(browser) {
-  await sessions(browser);
-  await firstStory(browser);
-  await insertions(browser);
+async function sessionsAndStory(t, browser) {
+  await sessions(t, browser);
+  await firstStory(t, browser);
+  await insertions(t, browser);
   await browser.takeFaults();
 }
 

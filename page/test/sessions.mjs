@@ -1,7 +1,7 @@
 // Every example session in the page, byte for byte, with the engine as it is used there; and with which status it ends.
 
+import assert from "node:assert/strict";
 import { existsSync, readFileSync, readdirSync } from "node:fs";
-import { counts, equal, failed, holds } from "./checks.mjs";
 
 const FOLDER = new URL("../../crates/sessions/data", import.meta.url).pathname;
 export const base64 = (file) => (existsSync(file) ? readFileSync(file).toString("base64") : "");
@@ -18,31 +18,28 @@ async function sessionInPage(source, script, suspends) {
   return { text, isRefused: session.errors.length > 0, status: String(session.status) };
 }
 
-// The first line that differs, in words.
-function difference(wanted, got) {
-  const [left, right] = [wanted, got].map((text) => Buffer.from(text, "base64").toString().split("\n"));
-  const at = left.findIndex((line, number) => line !== right[number]);
-  const line = at < 0 ? left.length : at;
-  return `line ${line + 1}: wanted ${JSON.stringify(left[line] ?? null)}, got ${JSON.stringify(right[line] ?? null)}`;
+const textOf = (base) => Buffer.from(base, "base64").toString();
+
+async function compared(browser, name, suspends) {
+  const given = [`${FOLDER}/${name}.go`, `${FOLDER}/${name}.script`].map((file) => JSON.stringify(base64(file)));
+  const { text, isRefused, status } = await browser.run(`(${sessionInPage})(${given.join(",")},${suspends})`);
+  const wanted = base64(`${FOLDER}/${name}.expect`);
+  // Long texts that are alike are compared as they are; others line by line.
+  if (text !== wanted) assert.deepEqual(textOf(text).split("\n"), textOf(wanted).split("\n"), "what it writes");
+  assert.equal(text, wanted, "bytes that are no text");
+  assert.equal(status, isRefused ? "1" : "0", "its exit status");
 }
 
-async function allOf(browser, suspends) {
+async function allOf(t, browser, suspends) {
   const names = readdirSync(FOLDER).filter((name) => name.endsWith(".go")).map((name) => name.slice(0, -3)).sort();
-  const how = suspends ? "in one run that waits" : "run anew for each exchange";
-  const before = counts.failed;
-  holds("there are example sessions", names.length);
-  for (const name of names) {
-    const given = [`${FOLDER}/${name}.go`, `${FOLDER}/${name}.script`].map((file) => JSON.stringify(base64(file)));
-    const { text, isRefused, status } = await browser.run(`(${sessionInPage})(${given.join(",")},${suspends})`);
-    const wanted = base64(`${FOLDER}/${name}.expect`);
-    if (text === wanted) equal(`the exit status of session ${name}, ${how}`, status, isRefused ? "1" : "0");
-    else failed(`session ${name}, ${how}, ${difference(wanted, text)}`);
-  }
-  console.log(`${names.length - counts.failed + before} of ${names.length} sessions are as expected, ${how}`);
+  assert.ok(names.length, "there are example sessions");
+  for (const name of names) await t.test(name, () => compared(browser, name, suspends));
 }
 
 // In one run that waits, where the browser can suspend WebAssembly, and run anew for each exchange.
-export async function sessions(browser, ways = [true, false]) {
+export async function sessions(t, browser, ways = [true, false]) {
   const canSuspend = await browser.run("'Suspending' in WebAssembly");
-  for (const suspends of ways.filter((it) => canSuspend || !it)) await allOf(browser, suspends);
+  for (const suspends of ways.filter((it) => canSuspend || !it)) {
+    await t.test(`sessions ${suspends ? "in one run that waits" : "run anew for each exchange"}`, (t) => allOf(t, browser, suspends));
+  }
 }

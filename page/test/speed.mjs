@@ -1,7 +1,7 @@
 // Long logs: nothing costs the square of the prints, a click shows soon, and the page goes on drawing meanwhile.
 
-import { Hands } from "./hands.mjs";
-import { equal, holds } from "./checks.mjs";
+import assert from "node:assert/strict";
+import { inTurn } from "./parts.mjs";
 import { LOOP } from "./truths.mjs";
 
 const PRINTS = `package main
@@ -46,13 +46,13 @@ async function secondsOf(hands, source, steps) {
 }
 
 // Four times the steps take some four times as long: a cost that is the square of the prints would take sixteen times.
-async function prints(hands, source, steps) {
+async function prints(hands, t, source, steps) {
   const [few, all] = [await secondsOf(hands, source, steps / 4), await secondsOf(hands, source, steps)];
-  console.log(`${steps} steps, a third of which print, are found and shown in ${all.toFixed(1)} s, a quarter of them in ${few.toFixed(1)} s`);
-  holds(`${steps} steps with prints cost no square of the prints`, all < 10 * Math.max(few, 0.5));
+  t.diagnostic(`${steps} steps, a third of which print, are found and shown in ${all.toFixed(1)} s, a quarter of them in ${few.toFixed(1)} s`);
+  assert.ok(all < 10 * Math.max(few, 0.5), `${steps} steps with prints cost no square of the prints`);
   const printed = await hands.browser.run("rewind.page.session.scene.console.count");
   const found = await hands.browser.run("rewind.page.session.log.steps(0, Infinity).filter(({ id }) => rewind.page.note(id)?.printed.length).length");
-  equal("each printed line stands at its step", found, printed);
+  assert.deepEqual(found, printed, "each printed line stands at its step");
 }
 
 // How often the browser lays the page out while so many steps are pointed at, on the mean.
@@ -66,7 +66,7 @@ async function layoutsOf(browser, act, count = 20) {
   return (after - before) / count;
 }
 
-async function clicksAtLength(hands) {
+async function clicksAtLength(hands, t) {
   await hands.source(LOOP);
   await hands.browser.run("rewind.page.perform('run 100000'), 0");
   await hands.idle();
@@ -77,21 +77,21 @@ async function clicksAtLength(hands) {
   const again = await timesOf(hands, (at) => pointing(99990 - at));
   const layouts = await layoutsOf(hands.browser, (at) => pointing(99990 - at));
   const far = await timesOf(hands, (at) => pointing(50000 - at));
-  console.log(`at 100,000 steps: a step shows in ${step.toFixed(0)} ms, an undo in ${undo.toFixed(0)} ms`);
-  console.log(`causes and consequences of a step in view show in ${pointed.toFixed(0)} ms, again in ${again.toFixed(0)} ms, of one far away in ${far.toFixed(0)} ms`);
-  holds("a step shows soon at 100,000 steps", step < CLICK);
-  holds("an undo shows soon there", undo < CLICK);
-  holds("causes and consequences get their colours soon there", pointed < POINTING && again < POINTING);
-  holds("also those of a step that is far away", far < POINTING);
+  t.diagnostic(`at 100,000 steps: a step shows in ${step.toFixed(0)} ms, an undo in ${undo.toFixed(0)} ms`);
+  t.diagnostic(`causes and consequences of a step in view show in ${pointed.toFixed(0)} ms, again in ${again.toFixed(0)} ms, of one far away in ${far.toFixed(0)} ms`);
+  assert.ok(step < CLICK, "a step shows soon at 100,000 steps");
+  assert.ok(undo < CLICK, "an undo shows soon there");
+  assert.ok(pointed < POINTING && again < POINTING, "causes and consequences get their colours soon there");
+  assert.ok(far < POINTING, "also those of a step that is far away");
+  // Causes and consequences of a step that came into view are asked before they are wanted.
   await hands.browser.run("rewind.page.views.picture.reveal('g0#30000')");
   await hands.until("rewind.page.session.known.has('g0#30000')");
-  holds("causes and consequences of a step that came into view are asked before they are wanted", true);
-  holds(`the page is laid out at most ${LAYOUTS} times for each, on the mean`, layouts <= LAYOUTS);
+  assert.ok(layouts <= LAYOUTS, `the page is laid out at most ${LAYOUTS} times for each, on the mean`);
   await hands.idle();
   await hands.browser.run("document.getElementById('search-text').value = 'total', document.getElementById('search').onsubmit(new Event('submit'))");
-  holds("of a long log, a search says how many steps were read", /^[\d,]+ steps with “total”, among the [\d,]+ steps whose statements are read$/.test(await hands.text("#found")));
+  assert.ok(/^[\d,]+ steps with “total”, among the [\d,]+ steps whose statements are read$/.test(await hands.text("#found")), "of a long log, a search says how many steps were read");
   const past = await timesOf(hands, (at) => `rewind.page.past.lookAt(99900 - ${at})`, 3);
-  holds("a past state near the end shows soon there", past < LOOKING);
+  assert.ok(past < LOOKING, "a past state near the end shows soon there");
   await hands.act("now");
 }
 
@@ -103,18 +103,18 @@ async function passing(hands) {
   const asked = "rewind.page.session.mirror.session.last";
   const before = await browser.run(asked);
   await browser.run(pointing(40001).replace("page.pointing.point(id);", "for (let row = 40100; row > 40000; row--) page.pointing.point(page.session.log.id(row));"));
-  holds("the pointer passes over a hundred steps, and few of them are asked for", (await browser.run(asked)) - before <= 4);
+  assert.ok((await browser.run(asked)) - before <= 4, "the pointer passes over a hundred steps, and few of them are asked for");
 }
 
 // The page draws while a long run goes on.
-async function drawingMeanwhile(hands) {
+async function drawingMeanwhile(hands, t) {
   await hands.source(LOOP);
   const frames = await hands.browser.run(`(async () => { let longest = 0; let last = performance.now(); let isOver = false;
     const run = rewind.page.perform("run 200000").then(() => (isOver = true));
     while (!isOver) { await new Promise((go) => requestAnimationFrame(go)); const now = performance.now(); longest = Math.max(longest, now - last); last = now; }
     await run; return longest; })()`);
-  console.log(`during a run of 200,000 steps the longest time between two frames is ${frames.toFixed(0)} ms`);
-  holds("the page goes on drawing during a long run", frames < 1500);
+  t.diagnostic(`during a run of 200,000 steps the longest time between two frames is ${frames.toFixed(0)} ms`);
+  assert.ok(frames < 1500, "the page goes on drawing during a long run");
   await hands.source("package main\nfunc main() {}\n");
 }
 
@@ -125,16 +125,17 @@ async function longBacks(hands) {
   const counts = "rewind.page.session.user.ask('log', 'columns').then(({ of }) => [rewind.page.session.log.length, of.length, rewind.page.session.gone])";
   for (const [line, count] of [["back g0#4", 5], ["redo", 220000]]) {
     await hands.perform(line);
-    equal(`after '${line}' of 220,000 steps the page has the steps of the program`, await hands.browser.run(counts), [count, count, ""]);
+    assert.deepEqual(await hands.browser.run(counts), [count, count, ""], `after '${line}' of 220,000 steps the page has the steps of the program`);
   }
 }
 
-export async function speed(browser) {
-  const hands = new Hands(browser);
-  await longBacks(hands);
-  await prints(hands, PRINTS, 20000);
-  await prints(hands, LONG_PRINTS, 2000);
-  await clicksAtLength(hands);
-  await passing(hands);
-  await drawingMeanwhile(hands);
-}
+const SPEEDS = {
+  "very many steps go and come again": longBacks,
+  "many prints": (hands, t) => prints(hands, t, PRINTS, 20000),
+  "many long prints": (hands, t) => prints(hands, t, LONG_PRINTS, 2000),
+  "clicks at 100,000 steps": clicksAtLength,
+  "the pointer passes over many steps": passing,
+  "drawing during a long run": drawingMeanwhile,
+};
+
+export const speed = (t, browser) => inTurn(t, browser, SPEEDS);

@@ -1,7 +1,7 @@
 // What the page says is true in every state: during runs, after faults, in long logs, over reloads and refused sources.
 
-import { Hands } from "./hands.mjs";
-import { equal, holds } from "./checks.mjs";
+import assert from "node:assert/strict";
+import { inTurn } from "./parts.mjs";
 
 export const LOOP = `package main
 func count(c chan int) { for { c <- 1 } }
@@ -65,8 +65,8 @@ async function openingDuringARun(hands) {
   await hands.browser.run("rewind.page.perform('run 300000'), 0");
   await hands.until("rewind.page.session.isRunning");
   await hands.source(PLAIN);
-  equal("a text that is started during a run has no steps", await hands.ids(), []);
-  holds("and nothing of the run is told of it", !/run 300000|has ended|steps taken/.test(await hands.text("#transcript") + (await hands.text("#status"))));
+  assert.deepEqual(await hands.ids(), [], "a text that is started during a run has no steps");
+  assert.ok(!/run 300000|has ended|steps taken/.test(await hands.text("#transcript") + (await hands.text("#status"))), "and nothing of the run is told of it");
 }
 
 // How many edges a saved picture has, and what it says of its part.
@@ -79,14 +79,14 @@ async function savedPictures(hands) {
   await hands.source(LOOP);
   await hands.perform("run 2000");
   const whole = await saved(hands);
-  equal("a saved picture of 2,000 steps has every step", whole.rows, 2000);
-  holds("and every edge", whole.edges > 700 && whole.edges === (await hands.edges()).length);
+  assert.equal(whole.rows, 2000, "a saved picture of 2,000 steps has every step");
+  assert.ok(whole.edges > 700 && whole.edges === (await hands.edges()).length, "and every edge");
   await hands.perform("run 10000");
   const part = await saved(hands);
-  holds("one of 12,000 steps says which part it shows", /Steps [\d,]+ to [\d,]+ of 12,000/.test(part.part));
-  holds("and has the edges of that part", part.edges > 300);
-  holds("the page says that only the arrows in view are drawn", /in view/.test(await hands.text("#picture-note")));
-  holds("the arrows in view are there", (await hands.drawn()).length > 10 && (await hands.browser.run("document.querySelectorAll('#picture .edge').length")) > 5);
+  assert.ok(/Steps [\d,]+ to [\d,]+ of 12,000/.test(part.part), "one of 12,000 steps says which part it shows");
+  assert.ok(part.edges > 300, "and has the edges of that part");
+  assert.ok(/in view/.test(await hands.text("#picture-note")), "the page says that only the arrows in view are drawn");
+  assert.ok((await hands.drawn()).length > 10 && (await hands.browser.run("document.querySelectorAll('#picture .edge').length")) > 5, "the arrows in view are there");
 }
 
 async function breakpointsOfManyGoroutines(hands) {
@@ -94,9 +94,9 @@ async function breakpointsOfManyGoroutines(hands) {
     await hands.source(many(turns));
     await hands.perform("break 8");
     await hands.perform("run 300000");
-    holds(`a breakpoint is met among 232 goroutines, after ${turns} turns`, /stopped at the breakpoint in line 8/.test(await hands.text("#status")));
+    assert.ok(/stopped at the breakpoint in line 8/.test(await hands.text("#status")), `a breakpoint is met among 232 goroutines, after ${turns} turns`);
     const at = await hands.browser.run("rewind.page.session.mirror.session.ask('show g0.231').then(({ lines }) => rewind.page.session.statements.lineOf(Number(lines[0].split(' ')[4])))");
-    equal("and the goroutine stands there", at, 8);
+    assert.equal(at, 8, "and the goroutine stands there");
   }
 }
 
@@ -106,27 +106,27 @@ async function breakpointsOfThePage(hands) {
   await hands.source(PLAIN);
   await hands.browser.run("rewind.toggleBreak(rewind.page, 4)");
   await hands.idle();
-  equal("a breakpoint on an empty line stands at the next statement", await hands.browser.run(dots), ["breakpoint at line 5"]);
+  assert.deepEqual(await hands.browser.run(dots), ["breakpoint at line 5"], "a breakpoint on an empty line stands at the next statement");
   await hands.act("start");
-  equal("a breakpoint is there after a new start", await hands.browser.run(dots), ["breakpoint at line 5"]);
+  assert.deepEqual(await hands.browser.run(dots), ["breakpoint at line 5"], "a breakpoint is there after a new start");
   await hands.act("run");
-  equal("and stops a run", await hands.text("#status"), "1 step taken: stopped at the breakpoint in line 5.");
+  assert.equal(await hands.text("#status"), "1 step taken: stopped at the breakpoint in line 5.", "and stops a run");
   await hands.browser.run("rewind.page.views.editor.editor.replaceRange('\\t// one\\n', { line: 2, ch: 0 })");
   await hands.act("start");
-  equal("it moves with its text", await hands.browser.run(dots), ["breakpoint at line 6"]);
+  assert.deepEqual(await hands.browser.run(dots), ["breakpoint at line 6"], "it moves with its text");
   await hands.act("run");
-  equal("and stops a run there", await hands.text("#status"), "1 step taken: stopped at the breakpoint in line 6.");
+  assert.equal(await hands.text("#status"), "1 step taken: stopped at the breakpoint in line 6.", "and stops a run there");
   await hands.perform("clear 6");
   await hands.browser.run("rewind.page.views.editor.editor.setCursor({ line: 2, ch: 0 }), rewind.act(rewind.page, 'to-line'), rewind.page.perform('log'), 0");
   await hands.idle();
-  equal("the line to which a run goes is no breakpoint, also where a command comes between", [await hands.browser.run(dots), await hands.browser.run("[...rewind.page.session.breakpoints]")], [[], []]);
+  assert.deepEqual([await hands.browser.run(dots), await hands.browser.run("[...rewind.page.session.breakpoints]")], [[], []], "the line to which a run goes is no breakpoint, also where a command comes between");
 }
 
 async function severalBreakpoints(hands) {
   await hands.story("deadlock");
   for (const line of [5, 9, 14]) await hands.browser.run(`rewind.toggleBreak(rewind.page, ${line})`);
   await hands.act("start");
-  equal("several breakpoints are there after a new start", await hands.browser.run("[rewind.page.views.editor.breaks.length, rewind.page.session.breakpoints.size]"), [3, 3]);
+  assert.deepEqual(await hands.browser.run("[rewind.page.views.editor.breaks.length, rewind.page.session.breakpoints.size]"), [3, 3], "several breakpoints are there after a new start");
   await hands.browser.run("rewind.page.views.editor.markBreaks([])");
   await hands.act("start");
 }
@@ -135,20 +135,20 @@ async function clausesAtAnyLength(hands) {
   await hands.source(SELECT);
   await hands.perform("break 9");
   await hands.perform("run 100000");
-  holds("a long log", (await hands.browser.run("rewind.page.session.log.length")) > 20000);
-  equal("both clauses of a select are offered there", await hands.browser.run("rewind.page.session.scene.clauses.get('g0').map(({ number }) => number)"), [1, 2]);
+  assert.ok((await hands.browser.run("rewind.page.session.log.length")) > 20000, "a long log");
+  assert.deepEqual(await hands.browser.run("rewind.page.session.scene.clauses.get('g0').map(({ number }) => number)"), [1, 2], "both clauses of a select are offered there");
   await hands.key("2");
-  equal("and can be taken by a key", (await hands.lastReply()).slice(-1)[0].replace(/#\d+/, ""), "ok g0 pick 2");
+  assert.equal((await hands.lastReply()).slice(-1)[0].replace(/#\d+/, ""), "ok g0 pick 2", "and can be taken by a key");
   await hands.perform("clear 9");
 }
 
 async function faultsInClauses(hands) {
   await hands.source(CLOSED);
   for (const line of ["run 5", "step g0 2"]) await hands.perform(line);
-  holds("a fault in a picked clause is one", /fault SendOnClosed/.test(await hands.text("#transcript")));
+  assert.ok(/fault SendOnClosed/.test(await hands.text("#transcript")), "a fault in a picked clause is one");
   const last = await hands.browser.run("rewind.page.note(rewind.page.session.log.end.id).line");
-  equal("and has its line", last, 6);
-  equal("the page does not say that lines are missing", await hands.text("#picture-note"), "");
+  assert.equal(last, 6, "and has its line");
+  assert.equal(await hands.text("#picture-note"), "", "the page does not say that lines are missing");
 }
 
 async function deaths(hands) {
@@ -156,27 +156,27 @@ async function deaths(hands) {
   await hands.perform("step g0");
   await hands.browser.run("rewind.page.session.user.worker.terminate(), rewind.page.session.user.end('RuntimeError: unreachable')");
   await hands.perform("step g0");
-  holds("a session that died is said to be gone, and why", /The session is gone: .*unreachable/.test(await hands.text("#status")));
-  equal("its buttons are off", await hands.browser.run("document.getElementById('step').disabled"), true);
+  assert.ok(/The session is gone: .*unreachable/.test(await hands.text("#status")), "a session that died is said to be gone, and why");
+  assert.equal(await hands.browser.run("document.getElementById('step').disabled"), true, "its buttons are off");
   await hands.browser.run("document.getElementById('bring-back').click()");
   await hands.until("rewind.page.session.user.status === null");
   await hands.idle();
-  equal("its steps can be brought back", [await hands.ids(), await hands.text("#status")], [["g0#1"], "1 step taken again."]);
+  assert.deepEqual([await hands.ids(), await hands.text("#status")], [["g0#1"], "1 step taken again."], "its steps can be brought back");
   const long = `package main\nfunc main() {\n\tfor { println("${"x".repeat(10000)}") }\n}\n`;
   await hands.source(long);
   await hands.perform("run 400");
-  equal("a long print is in the console", await hands.browser.run("rewind.page.session.scene.console.lines[0].length"), 10000);
-  holds("and does not widen the picture", (await hands.browser.run("document.getElementById('picture').scrollWidth")) < 900);
+  assert.equal(await hands.browser.run("rewind.page.session.scene.console.lines[0].length"), 10000, "a long print is in the console");
+  assert.ok((await hands.browser.run("document.getElementById('picture').scrollWidth")) < 900, "and does not widen the picture");
   await hands.browser.run("rewind.page.perform('run 100000'), 0");
   await hands.idle();
-  equal("where more was printed than there is memory to show, the page says so", await hands.texts("#console li"), ["More was printed than there is memory to show. Take steps back to see it."]);
-  equal("and the session goes on", [await hands.browser.run("rewind.page.session.gone"), await hands.browser.run("rewind.page.session.log.length")], ["", 100400]);
+  assert.deepEqual(await hands.texts("#console li"), ["More was printed than there is memory to show. Take steps back to see it."], "where more was printed than there is memory to show, the page says so");
+  assert.deepEqual([await hands.browser.run("rewind.page.session.gone"), await hands.browser.run("rewind.page.session.log.length")], ["", 100400], "and the session goes on");
   await hands.source(long);
   await hands.browser.run("rewind.page.perform('run 100000'), 0");
   await hands.idle();
   const panes = await hands.browser.run("['goroutines', 'channels', 'console'].map((id) => document.getElementById(id).innerText)");
-  equal("where there is no memory for the panes, they are empty and say so", panes, Array(3).fill("This state cannot be shown."));
-  holds("and the page says why", /^The session goes on, but its panes cannot be shown: there was no more memory/.test(await hands.text("#status")));
+  assert.deepEqual(panes, Array(3).fill("This state cannot be shown."), "where there is no memory for the panes, they are empty and say so");
+  assert.ok(/^The session goes on, but its panes cannot be shown: there was no more memory/.test(await hands.text("#status")), "and the page says why");
 }
 
 // What the page throws once, in the midst of a command.
@@ -192,11 +192,11 @@ async function errors(hands) {
     await hands.perform("back g0.2#1");
     await hands.until("!rewind.page.isMending");
     await hands.idle();
-    holds(`an error in ${name} is told as one of the page, with what to do`, /^This page has made an error of its own: TypeError: a trial\. The session goes on, .* reload the page/.test(await hands.text("#status")));
-    holds("and not as the end of the session", !/session is gone/.test(await hands.text("#transcript")));
-    equal("the page has the steps of the program", await hands.ids(), await browser.run("rewind.page.session.user.ask('log').then(({ lines }) => lines.map((line) => line.split(' ')[0]))"));
+    assert.ok(/^This page has made an error of its own: TypeError: a trial\. The session goes on, .* reload the page/.test(await hands.text("#status")), `an error in ${name} is told as one of the page, with what to do`);
+    assert.ok(!/session is gone/.test(await hands.text("#transcript")), "and not as the end of the session");
+    assert.deepEqual(await hands.ids(), await browser.run("rewind.page.session.user.ask('log').then(({ lines }) => lines.map((line) => line.split(' ')[0]))"), "the page has the steps of the program");
     await hands.perform("redo");
-    equal("and goes on", [await browser.run("rewind.page.session.log.kinds"), await hands.text("#status")], [await browser.run("rewind.page.session.user.ask('log').then(({ lines }) => lines.map((line) => line.replace(/^\\S+ /, '')))"), "4 steps taken again."]);
+    assert.deepEqual([await browser.run("rewind.page.session.log.kinds"), await hands.text("#status")], [await browser.run("rewind.page.session.user.ask('log').then(({ lines }) => lines.map((line) => line.replace(/^\\S+ /, '')))"), "4 steps taken again."], "and goes on");
   }
 }
 
@@ -214,28 +214,38 @@ async function goingSteps(hands) {
   await hands.idle();
   await hands.act("direct");
   await hands.act("fold");
-  equal("a chosen step may go while it is drawn", [await hands.browser.run("rewind.page.pointing.about"), await hands.text("#status")], [null, `${last} is taken back.`]);
+  assert.deepEqual([await hands.browser.run("rewind.page.pointing.about"), await hands.text("#status")], [null, `${last} is taken back.`], "a chosen step may go while it is drawn");
 }
 
 async function journals(hands) {
   await hands.source(LOOP);
   const before = "rewind.page.session.mirror.session.askAll(Array(3).fill('show g0')).then((it) => it.length)";
   await hands.perform("run 100");
-  equal("looking asks another session", await hands.browser.run(before), 3);
+  assert.equal(await hands.browser.run(before), 3, "looking asks another session");
   const asked = [];
   await hands.browser.run("{ const ask = rewind.page.session.user.askAll; window.asked = []; rewind.page.session.user.askAll = function (commands, shape) { window.asked.push(...commands); return ask.call(this, commands, shape); }; }");
   await hands.perform("step g0.1");
   await hands.point("g0#3");
   asked.push(...(await hands.browser.run("window.asked")));
-  equal("the journal has the user's commands alone", asked, ["step g0.1"]);
+  assert.deepEqual(asked, ["step g0.1"], "the journal has the user's commands alone");
   await hands.browser.run("rewind.page.session.mirror.remote.close()");
   await hands.perform("undo");
-  equal("a mirror that is lost is made anew", await hands.browser.run("rewind.page.session.log.length"), 100);
-  holds("and answers", (await hands.goroutine("g0")).includes("total ="));
+  assert.equal(await hands.browser.run("rewind.page.session.log.length"), 100, "a mirror that is lost is made anew");
+  assert.ok((await hands.goroutine("g0")).includes("total ="), "and answers");
 }
 
-const TRUTHS = [openingDuringARun, savedPictures, breakpointsOfManyGoroutines, breakpointsOfThePage, severalBreakpoints, clausesAtAnyLength, faultsInClauses, deaths, errors, goingSteps, journals];
+const TRUTHS = {
+  "a start during a run": openingDuringARun,
+  "saved pictures": savedPictures,
+  "breakpoints among many goroutines": breakpointsOfManyGoroutines,
+  "breakpoints of the page": breakpointsOfThePage,
+  "several breakpoints": severalBreakpoints,
+  "clauses in a long log": clausesAtAnyLength,
+  "faults in clauses": faultsInClauses,
+  "sessions that die": deaths,
+  "errors of the page": errors,
+  "a chosen step that goes": goingSteps,
+  journals,
+};
 
-export async function truths(browser) {
-  for (const truth of TRUTHS) await truth(new Hands(browser));
-}
+export const truths = (t, browser) => inTurn(t, browser, TRUTHS);

@@ -1,7 +1,7 @@
 // The program's module before and after its addresses were narrowed: the same bytes in every example session, and how long a run takes.
 
+import assert from "node:assert/strict";
 import { existsSync } from "node:fs";
-import { equal, failed } from "./checks.mjs";
 import { base64, sessions } from "./sessions.mjs";
 import { LOOP } from "./truths.mjs";
 
@@ -23,22 +23,22 @@ async function longRun(program, source) {
   return { said: new TextDecoder().decode(said).slice(0, 9), took };
 }
 
-async function times(browser) {
+async function times(t, browser) {
   const least = { narrow: Infinity, wide: Infinity };
   for (let round = 0; round < ROUNDS; round++) {
     for (const name of Object.keys(least)) {
       const { said, took } = await browser.run(`(${longRun})(window.${name}, ${JSON.stringify(LOOP)})`);
-      equal(`a long run on the ${name} module`, said, "ok 100000");
+      assert.equal(said, "ok 100000", `a long run on the ${name} module`);
       least[name] = Math.min(least[name], took);
     }
   }
-  console.log(`100,000 steps take ${least.narrow.toFixed(0)} ms with 32-bit addresses, and ${least.wide.toFixed(0)} ms with 64-bit ones`);
+  t.diagnostic(`100,000 steps take ${least.narrow.toFixed(0)} ms with 32-bit addresses, and ${least.wide.toFixed(0)} ms with 64-bit ones`);
 }
 
-export async function wideModule(browser, file) {
-  if (!existsSync(file)) return failed(`there is no module ${file}: 'make page' or 'make quick-page' makes it`);
+export async function wideModule(t, browser, file) {
+  assert.ok(existsSync(file), `there is no module ${file}: 'make page' or 'make quick-page' makes it`);
   await browser.run(`(${compileWide})("${base64(file)}")`);
-  await times(browser);
+  await t.test("a long run", (t) => times(t, browser));
   await browser.run("window.rewind.program = window.wide, 0");
-  await sessions(browser, [true]);
+  await sessions(t, browser, [true]);
 }

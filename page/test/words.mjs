@@ -1,33 +1,33 @@
 // What the page says of deadlocks, panics and ends, what follows in the source, and how it holds long texts.
 
-import { Hands } from "./hands.mjs";
-import { equal, holds } from "./checks.mjs";
+import assert from "node:assert/strict";
+import { inTurn } from "./parts.mjs";
 import { LOOP } from "./truths.mjs";
 
 async function states(hands) {
   await hands.story("deadlock");
   await hands.key("r");
   const said = await hands.text("#state");
-  holds("a deadlock is called so", said.startsWith("Deadlock: no goroutine is ready. g0 waits to receive from done (g0/c3) at line 18; g0.1 waits to receive from to (g0/c2) at line 5"));
-  holds("with its cycle", said.endsWith("A cycle: g0.1 waits for g0.2, g0.2 waits for g0.1."));
-  holds("and who holds what", (await why(hands)).includes("g0.2, which may still send to it, took the last item of to at line 4: x := <-from ('back g0.2#1' takes that back)"));
-  equal("which is drawn", await hands.browser.run("[...document.querySelectorAll('#picture .cycle-word')].map((it) => it.textContent)"), ["g0.1 waits for g0.2", "g0.2 waits for g0.1"]);
+  assert.ok(said.startsWith("Deadlock: no goroutine is ready. g0 waits to receive from done (g0/c3) at line 18; g0.1 waits to receive from to (g0/c2) at line 5"), "a deadlock is called so");
+  assert.ok(said.endsWith("A cycle: g0.1 waits for g0.2, g0.2 waits for g0.1."), "with its cycle");
+  assert.ok((await why(hands)).includes("g0.2, which may still send to it, took the last item of to at line 4: x := <-from ('back g0.2#1' takes that back)"), "and who holds what");
+  assert.deepEqual(await hands.browser.run("[...document.querySelectorAll('#picture .cycle-word')].map((it) => it.textContent)"), ["g0.1 waits for g0.2", "g0.2 waits for g0.1"], "which is drawn");
   await hands.story("send_on_closed");
   await hands.key("r");
-  equal("a panic is told with its step, line, meaning and cause", await hands.text("#state"), "Panic in g0.1#6 at line 5: a send on a closed channel (SendOnClosed). It depends on g0#6.");
-  equal("nobody is called ready after a panic", await hands.browser.run("/\\bready\\b/.test(document.getElementById('goroutines').innerText)"), false);
+  assert.equal(await hands.text("#state"), "Panic in g0.1#6 at line 5: a send on a closed channel (SendOnClosed). It depends on g0#6.", "a panic is told with its step, line, meaning and cause");
+  assert.equal(await hands.browser.run("/\\bready\\b/.test(document.getElementById('goroutines').innerText)"), false, "nobody is called ready after a panic");
   await hands.story("leaked_goroutine");
   await hands.key("r");
   await hands.act("run");
-  holds("a leak is told", /^The program has ended\. .* and 2 are leaks\. g0\.2 would wait for ever at line 4, g0\.4/.test(await hands.text("#state")));
+  assert.ok(/^The program has ended\. .* and 2 are leaks\. g0\.2 would wait for ever at line 4, g0\.4/.test(await hands.text("#state")), "a leak is told");
 }
 
 // The first sender of two finds nobody to take its second value.
 async function holders(hands) {
   await hands.source("package main\nfunc count(c chan int) {\n\tc <- 1\n\tc <- 2\n}\nfunc main() {\n\tc, done := make(chan int), make(chan bool)\n\tgo count(c)\n\tprintln(<-c)\n\t<-done\n}\n");
   await hands.perform("run 100");
-  equal("no cycle is drawn of one that is a mere holder of a channel", await hands.browser.run("document.querySelectorAll('#picture .cycle-word').length"), 0);
-  holds("and it is told that nobody can serve", (await why(hands)).includes("no other goroutine can still receive from c"));
+  assert.equal(await hands.browser.run("document.querySelectorAll('#picture .cycle-word').length"), 0, "no cycle is drawn of one that is a mere holder of a channel");
+  assert.ok((await why(hands)).includes("no other goroutine can still receive from c"), "and it is told that nobody can serve");
 }
 
 const why = (hands) => hands.browser.run("document.getElementById('why-lines').textContent");
@@ -36,7 +36,7 @@ async function manyGoroutines(hands) {
   await hands.source("package main\nfunc wait(c chan int) { <-c }\nfunc main() {\n\tc := make(chan int)\n\tfor i := 0; i < 40; i++ { go wait(c) }\n\tc <- 1\n}\n");
   await hands.perform("run 400");
   const tops = await hands.browser.run("['console', 'channels', 'goroutines'].map((id) => document.getElementById(id).getBoundingClientRect().top)");
-  equal("of many goroutines, console and channels stand above the cards", [...tops].sort((one, other) => one - other), tops);
+  assert.deepEqual([...tops].sort((one, other) => one - other), tops, "of many goroutines, console and channels stand above the cards");
 }
 
 // Main starts 230 goroutines that wait for ever, and either waits too or ends.
@@ -46,17 +46,17 @@ const waiting = (last) => `package main\nfunc wait(c chan int) { <-c }\nfunc mai
 async function unseenGoroutines(hands) {
   await hands.source(waiting("<-c"));
   await hands.perform("run 880");
-  equal("while one of many goroutines is ready, no deadlock is told", await hands.browser.run("document.getElementById('state').hidden"), true);
+  assert.equal(await hands.browser.run("document.getElementById('state').hidden"), true, "while one of many goroutines is ready, no deadlock is told");
   await hands.perform("run 5000");
-  holds("a deadlock of many goroutines is told", (await hands.text("#state")).startsWith("Deadlock: no goroutine is ready. g0 waits"));
+  assert.ok((await hands.text("#state")).startsWith("Deadlock: no goroutine is ready. g0 waits"), "a deadlock of many goroutines is told");
   await hands.source("package main\nfunc work() { }\nfunc wait(c chan int) { <-c }\nfunc main() {\n\tc := make(chan int)\n\tfor i := 0; i < 230; i++ { go work() }\n\tfor i := 0; i < 1500; i++ { }\n\tgo wait(c)\n}\n");
   await hands.perform("run 9000");
-  equal("a leak that is not shown is told", await hands.text("#state"), "The program has ended. 1 goroutine was not done when main returned, and 1 is a leak. g0.231 would wait for ever at line 3.");
+  assert.equal(await hands.text("#state"), "The program has ended. 1 goroutine was not done when main returned, and 1 is a leak. g0.231 would wait for ever at line 3.", "a leak that is not shown is told");
 }
 
 async function ends(hands) {
   await hands.perform("run 5");
-  equal("an ended program is told to have ended before", await hands.text("#status"), "The program has ended before: there is no step to take.");
+  assert.equal(await hands.text("#status"), "The program has ended before: there is no step to take.", "an ended program is told to have ended before");
 }
 
 const isInView = (selector) => `(() => { const it = document.querySelector(${JSON.stringify(selector)}).getBoundingClientRect();
@@ -64,18 +64,18 @@ const isInView = (selector) => `(() => { const it = document.querySelector(${JSO
 
 async function places(hands) {
   await hands.story("lost_update");
-  holds("the source shows where the program stands at first", await hands.browser.run(isInView(".at-line")));
+  assert.ok(await hands.browser.run(isInView(".at-line")), "the source shows where the program stands at first");
   await hands.key("r");
   await hands.point("g0#5");
-  holds("and the line of the step that is pointed at", await hands.browser.run(isInView(".of-chosen")));
-  equal("its whole statement is marked", (await hands.texts(".chosen-statement")).join("").replace(/\s/g, ""), "goaccount(read,write)");
-  equal("in one box", [await hands.texts(".chosen-start"), await hands.texts(".chosen-end")], [["go"], [")"]]);
+  assert.ok(await hands.browser.run(isInView(".of-chosen")), "and the line of the step that is pointed at");
+  assert.equal((await hands.texts(".chosen-statement")).join("").replace(/\s/g, ""), "goaccount(read,write)", "its whole statement is marked");
+  assert.deepEqual([await hands.texts(".chosen-start"), await hands.texts(".chosen-end")], [["go"], [")"]], "in one box");
   await hands.browser.run("rewind.page.views.editor.editor.replaceRange('// more\\n', { line: 2, ch: 0 })");
-  holds("while the text is changed, the page says so", await hands.browser.run("!document.getElementById('stale').hidden"));
+  assert.ok(await hands.browser.run("!document.getElementById('stale').hidden"), "while the text is changed, the page says so");
   const clipped = "[...document.querySelectorAll('.at-line b')].filter((it) => it.getBoundingClientRect().left < document.querySelector('.CodeMirror-gutters').getBoundingClientRect().left).length";
   await hands.story("deadlock");
   await hands.key("r");
-  equal("two names beside a line are whole", [await hands.texts(".at-line"), await hands.browser.run(clipped)], [["g0.1 g0.2", "g0"], 0]);
+  assert.deepEqual([await hands.texts(".at-line"), await hands.browser.run(clipped)], [["g0.1 g0.2", "g0"], 0], "two names beside a line are whole");
 }
 
 // The buttons under the picture are of the chosen step, whatever the pointer passes on its way to them.
@@ -83,23 +83,23 @@ async function byMouse(hands) {
   await hands.story("send_on_closed");
   await hands.key("r");
   await hands.point("g0#6");
-  equal("a step that is only pointed at has no buttons", await hands.browser.run("['back', 'earlier', 'later'].every((id) => document.getElementById(id).disabled)"), true);
+  assert.equal(await hands.browser.run("['back', 'earlier', 'later'].every((id) => document.getElementById(id).disabled)"), true, "a step that is only pointed at has no buttons");
   await hands.click(hands.mark("g0#6"));
   const [x, y] = await hands.place("#back");
   for (const id of ["g0.1#5", "g0.1#6"]) await hands.browser.mouse("mouseMoved", ...(await hands.place(hands.mark(id))));
   await hands.browser.click(x, y);
   await hands.idle();
-  equal("the button under the picture takes the chosen step back", (await hands.lastReply())[0], "> back g0#6");
+  assert.equal((await hands.lastReply())[0], "> back g0#6", "the button under the picture takes the chosen step back");
 }
 
 async function wordsOfTheShell(hands) {
   await hands.story("deadlock");
   for (const [line, said] of [["why", /'why' is a word of the shell\. Here the line above/], ["history 3", /here the picture shows/i], ["run 1,000", /digits alone, as in 'run 1000'/], ["nothing", /Help lists them/]]) {
     await hands.perform(line);
-    holds(`'${line}' is answered with where it is to be had`, said.test(await hands.text("#status")) && said.test((await hands.lastReply()).join(" ")));
+    assert.ok(said.test(await hands.text("#status")) && said.test((await hands.lastReply()).join(" ")), `'${line}' is answered with where it is to be had`);
   }
   await hands.perform("run 100");
-  equal("a run that ends in a deadlock says so", await hands.text("#status"), "16 steps taken: a deadlock, since no goroutine is ready.");
+  assert.equal(await hands.text("#status"), "16 steps taken: a deadlock, since no goroutine is ready.", "a run that ends in a deadlock says so");
 }
 
 const RUN_SEARCH = "document.getElementById('search').onsubmit(new Event('submit'))";
@@ -111,9 +111,9 @@ async function searches(hands) {
   const before = await hands.browser.run(top);
   await hands.browser.run(`document.getElementById('search-text').value = "from", ${RUN_SEARCH}`);
   await hands.idle();
-  equal("what was found is told in one line that pushes nothing", await hands.browser.run(`[document.getElementById('found').textContent, document.getElementById('found').clientHeight < 30, ${top}]`), ["4 steps with “from”", true, before]);
+  assert.deepEqual(await hands.browser.run(`[document.getElementById('found').textContent, document.getElementById('found').clientHeight < 30, ${top}]`), ["4 steps with “from”", true, before], "what was found is told in one line that pushes nothing");
   await hands.story("lost_update");
-  equal("and goes with its session", await hands.browser.run("[document.getElementById('found').textContent, document.getElementById('search-text').value]"), ["", ""]);
+  assert.deepEqual(await hands.browser.run("[document.getElementById('found').textContent, document.getElementById('search-text').value]"), ["", ""], "and goes with its session");
 }
 
 async function toldStories(hands) {
@@ -124,7 +124,7 @@ async function toldStories(hands) {
     said.push(await hands.text("#about-story"));
   }
   const told = await hands.browser.run("rewind.page.views.stories.commands.map(({ text }) => text).filter((it) => it)");
-  equal("a story keeps the paragraph that it told last", said.filter((it) => !told.some((text) => text.toLowerCase() === it.toLowerCase()) && !it.startsWith("That was")), []);
+  assert.deepEqual(said.filter((it) => !told.some((text) => text.toLowerCase() === it.toLowerCase()) && !it.startsWith("That was")), [], "a story keeps the paragraph that it told last");
 }
 
 async function pastStates(hands) {
@@ -133,17 +133,17 @@ async function pastStates(hands) {
   await hands.browser.run("rewind.page.past.lookAt(8)");
   await hands.until("document.querySelector('#picture .life.later, #picture .asleep.later')");
   const y = "Math.max(...[...document.querySelectorAll('#picture .life:not(.later), #picture .asleep:not(.later)')].map((it) => Number(it.getAttribute('y2'))))";
-  holds("in a past state the lives of goroutines after it are dimmed", (await hands.browser.run(y)) < (await hands.browser.run("rewind.page.views.picture.layout.y(8)")));
-  equal("and the status tells of it", await hands.text("#status"), "The panes show a past state. A command acts on the present one.");
+  assert.ok((await hands.browser.run(y)) < (await hands.browser.run("rewind.page.views.picture.layout.y(8)")), "in a past state the lives of goroutines after it are dimmed");
+  assert.equal(await hands.text("#status"), "The panes show a past state. A command acts on the present one.", "and the status tells of it");
   await hands.act("now");
-  equal("also of the way back", await hands.text("#status"), "The panes show the present state.");
+  assert.equal(await hands.text("#status"), "The panes show the present state.", "also of the way back");
 }
 
 async function manyWaiters(hands) {
   await hands.source("package main\nfunc give(c chan int, n int) { c <- n }\nfunc main() {\n\tc := make(chan int)\n\tfor i := 0; i < 60; i++ { go give(c, i) }\n\tfor { }\n}\n");
   await hands.perform("run 600");
   const heights = await hands.browser.run("[...document.querySelectorAll('#channels .queues dt')].map((it) => it.clientHeight)");
-  holds("the names of queues stand in one line, also beside many waiters", heights.length === 3 && heights.every((it) => it < 30));
+  assert.ok(heights.length === 3 && heights.every((it) => it < 30), "the names of queues stand in one line, also beside many waiters");
 }
 
 // On a narrow screen the button beside a step leaves its mark free.
@@ -159,7 +159,7 @@ async function narrow(hands) {
       return one.left < other.right && other.left < one.right && one.top < other.bottom && other.top < one.bottom; })()`;
     if (await hands.browser.run(over)) covered.push(id);
   }
-  equal("on a narrow screen no 'take back' covers the mark of its step", covered, []);
+  assert.deepEqual(covered, [], "on a narrow screen no 'take back' covers the mark of its step");
   await hands.browser.size(1280, 800);
 }
 
@@ -171,11 +171,11 @@ async function longTexts(hands) {
   await hands.browser.run(`rewind.page.pointing.move(${JSON.stringify(ids[row])}, ${row + 1})`);
   await hands.idle();
   const height = await hands.browser.run("document.querySelector('#transcript').lastElementChild.getBoundingClientRect().height");
-  holds("a long order is folded", height < 400);
+  assert.ok(height < 400, "a long order is folded");
   const spoken = await hands.browser.run("document.querySelector('#transcript').getAttribute('aria-live')");
-  equal("and not spoken", spoken, "off");
+  assert.equal(spoken, "off", "and not spoken");
   await hands.perform(`order ${"g0#1 ".repeat(210000)}`);
-  holds("a line that is too long is refused in words", /too long for one command/.test(await hands.text("#status")));
+  assert.ok(/too long for one command/.test(await hands.text("#status")), "a line that is too long is refused in words");
 }
 
 // Runs in the page: edges that pass through the mark of another goroutine.
@@ -201,14 +201,28 @@ async function arrows(hands) {
     await hands.story(name);
     await hands.perform(`run ${steps}`);
     const { paths, edges, found } = await hands.browser.run(`(${crossings})()`);
-    equal(`all arrows of ${name} are drawn`, paths, edges);
-    equal(`no arrow of ${name} passes through the mark of another goroutine`, found, []);
+    assert.deepEqual(paths, edges, `all arrows of ${name} are drawn`);
+    assert.deepEqual(found, [], `no arrow of ${name} passes through the mark of another goroutine`);
   }
   await hands.browser.size(1280, 800);
 }
 
-const WORDS = [holders, states, ends, unseenGoroutines, manyGoroutines, places, byMouse, wordsOfTheShell, searches, toldStories, pastStates, manyWaiters, narrow, longTexts, arrows];
+const WORDS = {
+  "holders of a channel": holders,
+  "deadlocks, panics and leaks": states,
+  "a run behind the end": ends,
+  "goroutines that are not shown": unseenGoroutines,
+  "panes beside many goroutines": manyGoroutines,
+  "places in the source": places,
+  "buttons under the picture": byMouse,
+  "words of the shell": wordsOfTheShell,
+  searches,
+  "what a story tells": toldStories,
+  "what is told of past states": pastStates,
+  "queues of many waiters": manyWaiters,
+  "a narrow screen": narrow,
+  "long texts": longTexts,
+  "arrows keep clear of marks": arrows,
+};
 
-export async function saidWords(browser) {
-  for (const words of WORDS) await words(new Hands(browser));
-}
+export const saidWords = (t, browser) => inTurn(t, browser, WORDS);

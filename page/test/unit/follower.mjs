@@ -1,11 +1,12 @@
 // The session that goes along the log: a step keeps the line that it printed, also where a later step is taken back meanwhile.
 
+import assert from "node:assert/strict";
+import { test } from "node:test";
 import { Follower } from "../../src/session/follower.js";
 import { Log } from "../../src/session/log.js";
 import { parseReplies } from "../../src/engine/protocol.js";
 import { shaped } from "../../src/engine/shapes.js";
 import { Statements } from "../../src/session/statements.js";
-import { equal } from "../checks.mjs";
 
 const SOURCE = "package main\nfunc main() {\nprintln(2)\nprintln(3)\nprintln(5)\n}\n";
 
@@ -33,7 +34,7 @@ function printing(statements, meanwhile) {
   };
 }
 
-export async function followers() {
+test("steps that stay keep their own lines where one after them was taken back", async () => {
   const statements = new Statements(SOURCE);
   const log = new Log();
   for (const step of ["g0#1 pure", "g0#2 pure", "g0#3 pure"]) log.apply("step g0", parseReplies(`ok ${step}\n`)[0]);
@@ -43,5 +44,5 @@ export async function followers() {
   });
   await follower.annotate(0, log.length);
   const printed = ["g0#1", "g0#2", "g0#3"].map((id) => follower.notes.get(id)?.printed);
-  equal("steps that stay keep their own lines where one after them was taken back", printed, [["2"], ["3"], undefined]);
-}
+  assert.deepEqual(printed, [["2"], ["3"], undefined]);
+});

@@ -1,10 +1,11 @@
 // Causes and consequences: each list is asked once, and none that the notes tell.
 
+import assert from "node:assert/strict";
+import { test } from "node:test";
 import { Known } from "../../src/session/known.js";
 import { Log } from "../../src/session/log.js";
 import { parseReplies } from "../../src/engine/protocol.js";
 import { shaped } from "../../src/engine/shapes.js";
-import { equal } from "../checks.mjs";
 
 const ANSWERS = {
   "causes g0#2": "ok 2 g0#1 g0#2\n", "deps g0#2": "ok 3 g0#2 g0.1#1 g0#3\n", "causes g0.1#1": "ok 3 g0#1 g0#2 g0.1#1\n", "deps g0.1#1": "ok 1 g0.1#1\n",
@@ -26,25 +27,25 @@ function made() {
 
 const told = (some) => some.map(({ count, spans }) => [count, [...spans].sort()]);
 
-export async function knownLists() {
+test("causes and consequences of a step are asked once, and none that the notes tell", async () => {
   const { log, asked, notes, known } = made();
   const first = await known.of("g0#2");
-  equal("the causes and the consequences of a step", told(first), [[2, [["g0", [1, 2]]]], [3, [["g0", [2, 3]], ["g0.1", [1, 1]]]]]);
-  equal("a step that is pointed at again is not asked for", [told(await known.of("g0#2")), asked.splice(0)], [told(first), ["causes g0#2", "deps g0#2"]]);
-  equal("what is known is told so", [known.has("g0#2"), known.has("g0.1#1")], [true, false]);
+  assert.deepEqual(told(first), [[2, [["g0", [1, 2]]]], [3, [["g0", [2, 3]], ["g0.1", [1, 1]]]]], "the causes and the consequences of a step");
+  assert.deepEqual([told(await known.of("g0#2")), asked.splice(0)], [told(first), ["causes g0#2", "deps g0#2"]], "a step that is pointed at again is not asked for");
+  assert.deepEqual([known.has("g0#2"), known.has("g0.1#1")], [true, false], "what is known is told so");
   notes.set("g0.1#1", { causes: new Map([["g0", 2], ["g0.1", 1]]) });
-  equal("causes that the notes have are those of a reply", told(await known.of("g0.1#1")), [[3, [["g0", [1, 2]], ["g0.1", [1, 1]]]], [1, [["g0.1", [1, 1]]]]]);
-  equal("and are not asked for", asked.splice(0), ["deps g0.1#1"]);
+  assert.deepEqual(told(await known.of("g0.1#1")), [[3, [["g0", [1, 2]], ["g0.1", [1, 1]]]], [1, [["g0.1", [1, 1]]]]], "causes that the notes have are those of a reply");
+  assert.deepEqual(asked.splice(0), ["deps g0.1#1"], "and are not asked for");
   log.apply("undo", parseReplies("ok g0#3\n")[0]);
-  equal("of a log that has changed nothing of before is kept", known.has("g0#2"), false);
-}
+  assert.equal(known.has("g0#2"), false, "of a log that has changed nothing of before is kept");
+});
 
-// Lists as long as those of 100,000 steps, in which most steps need not be read.
-export function lists() {
+// Most steps of such a list need not be read.
+test("lists as long as those of 100,000 steps", () => {
   const steps = [];
   for (let row = 0; row < 9000; row++) steps.push(row % 3 ? `g0#${steps.length - Math.floor(row / 3)}` : `g0.1#${row / 3 + 1}`);
   const names = [...steps.slice(0, 4000), "g0.2#1", "g0.2#2", ...steps.slice(4000)];
   const [list] = shaped(`ok ${names.length} ${names.join(" ")}\n`, "listed");
-  equal("a goroutine in the midst of a long list is found", [...list.spans].sort(), [["g0", [1, 6000]], ["g0.1", [1, 3000]], ["g0.2", [1, 2]]]);
-  equal("an empty list, and a refusal", shaped("ok 0\nno N1\n", "listed").map(({ isOk, count, last }) => [isOk, count, last]), [[true, 0, "ok"], [false, 0, "no N1"]]);
-}
+  assert.deepEqual([...list.spans].sort(), [["g0", [1, 6000]], ["g0.1", [1, 3000]], ["g0.2", [1, 2]]], "a goroutine in the midst of a long list is found");
+  assert.deepEqual(shaped("ok 0\nno N1\n", "listed").map(({ isOk, count, last }) => [isOk, count, last]), [[true, 0, "ok"], [false, 0, "no N1"]], "an empty list, and a refusal");
+});

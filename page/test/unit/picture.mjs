@@ -1,5 +1,7 @@
 // The picture: rows and folds, edges that keep clear of the marks of others, and texts that XML can hold.
 
+import assert from "node:assert/strict";
+import { test } from "node:test";
 import { Log } from "../../src/session/log.js";
 import { Rows } from "../../src/picture/rows.js";
 import { edgePath } from "../../src/picture/curves.js";
@@ -7,7 +9,6 @@ import { channelsOf, worksOn } from "../../src/session/operations.js";
 import { escaped, shortened } from "../../src/picture/labels.js";
 import { layOut } from "../../src/picture/layout.js";
 import { drawRows, NOTHING_POINTED, sideOf } from "../../src/picture/picture.js";
-import { equal, holds } from "../checks.mjs";
 
 function logOf(...steps) {
   const log = new Log();
@@ -32,53 +33,52 @@ function pointsOf(path) {
   return found;
 }
 
-function edges() {
+test("edges keep clear of the marks of others", () => {
   const marks = [[200, 60], [200, 82], [200, 104], [200, 126]];
   const near = (y) => marks.filter((it) => Math.abs(it[1] - y) < 30);
   for (const to of [[300, 82], [300, 126], [300, 71], [100, 104]]) {
     const clear = pointsOf(edgePath([100, 60], to, near, 22)).filter(([x, y]) => marks.every(([left, top]) => Math.hypot(left - x, top - y) >= 5));
-    equal(`an edge to ${to} keeps clear of the marks of others`, clear.length, pointsOf(edgePath([100, 60], to, near, 22)).length);
+    assert.deepEqual(clear.length, pointsOf(edgePath([100, 60], to, near, 22)).length, `an edge to ${to} keeps clear of the marks of others`);
   }
-  holds("an edge with nothing in its way is straight", !/Q/.test(edgePath([100, 60], [200, 200], () => [], 22)));
-}
+  assert.ok(!/Q/.test(edgePath([100, 60], [200, 200], () => [], 22)), "an edge with nothing in its way is straight");
+});
 
-function folds() {
+test("folds and hidden goroutines", () => {
   const log = logOf(["g0", "pure"], ["g0", "pure"], ["g0", "call"], ["g0.1", "pure"], ["g0", "pure"], ["g0", "send-wait"]);
   const rows = new Rows(log, { isFolded: true });
-  equal("own statements fold to one row", [rows.length, rows.count(0), rows.at(1), rows.place(2), rows.place(5)], [4, 3, 3, 0, 3]);
+  assert.deepEqual([rows.length, rows.count(0), rows.at(1), rows.place(2), rows.place(5)], [4, 3, 3, 0, 3], "own statements fold to one row");
   const filtered = new Rows(log, { hidden: new Set(["g0"]) });
-  equal("a goroutine that is hidden has no rows", [filtered.length, filtered.at(0)], [1, 3]);
-}
+  assert.deepEqual([filtered.length, filtered.at(0)], [1, 3], "a goroutine that is hidden has no rows");
+});
 
 // A goroutine that has made two channels and sends on the first: of a select all clauses count, of a pick the one that was picked.
-function filters() {
+test("the operations of a channel", () => {
   const variables = [{ name: "a", value: "g0/c1" }, { name: "b", value: "g0/c2" }, { name: "n", value: "7" }];
   const send = { text: "a <- n", clauses: [] };
   const select = { text: "select", clauses: ["a <- n", "v := <-b"] };
   const found = [["buffer", send], ["select-wait", select], ["pick 2", select], ["pure", send], ["take", { text: "v := <-next()", clauses: [] }]];
-  equal("the channels that a step works on", found.map(([kind, statement]) => channelsOf(kind, statement, variables)), [["g0/c1"], ["g0/c1", "g0/c2"], ["g0/c2"], [], []]);
+  assert.deepEqual(found.map(([kind, statement]) => channelsOf(kind, statement, variables)), [["g0/c1"], ["g0/c1", "g0/c2"], ["g0/c2"], [], []], "the channels that a step works on");
   const log = logOf(["g0", "make"], ["g0", "make"], ["g0", "pure"], ["g0", "buffer"], ["g0", "take"], ["g0", "close"]);
   const notes = new Map([["g0#4", { channels: ["g0/c1"] }], ["g0#5", { channels: ["g0/c2"] }], ["g0#6", { channels: [] }]]);
   const rows = new Rows(log, { isShown: worksOn(log, (id) => notes.get(id), "g0/c2") });
-  equal("a channel's operations, where it was made, and those of no known channel", rows.starts, [1, 4, 5]);
-  equal("steps that are in the picture", [0, 1, 2, 4].map((row) => rows.has(row)), [false, true, false, true]);
-  equal("a channel that no step made", worksOn(log, () => undefined, "g0/c3"), null);
-}
+  assert.deepEqual(rows.starts, [1, 4, 5], "a channel's operations, where it was made, and those of no known channel");
+  assert.deepEqual([0, 1, 2, 4].map((row) => rows.has(row)), [false, true, false, true], "steps that are in the picture");
+  assert.equal(worksOn(log, () => undefined, "g0/c3"), null, "a channel that no step made");
+});
 
-function sides() {
+test("what steps are to the chosen one", () => {
   const view = { ...NOTHING_POINTED, pointed: "g0#2", causes: new Map([["g0", [1, 2]], ["g0.1", [1, 1]]]), consequences: new Map([["g0.1", [3, 5]]]) };
   const side = (goroutine, number) => sideOf({ id: `${goroutine}#${number}`, goroutine, number, kind: "pure", row: 0 }, view);
-  equal("what steps are to the chosen one", [side("g0", 1), side("g0", 2), side("g0", 3), side("g0.1", 1), side("g0.1", 2), side("g0.1", 3)], ["cause", "", "", "cause", "", "consequence"]);
-}
+  assert.deepEqual([side("g0", 1), side("g0", 2), side("g0", 3), side("g0.1", 1), side("g0.1", 2), side("g0.1", 3)], ["cause", "", "", "cause", "", "consequence"], "what steps are to the chosen one");
+});
 
-export function picture() {
-  edges();
-  folds();
-  filters();
-  sides();
-  equal("a text that XML cannot hold", escaped("a\ufffe<b>\u0001&\ud800"), "a\ufffd&#60;b&#62;\ufffd&#38;\ufffd");
-  equal("a long statement is cut", shortened("total := first + second", 12), "total := fi…");
+test("texts that XML can hold", () => {
+  assert.equal(escaped("a\ufffe<b>\u0001&\ud800"), "a\ufffd&#60;b&#62;\ufffd&#38;\ufffd");
+  assert.equal(shortened("total := first + second", 12), "total := fi…", "a long statement is cut");
+});
+
+test("a fault is drawn as one", () => {
   const log = logOf(["g0", "pure"], ["g0", "fault DivideByZero"]);
   const place = layOut({ log, rows: new Rows(log), functions: new Map(), notes: () => undefined, labels: "statement" }, { rowHeight: 22 });
-  holds("a fault is drawn as one", drawRows(place, [], { view: NOTHING_POINTED }, 0, 1).includes('class="step fault"'));
-}
+  assert.ok(drawRows(place, [], { view: NOTHING_POINTED }, 0, 1).includes('class="step fault"'));
+});

@@ -1,10 +1,11 @@
 // What is wrong in a source that is refused.
 
+import assert from "node:assert/strict";
 import { readFileSync } from "node:fs";
+import { test } from "node:test";
 import { explain } from "../../src/refused/refusals.js";
 import { goTokens, openBrackets } from "../../src/refused/tokens.js";
 import { mostLike } from "../../src/refused/similar.js";
-import { equal, holds } from "../checks.mjs";
 
 const TABLE = JSON.parse(readFileSync(new URL("../../../clients/rewind_client/refusals.json", import.meta.url), "utf8"));
 const refusal = (code, line = 0, column = 0) => ({ code, line, column, text: `rewind: ${code}` });
@@ -24,21 +25,21 @@ const CASES = [
   ["package main\nimport \"fmt\"\nfunc main() {}\n", ["P2", 2, 1], null],
 ];
 
-function sentences() {
+test("sentences of refusals", () => {
   for (const [source, place, told] of CASES) {
     const found = explain(TABLE, source, refusal(...place));
     const word = source.split("\n")[found.line - 1].slice(found.column - 1, found.column - 1 + found.length);
-    if (told) equal(`a refusal with ${place[0]}`, [found.sentence, word, found.instead, found.hint], told);
-    else holds(`a form of ${place[0]} is found`, found.sentence !== TABLE[place[0]].meaning && word);
+    if (told) assert.deepEqual([found.sentence, word, found.instead, found.hint], told, `a refusal with ${place[0]}`);
+    else assert.ok(found.sentence !== TABLE[place[0]].meaning && word, `a form of ${place[0]} is found`);
   }
   const { whole } = explain(TABLE, CASES[2][0], refusal(...CASES[2][1]));
-  equal("the statement around what is wrong", CASES[2][0].slice(whole.start, whole.end), "n += true");
-  equal("a code without a place has one sentence", explain(TABLE, "package main\n", refusal("P4")).sentence, TABLE.P4.forms[0].sentence);
-  equal("one that is not known gives what the program wrote", explain(TABLE, "", refusal("Z9", 1, 1)).sentence, "rewind: Z9");
-}
+  assert.equal(CASES[2][0].slice(whole.start, whole.end), "n += true", "the statement around what is wrong");
+  assert.deepEqual(explain(TABLE, "package main\n", refusal("P4")).sentence, TABLE.P4.forms[0].sentence, "a code without a place has one sentence");
+  assert.equal(explain(TABLE, "", refusal("Z9", 1, 1)).sentence, "rewind: Z9", "one that is not known gives what the program wrote");
+});
 
 // A place that the program would not tell gives a sentence too, and so does a source that ends in the midst.
-function anyPlace() {
+test("any place is explained", () => {
   const source = readFileSync(new URL("../../../clients/tests/refused/select_send_on_receive_only.go", import.meta.url), "utf8");
   for (const code of ["S1", "S6", "P1", "P2", "C1", "C3", "C4", "C7", "C10"]) {
     const places = [];
@@ -46,18 +47,19 @@ function anyPlace() {
       const lines = source.slice(0, end).split("\n");
       for (const [line, column] of [[1, 1], [lines.length, lines[lines.length - 1].length + 1], [99, 99]]) places.push([source.slice(0, end), refusal(code, line, column)]);
     }
-    holds(`any place of a source is explained with ${code}`, places.every(([text, place]) => explain(TABLE, text, place).sentence));
+    assert.ok(places.every(([text, place]) => explain(TABLE, text, place).sentence), `any place of a source is explained with ${code}`);
   }
   const long = inMain(`println(${"1 + ".repeat(100000)}true)`);
-  holds("and so is a long line", explain(TABLE, long, refusal("P3", 4, 1000)).sentence);
-  holds("even where it is too deep to be read", explain(TABLE, inMain(`println(${"(".repeat(20000)}1)`), refusal("C3", 4, 2)).sentence);
-}
+  assert.ok(explain(TABLE, long, refusal("P3", 4, 1000)).sentence, "and so is a long line");
+  assert.ok(explain(TABLE, inMain(`println(${"(".repeat(20000)}1)`), refusal("C3", 4, 2)).sentence, "even where it is too deep to be read");
+});
 
-export function refusals() {
+test("tokens, and brackets that are open", () => {
   const kinds = goTokens("x := \"a\" // é\n").map(({ kind, text }) => [kind, text]);
-  equal("tokens", kinds, [["name", "x"], ["operator", ":="], ["text", '"a"'], ["end", "\n"], ["file", "<end>"]]);
-  equal("brackets that are open", openBrackets(goTokens("f(a[1], {")).map(({ text }) => text), ["(", "{"]);
-  equal("a name that was meant", [mostLike("totl", ["total", "to", "x"]), mostLike("qqqq", ["total", "x"])], ["total", ""]);
-  sentences();
-  anyPlace();
-}
+  assert.deepEqual(kinds, [["name", "x"], ["operator", ":="], ["text", '"a"'], ["end", "\n"], ["file", "<end>"]]);
+  assert.deepEqual(openBrackets(goTokens("f(a[1], {")).map(({ text }) => text), ["(", "{"]);
+});
+
+test("a name that was meant", () => {
+  assert.deepEqual([mostLike("totl", ["total", "to", "x"]), mostLike("qqqq", ["total", "x"])], ["total", ""]);
+});

@@ -1,7 +1,8 @@
 // Long runs go in portions: none passes a breakpoint, and each can be stopped.
 
+import assert from "node:assert/strict";
+import { test } from "node:test";
 import { runInPortions } from "../../src/session/runs.js";
-import { equal, holds } from "../checks.mjs";
 
 // A session whose step number `at` is the only one that begins at a breakpoint.
 function session(at, length = Infinity) {
@@ -26,15 +27,21 @@ function session(at, length = Infinity) {
   return it;
 }
 
-export async function runs() {
-  for (const at of [1999, 2000, 2001, 7000]) {
+for (const at of [1999, 2000, 2001, 7000]) {
+  test(`a breakpoint after ${at} steps is met`, async () => {
     const it = session(at);
-    equal(`a breakpoint after ${at} steps is met`, [(await runInPortions(it, 100000, () => true)).taken, it.taken], [at, at]);
-  }
+    assert.deepEqual([(await runInPortions(it, 100000, () => true)).taken, it.taken], [at, at]);
+  });
+}
+
+test("without breakpoints a run takes as many as asked, in few portions", async () => {
   const plain = session(Infinity);
   const end = await runInPortions(plain, 100000, () => true);
-  equal("without breakpoints a run takes as many as asked", [end.taken, end.reason, plain.taken], [100000, "count", 100000]);
-  holds("in few portions", plain.asked.length < 20);
-  equal("a run that is stopped says so", (await runInPortions(session(Infinity), 100000, (taken) => taken < 10000)).reason, "stopped");
-  equal("and one that ends", (await runInPortions(session(Infinity, 5000), 100000, () => true)), { taken: 5000, reason: "ended" });
-}
+  assert.deepEqual([end.taken, end.reason, plain.taken], [100000, "count", 100000]);
+  assert.ok(plain.asked.length < 20);
+});
+
+test("a run that is stopped says so, and one that ends", async () => {
+  assert.equal((await runInPortions(session(Infinity), 100000, (taken) => taken < 10000)).reason, "stopped");
+  assert.deepEqual(await runInPortions(session(Infinity, 5000), 100000, () => true), { taken: 5000, reason: "ended" });
+});

@@ -1,7 +1,8 @@
 // The statements of a source, and the same source with each on a line of its own.
 
+import assert from "node:assert/strict";
+import { test } from "node:test";
 import { Statements, printsOf } from "../../src/session/statements.js";
-import { equal } from "../checks.mjs";
 
 const SOURCE = `package main
 func f(n int, c chan struct{}) int { if n > 0 { c <- struct{}{}; return f(n-1, c) }; return n } // two
@@ -17,19 +18,32 @@ outer:
 }
 `;
 
-export function statements() {
-  const found = new Statements(SOURCE);
-  equal("the statements with their lines", found.all.map(({ line, text }) => `${line} ${text}`), [
+const found = new Statements(SOURCE);
+
+test("the statements with their lines", () => {
+  assert.deepEqual(found.all.map(({ line, text }) => `${line} ${text}`), [
     "2 if n > 0", "2 c <- struct{}{}", "2 return f(n-1, c)", "2 return n", "2 }", "4 c := make(chan struct{}, 3)", "6 for i := 0; i < 2; i++",
     '6 println("a;b", i)', "6 continue outer", "7 select", "8 _, _ = v, ok", "10 println(f(0, c) == 0 && true)", "12 }",
   ]);
+});
+
+test("each is alone on its line of the expanded source, which differs by new lines only", () => {
   const lines = found.all.map(({ expandedLine }) => expandedLine);
-  equal("each is alone on its line of the expanded source", new Set(lines).size, lines.length);
-  equal("and stands there", found.all.every(({ expandedLine, text }) => found.expanded.split("\n")[expandedLine - 1].includes(text)), true);
-  equal("the expanded source differs by new lines only", found.expanded.replaceAll("\n", ""), SOURCE.replaceAll("\n", ""));
-  equal("the clauses of a select", found.all.find(({ text }) => text === "select").clauses, ["v, ok := <-c", "c <- struct{}{}", "default"]);
-  equal("a breakpoint on an empty line is met at the next statement", [found.snap(1), found.snap(3), found.snap(5), found.snap(99)], [2, 4, 6, 0]);
-  equal("a line of several statements has a breakpoint on each", found.runLines(2).length, 5);
+  assert.equal(new Set(lines).size, lines.length);
+  assert.ok(found.all.every(({ expandedLine, text }) => found.expanded.split("\n")[expandedLine - 1].includes(text)), "and stands there");
+  assert.equal(found.expanded.replaceAll("\n", ""), SOURCE.replaceAll("\n", ""));
+});
+
+test("the clauses of a select", () => {
+  assert.deepEqual(found.all.find(({ text }) => text === "select").clauses, ["v, ok := <-c", "c <- struct{}{}", "default"]);
+});
+
+test("lines that have a breakpoint", () => {
+  assert.deepEqual([found.snap(1), found.snap(3), found.snap(5), found.snap(99)], [2, 4, 6, 0], "on an empty line it is met at the next statement");
+  assert.equal(found.runLines(2).length, 5, "a line of several statements has one on each");
+});
+
+test("which statements print", () => {
   const prints = (text) => printsOf(found.all.find((it) => it.text.startsWith(text)));
-  equal("which statements print", [prints("println(\"a"), prints("c :="), prints("println(f")], [1, 0, null]);
-}
+  assert.deepEqual([prints("println(\"a"), prints("c :="), prints("println(f")], [1, 0, null]);
+});

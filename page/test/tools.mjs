@@ -1,0 +1,15 @@
+// What other tools say of the page: its types and style, and the tests of what changes the program's module.
+
+import assert from "node:assert/strict";
+import { spawnSync } from "node:child_process";
+import { test } from "node:test";
+
+const PAGE = new URL("..", import.meta.url).pathname;
+
+function succeeds(...words) {
+  const { stdout, stderr, status } = spawnSync(words[0], words.slice(1), { encoding: "utf8", cwd: PAGE });
+  assert.equal(status, 0, `${words.join(" ")}: ${stdout || ""}${stderr || "it does not run"}`);
+}
+
+test("types and style", () => succeeds("./lint.sh"));
+test("how the program's module becomes one for WebAssembly, and that one with 32-bit addresses", () => succeeds("python3", "-m", "unittest", "discover", "-s", "test"));
