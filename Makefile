@@ -12,7 +12,7 @@ NEEDS_RT = @: $(RT)
 
 .DEFAULT_GOAL := $(if $(HAS_RT),all,help)
 .PHONY: all help quick quick-page demo test gate edits words command-line-test bench replay second-opinion beside-go hostile times gate-times make-times faces \
-	dap-test page page-test vsix dist quick-dist dist-check release-check page-pictures install uninstall clean
+	dap-test page page-test page-lint vsix dist quick-dist dist-check release-check page-pictures install uninstall clean
 
 ## Use it
 
@@ -131,6 +131,10 @@ IS_QUICK = $(filter rewind-quick,$(notdir $(REWIND)))
 
 page-test: browser-needs other-browsers $(if $(IS_QUICK),quick-page,page) ## the page: types, style, modules, all of it in Chromium, and sessions in Firefox and WebKitGTK (5 minutes)
 	page/test.sh bin/rewind$(if $(IS_QUICK),-quick).html
+
+page-lint: ## types and style of the page, its tests and the extension for VS Code (10 seconds)
+	@page/needs.sh node-typescript eslint
+	page/lint.sh
 
 hostile: $(REWIND) bin/races ## hostile sources and commands, failing devices, refused memory, races (6 processor minutes)
 	tests/hostile/all.sh $(REWIND)

@@ -3,6 +3,8 @@
 
 const vscode = require('vscode');
 
+/** @typedef {{threadId?: string}} Item what a menu was opened on */
+
 // The session of Rewind that is looked at; without one the user is told so.
 function session() {
   const active = vscode.debug.activeDebugSession;
@@ -11,11 +13,13 @@ function session() {
 }
 
 // The number of the thread that a menu names, that is looked at, or that the user picks.
+/** @param {Item | undefined} item */
 async function threadOf(item) {
   const named = /(\d+)$/.exec((item && item.threadId) || '');
   if (named) return Number(named[1]);
   const looked = vscode.debug.activeStackItem;
   if (looked && looked.threadId) return looked.threadId;
+  /** @type {{threads: {id: number, name: string}[]}} */
   const { threads } = await session().customRequest('threads');
   const picked = await vscode.window.showQuickPick(threads.map(one => ({ label: one.name, id: one.id })));
   return picked && picked.id;
@@ -23,16 +27,19 @@ async function threadOf(item) {
 
 // A step that the user picks from the log, the last one first.
 async function pickedStep() {
+  /** @type {{steps: {step: string, kind: string}[]}} */
   const { steps } = await session().customRequest('rewind/log', {});
   const listed = steps.reverse().map(one => ({ label: one.step, description: one.kind }));
   const picked = await vscode.window.showQuickPick(listed, { placeHolder: 'a step, the last one first' });
   return picked && picked.label;
 }
 
+/** @param {string} text */
 function write(text) {
   vscode.debug.activeDebugConsole.appendLine(text);
 }
 
+/** @param {Item} [item] */
 async function takeBackLast(item) {
   const threadId = await threadOf(item);
   if (threadId) await session().customRequest('rewind/back', { threadId });
@@ -47,6 +54,10 @@ async function redo() {
   await session().customRequest('rewind/redo');
 }
 
+/**
+ * @param {string} request
+ * @param {string} words
+ */
 async function related(request, words) {
   const step = await pickedStep();
   if (!step) return;
@@ -69,16 +80,18 @@ const COMMANDS = {
 };
 
 // A command whose failure is told in words.
+/** @param {(item?: Item) => Promise<void>} command */
 function told(command) {
-  return async item => {
+  return async (/** @type {Item | undefined} */ item) => {
     try {
       await command(item);
     } catch (fault) {
-      vscode.window.showErrorMessage(`Rewind: ${fault.message}`);
+      vscode.window.showErrorMessage(`Rewind: ${/** @type {Error} */ (fault).message}`);
     }
   };
 }
 
+/** @param {import('vscode').ExtensionContext} context */
 function activate(context) {
   for (const [name, command] of Object.entries(COMMANDS)) {
     context.subscriptions.push(vscode.commands.registerCommand(name, told(command)));

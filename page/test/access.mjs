@@ -3,6 +3,7 @@
 import assert from "node:assert/strict";
 import { inTurn } from "./parts.mjs";
 
+/** @param {Hands} hands */
 async function screenReader(hands) {
   const { browser } = hands;
   await hands.story("deadlock");
@@ -11,17 +12,22 @@ async function screenReader(hands) {
   await hands.key("ArrowUp");
   await browser.call("Accessibility.enable");
   const { nodes } = await browser.call("Accessibility.getFullAXTree");
-  const options = nodes.filter(({ role, ignored }) => role?.value === "option" && !ignored);
-  const property = (node, name) => node.properties?.find((it) => it.name === name)?.value.value;
-  const steps = options.filter((it) => /, row|of 16$/.test(it.name.value));
+  const options = nodes.filter((/** @type {any} */ { role, ignored }) => role?.value === "option" && !ignored);
+  /**
+   * @param {any} node
+   * @param {string} name
+   */
+  const property = (node, name) => node.properties?.find((/** @type {any} */ it) => it.name === name)?.value.value;
+  const steps = options.filter((/** @type {any} */ it) => /, row|of 16$/.test(it.name.value));
   assert.ok(steps.length >= 10 && steps.length === (await hands.drawn()).length, "each drawn step is an option");
-  assert.ok(steps.some((it) => it.name.value === "g0.2#3, recv-wait, line 5, y := <-to, 16 of 16"), "it is read with its statement and line");
-  const box = nodes.find((it) => it.role?.value === "listbox" && /Steps, in the order/.test(it.name.value));
+  assert.ok(steps.some((/** @type {any} */ it) => it.name.value === "g0.2#3, recv-wait, line 5, y := <-to, 16 of 16"), "it is read with its statement and line");
+  const box = nodes.find((/** @type {any} */ it) => it.role?.value === "listbox" && /Steps, in the order/.test(it.name.value));
   const active = property(box, "activedescendant");
   assert.ok(active !== undefined || (await browser.run("document.getElementById('picture').getAttribute('aria-activedescendant')")) === "row-15", "the step that arrows reach is the active one");
   assert.deepEqual(await browser.run("[...document.querySelectorAll('[role=option][aria-selected=true]')].map((it) => [it.id, it.getAttribute('aria-posinset'), it.getAttribute('aria-setsize')])"), [["row-15", "16", "16"]], "and is selected");
 }
 
+/** @param {Hands} hands */
 async function toolbar(hands) {
   const { browser } = hands;
   await hands.story("deadlock");
@@ -35,6 +41,7 @@ async function toolbar(hands) {
   await browser.run("document.activeElement.blur()");
 }
 
+/** @param {Hands} hands */
 async function layouts(hands) {
   const { browser } = hands;
   await hands.story("deadlock");
@@ -50,6 +57,7 @@ function smallTargets() {
   return [...new Set(small.map((it) => `${it.tagName} ${it.id || it.className || it.textContent} ${it.getBoundingClientRect().height}`))];
 }
 
+/** @param {Hands} hands */
 async function targets(hands) {
   await hands.story("deadlock");
   await hands.key("r");
@@ -58,11 +66,13 @@ async function targets(hands) {
   assert.equal(await hands.browser.run("document.querySelector('#chosen [aria-live], #chosen-text[aria-live]')"), null, "pointing speaks in no live region");
 }
 
+/** @param {Hands} hands */
 async function forcedColours(hands) {
   const { browser } = hands;
   await browser.call("Emulation.setEmulatedMedia", { features: [{ name: "forced-colors", value: "active" }] });
   await hands.story("deadlock");
   await hands.key("r");
+  /** @param {string} selector */
   const outline = (selector) => `getComputedStyle(document.querySelector(${JSON.stringify(selector)})).outlineStyle`;
   assert.deepEqual(await browser.run(`[${outline(".card.chosen")}, ${outline("#editor .stands")}]`), ["solid", "solid"], "with forced colours the chosen goroutine and its line stand out");
   await browser.call("Emulation.setEmulatedMedia", { features: [], media: "print" });
@@ -71,6 +81,7 @@ async function forcedColours(hands) {
   await browser.call("Emulation.setEmulatedMedia", { features: [], media: "" });
 }
 
+/** @param {Hands} hands */
 async function nothingIsSent(hands) {
   const { browser } = hands;
   const tried = await browser.run("fetch('https://example.org/').then(() => 'sent', () => 'refused')");
@@ -89,4 +100,8 @@ const ALL = {
   "nothing can be sent": nothingIsSent,
 };
 
+/**
+ * @param {TestContext} t
+ * @param {TestBrowser} browser
+ */
 export const access = (t, browser) => inTurn(t, browser, ALL);

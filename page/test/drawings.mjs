@@ -5,6 +5,7 @@ import { inTurn } from "./parts.mjs";
 import { LOOP } from "./truths.mjs";
 
 // The picture of the operations of one channel: where it was made, and what was done with it, with the arrows between these steps.
+/** @param {Hands} hands */
 async function oneChannel(hands) {
   const { browser } = hands;
   const menu = "document.querySelector('#columns-list select')";
@@ -24,6 +25,7 @@ async function oneChannel(hands) {
   assert.ok((await hands.drawn()).length > 10, "then all are");
 }
 
+/** @param {Hands} hands */
 async function pictures(hands) {
   const { browser } = hands;
   await hands.story("deadlock");
@@ -46,7 +48,7 @@ async function pictures(hands) {
   await hands.act("fold");
   await browser.run("rewind.page.views.columns.toggle('g0.1')");
   await hands.idle();
-  assert.deepEqual([...new Set((await hands.drawn()).map((id) => id.split("#")[0]))], ["g0"], "a goroutine can be hidden");
+  assert.deepEqual([...new Set((await hands.drawn()).map((/** @type {string} */ id) => id.split("#")[0]))], ["g0"], "a goroutine can be hidden");
   await browser.run("rewind.page.views.columns.toggle('g0.1')");
   await hands.story("deadlock");
   await hands.key("r");
@@ -103,6 +105,7 @@ const REST = ["g0#10 | c := <-cc | ← g0/c4", "g0#12 | println(<-c) | ← 9", "
 const LABELS = `[...document.querySelectorAll("#picture [data-step]")].map((it) => [it.dataset.step, ...["kind", "received"].map((part) => it.querySelector("text ." + part)?.textContent.trim() || "")])
   .filter(([, kind, received]) => received || /^case|^select/.test(kind)).map((it) => it.join(" | "))`;
 
+/** @param {Hands} hands */
 async function messages(hands) {
   const { browser } = hands;
   await browser.size(1280, 1600);
@@ -113,10 +116,10 @@ async function messages(hands) {
   await hands.story("lost_update");
   await hands.perform("run 100");
   const waited = ["g0#8 | <-done | ← true", "g0#9 | <-done | ← true", 'g0#10 | println("balance", <-read) | ← 20'];
-  assert.deepEqual((await browser.run(LABELS)).filter((it) => it.startsWith("g0#")), waited, "a value that ended a wait stands at the wait");
+  assert.deepEqual((await browser.run(LABELS)).filter((/** @type {string} */ it) => it.startsWith("g0#")), waited, "a value that ended a wait stands at the wait");
   assert.ok((await browser.run(LABELS)).includes("g0.1#3 | case read <- balance | "), "a select shows the case that it took");
   await hands.perform("back g0.3#4");
-  assert.deepEqual((await browser.run(LABELS)).filter((it) => it.startsWith("g0#")), waited.slice(0, 1), "and goes with its sender");
+  assert.deepEqual((await browser.run(LABELS)).filter((/** @type {string} */ it) => it.startsWith("g0#")), waited.slice(0, 1), "and goes with its sender");
   assert.ok(/g0#8, recv-wait, line 24, <-done, received true,/.test(await browser.run("document.querySelector('[data-step=\"g0#8\"]').getAttribute('aria-label')")), "it is spoken too");
   await hands.source(MESSAGES);
   await hands.perform("run 100");
@@ -139,4 +142,8 @@ const DRAWINGS = {
   "received values": messages,
 };
 
+/**
+ * @param {TestContext} t
+ * @param {TestBrowser} browser
+ */
 export const drawings = (t, browser) => inTurn(t, browser, DRAWINGS);

@@ -6,7 +6,7 @@ import { explain } from "../src/refused/refusals.js";
 
 const TABLE = JSON.parse(readFileSync(new URL("../../clients/rewind_client/refusals.json", import.meta.url), "utf8"));
 
-const told = JSON.parse(readFileSync(0, "utf8")).map(([source, code, line, column]) => {
+const told = JSON.parse(readFileSync(0, "utf8")).map((/** @type {any[]} */ [source, code, line, column]) => {
   const said = explain(TABLE, source, { code, line, column, text: "" });
   return [said.line, said.column, said.sentence, said.instead, said.hint];
 });

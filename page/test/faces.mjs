@@ -7,15 +7,16 @@ import { readFileSync } from "node:fs";
 import { workersOf } from "./native.mjs";
 
 const [program, words] = process.argv.slice(2);
-globalThis.Worker = workersOf(program);
+Object.assign(globalThis, { Worker: workersOf(program) });
 const { Session } = await import("../src/session/session.js");
 const { standingOf } = await import("../src/waiting/standing.js");
 const { waitsFor } = await import("../src/waiting/waits.js");
 const { Words } = await import("../src/panes/words.js");
 const { go, faults } = JSON.parse(readFileSync(words, "utf8"));
 const LAST = 200; // steps of which lines and values are told
-const machine = { program: null, script: "", suspends: true };
+const machine = /** @type {any} */ ({ program: null, script: "", suspends: true });
 
+/** @param {{source: string, commands: string[]}} given */
 async function told({ source, commands }) {
   const session = await Session.open(machine, source);
   for (const command of commands) await session.perform(command);
@@ -26,7 +27,7 @@ async function told({ source, commands }) {
   const first = Math.max(0, log.length - LAST);
   await follower.inTurn(() => direct.find(log.steps(first, log.length)));
   const standing = await standingOf(session, { go, faults });
-  const state = new Words({ codes: {}, kinds: {}, faults, go }).state(session, standing, (id) => follower.notes.get(id));
+  const state = new Words(/** @type {any} */ ({ codes: {}, kinds: {}, faults, go })).state(session, standing, (id) => follower.notes.get(id));
   const steps = log.steps(first, log.length).map(({ id }) => {
     const { line, over, received } = follower.notes.get(id) || {};
     return { id, line, value: over ? received || over.sent : "" };
@@ -41,7 +42,7 @@ for await (const line of createInterface({ input: process.stdin })) {
   try {
     found = await told(JSON.parse(line));
   } catch (fault) {
-    found = { fault: String(fault.stack) };
+    found = { fault: String(/** @type {Error} */ (fault).stack) };
   }
   process.stdout.write(`${JSON.stringify(found)}\n`);
 }

@@ -7,6 +7,8 @@ import { Hands } from "./hands.mjs";
 const START = "package main\nfunc main() {\n\tprintln(1)\n\tprintln(2)\n}\n";
 const LONG = `package main\n\nfunc main() {\n${Array.from({ length: 60 }, (_, at) => `\tprintln(${at})\n`).join("")}}\n`;
 // What comes, where something is selected or the cursor stands, and what the source is then.
+/** @typedef {{over: number[], text?: string, command?: string, then: string}} Case */
+/** @type {Case[]} */
 const CASES = [
   { over: [0, 0, 5, 0], text: LONG, then: LONG },
   { over: [0, 0, 5, 0], text: "// a\n\n\n// b\n", then: "// a\n\n\n// b\n" },
@@ -22,9 +24,14 @@ const CASES = [
 ];
 
 // Runs in the page: what comes of a change, and whether each line in view is drawn once, with its number.
+/**
+ * @param {string} start
+ * @param {Case} given
+ */
 async function changed(start, { over, text, command = "insertText" }) {
+  /** @param {number} time */
   const pause = (time) => new Promise((go) => setTimeout(go, time));
-  const { CodeMirror: editor } = document.querySelector(".CodeMirror");
+  const { CodeMirror: editor } = /** @type {any} */ (document.querySelector(".CodeMirror"));
   const [from, to] = [{ line: over[0], ch: over[1] }, { line: over[2], ch: over[3] }];
   editor.setValue(start);
   editor.focus();
@@ -34,8 +41,9 @@ async function changed(start, { over, text, command = "insertText" }) {
   await pause(150);
   const { from: first, to: last } = editor.getViewport();
   const lines = Array.from({ length: last - first }, (_, at) => editor.getLine(first + at));
+  /** @param {string} line */
   const plain = (line) => line.replaceAll(/[\u200b\s]/g, "");
-  const drawn = [...document.querySelectorAll(".CodeMirror-code .CodeMirror-line")].map((it) => plain(it.textContent));
+  const drawn = [...document.querySelectorAll(".CodeMirror-code .CodeMirror-line")].map((it) => plain(it.textContent || ""));
   const numbers = [...document.querySelectorAll(".CodeMirror-code .CodeMirror-linenumber")].map((it) => Number(it.textContent));
   const end = editor.getCursor();
   const isDrawn = String(drawn) === String(lines.map(plain)) && String(numbers) === String(lines.map((_, at) => first + at + 1));
@@ -43,17 +51,19 @@ async function changed(start, { over, text, command = "insertText" }) {
 }
 
 // Where a text ends that is put behind another.
-function endOf({ over, text, command }) {
+/** @param {Case} given */
+function endOf({ over, text = "", command }) {
   if (command) return null;
   const lines = text.split("\n");
   const at = over[0] + lines.length - 1;
-  return [at, lines.at(-1).length + (lines.length === 1 ? over[1] : 0)].join();
+  return [at, lines[lines.length - 1].length + (lines.length === 1 ? over[1] : 0)].join();
 }
 
 // Text that comes by commands of the document, which every browser knows.
+/** @param {TestBrowser} browser */
 async function byCommands(browser) {
   for (const it of CASES) {
-    const what = it.command ? `'${it.command}' at ${it.over}` : `${JSON.stringify(it.text.slice(0, 20))} at ${it.over}`;
+    const what = it.command ? `'${it.command}' at ${it.over}` : `${JSON.stringify(it.text?.slice(0, 20))} at ${it.over}`;
     const is = await browser.run(`(${changed})(${JSON.stringify(START)}, ${JSON.stringify(it)})`);
     assert.deepEqual(is, [it.then, true, endOf(it) ?? is[2]], `inserted without keys: ${what}`);
   }
@@ -61,9 +71,14 @@ async function byCommands(browser) {
   assert.deepEqual(await browser.run(`(${editor}.undo(), ${editor}.getValue())`), START, "undoing takes it back");
 }
 
+/**
+ * @param {TestContext} t
+ * @param {TestBrowser} browser
+ */
 export const insertions = (t, browser) => t.test("text that comes without keys", () => byCommands(browser));
 
 // By the protocol of Chromium: a text at once over several lines, an input method over several lines, and keys after both.
+/** @param {TestBrowser} browser */
 async function byProtocol(browser) {
   const hands = new Hands(browser);
   const select = "(() => { const { editor } = rewind.page.views.editor; editor.focus(); editor.setSelection({ line: 0, ch: 0 }, { line: editor.lastLine(), ch: 0 }); })()";
@@ -86,6 +101,10 @@ async function byProtocol(browser) {
   await hands.source(START);
 }
 
+/**
+ * @param {TestContext} t
+ * @param {TestBrowser} browser
+ */
 export async function inputMethods(t, browser) {
   await insertions(t, browser);
   await t.test("text at once, and an input method, over several lines", () => byProtocol(browser));

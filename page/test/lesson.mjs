@@ -5,7 +5,7 @@ import { readFileSync } from "node:fs";
 import { inTurn } from "./parts.mjs";
 import { LOOP } from "./truths.mjs";
 
-const EXERCISES = JSON.parse(readFileSync(new URL("../exercises.json", import.meta.url)));
+const EXERCISES = JSON.parse(readFileSync(new URL("../exercises.json", import.meta.url), "utf8"));
 const TOP = new URL("../../", import.meta.url).pathname;
 const CALLS = `package main
 func twice(x int) int {
@@ -19,6 +19,7 @@ func main() {
 }
 `;
 
+/** @param {Hands} hands */
 async function links(hands) {
   const { browser } = hands;
   await hands.story("deadlock");
@@ -40,7 +41,9 @@ async function links(hands) {
   assert.deepEqual(await browser.run("rewind.page.views.editor.text"), CALLS, "undoing in the editor brings back the text that a link replaced");
 }
 
+/** @param {Hands} hands */
 async function files(hands) {
+  /** @param {[name: string, text: string][]} list */
   const open = (list) => hands.browser.run(`{ const files = ${JSON.stringify(list)}.map(([name, text]) => new File([text], name)); const data = new DataTransfer(); files.forEach((it) => data.items.add(it));
     document.dispatchEvent(new DragEvent("drop", { dataTransfer: data, bubbles: true, cancelable: true })); }`);
   await open([["a.go", CALLS], ["a.script", "step g0\nstep g0\n"]]);
@@ -53,6 +56,7 @@ async function files(hands) {
   assert.equal((await hands.ids()).length, 3, "one file may hold both");
 }
 
+/** @param {Hands} hands */
 async function moves(hands) {
   await hands.source(CALLS);
   await hands.act("over");
@@ -62,7 +66,7 @@ async function moves(hands) {
   assert.deepEqual([await hands.texts("#console li"), (await hands.ids()).length], [["6"], back.length + 1], "and goes on by a statement");
   await hands.story("lost_update");
   await hands.act("alone");
-  assert.deepEqual([await hands.text("#status"), new Set((await hands.ids()).map((id) => id.split("#")[0])).size], ["g0 waits now: step another goroutine, or run.", 1], "a goroutine goes on alone until it waits");
+  assert.deepEqual([await hands.text("#status"), new Set((await hands.ids()).map((/** @type {string} */ id) => id.split("#")[0])).size], ["g0 waits now: step another goroutine, or run.", 1], "a goroutine goes on alone until it waits");
   await hands.act("over");
   assert.ok(/g0 goes on at line|still waits/.test(await hands.text("#status")), "one that waits is helped on by the others");
   await hands.story("lost_update");
@@ -72,6 +76,7 @@ async function moves(hands) {
   assert.equal(await hands.browser.run("rewind.page.session.breakpoints.size"), 0, "and leaves no breakpoint");
 }
 
+/** @param {Hands} hands */
 async function usualKeys(hands) {
   await hands.source(CALLS);
   await hands.key("F10");
@@ -98,6 +103,7 @@ async function usualKeys(hands) {
   assert.ok(/^Stopped by you after \d+ steps\.$/.test(await hands.text("#status")), "and can be stopped");
 }
 
+/** @param {Hands} hands */
 async function pasts(hands) {
   await hands.story("deadlock");
   await hands.key("r");
@@ -131,6 +137,7 @@ async function pasts(hands) {
 }
 
 // A past state that takes seconds to find: the page says how far it is, and the way there can be left.
+/** @param {Hands} hands */
 async function farPast(hands) {
   const { browser } = hands;
   await hands.source(LOOP);
@@ -149,8 +156,13 @@ async function farPast(hands) {
   await hands.source("package main\nfunc main() {}\n");
 }
 
+/** @param {Hands} hands */
 async function clicks(hands) {
   const pinned = "rewind.page.pointing.pinned";
+  /**
+   * @param {string} selector
+   * @param {string} text
+   */
   const ask = async (selector, text) => {
     assert.ok((await hands.texts(selector)).includes(text), `${text} can be clicked`);
     await hands.browser.run(`rewind.page.pointing.clear(), [...document.querySelectorAll(${JSON.stringify(selector)})].find((it) => it.innerText.trim() === ${JSON.stringify(text)})?.click()`);
@@ -181,6 +193,7 @@ async function clicks(hands) {
   assert.equal((await hands.ids()).length, 36, "which changes nothing");
 }
 
+/** @param {Hands} hands */
 async function previews(hands) {
   await hands.story("send_on_closed");
   await hands.key("r");
@@ -201,6 +214,10 @@ async function previews(hands) {
 }
 
 // Whether an element of the picture is in view.
+/**
+ * @param {Hands} hands
+ * @param {string} selector
+ */
 function isInPicture({ browser }, selector) {
   return browser.run(`(() => {
     const [it, picture] = [${JSON.stringify(selector)}, "#picture"].map((it) => document.querySelector(it)?.getBoundingClientRect());
@@ -208,8 +225,9 @@ function isInPicture({ browser }, selector) {
   })()`);
 }
 
+/** @param {Hands} hands */
 async function exercises(hands) {
-  assert.ok(EXERCISES.length >= 12 && new Set(EXERCISES.map(({ level }) => level)).size === 3, "there are at least twelve exercises in three levels");
+  assert.ok(EXERCISES.length >= 12 && new Set(EXERCISES.map((/** @type {{level: string}} */ { level }) => level)).size === 3, "there are at least twelve exercises in three levels");
   for (const { name, solution, choose } of EXERCISES) {
     await hands.story(name);
     assert.equal(await hands.text("#task-verdict"), "Not yet.", `exercise ${name} is not solved at its start`);
@@ -221,15 +239,17 @@ async function exercises(hands) {
   }
 }
 
+/** @param {Hands} hands */
 async function stories(hands) {
   const titles = await hands.texts("#story option");
-  assert.ok(titles.length > 30 && !titles.some((it) => /octal|underscore|wrong words|replayed/.test(it)), "the menu has some twenty stories and no tests");
+  assert.ok(titles.length > 30 && !titles.some((/** @type {string} */ it) => /octal|underscore|wrong words|replayed/.test(it)), "the menu has some twenty stories and no tests");
   await hands.story("lost_update");
   while (!(await hands.browser.run("document.getElementById('next').disabled"))) await hands.act("next");
   assert.ok(/That was the story/.test(await hands.text("#about-story")), "a story is told to its end");
   assert.deepEqual(await hands.texts("#console li"), ["balance 30"], "and comes out as it is told");
 }
 
+/** @param {Hands} hands */
 async function comparisons(hands) {
   await hands.story("race_in_select");
   await hands.perform("run 100");
@@ -240,10 +260,11 @@ async function comparisons(hands) {
   await hands.act("compare");
   assert.ok(/The first \d+ steps are the same\. There the logs part\./.test(await hands.text("#compared-text")), "two runs are shown side by side, from where they part");
   assert.ok((await hands.texts("#compared .differs")).length > 1, "with what differs");
-  assert.ok((await hands.texts("#compared code")).some((it) => /^select|<-/.test(it)), "and with their statements");
+  assert.ok((await hands.texts("#compared code")).some((/** @type {string} */ it) => /^select|<-/.test(it)), "and with their statements");
   await hands.browser.run("document.getElementById('forget').click()");
 }
 
+/** @param {Hands} hands */
 async function presentation(hands) {
   const { browser } = hands;
   await hands.story("deadlock");
@@ -281,4 +302,8 @@ const LESSONS = {
   exercises,
 };
 
+/**
+ * @param {TestContext} t
+ * @param {TestBrowser} browser
+ */
 export const lessons = (t, browser) => inTurn(t, browser, LESSONS);

@@ -10,13 +10,17 @@ import { Hands } from "./hands.mjs";
 const SESSIONS = new URL("../../crates/sessions/data/", import.meta.url).pathname;
 const STORIES = ["lost_update", "deadlock", "send_on_closed", "leaked_goroutine", "race_in_select", "buffered_channel", "prime_sieve",
   "fibonacci_select", "default_selection", "replayed_workers_1", "replayed_workers_2", "replayed_race_in_select"];
+/** @typedef {(most: number) => number} Roll a number below `most` */
+/** @typedef {(hands: Hands, native: Native, roll: Roll) => Promise<string[]>} Moves the moves of a round, which gives the commands that came to the session */
+/** @typedef {{program: string, rounds: number, seed: number}} Given */
 const MOVES = 12; // a round
 const LISTS = 5; // steps of a round whose causes and consequences are compared
 
 // Numbers that look random, the same for each seed.
+/** @param {number} seed */
 function dice(seed) {
   let state = seed >>> 0 || 1;
-  return (most) => {
+  return (/** @type {number} */ most) => {
     state ^= state << 13;
     state ^= state >>> 17;
     state ^= state << 5;
@@ -26,11 +30,16 @@ function dice(seed) {
 
 // A native session.
 class Native {
+  /**
+   * @param {string} program
+   * @param {string} source
+   */
   constructor(program, source) {
     this.child = spawn(program, [source]);
     this.lines = createInterface({ input: this.child.stdout })[Symbol.asyncIterator]();
   }
 
+  /** @param {string} line */
   async ask(line) {
     this.child.stdin.write(`${line}\n`);
     const lines = [];
@@ -47,6 +56,11 @@ class Native {
 }
 
 // A command that may fit the session, or not.
+/**
+ * @param {Roll} roll
+ * @param {string[]} ids
+ * @param {string[]} names
+ */
 function commandFor(roll, ids, names) {
   const [id, name] = [ids[roll(ids.length || 1)] || "g0#1", names[roll(names.length)]];
   const order = [...ids];
@@ -64,17 +78,22 @@ function shownInPage() {
   const { page } = window.rewind;
   const { log, scene, breakpoints, follower } = page.session;
   return {
-    log: log.steps(0, log.length).map(({ id, kind }) => `${id} ${kind}`),
+    log: log.steps(0, log.length).map((/** @type {{id: string, kind: string}} */ { id, kind }) => `${id} ${kind}`),
     console: scene.console.lines,
-    goroutines: scene.goroutines.map(({ name, state, steps, line }) => [name, state, steps, line]),
-    channels: scene.channels.map((it) => [it.name, it.items.join(" "), it.senders.join(" "), it.receivers.join(" ")]),
-    clauses: [...scene.clauses].map(([name, ready]) => [name, ready.map(({ number }) => number)]),
-    undone: log.gone.size, printed: log.steps(0, log.length).flatMap(({ id }) => page.note(id)?.printed || []),
-    breaks: [...breakpoints].sort(), noted: log.steps(0, log.length).filter(({ id }) => page.note(id)?.edges).length, lost: follower.lost,
+    goroutines: scene.goroutines.map((/** @type {Goroutine} */ { name, state, steps, line }) => [name, state, steps, line]),
+    channels: scene.channels.map((/** @type {Channel} */ it) => [it.name, it.items.join(" "), it.senders.join(" "), it.receivers.join(" ")]),
+    clauses: [...scene.clauses].map(([name, ready]) => [name, ready.map((/** @type {{number: number}} */ { number }) => number)]),
+    undone: log.gone.size, printed: log.steps(0, log.length).flatMap((/** @type {{id: string}} */ { id }) => page.note(id)?.printed || []),
+    breaks: [...breakpoints].sort(), noted: log.steps(0, log.length).filter((/** @type {{id: string}} */ { id }) => page.note(id)?.edges).length, lost: follower.lost,
   };
 }
 
 // What the native session says of the same.
+/**
+ * @param {Native} native
+ * @param {string[]} names
+ * @param {string[]} channels
+ */
 async function toldNatively(native, names, channels) {
   const goroutines = [];
   for (const name of names) {
@@ -103,6 +122,11 @@ const RECORDING = `(() => { const { user } = rewind.page.session, { ask } = user
   user.ask = function (line, shape) { window.given.push(line); return ask.call(this, line, shape); }; })()`;
 
 // Moves that wait for nothing. The session beside gets the commands that came to the page's.
+/**
+ * @param {Hands} hands
+ * @param {Native} native
+ * @param {Roll} roll
+ */
 async function hastyMoves(hands, native, roll) {
   const { browser } = hands;
   await browser.run(RECORDING);
@@ -119,12 +143,17 @@ async function hastyMoves(hands, native, roll) {
   await hands.idle();
   await browser.run("rewind.page.past.back(), rewind.page.pointing.clear(), rewind.page.views.picture.hidden.clear()");
   await hands.idle();
-  const given = (await browser.run("window.given")).filter((line) => line.trim());
+  const given = (await browser.run("window.given")).filter((/** @type {string} */ line) => line.trim());
   for (const line of given) await native.ask(line);
   return given;
 }
 
 // Moves of which each is waited for, or not.
+/**
+ * @param {Hands} hands
+ * @param {Native} native
+ * @param {Roll} roll
+ */
 async function moves(hands, native, roll) {
   const done = [];
   for (let move = 0; move < MOVES; move++) {
@@ -141,6 +170,13 @@ async function moves(hands, native, roll) {
   return done;
 }
 
+/**
+ * @param {Hands} hands
+ * @param {TestContext} t
+ * @param {string} program
+ * @param {number} seed
+ * @param {Moves} act
+ */
 async function round(hands, t, program, seed, act) {
   const roll = dice(seed * 7919 + 13);
   const name = STORIES[roll(STORIES.length)];
@@ -150,8 +186,8 @@ async function round(hands, t, program, seed, act) {
   try {
     t.diagnostic(`${name}: ${(await act(hands, native, roll)).join(" | ")}`);
     const shown = await hands.browser.run(`(${shownInPage})()`);
-    const told = await toldNatively(native, shown.goroutines.map(([it]) => it), shown.channels.map(([it]) => it));
-    for (const key of Object.keys(told)) assert.deepEqual(shown[key], told[key], key);
+    const told = await toldNatively(native, shown.goroutines.map((/** @type {any[]} */ [it]) => it), shown.channels.map((/** @type {any[]} */ [it]) => it));
+    for (const [key, value] of Object.entries(told)) assert.deepEqual(shown[key], value, key);
     assert.deepEqual([shown.noted, shown.lost], [shown.log.length, ""], "every step has its edges");
     await listsAgree(hands, native, shown.log, roll);
     await clausesAgree(native, shown);
@@ -163,14 +199,22 @@ async function round(hands, t, program, seed, act) {
 }
 
 // How many steps a reply lists, and of each goroutine the first and the last.
+/** @param {{last: string}} reply */
 function spansIn({ last }) {
   const ids = last.split(" ").slice(2);
+  /** @type {{[name: string]: number[]}} */
   const spans = {};
   for (const [name, number] of ids.map((id) => id.split("#"))) spans[name] = [spans[name]?.[0] || Number(number), Number(number)];
   return [ids.length, Object.entries(spans).sort()];
 }
 
 // Causes and consequences of some steps are those that the program tells.
+/**
+ * @param {Hands} hands
+ * @param {Native} native
+ * @param {string[]} log
+ * @param {Roll} roll
+ */
 async function listsAgree(hands, native, log, roll) {
   for (let count = 0; count < LISTS && log.length; count++) {
     const id = log[roll(log.length)].split(" ")[0];
@@ -180,6 +224,10 @@ async function listsAgree(hands, native, log, roll) {
 }
 
 // The clauses that the page offers are those that the program takes.
+/**
+ * @param {Native} native
+ * @param {{clauses: [string, number[]][], log: string[]}} shown
+ */
 async function clausesAgree(native, { clauses, log }) {
   if (/exit|fault/.test(log.at(-1) || "")) return;
   for (const [name, offered] of clauses) {
@@ -194,10 +242,20 @@ async function clausesAgree(native, { clauses, log }) {
 }
 
 // Rounds of a monkey with this program, from a seed on.
+/**
+ * @param {TestContext} t
+ * @param {TestBrowser} browser
+ * @param {{program: string, rounds: number, seed: number}} given
+ */
 export async function monkey(t, browser, { program, rounds, seed }, act = moves) {
   assert.ok(existsSync(program), `there is no program ${program} to compare the page with`);
   const hands = new Hands(browser);
-  for (let at = seed; at < seed + rounds; at++) await t.test(`round ${at}`, (t) => round(hands, t, program, at, act));
+  for (let at = seed; at < seed + rounds; at++) await t.test(`round ${at}`, (/** @type {TestContext} */ t) => round(hands, t, program, at, act));
 }
 
+/**
+ * @param {TestContext} t
+ * @param {TestBrowser} browser
+ * @param {Given} given
+ */
 export const hastyMonkey = (t, browser, given) => monkey(t, browser, given, hastyMoves);

@@ -11,6 +11,8 @@ process.on("exit", () => rmSync(folder, { recursive: true, force: true }));
 const QUIET = "clear 4294967295"; // a command whose reply tells that those before it are answered
 let count = 0;
 
+/** @typedef {{id: number, source: Uint8Array, commands: string[], shape: string}} Asked */
+
 class NativeSession {
   /**
    * @param {string} program
@@ -22,7 +24,9 @@ class NativeSession {
     this.child = spawn(program, [path], { stdio: ["pipe", "pipe", "pipe"] });
     this.text = "";
     this.errors = "";
+    /** @type {number | null} */
     this.status = null;
+    /** @type {(it?: unknown) => void} */
     this.wanted = () => {};
     this.child.stdout.setEncoding("utf8").on("data", (text) => this.take(text));
     this.child.stderr.setEncoding("utf8").on("data", (text) => (this.errors += text));
@@ -31,13 +35,14 @@ class NativeSession {
     this.ended.then(() => this.wanted());
   }
 
+  /** @param {string} text */
   take(text) {
     this.text += text;
-    this.lines = (this.lines || 0) + text.split("\n").filter((line) => line && !line.startsWith("|")).length;
     if (this.text.endsWith("\n")) this.wanted();
   }
 
   // The text of the replies to some commands.
+  /** @param {string[]} commands */
   async ask(commands) {
     this.text = "";
     this.child.stdin.write(commands.map((line) => `${line}\n`).join(""));
@@ -51,15 +56,27 @@ class NativeSession {
 }
 
 // What stands for `Worker`; `program` is the path of the native program.
+/** @param {string} program */
 export function workersOf(program) {
   return class {
-    postMessage(data) {
-      this.turn = (this.turn || Promise.resolve()).then(() => this.answer(data));
+    constructor() {
+      this.turn = Promise.resolve();
+      /** @type {NativeSession | null} */
+      this.session = null;
+      /** @type {(message: {data: object}) => void} */
+      this.onmessage = () => {};
     }
 
+    /** @param {Asked} data */
+    postMessage(data) {
+      this.turn = this.turn.then(() => this.answer(data));
+    }
+
+    /** @param {Asked} asked */
     async answer({ id, source, commands, shape }) {
+      /** @type {any[]} */
       let answers = [];
-      if (source) {
+      if (!this.session) {
         this.session = new NativeSession(program, source);
         await Promise.race([this.session.ended, this.session.ask([QUIET])]);
       } else {

@@ -6,8 +6,13 @@ import { sessions } from "./sessions.mjs";
 import { firstStory } from "./story.mjs";
 import { BROWSERS, DrivenBrowser } from "./webdriver.mjs";
 
+/** @param {string} program */
 const isThere = (program) => spawnSync("sh", ["-c", 'command -v "$0"', program]).status === 0;
 
+/**
+ * @param {TestContext} t
+ * @param {TestBrowser} browser
+ */
 async function sessionsAndStory(t, browser) {
   await sessions(t, browser);
   await firstStory(t, browser);

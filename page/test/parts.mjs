@@ -6,12 +6,22 @@ import { Browser, DidNotStart } from "./browser.mjs";
 import { Hands } from "./hands.mjs";
 
 // Does acts with the page one after another, each as a test below `t`.
+/**
+ * @param {TestContext} t
+ * @param {TestBrowser} browser
+ * @param {Acts} acts
+ */
 export async function inTurn(t, browser, acts) {
   for (const [name, act] of Object.entries(acts)) await t.test(name, (t) => act(new Hands(browser), t));
 }
 
 let noBrowser = ""; // why Chromium does not show the page, where it does not: then no other part tries it
 
+/**
+ * @param {TestContext} t
+ * @param {string} page
+ * @param {Part} given
+ */
 async function inBrowser(t, page, { part, hash, open = Browser.open }) {
   assert.ok(!noBrowser || open !== Browser.open, noBrowser);
   const browser = await open();
@@ -26,6 +36,10 @@ async function inBrowser(t, page, { part, hash, open = Browser.open }) {
 }
 
 // Makes a test of a part. `missing` names what a part lacks of the machine; a server of tests must have all.
+/**
+ * @param {string} page
+ * @param {Part} part
+ */
 export function testOf(page, part) {
   const { name, missing = () => "", open = Browser.open } = part;
   test(name, async (t) => {

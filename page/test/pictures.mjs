@@ -6,6 +6,7 @@ import { Browser } from "./browser.mjs";
 const [file, list, folder] = process.argv.slice(2);
 
 // Runs in the page: plays a story to just before the first command of this word, and points at a step.
+/** @param {{story: string, until: string, point: string, title: string}} given */
 async function pictureInPage({ story, until, point, title }) {
   const { page, openStory, savePicture } = window.rewind;
   await openStory(page, story);

@@ -23,7 +23,11 @@ const { PAGE = "", LOOKS = "", PART = "", ROUNDS, SEED } = process.env;
 const SHORT = "short";
 
 // The page says of its program whether it is proved, where it is named and in the help.
-async function build(t, browser) {
+/**
+ * @param {TestContext} _
+ * @param {TestBrowser} browser
+ */
+async function build(_, browser) {
   const places = ["title", "h1", "#help-dialog"];
   const says = await browser.run(`${JSON.stringify(places)}.map((place) => /unproved build/.test(document.querySelector(place).textContent))`);
   const isUnproved = basename(PAGE) === "rewind-quick.html";
@@ -31,12 +35,16 @@ async function build(t, browser) {
 }
 
 const wide = new URL(`../out/${basename(PAGE, ".html")}.wide.wasm`, import.meta.url).pathname;
+/**
+ * @param {number} rounds
+ * @param {number} seed
+ */
 const given = (rounds, seed) => ({ program: PAGE.replace(/\.html$/, ""), rounds: Number(ROUNDS) || rounds, seed: Number(SEED) || seed });
 
 const ALL = [
   { name: "kind of build", part: build },
   { name: "sessions", part: sessions },
-  { name: "the module with 64-bit addresses", part: (t, browser) => wideModule(t, browser, wide) },
+  { name: "the module with 64-bit addresses", part: (/** @type {TestContext} */ t, /** @type {TestBrowser} */ browser) => wideModule(t, browser, wide) },
   { name: "stories in one run that waits", part: stories },
   { name: "stories run anew for each exchange", part: stories, hash: "#repeat" },
   { name: "true in every state", part: truths },
@@ -47,10 +55,10 @@ const ALL = [
   { name: "for a lesson", part: lessons },
   { name: "drawings", part: drawings },
   { name: "long logs", part: speed },
-  { name: "a monkey", part: (t, browser) => monkey(t, browser, given(25, 1)) },
-  { name: "a hasty monkey", part: (t, browser) => hastyMonkey(t, browser, given(15, 5000)) },
-  { name: "a monkey without suspension", part: (t, browser) => monkey(t, browser, given(10, 1000)), hash: "#repeat" },
-  { name: "looks", part: (t, browser) => looks(t, browser, LOOKS) },
+  { name: "a monkey", part: (/** @type {TestContext} */ t, /** @type {TestBrowser} */ browser) => monkey(t, browser, given(25, 1)) },
+  { name: "a hasty monkey", part: (/** @type {TestContext} */ t, /** @type {TestBrowser} */ browser) => hastyMonkey(t, browser, given(15, 5000)) },
+  { name: "a monkey without suspension", part: (/** @type {TestContext} */ t, /** @type {TestBrowser} */ browser) => monkey(t, browser, given(10, 1000)), hash: "#repeat" },
+  { name: "looks", part: (/** @type {TestContext} */ t, /** @type {TestBrowser} */ browser) => looks(t, browser, LOOKS) },
   ...others,
 ];
 const PARTS = PART === SHORT ? [...ALL.slice(0, 3), { name: "a story", part: firstStory }] : ALL.filter(({ name }) => !PART || name === PART);

@@ -4,10 +4,17 @@ import assert from "node:assert/strict";
 import { existsSync, readFileSync, readdirSync } from "node:fs";
 
 const FOLDER = new URL("../../crates/sessions/data", import.meta.url).pathname;
+/** @param {string} file */
 export const base64 = (file) => (existsSync(file) ? readFileSync(file).toString("base64") : "");
 
 // Runs in the page: one session. What it wrote as base64, whether its source was refused, and its exit status.
+/**
+ * @param {string} source
+ * @param {string} script
+ * @param {boolean} suspends
+ */
 async function sessionInPage(source, script, suspends) {
+  /** @param {string} text */
   const bytes = (text) => Uint8Array.from(atob(text), (letter) => letter.charCodeAt(0));
   const session = await window.rewind.Session.open(window.rewind.program, bytes(source), suspends);
   const said = [];
@@ -18,8 +25,14 @@ async function sessionInPage(source, script, suspends) {
   return { text, isRefused: session.errors.length > 0, status: String(session.status) };
 }
 
+/** @param {string} base */
 const textOf = (base) => Buffer.from(base, "base64").toString();
 
+/**
+ * @param {TestBrowser} browser
+ * @param {string} name
+ * @param {boolean} suspends
+ */
 async function compared(browser, name, suspends) {
   const given = [`${FOLDER}/${name}.go`, `${FOLDER}/${name}.script`].map((file) => JSON.stringify(base64(file)));
   const { text, isRefused, status } = await browser.run(`(${sessionInPage})(${given.join(",")},${suspends})`);
@@ -30,6 +43,11 @@ async function compared(browser, name, suspends) {
   assert.equal(status, isRefused ? "1" : "0", "its exit status");
 }
 
+/**
+ * @param {TestContext} t
+ * @param {TestBrowser} browser
+ * @param {boolean} suspends
+ */
 async function allOf(t, browser, suspends) {
   const names = readdirSync(FOLDER).filter((name) => name.endsWith(".go")).map((name) => name.slice(0, -3)).sort();
   assert.ok(names.length, "there are example sessions");
@@ -37,9 +55,13 @@ async function allOf(t, browser, suspends) {
 }
 
 // In one run that waits, where the browser can suspend WebAssembly, and run anew for each exchange.
+/**
+ * @param {TestContext} t
+ * @param {TestBrowser} browser
+ */
 export async function sessions(t, browser, ways = [true, false]) {
   const canSuspend = await browser.run("'Suspending' in WebAssembly");
   for (const suspends of ways.filter((it) => canSuspend || !it)) {
-    await t.test(`sessions ${suspends ? "in one run that waits" : "run anew for each exchange"}`, (t) => allOf(t, browser, suspends));
+    await t.test(`sessions ${suspends ? "in one run that waits" : "run anew for each exchange"}`, (/** @type {TestContext} */ t) => allOf(t, browser, suspends));
   }
 }

@@ -21,16 +21,23 @@ const LOOKING = 900;
 const LAYOUTS = 6; // of the page, for each step that is pointed at
 
 // Runs in the page: the milliseconds of an act until the next frame is drawn.
+/** @param {string} act */
 const untilShown = (act) => `(async () => { const began = performance.now(); await ${act}; await new Promise((go) => requestAnimationFrame(() => setTimeout(go, 0))); return performance.now() - began; })()`;
 
 // Runs in the page: points at the step of a row, as the pointer does, until the page tells of it.
+/** @param {number} row */
 const pointing = (row) => `(async ({ page } = rewind, id = page.session.log.id(${row})) => {
   page.pointing.point(id);
   while (page.pointing.about?.id !== id) await new Promise((go) => setTimeout(go, 0));
 })()`;
 
+/** @param {number[]} times */
 const median = (times) => [...times].sort((one, other) => one - other)[times.length >> 1];
 
+/**
+ * @param {Hands} hands
+ * @param {(at: number) => string} act
+ */
 async function timesOf(hands, act, count = 7) {
   const times = [];
   for (let at = 0; at < count; at++) times.push(await hands.browser.run(untilShown(act(at))));
@@ -38,6 +45,11 @@ async function timesOf(hands, act, count = 7) {
 }
 
 // Seconds until a run is found and shown.
+/**
+ * @param {Hands} hands
+ * @param {string} source
+ * @param {number} steps
+ */
 async function secondsOf(hands, source, steps) {
   await hands.source(source);
   const began = performance.now();
@@ -46,6 +58,12 @@ async function secondsOf(hands, source, steps) {
 }
 
 // Four times the steps take some four times as long: a cost that is the square of the prints would take sixteen times.
+/**
+ * @param {Hands} hands
+ * @param {TestContext} t
+ * @param {string} source
+ * @param {number} steps
+ */
 async function prints(hands, t, source, steps) {
   const [few, all] = [await secondsOf(hands, source, steps / 4), await secondsOf(hands, source, steps)];
   t.diagnostic(`${steps} steps, a third of which print, are found and shown in ${all.toFixed(1)} s, a quarter of them in ${few.toFixed(1)} s`);
@@ -56,8 +74,12 @@ async function prints(hands, t, source, steps) {
 }
 
 // How often the browser lays the page out while so many steps are pointed at, on the mean.
+/**
+ * @param {TestBrowser} browser
+ * @param {(at: number) => string} act
+ */
 async function layoutsOf(browser, act, count = 20) {
-  const laidOut = async () => (await browser.call("Performance.getMetrics")).metrics.find(({ name }) => name === "LayoutCount").value;
+  const laidOut = async () => (await browser.call("Performance.getMetrics")).metrics.find((/** @type {{name: string}} */ { name }) => name === "LayoutCount").value;
   await browser.call("Performance.enable");
   const before = await laidOut();
   for (let at = 0; at < count; at++) await browser.run(untilShown(act(at)));
@@ -66,6 +88,10 @@ async function layoutsOf(browser, act, count = 20) {
   return (after - before) / count;
 }
 
+/**
+ * @param {Hands} hands
+ * @param {TestContext} t
+ */
 async function clicksAtLength(hands, t) {
   await hands.source(LOOP);
   await hands.browser.run("rewind.page.perform('run 100000'), 0");
@@ -73,10 +99,10 @@ async function clicksAtLength(hands, t) {
   const step = await timesOf(hands, () => "rewind.page.step('g0')");
   const undo = await timesOf(hands, () => "rewind.page.perform('undo')");
   await hands.browser.run("rewind.page.annotating.work");
-  const pointed = await timesOf(hands, (at) => pointing(99990 - at));
-  const again = await timesOf(hands, (at) => pointing(99990 - at));
-  const layouts = await layoutsOf(hands.browser, (at) => pointing(99990 - at));
-  const far = await timesOf(hands, (at) => pointing(50000 - at));
+  const pointed = await timesOf(hands, (/** @type {number} */ at) => pointing(99990 - at));
+  const again = await timesOf(hands, (/** @type {number} */ at) => pointing(99990 - at));
+  const layouts = await layoutsOf(hands.browser, (/** @type {number} */ at) => pointing(99990 - at));
+  const far = await timesOf(hands, (/** @type {number} */ at) => pointing(50000 - at));
   t.diagnostic(`at 100,000 steps: a step shows in ${step.toFixed(0)} ms, an undo in ${undo.toFixed(0)} ms`);
   t.diagnostic(`causes and consequences of a step in view show in ${pointed.toFixed(0)} ms, again in ${again.toFixed(0)} ms, of one far away in ${far.toFixed(0)} ms`);
   assert.ok(step < CLICK, "a step shows soon at 100,000 steps");
@@ -90,12 +116,13 @@ async function clicksAtLength(hands, t) {
   await hands.idle();
   await hands.browser.run("document.getElementById('search-text').value = 'total', document.getElementById('search').onsubmit(new Event('submit'))");
   assert.ok(/^[\d,]+ steps with “total”, among the [\d,]+ steps whose statements are read$/.test(await hands.text("#found")), "of a long log, a search says how many steps were read");
-  const past = await timesOf(hands, (at) => `rewind.page.past.lookAt(99900 - ${at})`, 3);
+  const past = await timesOf(hands, (/** @type {number} */ at) => `rewind.page.past.lookAt(99900 - ${at})`, 3);
   assert.ok(past < LOOKING, "a past state near the end shows soon there");
   await hands.act("now");
 }
 
 // The pointer passes over many steps: only some are asked for, and the last one is shown.
+/** @param {Hands} hands */
 async function passing(hands) {
   const { browser } = hands;
   await hands.source(LOOP);
@@ -107,6 +134,10 @@ async function passing(hands) {
 }
 
 // The page draws while a long run goes on.
+/**
+ * @param {Hands} hands
+ * @param {TestContext} t
+ */
 async function drawingMeanwhile(hands, t) {
   await hands.source(LOOP);
   const frames = await hands.browser.run(`(async () => { let longest = 0; let last = performance.now(); let isOver = false;
@@ -119,11 +150,12 @@ async function drawingMeanwhile(hands, t) {
 }
 
 // Very many steps go at once, and come again: the page has those of the program.
+/** @param {Hands} hands */
 async function longBacks(hands) {
   await hands.source(LOOP);
   await hands.perform("run 220000");
   const counts = "rewind.page.session.user.ask('log', 'columns').then(({ of }) => [rewind.page.session.log.length, of.length, rewind.page.session.gone])";
-  for (const [line, count] of [["back g0#4", 5], ["redo", 220000]]) {
+  for (const { line, count } of [{ line: "back g0#4", count: 5 }, { line: "redo", count: 220000 }]) {
     await hands.perform(line);
     assert.deepEqual(await hands.browser.run(counts), [count, count, ""], `after '${line}' of 220,000 steps the page has the steps of the program`);
   }
@@ -131,11 +163,15 @@ async function longBacks(hands) {
 
 const SPEEDS = {
   "very many steps go and come again": longBacks,
-  "many prints": (hands, t) => prints(hands, t, PRINTS, 20000),
-  "many long prints": (hands, t) => prints(hands, t, LONG_PRINTS, 2000),
+  "many prints": (/** @type {Hands} */ hands, /** @type {TestContext} */ t) => prints(hands, t, PRINTS, 20000),
+  "many long prints": (/** @type {Hands} */ hands, /** @type {TestContext} */ t) => prints(hands, t, LONG_PRINTS, 2000),
   "clicks at 100,000 steps": clicksAtLength,
   "the pointer passes over many steps": passing,
   "drawing during a long run": drawingMeanwhile,
 };
 
+/**
+ * @param {TestContext} t
+ * @param {TestBrowser} browser
+ */
 export const speed = (t, browser) => inTurn(t, browser, SPEEDS);

@@ -6,6 +6,7 @@ import { inTurn } from "./parts.mjs";
 const ALT = 1;
 
 // A send on a closed channel: run, point, take back, do again.
+/** @param {Hands} hands */
 async function takeBackAndDoAgain(hands) {
   await hands.story("send_on_closed");
   await hands.key("r");
@@ -19,7 +20,7 @@ async function takeBackAndDoAgain(hands) {
   await hands.point("g0#6");
   assert.deepEqual(await hands.drawn(".consequence[data-step]"), ["g0#7", "g0.1#6"], "consequences of the close");
   const causes = (await hands.browser.run("rewind.page.session.user.ask('causes g0#6')")).words.slice(2);
-  assert.deepEqual(await hands.drawn(".cause[data-step]"), causes.filter((id) => id !== "g0#6"), "causes of the close");
+  assert.deepEqual(await hands.drawn(".cause[data-step]"), causes.filter((/** @type {string} */ id) => id !== "g0#6"), "causes of the close");
   await hands.click("#picture .take-back");
   assert.deepEqual(await hands.lastReply(), ["> back g0#6", "ok 3 g0#6 g0#7 g0.1#6"], "one click takes the close back");
   assert.deepEqual(await hands.drawn(), log.filter((id) => !["g0#6", "g0#7", "g0.1#6"].includes(id)), "what is left");
@@ -32,10 +33,11 @@ async function takeBackAndDoAgain(hands) {
 }
 
 // A goroutine that leaks: the first sender that waits is the one that is met, though the second waits too.
+/** @param {Hands} hands */
 async function messages(hands) {
   await hands.story("leaked_goroutine");
   await hands.key("r");
-  const edges = (await hands.edges()).filter((edge) => !edge.includes("order"));
+  const edges = (await hands.edges()).filter((/** @type {string} */ edge) => !edge.includes("order"));
   const starts = ["g0#4 start g0.1#1", "g0#5 start g0.2#1", "g0#12 start g0.3#1", "g0#13 start g0.4#1"];
   assert.deepEqual(edges.sort(), [...starts, "g0.1#1 message g0#6", "g0.3#1 message g0#14"].sort(), "starts and messages");
   assert.deepEqual(await hands.texts("#console li"), ["100", "100"], "what is printed");
@@ -43,6 +45,7 @@ async function messages(hands) {
 }
 
 // A race in a select: the steps of goroutines and clauses by their buttons.
+/** @param {Hands} hands */
 async function pickClauses(hands) {
   await hands.story("race_in_select");
   for (let count = 0; count < 5; count++) await hands.key("s");
@@ -60,6 +63,7 @@ async function pickClauses(hands) {
 }
 
 // The order of neighbours: exchanged by dragging and by keys, and refused with the pair that forbids it.
+/** @param {Hands} hands */
 async function exchangeNeighbours(hands) {
   await hands.story("lost_update");
   for (let count = 0; count < 18; count++) await hands.key("n");
@@ -80,6 +84,7 @@ async function exchangeNeighbours(hands) {
   assert.deepEqual(await hands.texts("#console li"), ["balance 20"], "the wrong balance");
 }
 
+/** @param {Hands} hands */
 async function refusals(hands) {
   await hands.program("number_too_large");
   assert.ok((await hands.text(".refusal-note")).includes("(rewind: C7 at 2:"), "a refusal stands at its line");
@@ -102,14 +107,19 @@ func main() {
 // Runs in the page: the milliseconds that drawing takes after each of fifty scrolls.
 function timeOfDrawing() {
   const began = performance.now();
+  const picture = /** @type {Element} */ (document.getElementById("picture"));
   for (let at = 0; at < 50; at++) {
-    document.getElementById("picture").scrollTop = 500 * at;
+    picture.scrollTop = 500 * at;
     window.rewind.page.views.picture.draw();
   }
   return (performance.now() - began) / 50;
 }
 
 // Long runs go in portions and can be stopped; of a long log only what is in view is drawn.
+/**
+ * @param {Hands} hands
+ * @param {TestContext} t
+ */
 async function longRuns(hands, t) {
   await hands.source(LOOP);
   await hands.type("run 5000");
@@ -140,6 +150,14 @@ const STORIES = {
   "long runs": longRuns,
 };
 
+/**
+ * @param {TestContext} t
+ * @param {TestBrowser} browser
+ */
 export const stories = (t, browser) => inTurn(t, browser, STORIES);
 
+/**
+ * @param {TestContext} t
+ * @param {TestBrowser} browser
+ */
 export const firstStory = (t, browser) => inTurn(t, browser, { "a close, taken back and done again": takeBackAndDoAgain });

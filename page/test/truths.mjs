@@ -15,6 +15,7 @@ func main() {
 const PLAIN = "package main\nfunc main() {\n\tx := 1\n\n\tprintln(x)\n}\n";
 
 // A program with more goroutines than the panes show, one of which passes line 8.
+/** @param {number} turns */
 const many = (turns) => `package main
 func spin() { for { } }
 func odd() {
@@ -60,6 +61,7 @@ func main() {
 }
 `;
 
+/** @param {Hands} hands */
 async function openingDuringARun(hands) {
   await hands.source(LOOP);
   await hands.browser.run("rewind.page.perform('run 300000'), 0");
@@ -70,11 +72,13 @@ async function openingDuringARun(hands) {
 }
 
 // How many edges a saved picture has, and what it says of its part.
+/** @param {Hands} hands */
 async function saved(hands) {
   const text = await hands.browser.run("rewind.savePicture(rewind.page)");
-  return { edges: text.split('<path class="edge ').length - 1 - 4, part: /<title>(.*)<\/title>/.exec(text)[1], rows: text.split("data-step=").length - 1 };
+  return { edges: text.split('<path class="edge ').length - 1 - 4, part: /<title>(.*)<\/title>/.exec(text)?.[1] || "", rows: text.split("data-step=").length - 1 };
 }
 
+/** @param {Hands} hands */
 async function savedPictures(hands) {
   await hands.source(LOOP);
   await hands.perform("run 2000");
@@ -89,6 +93,7 @@ async function savedPictures(hands) {
   assert.ok((await hands.drawn()).length > 10 && (await hands.browser.run("document.querySelectorAll('#picture .edge').length")) > 5, "the arrows in view are there");
 }
 
+/** @param {Hands} hands */
 async function breakpointsOfManyGoroutines(hands) {
   for (const turns of [2, 5]) {
     await hands.source(many(turns));
@@ -102,6 +107,7 @@ async function breakpointsOfManyGoroutines(hands) {
 
 const dots = "[...document.querySelectorAll('.break-mark')].map((it) => it.title)";
 
+/** @param {Hands} hands */
 async function breakpointsOfThePage(hands) {
   await hands.source(PLAIN);
   await hands.browser.run("rewind.toggleBreak(rewind.page, 4)");
@@ -122,6 +128,7 @@ async function breakpointsOfThePage(hands) {
   assert.deepEqual([await hands.browser.run(dots), await hands.browser.run("[...rewind.page.session.breakpoints]")], [[], []], "the line to which a run goes is no breakpoint, also where a command comes between");
 }
 
+/** @param {Hands} hands */
 async function severalBreakpoints(hands) {
   await hands.story("deadlock");
   for (const line of [5, 9, 14]) await hands.browser.run(`rewind.toggleBreak(rewind.page, ${line})`);
@@ -131,6 +138,7 @@ async function severalBreakpoints(hands) {
   await hands.act("start");
 }
 
+/** @param {Hands} hands */
 async function clausesAtAnyLength(hands) {
   await hands.source(SELECT);
   await hands.perform("break 9");
@@ -142,6 +150,7 @@ async function clausesAtAnyLength(hands) {
   await hands.perform("clear 9");
 }
 
+/** @param {Hands} hands */
 async function faultsInClauses(hands) {
   await hands.source(CLOSED);
   for (const line of ["run 5", "step g0 2"]) await hands.perform(line);
@@ -151,6 +160,7 @@ async function faultsInClauses(hands) {
   assert.equal(await hands.text("#picture-note"), "", "the page does not say that lines are missing");
 }
 
+/** @param {Hands} hands */
 async function deaths(hands) {
   await hands.source(PLAIN);
   await hands.perform("step g0");
@@ -180,9 +190,14 @@ async function deaths(hands) {
 }
 
 // What the page throws once, in the midst of a command.
+/**
+ * @param {string} owner
+ * @param {string} name
+ */
 const throwing = (owner, name) => `{ const owner = ${owner}, act = owner.${name}; owner.${name} = function () { owner.${name} = act; throw new TypeError("a trial"); }; }`;
 
 // An error of the page is told as one, and what is shown after it is what the session holds.
+/** @param {Hands} hands */
 async function errors(hands) {
   const { browser } = hands;
   for (const [owner, name] of [["rewind.page.session.log", "remove"], ["rewind.page.views.picture", "show"], ["rewind.page.views.panes", "channels"], ["rewind.page.annotating", "findStanding"]]) {
@@ -201,6 +216,7 @@ async function errors(hands) {
 }
 
 // A chosen step goes while something of it is drawn.
+/** @param {Hands} hands */
 async function goingSteps(hands) {
   await hands.story("deadlock");
   await hands.perform("run 100");
@@ -217,6 +233,7 @@ async function goingSteps(hands) {
   assert.deepEqual([await hands.browser.run("rewind.page.pointing.about"), await hands.text("#status")], [null, `${last} is taken back.`], "a chosen step may go while it is drawn");
 }
 
+/** @param {Hands} hands */
 async function journals(hands) {
   await hands.source(LOOP);
   const before = "rewind.page.session.mirror.session.askAll(Array(3).fill('show g0')).then((it) => it.length)";
@@ -248,4 +265,8 @@ const TRUTHS = {
   journals,
 };
 
+/**
+ * @param {TestContext} t
+ * @param {TestBrowser} browser
+ */
 export const truths = (t, browser) => inTurn(t, browser, TRUTHS);

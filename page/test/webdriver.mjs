@@ -12,12 +12,20 @@ const LONGEST_START = 60;
 const LONGEST_ANSWER = 120;
 const LONGEST_END = 10;
 // The commands that are used, with their paths over HTTP.
+/** @type {{[command: string]: string}} */
 const PATHS = { Navigate: "url", ExecuteAsyncScript: "execute/async", SetWindowRect: "window/rect", PerformActions: "actions", SetTimeouts: "timeouts" };
 const MINI_BROWSER = "/usr/lib/x86_64-linux-gnu/webkit2gtk-4.1/MiniBrowser";
 
+/** @param {number} milliseconds */
 const pause = (milliseconds) => new Promise((go) => setTimeout(go, milliseconds));
 
 // What `attempt` gives as soon as it gives something; it may throw before.
+/**
+ * @template T
+ * @param {() => Promise<T | false>} attempt
+ * @param {string} sentence
+ * @returns {Promise<T>}
+ */
 async function soon(attempt, sentence) {
   for (const began = Date.now(); Date.now() - began < 1000 * LONGEST_START; await pause(100)) {
     const found = await attempt().catch(() => null);
@@ -28,11 +36,17 @@ async function soon(attempt, sentence) {
 
 // Firefox's protocol: messages behind their lengths, [0, ID, COMMAND, PARAMETERS] and [1, ID, FAULT, RESULT].
 class Marionette {
+  /** @param {import("node:net").Socket} socket */
   constructor(socket) {
-    Object.assign(this, { socket, calls: new Map(), kept: Buffer.alloc(0), last: 0 });
+    this.socket = socket;
+    /** @type {Map<number, (message: any[]) => void>} */
+    this.calls = new Map();
+    this.kept = Buffer.alloc(0);
+    this.last = 0;
     socket.on("data", (data) => this.take(data)).on("error", () => {});
   }
 
+  /** @param {number} port */
   static async open(port) {
     const socket = connect(port, "127.0.0.1");
     await new Promise((go, refuse) => socket.once("connect", go).once("error", refuse));
@@ -41,20 +55,26 @@ class Marionette {
     return protocol;
   }
 
+  /** @param {Buffer} data */
   take(data) {
     this.kept = Buffer.concat([this.kept, data]);
     for (let colon = this.kept.indexOf(":"); colon >= 0; colon = this.kept.indexOf(":")) {
-      const end = colon + 1 + Number(this.kept.subarray(0, colon));
+      const end = colon + 1 + Number(this.kept.subarray(0, colon).toString());
       if (this.kept.length < end) return;
-      const message = JSON.parse(this.kept.subarray(colon + 1, end));
+      const message = JSON.parse(this.kept.subarray(colon + 1, end).toString());
       this.kept = this.kept.subarray(end);
-      if (Array.isArray(message)) this.calls.get(message[1])(message);
+      if (Array.isArray(message)) this.calls.get(message[1])?.(message);
     }
   }
 
+  /**
+   * @param {string} command
+   * @param {any} [params]
+   */
   async call(command, params) {
     const id = ++this.last;
     const text = JSON.stringify([0, id, `WebDriver:${command}`, params]);
+    /** @type {Promise<any[]>} */
     const answered = new Promise((answer) => this.calls.set(id, answer));
     this.socket.write(`${Buffer.byteLength(text)}:${text}`);
     const [, , fault, result] = await answered;
@@ -64,14 +84,26 @@ class Marionette {
 }
 
 class OverHttp {
+  /** @param {string} address */
+  constructor(address) {
+    this.address = address;
+  }
+
+  /**
+   * @param {number} port
+   * @param {object} options
+   */
   static async open(port, options) {
-    const protocol = new OverHttp();
-    protocol.address = `http://127.0.0.1:${port}/session`;
+    const protocol = new OverHttp(`http://127.0.0.1:${port}/session`);
     const { sessionId } = await protocol.post("", { capabilities: { alwaysMatch: options } });
     protocol.address += `/${sessionId}`;
     return protocol;
   }
 
+  /**
+   * @param {string} path
+   * @param {any} [params]
+   */
   async post(path, params) {
     const said = await fetch(this.address + path, { method: "POST", body: JSON.stringify(params) });
     const { value } = await said.json();
@@ -79,11 +111,16 @@ class OverHttp {
     return value;
   }
 
+  /**
+   * @param {string} command
+   * @param {any} [params]
+   */
   call(command, params) {
     return this.post(`/${PATHS[command]}`, params);
   }
 }
 
+/** @returns {Promise<number>} */
 function freePort() {
   const server = createServer();
   return new Promise((go) => server.listen(0, "127.0.0.1", () => {
@@ -95,10 +132,12 @@ function freePort() {
 // Processes that are ended together, and their folder.
 class Processes {
   constructor() {
+    /** @type {{child: import("node:child_process").ChildProcess, ended: Promise<unknown>}[]} */
     this.all = [];
     this.folder = mkdtempSync(join(tmpdir(), "rewind-browser-"));
   }
 
+  /** @param {string[]} words */
   start(words, options = {}) {
     const child = spawn(words[0], words.slice(1), { stdio: "ignore", ...options });
     const ended = new Promise((go) => child.on("exit", go).on("error", go));
@@ -115,21 +154,24 @@ class Processes {
   }
 }
 
+/** @param {Processes} processes */
 async function firefox(processes) {
   const { folder } = processes;
   writeFileSync(join(folder, "user.js"), 'user_pref("marionette.port", 0);\n');
   processes.start(["firefox-esr", "--headless", "--marionette", "--profile", folder, "about:blank"]);
   const file = join(folder, "MarionetteActivePort");
-  const port = await soon(async () => existsSync(file) && Number(readFileSync(file)), "it opens no port");
+  const port = await soon(async () => existsSync(file) && Number(readFileSync(file, "utf8")), "it opens no port");
   return Marionette.open(port);
 }
 
 // A display in memory; its number.
+/** @param {Processes} processes */
 async function display(processes) {
   const child = processes.start(["Xvfb", "-displayfd", "3", "-nolisten", "tcp", "-screen", "0", "1400x1000x24"], { stdio: ["ignore", "ignore", "ignore", "pipe"] });
   return new Promise((go, refuse) => child.on("exit", () => refuse(new Error("Xvfb does not run"))).on("error", refuse).stdio[3].once("data", (text) => go(String(text).trim())));
 }
 
+/** @param {Processes} processes */
 async function webkit(processes) {
   const port = await freePort();
   const screen = { DISPLAY: `:${await display(processes)}`, WEBKIT_DISABLE_COMPOSITING_MODE: "1", LIBGL_ALWAYS_SOFTWARE: "1", HOME: processes.folder };
@@ -140,6 +182,7 @@ async function webkit(processes) {
 }
 
 // How browsers are opened, and the programs that they need.
+/** @type {{[name: string]: {open: (processes: Processes) => Promise<Marionette | OverHttp>, programs: string[]}}} */
 export const BROWSERS = {
   Firefox: { open: firefox, programs: ["firefox-esr"] },
   WebKitGTK: { open: webkit, programs: ["WebKitWebDriver", "Xvfb", MINI_BROWSER] },
@@ -151,25 +194,41 @@ const NOTING = `window.faultsSeen = [],
   window.addEventListener("unhandledrejection", ({ reason }) => window.faultsSeen.push(String(reason)))`;
 
 export class DrivenBrowser {
-  static async open(name) {
-    const browser = new DrivenBrowser();
-    browser.processes = new Processes();
-    browser.faults = [];
-    try {
-      browser.protocol = await within(LONGEST_START, BROWSERS[name].open(browser.processes), `it does not answer in ${LONGEST_START} seconds`);
-      await browser.call("SetTimeouts", { script: 1000 * LONGEST_ANSWER, pageLoad: 1000 * LONGEST_START });
-    } catch (fault) {
-      await browser.close();
-      throw new DidNotStart(`${name} does not run: ${fault.message}`);
-    }
-    return browser;
+  /**
+   * @param {Processes} processes
+   * @param {Marionette | OverHttp} protocol
+   */
+  constructor(processes, protocol) {
+    this.processes = processes;
+    this.protocol = protocol;
+    /** @type {string[]} */
+    this.faults = [];
   }
 
+  /** @param {string} name */
+  static async open(name) {
+    const processes = new Processes();
+    try {
+      const protocol = await within(LONGEST_START, BROWSERS[name].open(processes), `it does not answer in ${LONGEST_START} seconds`);
+      const browser = new DrivenBrowser(processes, protocol);
+      await browser.call("SetTimeouts", { script: 1000 * LONGEST_ANSWER, pageLoad: 1000 * LONGEST_START });
+      return browser;
+    } catch (fault) {
+      await processes.end();
+      throw new DidNotStart(`${name} does not run: ${/** @type {Error} */ (fault).message}`);
+    }
+  }
+
+  /**
+   * @param {string} command
+   * @param {any} [params]
+   */
   call(command, params) {
-    return within(LONGEST_ANSWER, this.protocol.call(command, params), `no answer in ${LONGEST_ANSWER} seconds to ${command} ${params.script || ""}`);
+    return within(LONGEST_ANSWER, this.protocol.call(command, params), `no answer in ${LONGEST_ANSWER} seconds to ${command} ${params?.script || ""}`);
   }
 
   // Loads a file, and waits until the page has begun its first session.
+  /** @param {string} file */
   async load(file, hash = "") {
     await this.call("Navigate", { url: `file://${file}${hash}` });
     const [isStarted] = await soon(() => this.run("window.started?.then((is) => [is])"), "the script of the page did not run");
@@ -182,6 +241,7 @@ export class DrivenBrowser {
   }
 
   // Evaluates an expression in the page; of a promise, what it comes to.
+  /** @param {string} expression */
   async run(expression) {
     const script = `const done = arguments[arguments.length - 1];
       (async () => ({ value: await (${expression}) }))().catch((fault) => ({ fault: String(fault) })).then(done);`;
@@ -190,27 +250,50 @@ export class DrivenBrowser {
     return value;
   }
 
+  /**
+   * @param {number} width
+   * @param {number} height
+   */
   size(width, height) {
     return this.call("SetWindowRect", { width, height });
   }
 
+  /**
+   * @param {string} type
+   * @param {object | null} parameters
+   * @param {object[]} actions
+   */
   act(type, parameters, actions) {
     return this.call("PerformActions", { actions: [{ type, id: type, ...(parameters && { parameters }), actions }] });
   }
 
+  /** @param {string} value */
   key(value) {
     return this.act("key", null, [{ type: "keyDown", value }, { type: "keyUp", value }]);
   }
 
+  /**
+   * @param {string} type
+   * @param {number} x
+   * @param {number} y
+   */
   async mouse(type, x, y) {
     const move = { type: "pointerMove", x: Math.round(x), y: Math.round(y), duration: 0, origin: "viewport" };
+    /** @type {{[type: string]: object[]}} */
     const press = { mousePressed: [{ type: "pointerDown", button: 0 }], mouseReleased: [{ type: "pointerUp", button: 0 }] };
     await this.act("pointer", { pointerType: "mouse" }, [move, ...(press[type] || [])]);
   }
 
+  /**
+   * @param {number} x
+   * @param {number} y
+   */
   async click(x, y) {
     for (const type of ["mousePressed", "mouseReleased"]) await this.mouse(type, x, y);
   }
+
+  // The tests look at no picture of these.
+  async shot() {}
 
   close() {
     return this.processes.end();

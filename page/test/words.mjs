@@ -4,6 +4,7 @@ import assert from "node:assert/strict";
 import { inTurn } from "./parts.mjs";
 import { LOOP } from "./truths.mjs";
 
+/** @param {Hands} hands */
 async function states(hands) {
   await hands.story("deadlock");
   await hands.key("r");
@@ -23,6 +24,7 @@ async function states(hands) {
 }
 
 // The first sender of two finds nobody to take its second value.
+/** @param {Hands} hands */
 async function holders(hands) {
   await hands.source("package main\nfunc count(c chan int) {\n\tc <- 1\n\tc <- 2\n}\nfunc main() {\n\tc, done := make(chan int), make(chan bool)\n\tgo count(c)\n\tprintln(<-c)\n\t<-done\n}\n");
   await hands.perform("run 100");
@@ -30,8 +32,10 @@ async function holders(hands) {
   assert.ok((await why(hands)).includes("no other goroutine can still receive from c"), "and it is told that nobody can serve");
 }
 
+/** @param {Hands} hands */
 const why = (hands) => hands.browser.run("document.getElementById('why-lines').textContent");
 
+/** @param {Hands} hands */
 async function manyGoroutines(hands) {
   await hands.source("package main\nfunc wait(c chan int) { <-c }\nfunc main() {\n\tc := make(chan int)\n\tfor i := 0; i < 40; i++ { go wait(c) }\n\tc <- 1\n}\n");
   await hands.perform("run 400");
@@ -40,9 +44,11 @@ async function manyGoroutines(hands) {
 }
 
 // Main starts 230 goroutines that wait for ever, and either waits too or ends.
+/** @param {string} last */
 const waiting = (last) => `package main\nfunc wait(c chan int) { <-c }\nfunc main() {\n\tc := make(chan int)\n\tfor i := 0; i < 230; i++ { go wait(c) }\n\t${last}\n}\n`;
 
 // More goroutines than the panes show: what is said of all is true of those too that are not shown.
+/** @param {Hands} hands */
 async function unseenGoroutines(hands) {
   await hands.source(waiting("<-c"));
   await hands.perform("run 880");
@@ -54,14 +60,17 @@ async function unseenGoroutines(hands) {
   assert.equal(await hands.text("#state"), "The program has ended. 1 goroutine was not done when main returned, and 1 is a leak. g0.231 would wait for ever at line 3.", "a leak that is not shown is told");
 }
 
+/** @param {Hands} hands */
 async function ends(hands) {
   await hands.perform("run 5");
   assert.equal(await hands.text("#status"), "The program has ended before: there is no step to take.", "an ended program is told to have ended before");
 }
 
+/** @param {string} selector */
 const isInView = (selector) => `(() => { const it = document.querySelector(${JSON.stringify(selector)}).getBoundingClientRect();
   const box = document.querySelector('#editor .CodeMirror-scroll').getBoundingClientRect(); return it.top >= box.top - 2 && it.bottom <= box.bottom + 2; })()`;
 
+/** @param {Hands} hands */
 async function places(hands) {
   await hands.story("lost_update");
   assert.ok(await hands.browser.run(isInView(".at-line")), "the source shows where the program stands at first");
@@ -79,6 +88,7 @@ async function places(hands) {
 }
 
 // The buttons under the picture are of the chosen step, whatever the pointer passes on its way to them.
+/** @param {Hands} hands */
 async function byMouse(hands) {
   await hands.story("send_on_closed");
   await hands.key("r");
@@ -92,9 +102,11 @@ async function byMouse(hands) {
   assert.equal((await hands.lastReply())[0], "> back g0#6", "the button under the picture takes the chosen step back");
 }
 
+/** @param {Hands} hands */
 async function wordsOfTheShell(hands) {
   await hands.story("deadlock");
-  for (const [line, said] of [["why", /'why' is a word of the shell\. Here the line above/], ["history 3", /here the picture shows/i], ["run 1,000", /digits alone, as in 'run 1000'/], ["nothing", /Help lists them/]]) {
+  const answers = { why: /'why' is a word of the shell\. Here the line above/, "history 3": /here the picture shows/i, "run 1,000": /digits alone, as in 'run 1000'/, nothing: /Help lists them/ };
+  for (const [line, said] of Object.entries(answers)) {
     await hands.perform(line);
     assert.ok(said.test(await hands.text("#status")) && said.test((await hands.lastReply()).join(" ")), `'${line}' is answered with where it is to be had`);
   }
@@ -104,6 +116,7 @@ async function wordsOfTheShell(hands) {
 
 const RUN_SEARCH = "document.getElementById('search').onsubmit(new Event('submit'))";
 
+/** @param {Hands} hands */
 async function searches(hands) {
   await hands.story("deadlock");
   await hands.perform("run 100");
@@ -116,6 +129,7 @@ async function searches(hands) {
   assert.deepEqual(await hands.browser.run("[document.getElementById('found').textContent, document.getElementById('search-text').value]"), ["", ""], "and goes with its session");
 }
 
+/** @param {Hands} hands */
 async function toldStories(hands) {
   await hands.story("deadlock");
   const said = [];
@@ -124,9 +138,10 @@ async function toldStories(hands) {
     said.push(await hands.text("#about-story"));
   }
   const told = await hands.browser.run("rewind.page.views.stories.commands.map(({ text }) => text).filter((it) => it)");
-  assert.deepEqual(said.filter((it) => !told.some((text) => text.toLowerCase() === it.toLowerCase()) && !it.startsWith("That was")), [], "a story keeps the paragraph that it told last");
+  assert.deepEqual(said.filter((it) => !told.some((/** @type {string} */ text) => text.toLowerCase() === it.toLowerCase()) && !it.startsWith("That was")), [], "a story keeps the paragraph that it told last");
 }
 
+/** @param {Hands} hands */
 async function pastStates(hands) {
   await hands.story("lost_update");
   await hands.perform("run 40");
@@ -139,14 +154,16 @@ async function pastStates(hands) {
   assert.equal(await hands.text("#status"), "The panes show the present state.", "also of the way back");
 }
 
+/** @param {Hands} hands */
 async function manyWaiters(hands) {
   await hands.source("package main\nfunc give(c chan int, n int) { c <- n }\nfunc main() {\n\tc := make(chan int)\n\tfor i := 0; i < 60; i++ { go give(c, i) }\n\tfor { }\n}\n");
   await hands.perform("run 600");
   const heights = await hands.browser.run("[...document.querySelectorAll('#channels .queues dt')].map((it) => it.clientHeight)");
-  assert.ok(heights.length === 3 && heights.every((it) => it < 30), "the names of queues stand in one line, also beside many waiters");
+  assert.ok(heights.length === 3 && heights.every((/** @type {number} */ it) => it < 30), "the names of queues stand in one line, also beside many waiters");
 }
 
 // On a narrow screen the button beside a step leaves its mark free.
+/** @param {Hands} hands */
 async function narrow(hands) {
   await hands.browser.size(390, 844);
   await hands.story("deadlock");
@@ -163,11 +180,12 @@ async function narrow(hands) {
   await hands.browser.size(1280, 800);
 }
 
+/** @param {Hands} hands */
 async function longTexts(hands) {
   await hands.source(LOOP);
   await hands.perform("run 2000");
   const ids = await hands.ids();
-  const row = ids.findIndex((id, at) => at > 900 && ids[at + 1].split("#")[0] !== id.split("#")[0]);
+  const row = ids.findIndex((/** @type {string} */ id, /** @type {number} */ at) => at > 900 && ids[at + 1].split("#")[0] !== id.split("#")[0]);
   await hands.browser.run(`rewind.page.pointing.move(${JSON.stringify(ids[row])}, ${row + 1})`);
   await hands.idle();
   const height = await hands.browser.run("document.querySelector('#transcript').lastElementChild.getBoundingClientRect().height");
@@ -181,10 +199,13 @@ async function longTexts(hands) {
 // Runs in the page: edges that pass through the mark of another goroutine.
 function crossings() {
   const { layout } = window.rewind.page.views.picture;
+  /** @param {Edge} edge */
   const endsOf = (edge) => [edge.from, edge.to];
-  const marks = layout.log.steps(0, layout.log.length).map((step) => ({ id: step.id, x: layout.lefts.get(step.goroutine), y: layout.y(layout.rows.place(step.row)) }));
+  const marks = layout.log.steps(0, layout.log.length).map((/** @type {Step} */ step) => ({ id: step.id, x: layout.lefts.get(step.goroutine), y: layout.y(layout.rows.place(step.row)) }));
+  /** @type {string[]} */
   const found = [];
-  const paths = [...document.querySelectorAll("#picture .edge")].filter((it) => it.closest(".drawn"));
+  const edgesOf = /** @type {NodeListOf<SVGPathElement>} */ (document.querySelectorAll("#picture .edge"));
+  const paths = [...edgesOf].filter((it) => it.closest(".drawn"));
   const edges = window.rewind.page.annotating.edges();
   paths.forEach((path, at) => {
     for (let length = 0; length < path.getTotalLength(); length += 2) {
@@ -195,9 +216,10 @@ function crossings() {
   return { paths: paths.length, edges: edges.length, found: [...new Set(found)] };
 }
 
+/** @param {Hands} hands */
 async function arrows(hands) {
   await hands.browser.size(1280, 2600);
-  for (const [name, steps] of [["lost_update", 60], ["deadlock", 60], ["prime_sieve", 100]]) {
+  for (const [name, steps] of Object.entries({ lost_update: 60, deadlock: 60, prime_sieve: 100 })) {
     await hands.story(name);
     await hands.perform(`run ${steps}`);
     const { paths, edges, found } = await hands.browser.run(`(${crossings})()`);
@@ -225,4 +247,8 @@ const WORDS = {
   "arrows keep clear of marks": arrows,
 };
 
+/**
+ * @param {TestContext} t
+ * @param {TestBrowser} browser
+ */
 export const saidWords = (t, browser) => inTurn(t, browser, WORDS);

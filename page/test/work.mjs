@@ -6,6 +6,10 @@ import { inTurn } from "./parts.mjs";
 
 const OWN = "package main\nfunc main() {\n\tprintln(7)\n}\n";
 
+/**
+ * @param {TestBrowser} browser
+ * @param {Hands} hands
+ */
 async function reload(browser, hands) {
   await browser.call("Page.reload");
   await hands.until("window.started");
@@ -13,6 +17,7 @@ async function reload(browser, hands) {
   await hands.idle();
 }
 
+/** @param {Hands} hands */
 async function overAReload(hands) {
   const { browser } = hands;
   await hands.source(OWN);
@@ -28,6 +33,7 @@ async function overAReload(hands) {
   await hands.idle();
 }
 
+/** @param {Hands} hands */
 async function storiesOverAReload(hands) {
   const { browser } = hands;
   await hands.story("deadlock");
@@ -39,6 +45,7 @@ async function storiesOverAReload(hands) {
   assert.deepEqual(await browser.run("[rewind.page.views.stories.at, rewind.page.session.log.length]"), [0, 0], "and begins anew with a new start");
 }
 
+/** @param {Hands} hands */
 async function overAChangeOfStory(hands) {
   await hands.source(OWN);
   await hands.story("deadlock");
@@ -46,6 +53,7 @@ async function overAChangeOfStory(hands) {
   assert.deepEqual(await hands.browser.run("rewind.page.views.editor.text"), OWN, "undoing in the editor brings the text before a story back");
 }
 
+/** @param {Hands} hands */
 async function refusedTexts(hands) {
   await hands.source(OWN);
   await hands.perform("step g0");
@@ -63,6 +71,7 @@ async function refusedTexts(hands) {
   assert.deepEqual(await hands.texts(".refused-word"), ["true"], "and in it what is wrong");
 }
 
+/** @param {Hands} hands */
 async function keptLines(hands) {
   await hands.source(OWN.replace("println(7)", "for { }"));
   await hands.browser.run("rewind.page.perform('run 400000'), 0");
@@ -75,6 +84,7 @@ async function keptLines(hands) {
   assert.ok(/stopped by you/.test(await hands.text("#status")), "a stopped run says so");
 }
 
+/** @param {Hands} hands */
 async function numbersOfRuns(hands) {
   await hands.source(OWN);
   for (const count of ["0", "1.5", "2000000", "1e3", "ten"]) {
@@ -89,6 +99,7 @@ async function numbersOfRuns(hands) {
   await hands.browser.run("document.getElementById('count').value = '100'");
 }
 
+/** @param {Hands} hands */
 async function links(hands) {
   const { browser } = hands;
   await browser.run("navigator.clipboard.writeText = async () => {}");
@@ -101,6 +112,7 @@ async function links(hands) {
   await browser.run("history.replaceState(null, '', location.href.split('#')[0])");
 }
 
+/** @param {Hands} hands */
 async function storyOfAnother(hands) {
   await hands.story("send_on_closed");
   assert.ok(await hands.browser.run("!document.getElementById('next').hidden"), "a story has a next command");
@@ -112,6 +124,7 @@ async function storyOfAnother(hands) {
 const REFUSED = new URL("../../clients/tests/refused/", import.meta.url).pathname;
 
 // Runs in the page: what it says of a refused source.
+/** @param {string} source */
 async function saidInPage(source) {
   const { Session, program, explain, parseFault, page } = window.rewind;
   const session = await Session.open(program, new TextEncoder().encode(source));
@@ -121,6 +134,7 @@ async function saidInPage(source) {
 }
 
 // Refusals come out as the clients have them.
+/** @param {Hands} hands */
 async function refusalsAsTold(hands) {
   const other = [];
   let same = 0;
@@ -138,6 +152,7 @@ async function refusalsAsTold(hands) {
 }
 
 // A browser that cannot compile the program.
+/** @param {Hands} hands */
 async function otherBrowsers(hands) {
   const { browser } = hands;
   const { identifier } = await browser.call("Page.addScriptToEvaluateOnNewDocument", { source: "WebAssembly.compile = () => Promise.reject(new WebAssembly.CompileError('no 64-bit memory'))" });
@@ -165,4 +180,8 @@ const WORKS = {
   "a browser that cannot run the program": otherBrowsers,
 };
 
+/**
+ * @param {TestContext} t
+ * @param {TestBrowser} browser
+ */
 export const works = (t, browser) => inTurn(t, browser, WORKS);

@@ -58,7 +58,7 @@ const saveFile = (page) => download(new Blob([toFile(shared(page))], { type: "te
  * @param {Page} page
  * @param {Iterable<File>} files
  */
-export async function openFiles(page, files) {
+async function openFiles(page, files) {
   const read = await Promise.all([...files].map(async (file) => ({ name: file.name, text: await file.text() })));
   const { source, commands } = fromFiles(read);
   if (source !== null) {

@@ -8,7 +8,7 @@ import { parseGoroutine } from "../engine/protocol.js";
 import { placed } from "../session/scene.js";
 
 const MOST = 2000; // steps of one move
-export const LONGEST_RUN = 1000000;
+const LONGEST_RUN = 1000000;
 
 /** @typedef {import("./page.js").Page} Page */
 

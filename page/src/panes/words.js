@@ -22,7 +22,7 @@ const FATES = { end: "would end", wait: "would wait for ever", "go on": "would s
 
 // What a reason for the end of a run says.
 /** @param {string} reason */
-export function reasonText(reason) {
+function reasonText(reason) {
   if (reason.startsWith("break")) return `stopped at the breakpoint in line ${reason.slice(6)}`;
   return ENDS_OF_RUNS[reason] || reason;
 }

@@ -1,7 +1,7 @@
 // The colours of the page and of saved pictures, light and dark. Texts have a contrast of at least 4.5 to 1 on both backgrounds, and
 // marks of at least 3 to 1.
 
-export const LIGHT = {
+const LIGHT = {
   page: "#ffffff", panel: "#f4f6f8", field: "#ffffff", text: "#1a1f24", muted: "#56606b", line: "#c9d1d9", control: "#7d8792",
   accent: "#0b57d0", "on-accent": "#ffffff", cause: "#0b57d0", consequence: "#a8400b", "cause-wash": "#dfeafd",
   "consequence-wash": "#fdebdd", chosen: "#1a1f24", danger: "#b3261e", "danger-wash": "#fde8e6", step: "#4a5560",
@@ -9,7 +9,7 @@ export const LIGHT = {
   literal: "#17693d", comment: "#5d6771", name: "#0b4a94",
 };
 
-export const DARK = {
+const DARK = {
   page: "#14171a", panel: "#1c2125", field: "#101214", text: "#e6e9ec", muted: "#a5afb9", line: "#39424b", control: "#7f8a95",
   accent: "#8ab4f8", "on-accent": "#0d1115", cause: "#8ab4f8", consequence: "#ffb27a", "cause-wash": "#1d3050",
   "consequence-wash": "#452a14", chosen: "#ffffff", danger: "#ff9d94", "danger-wash": "#43201d", step: "#b3bdc7",

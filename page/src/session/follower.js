@@ -343,7 +343,7 @@ const newLines = (before, after) => (after.count > before.count ? after.lines.sl
  * @param {import("./log.js").Log} log
  * @param {number} row
  */
-export function namesAt(log, row) {
+function namesAt(log, row) {
   /** @type {{[word: string]: Map<string, number>}} */
   const counts = { go: new Map(), make: new Map() };
   const names = ["g0"];

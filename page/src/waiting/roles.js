@@ -15,7 +15,7 @@ const BEHIND = 0.5;
 /** @typedef {{name: string, line: number}} Place */
 
 /** @param {string} value */
-export const isChannel = (value) => /^g0(\.\d+)*\/c\d+$/.test(value);
+const isChannel = (value) => /^g0(\.\d+)*\/c\d+$/.test(value);
 
 // A frame, or the calls of a function that are still to come: the function, and the place from which its text is ahead. `held` are the
 // tokens of expressions that may be done already, with a value that no variable shows yet, and `waitsAt` is the channel at which it

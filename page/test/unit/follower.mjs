@@ -11,9 +11,15 @@ import { Statements } from "../../src/session/statements.js";
 const SOURCE = "package main\nfunc main() {\nprintln(2)\nprintln(3)\nprintln(5)\n}\n";
 
 // A session in which each step of g0 prints its line; after the steps of the first exchange, `meanwhile` happens.
+/**
+ * @param {Statements} statements
+ * @param {(commands: string[]) => void} meanwhile
+ */
 function printing(statements, meanwhile) {
+  /** @type {number[]} */
   const printed = [];
   const lines = statements.all.map(({ expandedLine }) => expandedLine);
+  /** @param {string} command */
   const answer = (command) => {
     if (command === "show g0") return `| g0 ready ${printed.length} line ${lines[printed.length]}\n| main\nok\n`;
     if (command === "text g0") return `${printed.map((it) => `| ${it}\n`).join("")}ok\n`;
@@ -22,11 +28,16 @@ function printing(statements, meanwhile) {
   };
   return {
     status: null,
+    /** @param {string[]} commands */
     async askAll(commands, shape = "replies") {
       const texts = commands.map(answer);
       meanwhile(commands);
       return texts.flatMap((text) => shaped(text, shape));
     },
+    /**
+     * @param {string[]} commands
+     * @param {string} shape
+     */
     questions(commands, shape) {
       return this.askAll(commands, shape);
     },
@@ -38,10 +49,11 @@ test("steps that stay keep their own lines where one after them was taken back",
   const statements = new Statements(SOURCE);
   const log = new Log();
   for (const step of ["g0#1 pure", "g0#2 pure", "g0#3 pure"]) log.apply("step g0", parseReplies(`ok ${step}\n`)[0]);
-  const follower = new Follower(null, statements, log, new Map());
-  follower.remote = printing(statements, (commands) => {
+  const follower = new Follower(/** @type {any} */ (null), statements, log, new Map());
+  const remote = printing(statements, (commands) => {
     if (commands.includes("step g0")) log.apply("undo", parseReplies("ok g0#3\n")[0]);
   });
+  follower.remote = /** @type {any} */ (remote);
   await follower.annotate(0, log.length);
   const printed = ["g0#1", "g0#2", "g0#3"].map((id) => follower.notes.get(id)?.printed);
   assert.deepEqual(printed, [["2"], ["3"], undefined]);

@@ -7,6 +7,7 @@ import { Log } from "../../src/session/log.js";
 import { parseReplies } from "../../src/engine/protocol.js";
 import { shaped } from "../../src/engine/shapes.js";
 
+/** @type {{[command: string]: string}} */
 const ANSWERS = {
   "causes g0#2": "ok 2 g0#1 g0#2\n", "deps g0#2": "ok 3 g0#2 g0.1#1 g0#3\n", "causes g0.1#1": "ok 3 g0#1 g0#2 g0.1#1\n", "deps g0.1#1": "ok 1 g0.1#1\n",
 };
@@ -14,17 +15,20 @@ const ANSWERS = {
 function made() {
   const log = new Log();
   for (const step of ["g0#1 make", "g0#2 go", "g0.1#1 pure", "g0#3 pure"]) log.apply(`step ${step.split("#")[0]}`, parseReplies(`ok ${step}\n`)[0]);
+  /** @type {string[]} */
   const asked = [];
   const notes = new Map();
   const mirror = {
+    /** @param {string[]} commands */
     async lists(commands) {
       asked.push(...commands);
       return commands.flatMap((command) => shaped(ANSWERS[command], "listed"));
     },
   };
-  return { log, asked, notes, known: new Known(mirror, { notes }, log) };
+  return { log, asked, notes, known: new Known(/** @type {any} */ (mirror), /** @type {any} */ ({ notes }), log) };
 }
 
+/** @param {{count: number, spans: Map<string, number[]>}[]} some */
 const told = (some) => some.map(({ count, spans }) => [count, [...spans].sort()]);
 
 test("causes and consequences of a step are asked once, and none that the notes tell", async () => {

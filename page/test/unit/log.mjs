@@ -5,7 +5,9 @@ import { test } from "node:test";
 import { Log } from "../../src/session/log.js";
 import { parseReplies } from "../../src/engine/protocol.js";
 
+/** @param {string} text */
 const reply = (text) => parseReplies(text)[0];
+/** @param {Log} log */
 const ids = (log) => log.steps(0, log.length).map(({ id }) => id);
 
 function filled() {

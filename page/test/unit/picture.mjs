@@ -10,6 +10,7 @@ import { escaped, shortened } from "../../src/picture/labels.js";
 import { layOut } from "../../src/picture/layout.js";
 import { drawRows, NOTHING_POINTED, sideOf } from "../../src/picture/picture.js";
 
+/** @param {...[goroutine: string, kind: string]} steps */
 function logOf(...steps) {
   const log = new Log();
   for (const [goroutine, kind] of steps) log.append(goroutine, kind);
@@ -17,6 +18,7 @@ function logOf(...steps) {
 }
 
 // Points of a path, a straight line, a quadratic curve or a way around, every so often.
+/** @param {string} path */
 function pointsOf(path) {
   const found = [];
   let here = null;
@@ -25,6 +27,10 @@ function pointsOf(path) {
     const end = numbers.slice(-2);
     const middle = letter === "Q" ? numbers.slice(0, 2) : null;
     for (let at = 0; here && at <= 1; at += 0.02) {
+      /**
+       * @param {number[]} one
+       * @param {number[]} other
+       */
       const mix = (one, other) => [one[0] + (other[0] - one[0]) * at, one[1] + (other[1] - one[1]) * at];
       found.push(middle ? mix(mix(here, middle), mix(middle, end)) : mix(here, end));
     }
@@ -34,9 +40,11 @@ function pointsOf(path) {
 }
 
 test("edges keep clear of the marks of others", () => {
+  /** @type {[number, number][]} */
   const marks = [[200, 60], [200, 82], [200, 104], [200, 126]];
+  /** @param {number} y */
   const near = (y) => marks.filter((it) => Math.abs(it[1] - y) < 30);
-  for (const to of [[300, 82], [300, 126], [300, 71], [100, 104]]) {
+  for (const to of /** @type {[number, number][]} */ ([[300, 82], [300, 126], [300, 71], [100, 104]])) {
     const clear = pointsOf(edgePath([100, 60], to, near, 22)).filter(([x, y]) => marks.every(([left, top]) => Math.hypot(left - x, top - y) >= 5));
     assert.deepEqual(clear.length, pointsOf(edgePath([100, 60], to, near, 22)).length, `an edge to ${to} keeps clear of the marks of others`);
   }
@@ -56,9 +64,11 @@ test("the operations of a channel", () => {
   const variables = [{ name: "a", value: "g0/c1" }, { name: "b", value: "g0/c2" }, { name: "n", value: "7" }];
   const send = { text: "a <- n", clauses: [] };
   const select = { text: "select", clauses: ["a <- n", "v := <-b"] };
+  /** @type {[kind: string, statement: any][]} */
   const found = [["buffer", send], ["select-wait", select], ["pick 2", select], ["pure", send], ["take", { text: "v := <-next()", clauses: [] }]];
   assert.deepEqual(found.map(([kind, statement]) => channelsOf(kind, statement, variables)), [["g0/c1"], ["g0/c1", "g0/c2"], ["g0/c2"], [], []], "the channels that a step works on");
   const log = logOf(["g0", "make"], ["g0", "make"], ["g0", "pure"], ["g0", "buffer"], ["g0", "take"], ["g0", "close"]);
+  /** @type {Map<string, any>} */
   const notes = new Map([["g0#4", { channels: ["g0/c1"] }], ["g0#5", { channels: ["g0/c2"] }], ["g0#6", { channels: [] }]]);
   const rows = new Rows(log, { isShown: worksOn(log, (id) => notes.get(id), "g0/c2") });
   assert.deepEqual(rows.starts, [1, 4, 5], "a channel's operations, where it was made, and those of no known channel");
@@ -68,6 +78,10 @@ test("the operations of a channel", () => {
 
 test("what steps are to the chosen one", () => {
   const view = { ...NOTHING_POINTED, pointed: "g0#2", causes: new Map([["g0", [1, 2]], ["g0.1", [1, 1]]]), consequences: new Map([["g0.1", [3, 5]]]) };
+  /**
+   * @param {string} goroutine
+   * @param {number} number
+   */
   const side = (goroutine, number) => sideOf({ id: `${goroutine}#${number}`, goroutine, number, kind: "pure", row: 0 }, view);
   assert.deepEqual([side("g0", 1), side("g0", 2), side("g0", 3), side("g0.1", 1), side("g0.1", 2), side("g0.1", 3)], ["cause", "", "", "cause", "", "consequence"], "what steps are to the chosen one");
 });

@@ -8,10 +8,14 @@ import { goTokens, openBrackets } from "../../src/refused/tokens.js";
 import { mostLike } from "../../src/refused/similar.js";
 
 const TABLE = JSON.parse(readFileSync(new URL("../../../clients/rewind_client/refusals.json", import.meta.url), "utf8"));
+/** @param {string} code */
 const refusal = (code, line = 0, column = 0) => ({ code, line, column, text: `rewind: ${code}` });
+/** @param {...string} lines */
 const inMain = (...lines) => `package main\n\nfunc main() {\n${lines.map((it) => `\t${it}\n`).join("")}}\n`;
 
 // A source, the refusal of it, and what is said: the sentence, the marked word, what to write instead, and a hint.
+/** @typedef {[code: string, line: number, column: number]} Refused */
+/** @type {[source: string, place: Refused, told: string[] | null][]} */
 const CASES = [
   [inMain("x := 1", "y := x + totl", "println(y)"), ["C1", 5, 2], ["undeclared name: totl", "totl", "", "a declaration before it, or a parameter totl"]],
   [inMain("total := 1", "y := 2 + totl", "println(y)"), ["C1", 5, 2], ["undeclared name: totl (did you mean total?)", "totl", "total", ""]],
@@ -33,7 +37,7 @@ test("sentences of refusals", () => {
     else assert.ok(found.sentence !== TABLE[place[0]].meaning && word, `a form of ${place[0]} is found`);
   }
   const { whole } = explain(TABLE, CASES[2][0], refusal(...CASES[2][1]));
-  assert.equal(CASES[2][0].slice(whole.start, whole.end), "n += true", "the statement around what is wrong");
+  assert.equal(CASES[2][0].slice(whole?.start, whole?.end), "n += true", "the statement around what is wrong");
   assert.deepEqual(explain(TABLE, "package main\n", refusal("P4")).sentence, TABLE.P4.forms[0].sentence, "a code without a place has one sentence");
   assert.equal(explain(TABLE, "", refusal("Z9", 1, 1)).sentence, "rewind: Z9", "one that is not known gives what the program wrote");
 });
@@ -42,6 +46,7 @@ test("sentences of refusals", () => {
 test("any place is explained", () => {
   const source = readFileSync(new URL("../../../clients/tests/refused/select_send_on_receive_only.go", import.meta.url), "utf8");
   for (const code of ["S1", "S6", "P1", "P2", "C1", "C3", "C4", "C7", "C10"]) {
+    /** @type {[string, Refusal][]} */
     const places = [];
     for (let end = 0; end < source.length; end += 7) {
       const lines = source.slice(0, end).split("\n");

@@ -5,14 +5,17 @@ import { test } from "node:test";
 import { runInPortions } from "../../src/session/runs.js";
 
 // A session whose step number `at` is the only one that begins at a breakpoint.
+/** @param {number} at */
 function session(at, length = Infinity) {
   const it = {
-    taken: 0, asked: [],
+    taken: 0,
+    asked: /** @type {number[]} */ ([]),
     hasBreaks: () => at < Infinity,
     async undo() {
       it.taken--;
-      return { isOk: true, words: ["ok"] };
+      return { isOk: true, words: ["ok"], lines: [], last: "" };
     },
+    /** @param {number} steps */
     async run(steps) {
       it.asked.push(steps);
       let count = 0;
@@ -21,7 +24,7 @@ function session(at, length = Infinity) {
         count++;
       }
       const reason = it.taken >= length ? "ended" : count < steps ? "break 8" : "count";
-      return { isOk: true, words: ["ok", String(count), ...reason.split(" ")], last: "" };
+      return { isOk: true, words: ["ok", String(count), ...reason.split(" ")], lines: [], last: "" };
     },
   };
   return it;

@@ -35,7 +35,7 @@ test("each is alone on its line of the expanded source, which differs by new lin
 });
 
 test("the clauses of a select", () => {
-  assert.deepEqual(found.all.find(({ text }) => text === "select").clauses, ["v, ok := <-c", "c <- struct{}{}", "default"]);
+  assert.deepEqual(found.all.find(({ text }) => text === "select")?.clauses, ["v, ok := <-c", "c <- struct{}{}", "default"]);
 });
 
 test("lines that have a breakpoint", () => {
@@ -44,6 +44,7 @@ test("lines that have a breakpoint", () => {
 });
 
 test("which statements print", () => {
-  const prints = (text) => printsOf(found.all.find((it) => it.text.startsWith(text)));
+  /** @param {string} text */
+  const prints = (text) => printsOf(found.all.find((it) => it.text.startsWith(text)) || null);
   assert.deepEqual([prints("println(\"a"), prints("c :="), prints("println(f")], [1, 0, null]);
 });

@@ -26,13 +26,37 @@ func main() {
 	select {}
 }
 `;
+/**
+ * @param {string} name
+ * @param {string} func
+ * @param {string} state
+ * @param {number} line
+ * @param {{[name: string]: string}} variables
+ */
 const goroutine = (name, func, state, line, variables) => ({
   name, state, line, steps: 1, frames: [{ name: func, variables: Object.entries(variables).map(([key, value]) => ({ name: key, value })) }],
 });
+/**
+ * @param {string} name
+ * @param {number} capacity
+ * @param {string[]} [items]
+ * @param {string[]} [senders]
+ * @param {string[]} [receivers]
+ */
 const channel = (name, capacity, items = [], senders = [], receivers = []) => ({ name, capacity, isClosed: false, items, senders, receivers });
 
+/** @typedef {import("../../src/waiting/waits.js").Hold} Hold */
+/** @typedef {import("../../src/waiting/waits.js").Wish} Wish */
+/** @type {Hold} */
+const HOLD = { step: "g0.2#1", line: 3, callers: [], stand: "done", value: "1" };
+/** @type {Wish} */
+const WISH = { verb: "send", channel: "g0/c1", number: 0, value: "1", variable: "lock", capacity: 1, isRange: false, servers: [], behind: [], items: [], taken: null, last: null };
 const program = new Program(SOURCE);
 
+/**
+ * @param {ReturnType<typeof goroutine>[]} goroutines
+ * @param {Channel[]} channels
+ */
 function rolesOf(goroutines, channels) {
   const places = new Map(goroutines.map(({ name, line, frames }) => [name, [{ name: frames[0].name, line }]]));
   return new Roles(program, goroutines, places, channels);
@@ -51,30 +75,41 @@ test("what goroutines may still do", () => {
 });
 
 test("what goroutines wait for", () => {
+  /** @param {number} line */
   const waiting = (line) => goroutine("g0", "main", "waiting", line, { lock: "g0/c1", done: "g0/c2", boxes: "g0/c3" });
+  /**
+   * @param {Goroutine} one
+   * @param {Channel[]} channels
+   */
   const wishOf = (one, channels) => new Wishes(program, [one], channels).wishesOf(one);
   const [ranged] = wishOf(waiting(15), [channel("g0/c1", 1, [], [], ["g0"])]);
   assert.deepEqual([ranged.variable, ranged.isRange, ranged.verb], ["lock", true, "receive"], "a range by the variable of its statement");
   assert.deepEqual(wishOf(waiting(17), []), [], "a select without cases wishes nothing");
   const sender = goroutine("g0.1", "use", "waiting", 3, { lock: "g0/c1" });
-  const found = { wishes: wishOf(sender, [channel("g0/c1", 1, ["1"], ["g0.1=1"])]) };
-  assert.equal(wishesText(found), "send 1 to lock (g0/c1)", "a send with its value");
+  const wishes = wishOf(sender, [channel("g0/c1", 1, ["1"], ["g0.1=1"])]);
+  assert.equal(wishesText({ wishes }), "send 1 to lock (g0/c1)", "a send with its value");
 });
 
 test("cycles", () => {
-  const wait = (name, ...servers) => ({ goroutine: name, places: [], since: "", wishes: [{ servers: servers.map((it) => ({ goroutine: it, verbs: [] })), items: [], taken: null, capacity: 0 }] });
+  /** @param {...string} names */
+  const servers = (...names) => names.map((name) => ({ goroutine: name, verbs: [] }));
+  /**
+   * @param {string} name
+   * @param {...string} names
+   */
+  const wait = (name, ...names) => ({ goroutine: name, places: [], since: "", wishes: [{ ...WISH, servers: servers(...names), capacity: 0 }] });
   assert.deepEqual(cycleAmong([wait("g0", "g0.1"), wait("g0.1", "g0.2"), wait("g0.2", "g0.1")]), ["g0.1", "g0.2"], "a cycle");
   assert.deepEqual(cycleAmong([wait("g0.1", "g0.2"), wait("g0.2", "g0.1", "g0.3")]), [], "none that may come loose");
-  const lock = { servers: [{ goroutine: "g0.3", verbs: [] }], taken: null, capacity: 1 };
-  const held = (step, stand) => ({ step, line: 3, callers: [], stand, value: "1" });
-  assert.deepEqual(waitsFor({ wishes: [{ ...lock, items: [held("g0.2#1", "may")] }] }), ["g0.2"], "who holds a lock is waited for");
-  assert.deepEqual(waitsFor({ wishes: [{ ...lock, servers: [], items: [held("g0.2#1", "done")] }] }), [], "and not who is done");
+  /** @param {Hold["stand"]} stand */
+  const held = (stand) => [{ ...HOLD, stand }];
+  const ofWish = (/** @type {Wish} */ wish) => waitsFor({ ...wait("g0.1"), wishes: [wish] });
+  assert.deepEqual(ofWish({ ...WISH, servers: servers("g0.3"), items: held("may") }), ["g0.2"], "who holds a lock is waited for");
+  assert.deepEqual(ofWish({ ...WISH, items: held("done") }), [], "and not who is done");
 });
 
 test("sentences", () => {
   const sentences = new Sentences(program, { go: {}, faults: {} });
-  const hold = { step: "g0.2#1", line: 3, callers: [], stand: "done", value: "1" };
-  const wish = { verb: "send", channel: "g0/c1", number: 0, value: "1", variable: "lock", capacity: 1, isRange: false, servers: [], behind: ["g0.3"], items: [hold], taken: null, last: null };
+  const wish = { ...WISH, behind: ["g0.3"], items: [HOLD] };
   assert.deepEqual(sentences.wait({ goroutine: "g0.1", places: [{ name: "use", line: 3 }], since: "", wishes: [wish] }), [
     "g0.1 waits to send 1 to lock (g0/c1) at line 3: lock <- 1",
     "    g0.2, which is done, put 1 into lock at line 3: lock <- 1 ('back g0.2#1' takes that back)",
