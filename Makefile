@@ -11,7 +11,8 @@ RT = $(if $(HAS_RT),rt,$(error rewind: 'rt' is not on the path: install the Ratt
 NEEDS_RT = @: $(RT)
 
 .DEFAULT_GOAL := $(if $(HAS_RT),all,help)
-.PHONY: all help quick quick-page demo test gate edits words command-line-test bench replay second-opinion beside-go hostile times gate-times make-times faces \
+.PHONY: all help quick quick-page demo test gate prove edits words command-line-test bench replay second-opinion beside-go hostile times gate-times \
+	make-times slowest stalls faces \
 	dap-test page page-test page-lint vsix dist quick-dist dist-check release-check page-pictures install uninstall clean
 
 ## Use it
@@ -20,19 +21,19 @@ all: bin/rewind ## proves the program, and leaves it as bin/rewind (half an hour
 
 bin/rewind: FORCE
 	$(NEEDS_RT)
-	tools/prove.py rewind_cli $@ --help
+	tools/build/prove.py rewind_cli $@ --help
 
 quick: bin/rewind-quick ## builds the program without proofs, as bin/rewind-quick (2 minutes)
 
-bin/rewind-quick: bin/quick/rewind.bc tools/quick_program.py
+bin/rewind-quick: bin/quick/rewind.bc tools/build/quick_program.py
 	$(NEEDS_RT)
-	tools/quick_program.py $< $@
+	tools/build/quick_program.py $< $@
 
 SOURCES := $(shell find crates -path '*/src/*.rt')
 
-bin/quick/rewind.bc: $(SOURCES) crates.txt tools/quick_module.py tools/keep_module tools/kit.py
+bin/quick/rewind.bc: $(SOURCES) crates.txt tools/build/quick_module.py tools/build/keep_module tools/kit.py
 	$(NEEDS_RT)
-	tools/quick_module.py $@
+	tools/build/quick_module.py $@
 
 demo: bin/rewind-quick ## shows how to take back the step behind a deadlock (2 minutes with the quick build)
 	@tools/demo.py bin/rewind-quick
@@ -70,31 +71,31 @@ page/out/rewind.wide.wasm: page/out/rewind.bc $(PAGE_COMPILER)
 page/out/rewind.wasm page/out/rewind-quick.wasm: page/out/%.wasm: page/out/%.wide.wasm page/module/lower.py tools/kit.py
 	page/module/lower.py $< $@
 
-page/out/rewind.bc: bin/rewind page/module/proved_module.py page/module/keep_module
+page/out/rewind.bc: bin/rewind page/module/proved_module.py tools/build/keep_module
 	$(NEEDS_RT)
 	page/module/proved_module.py $@
 
 vsix: $(if $(wildcard bin/rewind),,bin/rewind-quick) ## the extension for VS Code, with all it needs: bin/rewind.vsix (a second)
-	tools/vsix.py $(firstword $(wildcard bin/rewind) bin/rewind-quick) bin/rewind.vsix
+	tools/release/vsix.py $(firstword $(wildcard bin/rewind) bin/rewind-quick) bin/rewind.vsix
 
 dist: page ## the release: the page, and an archive for Linux, which need no toolchain (2 minutes after make page)
-	tools/dist.py page/out/rewind.bc bin/rewind.html dist
+	tools/release/dist.py page/out/rewind.bc bin/rewind.html dist
 
 quick-dist: quick-page ## the same of the quick build, to try how it is made: bin/quick-dist (2 minutes after make quick-page)
-	tools/dist.py --trial bin/quick/rewind.bc bin/rewind-quick.html bin/quick-dist
+	tools/release/dist.py --trial bin/quick/rewind.bc bin/rewind-quick.html bin/quick-dist
 
 dist-check: ## makes the release in two fresh clones, and compares the files byte by byte (minutes after make; else hours)
 	$(NEEDS_RT)
-	tools/dist_check.sh
+	tools/release/dist_check.sh
 
 release-check: ## checks the committed release without the toolchain: it starts, a plain model answers alike, the documents hold (30 seconds)
 	tests/released.sh
 
 install: ## installs the program, its manual page and the clients (PREFIX=/usr/local, DESTDIR)
-	tools/install.sh "$(DESTDIR)" "$(PREFIX)"
+	tools/release/install.sh "$(DESTDIR)" "$(PREFIX)"
 
 uninstall: ## removes what install installed
-	tools/install.sh --remove "$(DESTDIR)" "$(PREFIX)"
+	tools/release/install.sh --remove "$(DESTDIR)" "$(PREFIX)"
 
 ## Test it
 
@@ -104,9 +105,13 @@ test: bin/rewind-quick ## every test, without proofs (10 minutes on two processo
 gate: ## the gate: each proof from nothing, edits that must be refused, all tests and programs (an hour on four processors)
 	RT_JOBS=$(RT_JOBS) $(RT) ci
 
+prove: ## proves one crate, as `rt check` does, and begins minutes earlier in the crates at the top (CRATE=NAME)
+	$(NEEDS_RT)
+	cd crates/$(or $(CRATE),$(error rewind: name a crate, as CRATE=gr_step)) && $(CURDIR)/tools/build/rt_once.py check
+
 edits: ## the edits that must be refused and that the gate leaves out (hours; CRATE=NAME for one crate)
 	$(NEEDS_RT)
-	RT_JOBS=$(RT_JOBS) tools/edits.sh $(CRATE)
+	RT_JOBS=$(RT_JOBS) tools/build/edits.sh $(CRATE)
 
 command-line-test: $(REWIND) ## what the program writes by its command line, with pipes and at a terminal (1 minute)
 	words/make.py --check
@@ -140,20 +145,26 @@ hostile: $(REWIND) bin/races ## hostile sources and commands, failing devices, r
 	tests/hostile/all.sh $(REWIND)
 
 bench: bin/rewind ## times of steps, rollback, workers, channels and the front, into bench/RESULTS.md (minutes; BASELINE=PROGRAM compares)
-	bench/results.py $(if $(BASELINE),--baseline $(BASELINE))
+	tools/measure/results.py $(if $(BASELINE),--baseline $(BASELINE))
+
+slowest: ## the functions and proof files of a crate that took longest in its last check (CRATE=NAME)
+	tools/measure/slowest.py crates/$(or $(CRATE),$(error rewind: name a crate, as CRATE=gr_step))
+
+stalls: bin/rewind ## loads of memory that wait for stores, in a run of a program (SOURCE=FILE; needs valgrind)
+	tools/measure/stalls.py bin/rewind $(or $(SOURCE),bench/programs/loop.go)
 
 times: ## how long demo, quick, quick-page and test take on two processors, in fresh clones (15 minutes)
 	$(NEEDS_RT)
-	tools/times.py
+	tools/measure/times.py
 
 gate-times: ## the gate in a fresh clone, with the processor minutes of each crate: bench/GATE.md (as long)
 	$(NEEDS_RT)
 	mkdir -p bin
-	tools/gate.py --table bench/GATE.md --log bin/gate.log
+	tools/measure/gate.py --table bench/GATE.md --log bin/gate.log
 
 make-times: ## make in a fresh clone, with its slowest functions: bench/MAKE.md (as long)
 	$(NEEDS_RT)
-	tools/make_times.py --table bench/MAKE.md
+	tools/measure/make_times.py --table bench/MAKE.md
 
 ## Make again what is made
 
@@ -176,7 +187,7 @@ RUN_races := 2 1 100 10 data/relay.go
 
 bin/races: FORCE
 	$(NEEDS_RT)
-	tools/prove.py $(notdir $@) $@ $(RUN_$(notdir $@))
+	tools/build/prove.py $(notdir $@) $@ $(RUN_$(notdir $@))
 
 # A program that is named and that no rule makes must be there.
 $(filter-out bin/rewind bin/rewind-quick,$(REWIND)):

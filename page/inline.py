@@ -16,9 +16,9 @@ import zlib
 
 HERE = os.path.dirname(os.path.realpath(__file__))
 ROOT = os.path.dirname(HERE)
-sys.path.insert(0, f"{ROOT}/tools")
-import kit  # noqa: E402
-import notices  # noqa: E402
+sys.path.insert(0, ROOT)
+from tools import kit  # noqa: E402
+from tools.release import notices  # noqa: E402
 
 MIRROR = "/usr/share/javascript/codemirror"
 LICENCE = "/usr/share/doc/libjs-codemirror/copyright"

@@ -29,8 +29,8 @@ refuse_all() {
   echo "$1: $growths growths"
 }
 
-"$top/tools/quick_module.py" --tests test_parts "$work/tests.bc"
-"$top/tools/quick_program.py" "$work/tests.bc" "$work/tests"
+"$top/tools/build/quick_module.py" --tests test_parts "$work/tests.bc"
+"$top/tools/build/quick_program.py" "$work/tests.bc" "$work/tests"
 cc -O2 -shared -fPIC -o "$work/faults.so" "$top/tests/hostile/faults.c" -ldl
 for name in $("$work/tests" --list | sed -n 's/^\(channels::refusals::.*\): test$/\1/p'); do
   refuse_all "$name"

@@ -7,7 +7,8 @@ import os
 import subprocess
 import sys
 
-import kit
+sys.path.insert(0, os.path.dirname(os.path.dirname(os.path.realpath(__file__))))
+from tools import kit  # noqa: E402
 
 STORY = f"{kit.ROOT}/tools/demo.txt"
 SOURCE = f"{kit.ROOT}/crates/sessions/data/deadlock.go"

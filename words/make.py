@@ -14,10 +14,11 @@ import re
 import sys
 import textwrap
 
-import stories
-
-HERE = os.path.dirname(os.path.abspath(__file__))
+HERE = os.path.dirname(os.path.realpath(__file__))
 ROOT = os.path.dirname(HERE)
+sys.path.insert(0, ROOT)
+from words import stories  # noqa: E402
+
 WORDS = "crates/gr_console/src/words.rt"
 MEANINGS = "crates/gr_console/src/meanings/%s.rt"
 NAMES = "crates/gr_console/specs/Codes.antt"

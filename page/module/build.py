@@ -8,11 +8,10 @@ import subprocess
 import sys
 import tempfile
 
-from retarget import NeedsX86, always_inlined, retarget
-
 HERE = os.path.dirname(os.path.realpath(__file__))
-sys.path.insert(0, f"{HERE}/../../tools")
-import kit  # noqa: E402
+sys.path.insert(0, os.path.dirname(os.path.dirname(HERE)))
+from page.module.retarget import NeedsX86, always_inlined, retarget  # noqa: E402
+from tools import kit  # noqa: E402
 
 STACK = "8388608"
 TARGET = ["--no-default-config", "--target=wasm64-unknown-unknown", "-mcpu=lime1"]

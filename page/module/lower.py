@@ -10,8 +10,8 @@ at which the wide module traps, is not found in the narrow one. A module with wh
 import os
 import sys
 
-sys.path.insert(0, f"{os.path.dirname(os.path.realpath(__file__))}/../../tools")
-import kit  # noqa: E402
+sys.path.insert(0, os.path.dirname(os.path.dirname(os.path.dirname(os.path.realpath(__file__)))))
+from tools import kit  # noqa: E402
 
 I32, I64, F32, F64 = 0x7F, 0x7E, 0x7D, 0x7C
 # An operand that is an address or a size of memory, or a place in a table.

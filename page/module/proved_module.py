@@ -4,7 +4,7 @@
     page/module/proved_module.py OUT.bc
 
 The crate rewind_cli and those below it are built already (`make` does that). `rattle build` proves the program again over what it
-kept, and hands its module to `keep_module` of this folder. What it says is left in OUT.bc.log.
+kept, and hands its module to tools/build/keep_module. What it says is left in OUT.bc.log.
 """
 import filecmp
 import os
@@ -14,8 +14,8 @@ import sys
 import tempfile
 
 HERE = os.path.dirname(os.path.realpath(__file__))
-sys.path.insert(0, f"{HERE}/../../tools")
-import kit  # noqa: E402
+sys.path.insert(0, os.path.dirname(os.path.dirname(HERE)))
+from tools import kit  # noqa: E402
 
 CRATE = f"{kit.ROOT}/crates/rewind_cli"
 
@@ -45,7 +45,7 @@ def main():
     if not os.path.exists(f"{CRATE}/out/rewind_cli"):
         kit.stop("the program is not proved yet: run 'make' first")
     with tempfile.TemporaryDirectory(prefix="rewind-page-") as work:
-        tools = kit.tools(folder, f"{work}/tools", f"{HERE}/keep_module")
+        tools = kit.tools(folder, f"{work}/tools", kit.Way.BUILD)
         with open(f"{out}.log", "w", encoding="utf-8") as log:
             how = {"stdin": subprocess.DEVNULL, "stdout": log, "stderr": subprocess.STDOUT}
             built = subprocess.run(words_of_build(folder, tools, f"{work}/program.o"), **how)

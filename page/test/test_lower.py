@@ -4,8 +4,8 @@ import sys
 import unittest
 
 sys.dont_write_bytecode = True
-sys.path.insert(0, f"{os.path.dirname(os.path.realpath(__file__))}/../module")
-from lower import F64, I32, I64, NotLowered, lowered, sized  # noqa: E402
+sys.path.insert(0, os.path.dirname(os.path.dirname(os.path.dirname(os.path.realpath(__file__)))))
+from page.module.lower import F64, I32, I64, NotLowered, lowered, sized  # noqa: E402
 
 HEAD = b"\0asm\1\0\0\0"
 # A function of two parameters of 64 bits, with a local of 32 bits. Own locals of its narrow form are the fourth and those after it.

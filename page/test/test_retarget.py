@@ -4,8 +4,8 @@ import sys
 import unittest
 
 sys.dont_write_bytecode = True
-sys.path.insert(0, f"{os.path.dirname(os.path.realpath(__file__))}/../module")
-from retarget import LARGE, NeedsX86, always_inlined, retarget  # noqa: E402
+sys.path.insert(0, os.path.dirname(os.path.dirname(os.path.dirname(os.path.realpath(__file__)))))
+from page.module.retarget import LARGE, NeedsX86, always_inlined, retarget  # noqa: E402
 
 
 def of(*lines: str) -> list[str]:

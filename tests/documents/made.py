@@ -8,7 +8,7 @@ import sys
 
 from . import repository
 
-SCRIPTS = ("words/make.py", "tools/reading.py", "tools/sentences.py")
+SCRIPTS = ("words/make.py", "tools/docs/reading.py", "tools/docs/sentences.py")
 
 
 def check_versions(checks):

@@ -28,7 +28,7 @@ class Package(unittest.TestCase):
 
     def packed(self, name: str) -> str:
         path = os.path.join(self.folder, name)
-        words = [sys.executable, os.path.join(REPOSITORY, "tools", "vsix.py"), REWIND, path]
+        words = [sys.executable, os.path.join(REPOSITORY, "tools", "release", "vsix.py"), REWIND, path]
         subprocess.run(words, check=True, stdout=subprocess.PIPE)
         return path
 

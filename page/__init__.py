@@ -1,0 +1,1 @@
+"""The debugger in a web page: how it is made."""

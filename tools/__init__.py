@@ -1,0 +1,1 @@
+"""What builds, releases and measures the program, and what checks the documents."""

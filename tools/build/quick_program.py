@@ -1,0 +1,44 @@
+#!/usr/bin/env python3
+"""Compiles an LLVM module of the program, and links it with the toolchain's C library.
+
+    tools/build/quick_program.py [--static] MODULE.bc PROGRAM      (--static: with the system's C library in it, and no symbols)
+"""
+import os
+import shlex
+import shutil
+import subprocess
+import sys
+import tempfile
+
+sys.path.insert(0, os.path.dirname(os.path.dirname(os.path.dirname(os.path.realpath(__file__)))))
+from tools import kit  # noqa: E402
+
+TARGET = ["--target=x86_64-unknown-linux-gnu", "-march=x86-64", "--no-default-config", "-no-canonical-prefixes", "-fintegrated-cc1"]
+STATIC = ["-static-pie", "-s", "-Wl,--build-id=none"]
+CODE = ["-ffunction-sections", "-fdata-sections", "-mllvm", "-no-trap-after-noreturn", "-mllvm", "-trap-unreachable", "-fPIE", "-O2"]
+# Less is inlined than in a release: it compiles in half the time, and a step takes a fifth more instructions.
+FAST_TO_BUILD = ["-mllvm", "-inline-threshold=75"]
+
+
+def main():
+    static = STATIC if sys.argv[1:2] == ["--static"] else []
+    code = CODE if static else CODE + FAST_TO_BUILD
+    if len(sys.argv) != (4 if static else 3):
+        sys.exit(__doc__)
+    module, program = sys.argv[-2:]
+    if not os.path.isfile(module):
+        kit.stop(f"there is no module {module}")
+    kit.writable(program)
+    linker = shlex.split(os.environ.get("CC") or "cc")
+    if not shutil.which(linker[0]):
+        kit.stop(f"there is no C compiler '{linker[0]}' to link with: install one, or name one in CC")
+    folder = kit.folder()
+    with tempfile.TemporaryDirectory(prefix="rewind-quick-") as work:
+        words = ["clang", *TARGET, *code, "-c", "-x", "ir", module, "-o", f"{work}/program.o"]
+        subprocess.run(words, executable=f"{folder}/toolchain/bin/clang", check=True)
+        parts = [f"{work}/program.o", f"{folder}/c/libos_c.a", f"{folder}/c/liblibc_c.a"]
+        subprocess.run([*linker, *parts, "-o", f"{program}.part", "-Wl,--gc-sections", *static], check=True)
+    os.replace(f"{program}.part", program)
+
+
+main()

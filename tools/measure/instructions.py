@@ -1,0 +1,71 @@
+#!/usr/bin/env python3
+"""Where the instructions of a step go: how many a step takes, and the part of each crate in it.
+
+    tools/measure/instructions.py [PROGRAM]      (bin/rewind)
+
+Counts with valgrind, so the figures do not depend on what else the machine does. A crate's part holds what the compiler copied
+into its functions of others. What takes less than a twentieth stands together at the end. The last row is of opening a source.
+"""
+import collections
+import os
+import re
+import shutil
+import subprocess
+import sys
+import tempfile
+
+sys.path.insert(0, os.path.dirname(os.path.dirname(os.path.dirname(os.path.realpath(__file__)))))
+from tools.measure.core import FIRST, PROGRAMS, large_source  # noqa: E402
+
+NAMES = ("loop", "hand_to_hand", "through_a_buffer", "in_a_select", "recursion")
+STEPS = 100_000
+SMALL = 128 * 1024
+LEAST = 0.05
+
+
+def part_of(function):
+    """The crate of a function, or the library that it is of."""
+    crate = re.match(r"\W*(\w+)::", function)
+    if not crate:
+        return "the C library"
+    return crate[1] if crate[1].startswith(("gr_", "rewind")) else "other libraries"
+
+
+def instructions(command, script):
+    """How many instructions of each part a process takes."""
+    with tempfile.TemporaryDirectory() as folder:
+        out = os.path.join(folder, "out")
+        valgrind = ["valgrind", "--tool=callgrind", f"--callgrind-out-file={out}"]
+        subprocess.run([*valgrind, *command], input=script, stdout=subprocess.DEVNULL, stderr=subprocess.DEVNULL, check=True)
+        told = subprocess.run(["callgrind_annotate", "--threshold=100", out], stdout=subprocess.PIPE, text=True, check=True).stdout
+    counts = collections.Counter()
+    for count, function in re.findall(r"^ *([\d,]+) \([ \d.]+%\)  [^:\n]*:(.*)$", told, re.MULTILINE):
+        counts[part_of(function)] += int(count.replace(",", ""))
+    return counts
+
+
+def tell(what, unit, counts, many):
+    whole = sum(counts.values())
+    large = [(part, count) for part, count in counts.most_common() if count >= LEAST * whole]
+    rest = whole - sum(count for _, count in large)
+    parts = [f"{part} {100 * count / whole:.0f}%" for part, count in [*large, ("others", rest)]]
+    print(f"{what}: {whole / many:.0f} instructions a {unit}: {', '.join(parts)}", flush=True)
+
+
+def main():
+    program = sys.argv[1] if len(sys.argv) > 1 else "bin/rewind"
+    if not shutil.which("valgrind"):
+        sys.exit("instructions: valgrind is not installed")
+    for name in NAMES:
+        command = [program, os.path.join(PROGRAMS, name + ".go")]
+        counts = instructions(command, b"run %d\n" % STEPS)
+        counts.subtract(instructions(command, FIRST))
+        tell(name.replace("_", " "), "step", counts, STEPS)
+    with tempfile.NamedTemporaryFile("w", suffix=".go") as file:
+        file.write(large_source(SMALL))
+        file.flush()
+        tell("opening 128 KiB", "byte", instructions([program, "--check", file.name], b""), SMALL)
+
+
+if __name__ == "__main__":
+    main()

@@ -1,0 +1,60 @@
+#!/usr/bin/env python3
+"""The time and the memory of opening a source of 1 MiB, and the time of Go's own parser and type checker on the same text.
+
+    tools/measure/opening.py [PROGRAM]      (bin/rewind)
+
+The program is a whole process each time, `PROGRAM --check`, and Go's front reads the text ten times in one run. Prints the least
+time by the clock of each, and how many times as fast the program is. Takes `go` (golang-go of Debian).
+"""
+import os
+import shutil
+import subprocess
+import sys
+import tempfile
+import time
+
+sys.path.insert(0, os.path.dirname(os.path.dirname(os.path.dirname(os.path.realpath(__file__)))))
+from tools.measure.core import BENCH, SOURCE_LIMIT, large_source, peak  # noqa: E402
+from tools.measure.front import mixed  # noqa: E402
+
+ROUNDS = 10
+# How many times as fast as Go's front it is to be at least.
+SOURCES = (("one long function", large_source, 2.0), ("functions of all forms", mixed, 2.5))
+LEVELS = 150
+
+
+def nested(size):
+    """A source of blocks in blocks. Of the texts of 1 MiB that were tried, it takes the most memory."""
+    head, line, tail = "package main\nfunc main() {\n", "{" * LEVELS + "}" * LEVELS + "\n", "}\n"
+    return head + line * ((size - len(head) - len(tail)) // len(line)) + tail
+
+
+def clock(command):
+    """The seconds by the clock of a process."""
+    begun = time.perf_counter()
+    subprocess.run(command, check=True)
+    return time.perf_counter() - begun
+
+
+def main():
+    program = sys.argv[1] if len(sys.argv) > 1 else "bin/rewind"
+    if not shutil.which("go"):
+        sys.exit("opening: go is not installed")
+    with tempfile.TemporaryDirectory() as folder:
+        front, file = os.path.join(folder, "front"), os.path.join(folder, "large.go")
+        subprocess.run(["go", "build", "-o", front, os.path.join(BENCH, "go", "front.go")], check=True)
+        for what, text, wanted in SOURCES:
+            with open(file, "w", encoding="utf-8") as source:
+                source.write(text(SOURCE_LIMIT))
+            own = min(clock([program, "--check", file]) for _ in range(ROUNDS)) * 1e3
+            other = float(subprocess.run([front, file], stdout=subprocess.PIPE, check=True, text=True).stdout)
+            megabytes = peak([program, file]) / 1e6
+            print("opening 1 MiB, %s: %.0f ms, %.0f MB; Go %.0f ms; %.2f times as fast (at least %.1f)"
+                  % (what, own, megabytes, other, other / own, wanted), flush=True)
+        with open(file, "w", encoding="utf-8") as source:
+            source.write(nested(SOURCE_LIMIT))
+        print("opening 1 MiB, blocks in blocks: %.0f MB (at most 150)" % (peak([program, file]) / 1e6))
+
+
+if __name__ == "__main__":
+    main()

@@ -1,0 +1,221 @@
+#!/usr/bin/env python3
+"""Makes a release of the proved program: files that need no toolchain.
+
+    tools/release/dist.py [--trial] MODULE.bc PAGE.html FOLDER
+
+FOLDER gets the page, an archive for Linux, SHA256SUMS and README.md. MODULE.bc is the program's LLVM module, as
+page/module/proved_module.py leaves it. It is compiled and linked statically, so that the program runs on any Linux.
+
+The same commit gives the same bytes: an archive has its files in the order of their names, with the time of the commit
+and one owner. The tree must be that of a commit, but for the folder dist, and the version that of CHANGELOG.md. A trial
+may be of a changed tree, of any version and of the quick build; its texts say so.
+"""
+import glob
+import hashlib
+import io
+import lzma
+import os
+import re
+import shutil
+import subprocess
+import sys
+import tarfile
+import tempfile
+
+sys.path.insert(0, os.path.dirname(os.path.dirname(os.path.dirname(os.path.realpath(__file__)))))
+from tools import kit  # noqa: E402
+from tools.release import notices  # noqa: E402
+
+TEXTS = f"{kit.ROOT}/tools/release"
+SESSIONS = f"{kit.ROOT}/crates/sessions/data"
+EXAMPLES = ("deadlock", "leaked_goroutine", "lost_update", "prime_sieve", "race_in_select", "send_on_closed")
+PAGE = "rewind.html"
+# What a folder of a release may hold, and how many bytes of each.
+NAMES = re.compile(r"rewind\.html|rewind-[\d.]+(-dev)?-x86_64-linux\.tar\.xz|SHA256SUMS|README\.md")
+MOST = {"html": 2_500_000, "xz": 1_500_000}
+UNPROVED = "(unproved build)"
+PROVED = "The program is the proved one."
+TRIAL = "This is a trial and no release: the program may be unproved, and the tree changed."
+# Parts of these packages of Debian are in the files, or decide their bytes.
+PACKAGES = {
+    "libc6-dev": "the C library, in the program",
+    "binutils": "the linker of the program",
+    "libjs-codemirror": "the editor, in the page",
+    "esbuild": "how the page's modules are joined",
+    "zlib1g": "how the page is compressed",
+    "liblzma5": "how the archive is compressed",
+}
+
+
+def said_by(*words):
+    return subprocess.run(words, cwd=kit.ROOT, stdout=subprocess.PIPE, text=True, check=True).stdout.strip()
+
+
+def read(path):
+    with open(path, encoding="utf-8") as file:
+        return file.read()
+
+
+def version():
+    """The program's version, by the file that its texts are made from."""
+    return re.search(r"^version\n    text: (\S+)$", read(f"{kit.ROOT}/words/program.txt"), re.M)[1]
+
+
+def check_tree():
+    """Ends the program where the tree is not that of a commit, or CHANGELOG.md does not begin with the version."""
+    changed = said_by("git", "status", "--porcelain", "--", ".", ":!dist")
+    if changed:
+        kit.stop(f"a release is of a commit, and the tree has changed: {changed.splitlines()[0]}")
+    if not re.fullmatch(r"\d+\.\d+\.\d+", version()):
+        kit.stop(f"{version()} is no version of a release: CONTRIBUTING.md says how to make one")
+    newest = re.search(r"^## (.*)$", read(f"{kit.ROOT}/CHANGELOG.md"), re.M)[1]
+    if newest != version():
+        kit.stop(f"CHANGELOG.md begins with '{newest}', and the program's version is {version()}")
+
+
+def check_program(program, is_trial):
+    """Ends the program where that of the release has another version, or is not proved."""
+    said = said_by(program, "--version")
+    wanted = f"rewind {version()}"
+    is_of_trial = said.startswith(wanted) and said.endswith(UNPROVED)
+    if said != wanted and not (is_trial and is_of_trial):
+        kit.stop(f"the program says '{said}', and that of a release says '{wanted}'")
+
+
+def version_of(package):
+    """The version of a package of Debian."""
+    words = ["dpkg-query", "--show", "--showformat", "${Version}", package]
+    ran = subprocess.run(words, capture_output=True, text=True) if shutil.which(words[0]) else None
+    return ran.stdout if ran and not ran.returncode else "not known"
+
+
+def facts(is_trial):
+    """What the texts of a release say of it."""
+    rows = [(f"`{name}`", version_of(name), what) for name, what in PACKAGES.items()]
+    compiler = said_by("cc", "--version").splitlines()[0]
+    rows.append(("`cc`", compiler, "the beginning and the end of the program"))
+    return {
+        "VERSION": version(),
+        "COMMIT": said_by("git", "rev-parse", "HEAD"),
+        "KIT": said_by("rt", "version"),
+        "STATE": TRIAL if is_trial else PROVED,
+        "PACKAGES": "\n".join(f"| {' | '.join(row)} |" for row in rows),
+    }
+
+
+def filled(name, told):
+    """A text of the release, with what is told in place of words in capitals."""
+    return re.sub(rf"\b({'|'.join(told)})\b", lambda word: told[word[0]], read(f"{TEXTS}/{name}"))
+
+
+def write(path, content):
+    with open(path, "wb") as file:
+        file.write(content)
+    os.chmod(path, 0o644)
+
+
+def quietly(*words, **more):
+    subprocess.run(words, stdout=subprocess.DEVNULL, check=True, env={**os.environ, **more})
+
+
+def staged(program, folder, told):
+    """Leaves the files of the archive in `folder`."""
+    quietly(f"{kit.ROOT}/tools/install.sh", folder, "/", REWIND_PROGRAM=program)
+    quietly(f"{kit.ROOT}/tools/vsix.py", "--stored", program, f"{folder}/rewind.vsix")
+    shutil.copy(f"{kit.ROOT}/LICENSE", folder)
+    write(f"{folder}/NOTICES", notices.of_program(kit.folder()).encode())
+    for name in ("README.md", "VERIFY.md"):
+        write(f"{folder}/{name}", filled(name, told).encode())
+    os.mkdir(f"{folder}/examples")
+    for name in EXAMPLES:
+        for ending in ("go", "script", "expect"):
+            shutil.copy(f"{SESSIONS}/{name}.{ending}", f"{folder}/examples")
+
+
+def entry_of(archive, path, name, time):
+    """The entry of a file, which tells nothing of the machine, its user and their settings."""
+    entry = archive.gettarinfo(path, arcname=name)
+    entry.uid = entry.gid = 0
+    entry.uname = entry.gname = "root"
+    entry.mtime = time
+    runs = entry.isdir() or entry.issym() or entry.mode & 0o100
+    entry.mode = 0o755 if runs else 0o644
+    return entry
+
+
+def packed(folder, top, time):
+    """The archive of a folder, whose files are named below `top`."""
+    content = io.BytesIO()
+    with tarfile.open(fileobj=content, mode="w", format=tarfile.USTAR_FORMAT) as archive:
+        for path in sorted(glob.glob(f"{folder}/**", recursive=True)):
+            entry = entry_of(archive, path, os.path.normpath(os.path.join(top, os.path.relpath(path, folder))), time)
+            if entry.isfile():
+                with open(path, "rb") as file:
+                    archive.addfile(entry, file)
+            else:
+                archive.addfile(entry)
+    return lzma.compress(content.getvalue(), preset=6 | lzma.PRESET_EXTREME)
+
+
+def made(module, page, told, is_trial):
+    """The name and the bytes of each file."""
+    top = f"rewind-{told['VERSION']}-x86_64-linux"
+    time = int(said_by("git", "log", "-1", "--format=%ct"))
+    with tempfile.TemporaryDirectory(prefix="rewind-dist-") as work:
+        program = f"{work}/rewind"
+        subprocess.run([f"{kit.ROOT}/tools/quick_program.py", "--static", module, program], check=True)
+        check_program(program, is_trial)
+        os.mkdir(f"{work}/{top}")
+        staged(program, f"{work}/{top}", told)
+        archive = packed(f"{work}/{top}", top, time)
+    with open(page, "rb") as file:
+        return {f"{top}.tar.xz": archive, PAGE: file.read()}
+
+
+def check_sizes(files):
+    """Ends the program where a file is larger than a release may be."""
+    for name, content in files.items():
+        most = MOST[name.rpartition(".")[2]]
+        if len(content) > most:
+            kit.fail(f"{name} has {len(content):,} bytes, and a release at most {most:,}")
+
+
+def emptied(folder):
+    """Makes the folder, or removes from it what an earlier release left."""
+    os.makedirs(folder, exist_ok=True)
+    strange = [name for name in sorted(os.listdir(folder)) if not NAMES.fullmatch(name)]
+    if strange:
+        kit.stop(f"{folder} has {strange[0]}, which is no file of a release: name another folder")
+    for name in os.listdir(folder):
+        os.remove(f"{folder}/{name}")
+
+
+def make(module, page, folder, is_trial):
+    if not is_trial:
+        check_tree()
+    told = facts(is_trial)
+    files = made(module, page, told, is_trial)
+    check_sizes(files)
+    sums = {name: hashlib.sha256(content).hexdigest() for name, content in files.items()}
+    told["FILES"] = "\n".join(f"| `{name}` | {len(files[name]):,} | `{sums[name]}` |" for name in files)
+    emptied(folder)
+    for name, content in files.items():
+        write(f"{folder}/{name}", content)
+    write(f"{folder}/SHA256SUMS", "".join(f"{it}  {name}\n" for name, it in sums.items()).encode())
+    write(f"{folder}/README.md", filled("RELEASE.md", told).encode())
+    print("\n".join(f"{folder}/{name}: {len(content):,} bytes" for name, content in files.items()))
+
+
+def main():
+    words = [it for it in sys.argv[1:] if it != "--trial"]
+    if len(words) != 3:
+        sys.exit(__doc__)
+    module, page, folder = map(os.path.abspath, words)
+    for path in (module, page):
+        if not os.path.isfile(path):
+            kit.stop(f"there is no {path}")
+    make(module, page, folder, len(words) < len(sys.argv) - 1)
+
+
+if __name__ == "__main__":
+    main()

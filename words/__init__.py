@@ -1,0 +1,1 @@
+"""The texts of the program, and what is made of them."""
