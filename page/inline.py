@@ -3,9 +3,10 @@
 
     page/inline.py MODULE.wasm OUT.html [--unproved]
 
-With --unproved the page says that its program is not proved. The meanings of codes, kinds and commands and the texts of the stories
-come from words.json, which `make words` makes, and the refusals of sources from clients/, so that nothing is said twice.
+With --unproved the page says that its program is not proved. The meanings of codes, kinds and commands and the texts of the
+stories come from words.json, which `make words` makes, and the refusals of sources from clients/, so that nothing is said twice.
 """
+import argparse
 import base64
 import json
 import os
@@ -13,6 +14,7 @@ import re
 import subprocess
 import sys
 import zlib
+from typing import Any
 
 HERE = os.path.dirname(os.path.realpath(__file__))
 ROOT = os.path.dirname(HERE)
@@ -24,11 +26,16 @@ MIRROR = "/usr/share/javascript/codemirror"
 LICENCE = "/usr/share/doc/libjs-codemirror/copyright"
 # Names stay as they are, so that a report of an error names functions of the source.
 BUNDLE = ["--bundle", "--minify-whitespace", "--minify-syntax", "--charset=utf8", "--target=es2022", "--log-level=warning"]
+# A command of a story, with what is told before it, and a story or an exercise as the page takes it.
+Told = dict[str, str]
+Story = dict[str, Any]
+# What words.json has.
+Words = dict[str, Any]
 # What page.html says of a program that is not proved.
 OF_UNPROVED = re.compile(r"<!--unproved:(.*?)-->")
 
 
-def read(path):
+def read(path: str) -> str:
     try:
         with open(path, encoding="utf-8") as it:
             return it.read()
@@ -37,7 +44,7 @@ def read(path):
         kit.stop(f"cannot read {path} ({error.strerror}){package}")
 
 
-def one_script(entry, form):
+def one_script(entry: str, form: str) -> str:
     """Joins a module and those that it needs to one script without comments, in a form that esbuild knows."""
     words = ["esbuild", f"src/{entry}", *BUNDLE, f"--format={form}"]
     try:
@@ -50,12 +57,13 @@ def one_script(entry, form):
     return ran.stdout
 
 
-def told_words():
+def told_words() -> Words:
     """What `words/make.py` leaves for the page."""
-    return json.loads(read(f"{HERE}/words.json"))
+    words: Words = json.loads(read(f"{HERE}/words.json"))
+    return words
 
 
-def story(entry, level, words):
+def story(entry: str | dict[str, str], level: str, words: Words) -> Story:
     """A story of the menu: its source, and its commands with what is told before each."""
     entry = {"name": entry} if isinstance(entry, str) else entry
     name = entry["name"]
@@ -74,7 +82,7 @@ def story(entry, level, words):
     }
 
 
-def with_texts(commands, narrated):
+def with_texts(commands: list[Told], narrated: list[Told]) -> list[Told]:
     """The commands of a script, with the texts that lead to the same commands, in their order."""
     at = 0
     for it in narrated:
@@ -85,12 +93,12 @@ def with_texts(commands, narrated):
     return commands
 
 
-def stories(words):
+def stories(words: Words) -> list[Story]:
     """Returns the stories of the menu, in its order."""
     return [story(it, group["level"], words) for group in json.loads(read(f"{HERE}/menu.json")) for it in group["stories"]]
 
 
-def exercises():
+def exercises() -> list[dict[str, Any]]:
     found = []
     for it in json.loads(read(f"{HERE}/exercises.json")):
         kept = {name: it.get(name) for name in ("name", "title", "level", "task", "hint", "goal")}
@@ -98,7 +106,7 @@ def exercises():
     return found
 
 
-def given():
+def given() -> dict[str, Any]:
     """All that the page shows and does not compute."""
     words = told_words()
     refusals = json.loads(read(f"{ROOT}/clients/rewind_client/refusals.json"))
@@ -107,7 +115,7 @@ def given():
     return {**told, "stories": stories(words), "exercises": exercises(), "refusals": refusals, "licence": licence}
 
 
-def program(wasm):
+def program(wasm: str) -> str:
     """The module, deflated, in base 64."""
     if not os.path.isfile(wasm):
         kit.stop(f"there is no module {wasm}")
@@ -116,7 +124,7 @@ def program(wasm):
         return base64.b64encode(deflater.compress(it.read()) + deflater.flush()).decode()
 
 
-def page(wasm, is_proved):
+def page(wasm: str, is_proved: bool) -> str:
     """The text of the page."""
     styles = [f"{MIRROR}/lib/codemirror.css", f"{HERE}/src/style.css"]
     scripts = [read(f"{MIRROR}/lib/codemirror.js"), read(f"{MIRROR}/mode/go/go.js")]
@@ -131,16 +139,17 @@ def page(wasm, is_proved):
     return text.replace("<!--SCRIPTS-->", "\n".join(parts))
 
 
-def main():
-    words = [it for it in sys.argv[1:] if it != "--unproved"]
-    if len(words) != 2:
-        sys.exit(__doc__)
-    wasm, out = words
-    kit.writable(out)
-    text = page(wasm, is_proved=len(words) == len(sys.argv) - 1)
-    with open(f"{out}.part", "w", encoding="utf-8") as it:
+def main() -> None:
+    parser = argparse.ArgumentParser(description="Makes one file of the page, the program and what it shows.")
+    parser.add_argument("wasm", metavar="MODULE.wasm")
+    parser.add_argument("out", metavar="OUT.html")
+    parser.add_argument("--unproved", action="store_true", help="the page says that its program is not proved")
+    asked = parser.parse_args()
+    kit.writable(asked.out)
+    text = page(asked.wasm, is_proved=not asked.unproved)
+    with open(f"{asked.out}.part", "w", encoding="utf-8") as it:
         it.write(text)
-    os.replace(f"{out}.part", out)
+    os.replace(f"{asked.out}.part", asked.out)
 
 
 main()

@@ -3,9 +3,11 @@
 
     tools/demo.py [--check] PROGRAM      (--check only says whether the program replies as tools/demo.txt has it)
 """
+import argparse
 import os
 import subprocess
 import sys
+from collections.abc import Iterator
 
 sys.path.insert(0, os.path.dirname(os.path.dirname(os.path.realpath(__file__))))
 from tools import kit  # noqa: E402
@@ -20,23 +22,24 @@ That was all. For a program of your own, type
 and then such commands; 'quit' ends. The commands are in docs/COMMANDS.md, and the Go that it takes in docs/LANGUAGE.md."""
 
 
-def lines_of(path):
+def lines_of(path: str) -> list[str]:
     with open(path, encoding="utf-8") as file:
         return file.read().splitlines()
 
 
-def is_reply(line):
+def is_reply(line: str) -> bool:
     return line.startswith(("| ", "ok", "no ", "? "))
 
 
-def answers(program, commands):
+def answers(program: str, commands: list[str]) -> list[list[str]]:
     """The replies of the program, each a list of lines."""
     given = "".join(f"{it}\n" for it in commands)
     try:
         said = subprocess.run([program, SOURCE], input=given, stdout=subprocess.PIPE, text=True, check=True).stdout
     except (OSError, subprocess.CalledProcessError) as error:
         kit.stop(f"{program} does not run ({error})")
-    found, reply = [], []
+    found: list[list[str]] = []
+    reply: list[str] = []
     for line in said.splitlines():
         reply.append(line)
         if not line.startswith("|"):
@@ -45,7 +48,7 @@ def answers(program, commands):
     return found
 
 
-def tell(program):
+def tell(program: str) -> Iterator[str]:
     """The story with the replies that the program gives now."""
     story = lines_of(STORY)
     replies = iter(answers(program, [line[2:] for line in story if line.startswith("> ")]))
@@ -58,7 +61,7 @@ def tell(program):
             yield line
 
 
-def check(program):
+def check(program: str) -> int:
     """Says whether the story stands as the program tells it, and returns the exit status."""
     wanted = [line for line in lines_of(STORY) if line.startswith("> ") or is_reply(line)]
     got = [line for line in tell(program) if line.startswith("> ") or is_reply(line)]
@@ -69,16 +72,17 @@ def check(program):
     return 1 if differ else 0
 
 
-def main():
-    words = [word for word in sys.argv[1:] if word != "--check"]
-    if len(words) != 1:
-        sys.exit(__doc__)
-    if not os.access(words[0], os.X_OK):
-        kit.stop(f"there is no program {words[0]}")
-    if "--check" in sys.argv:
-        sys.exit(check(words[0]))
-    print("\n".join(tell(words[0])))
-    print(END.format(program=words[0]))
+def main() -> None:
+    parser = argparse.ArgumentParser(description="Shows a deadlock, the step behind it, and the same program without it.")
+    parser.add_argument("--check", action="store_true", help="only say whether the program replies as tools/demo.txt has it")
+    parser.add_argument("program")
+    asked = parser.parse_args()
+    if not os.access(asked.program, os.X_OK):
+        kit.stop(f"there is no program {asked.program}")
+    if asked.check:
+        sys.exit(check(asked.program))
+    print("\n".join(tell(asked.program)))
+    print(END.format(program=asked.program))
 
 
 main()

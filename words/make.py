@@ -1,26 +1,28 @@
 #!/usr/bin/env python3
-"""Writes what is said of commands, codes and exit statuses from the texts beside this file: the program's constants
-(crates/gr_console/src/words.rt, meanings), the list of the codes (crates/gr_console/specs/Codes.antt), the manual page (docs/rewind.1), the
-marked tables of docs/COMMANDS.md and docs/LANGUAGE.md, the sessions and stories of docs/SESSIONS.md, and what the clients and the page know
-of these (clients/rewind_client/words.json, page/words.json).
+"""Writes what is said of commands, codes and exit statuses from the texts beside this file.
 
     words/make.py           writes them
     words/make.py --check   fails where one does not stand as made, or where a code of the definitions has no text
-"""
 
+These are the program's constants (crates/gr_console/src/words.rt, meanings), the list of the codes (its specs/Codes.antt), the
+manual page (docs/rewind.1), the marked tables of docs/COMMANDS.md and docs/LANGUAGE.md, the sessions and stories of
+docs/SESSIONS.md, and what the clients and the page know of these (clients/rewind_client/words.json, page/words.json).
+"""
+import argparse
 import json
 import os
 import re
 import sys
 import textwrap
+from collections.abc import Sequence
 
-HERE = os.path.dirname(os.path.realpath(__file__))
-ROOT = os.path.dirname(HERE)
+ROOT = os.path.dirname(os.path.dirname(os.path.realpath(__file__)))
 sys.path.insert(0, ROOT)
 from words import stories  # noqa: E402
+from words.texts import CODES, COMMANDS, EXAMPLE, PROGRAM, SESSIONS, TEXTS, TITLES, Entry, bare, filled, plain  # noqa: E402
 
 WORDS = "crates/gr_console/src/words.rt"
-MEANINGS = "crates/gr_console/src/meanings/%s.rt"
+MEANINGS = "crates/gr_console/src/meanings"
 NAMES = "crates/gr_console/specs/Codes.antt"
 MANUAL = "docs/rewind.1"
 CLIENTS = "clients/rewind_client/words.json"
@@ -28,83 +30,18 @@ PAGE = "page/words.json"
 WIDTH = 78
 
 
-def read(path):
+def read(path: str) -> str:
     with open(os.path.join(ROOT, path), encoding="utf-8") as file:
         return file.read()
 
 
-class Entry:
-    """A name, as a code or a command, with its texts."""
-
-    def __init__(self, name):
-        self.name = name
-        self.texts = {}
-
-    def __getattr__(self, key):
-        return self.texts.get(key, "")
-
-
-def sections(name):
-    """The entries of a file of texts, by section; what comes before the first section stands under ''."""
-    found, titles = {"": []}, {}
-    section, key = "", None
-    with open(os.path.join(HERE, name), encoding="utf-8") as file:
-        lines = file.read().splitlines()
-    for line in lines:
-        text = line.strip()
-        field = re.match(r"    (\w+): ?(.*)$", line)
-        if not text or line.startswith("#"):
-            continue
-        if line.startswith("== "):
-            section, _, title = line[3:].partition(": ")
-            found[section], titles[section] = [], title
-        elif not line.startswith(" "):
-            found[section].append(Entry(text))
-        elif field:
-            key = field[1]
-            found[section][-1].texts[key] = field[2]
-        else:
-            joint = "\n" if section == "example" else " "
-            found[section][-1].texts[key] += joint + text
-    return found, titles
-
-
-PROGRAM, _ = sections("program.txt")
-CODES, TITLES = sections("codes.txt")
-COMMANDS = sections("commands.txt")[0][""]
-SESSIONS = sections("sessions.txt")[0][""]
-TEXTS = {entry.name: entry.text for entry in PROGRAM["texts"]}
-EXAMPLE = {entry.name: entry.text for entry in PROGRAM["example"]}
-FAULTS = [entry.name for entry in CODES["faults"]]
-
-
-def listed(names, last):
-    """Names between backquotes, with a word before the last."""
-    quoted = [f"`{name}`" for name in names]
-    return ", ".join(quoted[:-1]) + f" {last} {quoted[-1]}"
-
-
-def filled(text):
-    return text.replace("{faults}", listed(FAULTS, "or")).replace("{version}", TEXTS["version"])
-
-
-def plain(text):
-    """A text without marks: code stands between single quotes."""
-    return re.sub(r"`([^`]*)`", r"'\1'", filled(text))
-
-
-def bare(text):
-    """A text without marks or quotes."""
-    return filled(text).replace("`", "")
-
-
-def wrapped(text, first="", rest=""):
+def wrapped(text: str, first: str = "", rest: str = "") -> str:
     return textwrap.fill(
         text, WIDTH, initial_indent=first, subsequent_indent=rest, break_long_words=False, break_on_hyphens=False
     )
 
 
-def columns(rows, indent="  "):
+def columns(rows: list[tuple[str, str]], indent: str = "  ") -> str:
     """Rows of two cells, the second wrapped beside the first."""
     width = max(len(left) for left, _ in rows) + 2
     lines = []
@@ -116,12 +53,12 @@ def columns(rows, indent="  "):
 # What the program says.
 
 
-def meaning_line(entry):
+def meaning_line(entry: Entry) -> str:
     """What a terminal shows of a code."""
     return f"{entry.name}: {plain(entry.means)} (more: rewind --explain {entry.name})\n"
 
 
-def page(section, entry):
+def page(section: str, entry: Entry) -> str:
     """What `--explain` says; its first line is what a terminal shows."""
     parts = [f"{entry.name}: {plain(entry.means)}"]
     if entry.example:
@@ -137,7 +74,7 @@ def page(section, entry):
     return "\n\n".join(parts) + "\n"
 
 
-def help_text():
+def help_text() -> str:
     commands = columns([(bare(entry.name), bare(entry.short)) for entry in COMMANDS])
     statuses = columns([(entry.name, plain(entry.when)) for entry in PROGRAM["statuses"]])
     replies = textwrap.indent(EXAMPLE["replies"], "  ")
@@ -150,29 +87,29 @@ def help_text():
     ])
 
 
-def literal(text):
+def literal(text: str) -> str:
     """A text as a literal of the program, its lines below each other."""
     escaped = text.replace("\\", "\\\\").replace('"', '\\"')
     fits = len(text) < 56 and "\n" not in text
     return f'"{escaped}"' if fits else f'"\\\n{escaped}"'
 
 
-def constant(name, text, public=False):
+def constant(name: str, text: str, public: bool = False) -> str:
     reach = "pub" if public else "pub(crate)"
     return f"{reach} const {name}: &str = {literal(text)};\n"
 
 
-def explanations():
+def explanations() -> list[tuple[str, Entry]]:
     return [(section, entry) for section in CODES if section for entry in CODES[section]]
 
 
-def strange_code():
+def strange_code() -> str:
     rows = [(TITLES[section], ", ".join(entry.name for entry in CODES[section])) for section in CODES if section]
     known = "\n".join(wrapped(f"{title}: {names}", "  ", "    ") for title, names in rows)
     return f"error: {plain(TEXTS['strange'])}\n\nIt knows these:\n{known}\n\nFor more information, try '--help'.\n"
 
 
-def not_text():
+def not_text() -> str:
     """What is told of arguments that `clap` is not given, in its form."""
     told = "error: invalid UTF-8 was detected in one or more arguments"
     return f"{told}\n\nUsage: {USAGE}\n\nFor more information, try '--help'.\n"
@@ -187,7 +124,7 @@ NO_COMMAND = plain(TEXTS["no command"]) + "\n"
 FILES = {entry.name: plain(entry.text) + "\n" for entry in PROGRAM["files"]}
 
 
-def words():
+def words() -> str:
     parts = [
         "//! What the program says in plain words. Made by words/make.py from the texts beside it: change those.\n",
         constant("VERSION", TEXTS["version"]),
@@ -210,7 +147,7 @@ def words():
     return "\n".join(parts)
 
 
-def pages(section):
+def pages(section: str) -> str:
     """The module of a section: each code with its page."""
     rows = []
     for entry in CODES[section]:
@@ -232,7 +169,7 @@ def pages(section):
     )
 
 
-def names():
+def names() -> str:
     """The codes that have a page, as definitions."""
     parts = [
         "-- The codes of which the program tells. Made by words/make.py from the texts beside it: change those.\n"
@@ -241,24 +178,25 @@ def names():
     for section in CODES:
         if section:
             listed_names = "".join(f'    codes "{entry.name}" ∷\n' for entry in CODES[section])
-            parts.append(f"-- {TITLES[section]}\nunfoldable pub {section} : List (List ℕ)\n{section} =\n{listed_names.rstrip()} []\n")
+            head = f"-- {TITLES[section]}\nunfoldable pub {section} : List (List ℕ)\n{section} =\n"
+            parts.append(f"{head}{listed_names.rstrip()} []\n")
     return "\n".join(parts)
 
 
 # The manual page.
 
 
-def roff(text):
+def roff(text: str) -> str:
     text = filled(text).replace("\\", "\\e").replace("-", "\\-")
     text = re.sub(r"`([^`]*)`", r"\\fB\1\\fR", text)
     return re.sub(r"^([.'])", r"\\&\1", text)
 
 
-def tagged(rows):
+def tagged(rows: list[tuple[str, str]]) -> str:
     return "".join(f".TP\n{tag}\n{text}\n" for tag, text in rows)
 
 
-def manual():
+def manual() -> str:
     forms = [entry.form for entry in PROGRAM["usage"]]
     synopsis = "\n.br\n".join(f".B rewind\n{roff(form)}" for form in forms)
     options = [(f"\\fB{roff(entry.name)}\\fR", roff(entry.does) + ".") for entry in PROGRAM["options"]]
@@ -289,15 +227,15 @@ def manual():
 # The tables of the documents.
 
 
-def row(cells):
+def row(cells: Sequence[str]) -> str:
     return "|" + "".join(f" {filled(cell)} |" if cell else " |" for cell in cells) + "\n"
 
 
-def table(head, rows):
+def table(head: Sequence[str], rows: Sequence[Sequence[str]]) -> str:
     return row(head) + "|" + "---|" * len(head) + "\n" + "".join(row(cells) for cells in rows)
 
 
-def tables():
+def tables() -> dict[str, dict[str, str]]:
     sources = [(it.name, it.means, it.example, it.at) for it in CODES["sources"]]
     replies = [(it.name, it.means, it.example) for it in CODES["replies"]]
     sessions = [(it.name, it.shows) for it in SESSIONS]
@@ -318,7 +256,7 @@ def tables():
     }
 
 
-def with_tables(page_name, made):
+def with_tables(page_name: str, made: dict[str, str]) -> str:
     text = read(page_name)
     for name, content in made.items():
         mark, end = f"<!-- words: {name} -->\n", f"<!-- end of {name} -->\n"
@@ -332,22 +270,22 @@ def with_tables(page_name, made):
 # What the clients and the page know.
 
 
-def as_json(told):
+def as_json(told: object) -> str:
     return json.dumps(told, indent=1, ensure_ascii=False) + "\n"
 
 
-def words_of_go():
+def words_of_go() -> dict[str, str]:
     """What Go says of faults and of a deadlock."""
     return {it.name: it.go for section in CODES for it in CODES[section] if it.go}
 
 
-def client_words():
+def client_words() -> str:
     """The meaning of each code by section, and what Go says of faults and of a deadlock."""
     told = {section: {it.name: plain(it.means) for it in CODES[section]} for section in CODES if section}
     return as_json({**told, "go": words_of_go()})
 
 
-def page_words():
+def page_words() -> str:
     """What the page shows of codes, kinds of steps, faults, commands, sessions and stories, without marks."""
     kinds = {name.split()[0]: bare(it.means) for it in CODES["kinds"] for name in bare(it.row or it.name).split(", ")}
     return as_json({
@@ -364,7 +302,7 @@ def page_words():
 # That each code has its text.
 
 
-def defined():
+def defined() -> dict[str, list[str]]:
     """The codes that the definitions name, by section."""
     report = read("crates/gr_serve/specs/Report.antt")
     texts = read("crates/gr_command/specs/Texts.antt")
@@ -374,13 +312,13 @@ def defined():
     return {
         "sources": re.findall(r'codes "([SPC]\d+)"', report),
         "replies": sorted(set(refusals)),
-        "kinds": [re.match(r"[\w-]+", it)[0] for it in re.findall(r'^kind_text .* = codes "([^"]*)', kinds, re.M)],
+        "kinds": [re.findall(r"^[\w-]+", it)[0] for it in re.findall(r'^kind_text .* = codes "([^"]*)', kinds, re.M)],
         "faults": re.findall(r'^fault_text .* = codes "([^"]*)"', kinds, re.M),
         "ends": [it.strip() for it in re.findall(r'^end_text .* = codes "([^"]*)', texts, re.M)],
     }
 
 
-def without_text():
+def without_text() -> list[str]:
     """What the definitions name and no text tells, and the other way round."""
     wrong = []
     for section, codes in defined().items():
@@ -391,15 +329,18 @@ def without_text():
     return wrong
 
 
-def main():
+def main() -> None:
+    parser = argparse.ArgumentParser(description="Writes what is said of commands, codes and exit statuses.")
+    parser.add_argument("--check", action="store_true", help="fail where one does not stand as made, or a code has no text")
+    asked = parser.parse_args()
     made = {WORDS: words(), NAMES: names(), MANUAL: manual(), CLIENTS: client_words(), PAGE: page_words()}
-    made.update((MEANINGS % section, pages(section)) for section in CODES if section)
+    made.update((f"{MEANINGS}/{section}.rt", pages(section)) for section in CODES if section)
     made.update((name, with_tables(name, content)) for name, content in tables().items())
     wrong = without_text()
     for path, text in made.items():
         whole = os.path.join(ROOT, path)
         stands = os.path.exists(whole) and read(path) == text
-        if "--check" in sys.argv[1:]:
+        if asked.check:
             wrong += [] if stands else [f"{path}: not as words/make.py makes it (make words)"]
         elif not stands:
             with open(whole, "w", encoding="utf-8") as file:

@@ -1,7 +1,7 @@
 """The stories of docs/SESSIONS.md, by stories.txt: what is told between the commands of an example session.
 
-A story there is a line `== NAME: TITLE`, and blocks with a blank line between them: what its picture shows (`picture: ..`), the place
-of its source (`source`), commands (`> step g0`), and paragraphs. Source and replies are those of the session.
+A story there is a line `== NAME: TITLE`, and blocks with a blank line between them: what its picture shows (`picture: ..`), the
+place of its source (`source`), commands (`> step g0`), and paragraphs. Source and replies are those of the session.
 """
 import dataclasses
 import os
@@ -99,7 +99,7 @@ def bare(paragraph: str) -> str:
 def told(story: Story) -> Iterator[dict[str, str]]:
     """The commands of a story, each with the text that leads to it."""
     said: list[str] = []
-    for block in story.blocks[story.blocks.index(Block()) + 1 :]:
+    for block in story.blocks[story.blocks.index(Block()) + 1:]:
         if not block.commands:
             said.append(bare(block.paragraph))
         for command in block.commands:

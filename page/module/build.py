@@ -3,6 +3,7 @@
 
     page/module/build.py [--quick] MODULE.bc OUT.wasm      (--quick: less is inlined, in half the time)
 """
+import argparse
 import os
 import subprocess
 import sys
@@ -15,7 +16,8 @@ from tools import kit  # noqa: E402
 
 STACK = "8388608"
 TARGET = ["--no-default-config", "--target=wasm64-unknown-unknown", "-mcpu=lime1"]
-AS_TEXT = ["--no-default-config", "--target=x86_64-unknown-linux-gnu", "-S", "-emit-llvm", "-O0", "-Xclang", "-disable-llvm-passes"]
+AS_TEXT = ["--no-default-config", "--target=x86_64-unknown-linux-gnu", "-S", "-emit-llvm", "-O0", "-Xclang",
+           "-disable-llvm-passes"]
 # Neither a division nor a conversion of 128 bits may call a library that is not there.
 PLAIN = ["-mllvm", "-expand-div-rem-bits=64", "-mllvm", "-expand-fp-convert-bits=64", "-mllvm", "-trap-unreachable"]
 FAST_TO_BUILD = ["-mllvm", "-inline-threshold=75"]
@@ -26,28 +28,28 @@ C_WORDS = ["-O2", "-ffreestanding", "-fno-builtin", "-fno-strict-aliasing", "-no
 class Tools:
     """The toolchain's compiler and linker. Where one refuses what it is given, the program ends with what it says."""
 
-    def __init__(self, folder):
+    def __init__(self, folder: str) -> None:
         self.folder = folder
         self.compiler = f"{folder}/toolchain/bin/clang"
 
-    def run(self, words, executable=None):
+    def run(self, words: list[str], executable: str | None = None) -> None:
         ran = subprocess.run(words, executable=executable, stderr=subprocess.PIPE, text=True, errors="replace")
         if ran.returncode:
             said = ran.stderr.strip().splitlines() or [f"status {ran.returncode}"]
             kit.stop(f"{os.path.basename(words[0])} does not make the page's program: {said[0]}")
 
-    def clang(self, *words):
+    def clang(self, *words: str) -> None:
         self.run(["clang", *words], self.compiler)
 
-    def archive(self, out, parts):
+    def archive(self, out: str, parts: list[str]) -> None:
         self.run(["llvm-ar", "rc", out, *parts], self.compiler)
 
-    def link(self, out, archive):
+    def link(self, out: str, archive: str) -> None:
         words = ["--target", "wasm64-unknown-unknown", "--toolchain", f"{self.folder}/toolchain", "--stack", STACK]
         self.run([f"{self.folder}/bin/rattle-link", *words, "-o", out, archive])
 
 
-def retargeted(module, work, tools):
+def retargeted(module: str, work: str, tools: Tools) -> str:
     """The module as text for wasm64."""
     before, after = f"{work}/x86.ll", f"{work}/wasm.ll"
     tools.clang(*AS_TEXT, "-x", "ir", module, "-o", before)
@@ -62,9 +64,10 @@ def retargeted(module, work, tools):
     return after
 
 
-def build(module, out, work, tools, more):
+def build(module: str, out: str, work: str, tools: Tools, more: list[str]) -> None:
     parts = [f"{work}/program.o"]
-    tools.clang(*TARGET, *PLAIN, *SECTIONS, *more, "-O2", "-Werror", "-c", "-x", "ir", retargeted(module, work, tools), "-o", parts[0])
+    text = retargeted(module, work, tools)
+    tools.clang(*TARGET, *PLAIN, *SECTIONS, *more, "-O2", "-Werror", "-c", "-x", "ir", text, "-o", parts[0])
     for name in ("heap", "system", "threads"):
         parts.append(f"{work}/{name}.o")
         tools.clang(*TARGET, *C_WORDS, "-Werror", "-c", f"{HERE}/{name}.c", "-o", parts[-1])
@@ -73,17 +76,19 @@ def build(module, out, work, tools, more):
     os.replace(f"{out}.part", out)
 
 
-def main():
-    more = FAST_TO_BUILD if sys.argv[1:2] == ["--quick"] else []
-    if len(sys.argv) != (4 if more else 3):
-        sys.exit(__doc__)
-    module, out = sys.argv[-2:]
+def main() -> None:
+    parser = argparse.ArgumentParser(description="Compiles a module of the program to WebAssembly, and links it.")
+    parser.add_argument("--quick", action="store_true", help="less is inlined, in half the time")
+    parser.add_argument("module", metavar="MODULE.bc")
+    parser.add_argument("out", metavar="OUT.wasm")
+    asked = parser.parse_args()
+    module, out = asked.module, asked.out
     if not os.path.isfile(module):
         kit.stop(f"there is no module {module}")
     kit.writable(out)
     tools = Tools(kit.folder())
     with tempfile.TemporaryDirectory(prefix="rewind-page-") as work:
-        build(module, out, work, tools, more)
+        build(module, out, work, tools, FAST_TO_BUILD if asked.quick else [])
 
 
 main()

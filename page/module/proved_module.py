@@ -6,6 +6,7 @@
 The crate rewind_cli and those below it are built already (`make` does that). `rattle build` proves the program again over what it
 kept, and hands its module to tools/build/keep_module. What it says is left in OUT.bc.log.
 """
+import argparse
 import filecmp
 import os
 import shutil
@@ -20,7 +21,7 @@ from tools import kit  # noqa: E402
 CRATE = f"{kit.ROOT}/crates/rewind_cli"
 
 
-def words_of_build(folder, tools, program):
+def words_of_build(folder: str, tools: str, program: str) -> list[str]:
     """The command line that `rt` would give to `rattle build` of the program."""
     os.chdir(CRATE)
     crate = kit.library(folder).Crate(CRATE, kit.ROOT, {}, ())
@@ -29,17 +30,17 @@ def words_of_build(folder, tools, program):
     return [*words, "--toolchain", tools, "--backend", "llvm", "--cpu=x86-64", "-o", program]
 
 
-def keep(module, out):
+def keep(module: str, out: str) -> None:
     """Leaves a module as `out`. One that has not changed stays as it is, so that `make` compiles nothing again."""
     if not os.path.exists(out) or not filecmp.cmp(module, out, shallow=False):
         shutil.move(module, f"{out}.part")
         os.replace(f"{out}.part", out)
 
 
-def main():
-    if len(sys.argv) != 2:
-        sys.exit(__doc__)
-    out = os.path.abspath(sys.argv[1])
+def main() -> None:
+    parser = argparse.ArgumentParser(description="Leaves the LLVM module of the proved program `rewind`.")
+    parser.add_argument("out", metavar="OUT.bc")
+    out = os.path.abspath(parser.parse_args().out)
     kit.writable(out)
     folder = kit.folder()
     if not os.path.exists(f"{CRATE}/out/rewind_cli"):
@@ -47,8 +48,8 @@ def main():
     with tempfile.TemporaryDirectory(prefix="rewind-page-") as work:
         tools = kit.tools(folder, f"{work}/tools", kit.Way.BUILD)
         with open(f"{out}.log", "w", encoding="utf-8") as log:
-            how = {"stdin": subprocess.DEVNULL, "stdout": log, "stderr": subprocess.STDOUT}
-            built = subprocess.run(words_of_build(folder, tools, f"{work}/program.o"), **how)
+            words = words_of_build(folder, tools, f"{work}/program.o")
+            built = subprocess.run(words, stdin=subprocess.DEVNULL, stdout=log, stderr=subprocess.STDOUT)
         if built.returncode or not os.path.exists(f"{tools}/module.bc"):
             kit.fail(f"the program is not proved: see {out}.log")
         keep(f"{tools}/module.bc", out)

@@ -5,6 +5,7 @@ is renamed, and functions that are not internal are exported. A module with inst
 x86 alone, is refused.
 """
 import re
+from collections.abc import Iterable, Iterator
 
 LAYOUT = "e-m:e-p:64:64-p10:8:8-p20:8:8-i64:64-i128:128-n32:64-S128"
 TRIPLE = "wasm64-unknown-unknown"
@@ -14,8 +15,8 @@ OF_PROCESSOR = re.compile(
 NAMED = re.compile(r"^define (?!internal)[^@]*@(\w+)\(")
 ATTRIBUTES = re.compile(r" (?=(?:#\d+ )?\{$)")
 LOCAL = re.compile(r" = alloca \[(\d+) x i8\]")
-# Bytes of locals. A function with more is not inlined: where one function copies large locals to each other, LLVM takes them apart,
-# and took half a minute for a single function.
+# Bytes of locals. A function with more is not inlined: where one function copies large locals to each other, LLVM takes them
+# apart, and took half a minute for a single function.
 LARGE = 8192
 # A hint to the processor that a loop only waits.
 PAUSE = re.compile(r"^ *(?:tail )?(?:call|declare) void @llvm\.x86\.sse2\.pause\(\)")
@@ -28,12 +29,12 @@ class NeedsX86(Exception):
     """A line of the module that wants an x86-64 processor."""
 
 
-def group(line):
+def group(line: str) -> str:
     """A group of attributes without those of the processor. LLVM refuses an empty group."""
     return OF_PROCESSOR.sub("", line).replace("{ }", "{ nounwind }")
 
 
-def checked(line):
+def checked(line: str) -> str:
     """The line, or nothing where it is only a hint to the processor."""
     if PAUSE.match(line):
         return ""
@@ -42,7 +43,7 @@ def checked(line):
     return line
 
 
-def changed(line):
+def changed(line: str) -> str:
     """A line of the module as it is for wasm64."""
     if line.startswith("attributes #"):
         return group(line)
@@ -56,20 +57,20 @@ def changed(line):
     return line
 
 
-def with_attribute(attribute, head):
+def with_attribute(attribute: str, head: str) -> str:
     return ATTRIBUTES.sub(f" {attribute} ", head, count=1)
 
 
-def always_inlined(lines):
+def always_inlined(lines: Iterable[str]) -> set[str]:
     """The groups of attributes by which a function is inlined wherever it is called."""
     return {line.split()[1] for line in lines if line.startswith("attributes #") and " alwaysinline " in line}
 
 
-def is_large(lines):
+def is_large(lines: Iterable[str]) -> bool:
     return sum(int(size) for line in lines if " = alloca [" in line for size in LOCAL.findall(line)) > LARGE
 
 
-def definition(lines, inlined):
+def definition(lines: list[str], inlined: set[str]) -> list[str]:
     """The lines of a function's definition, with the attributes that it needs here."""
     head = lines[0].replace("define i32 @main(", "define i32 @program_main(")
     named = NAMED.match(head)
@@ -80,9 +81,9 @@ def definition(lines, inlined):
     return [head, *lines[1:]]
 
 
-def retarget(lines, inlined):
+def retarget(lines: Iterable[str], inlined: set[str]) -> Iterator[str]:
     """The lines of a module for x86-64 as those of a module for wasm64. `inlined` is what `always_inlined` says of its lines."""
-    function = []
+    function: list[str] = []
     for line in map(changed, lines):
         if function or line.startswith("define "):
             function.append(line)

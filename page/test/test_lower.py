@@ -8,7 +8,7 @@ sys.path.insert(0, os.path.dirname(os.path.dirname(os.path.dirname(os.path.realp
 from page.module.lower import F64, I32, I64, NotLowered, lowered, sized  # noqa: E402
 
 HEAD = b"\0asm\1\0\0\0"
-# A function of two parameters of 64 bits, with a local of 32 bits. Own locals of its narrow form are the fourth and those after it.
+# A function of two parameters of 64 bits, with a local of 32 bits. Own locals of its narrow form are the fourth and those after.
 TYPES = sized(b"\x01\x60\x02\x7e\x7e\x00")
 FUNCTIONS = sized(b"\x01\x00")
 OWN, ANOTHER = "03", "04"

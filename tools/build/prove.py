@@ -10,6 +10,7 @@ The toolchain keeps a crate and all below it to itself while it proves one. So c
 room each: a folder with a copy of the sources, to which the libraries below are lent. No file of a room changes, so the stamp
 of a crate is made once for each command there. What was proved in a room is moved here, and noted for checks in other clones.
 """
+import argparse
 import functools
 import json
 import os
@@ -18,6 +19,7 @@ import subprocess
 import sys
 import tempfile
 import time
+from typing import Any, Protocol, TextIO
 
 sys.path.insert(0, os.path.dirname(os.path.dirname(os.path.dirname(os.path.realpath(__file__)))))
 from tools import kit  # noqa: E402
@@ -31,13 +33,28 @@ STANDS_BACK = 10
 # What stands beside the longest chain is done long before its end.
 MOST_ROOMS = 3
 RT = f"{kit.ROOT}/tools/rt_once.py"
-# The minutes of a crate that tools/build/minutes.json does not have: there are those of each crate's proof, by the last `make gate-times`.
+# The minutes of a crate that tools/build/minutes.json does not have. There are those of each crate's proof, by the last
+# `make gate-times`.
 UNTOLD = 0.1
 # The memory for which there may be a room: two jobs of some 2.3 GB.
 ROOM_BYTES = 5 << 30
 
 
-def order(crate, found):
+class Crate(Protocol):
+    """A crate of the repository, as the toolchain's module knows it."""
+
+    name: str
+    folder: str
+    deps: list["Crate"]
+
+    def is_built(self) -> bool:
+        """Whether it is proved, and its files are those that were."""
+
+    def stamp(self) -> str:
+        """What stands for its files, and for those of the crates below it."""
+
+
+def order(crate: Crate, found: list[Crate]) -> list[Crate]:
     """Adds the libraries below a crate that the repository has to those found already, lowest first."""
     for it in crate.deps:
         if it not in found:
@@ -45,13 +62,14 @@ def order(crate, found):
     return found
 
 
-def times():
+def times() -> dict[str, float]:
     """The processor minutes of each crate's proof."""
     with open(f"{kit.ROOT}/bench/minutes.json", encoding="utf-8") as file:
-        return json.load(file)
+        told: dict[str, float] = json.load(file)
+    return told
 
 
-def heights(crates):
+def heights(crates: list[Crate]) -> dict[Crate, float]:
     """For each crate, the minutes of the longest chain of those given that begins with it, each standing on the one before it."""
     told = times()
     minutes = {crate: told.get(crate.name, UNTOLD) for crate in crates}
@@ -66,15 +84,15 @@ def heights(crates):
 class Room:
     """A folder in which one crate at a time is proved."""
 
-    def __init__(self, place):
+    def __init__(self, place: str) -> None:
         shutil.copytree(f"{kit.ROOT}/crates", f"{place}/crates", ignore=shutil.ignore_patterns("out"))
         shutil.copy(f"{kit.ROOT}/crates.txt", place)
         self.place = place
 
-    def folder(self, crate):
+    def folder(self, crate: Crate) -> str:
         return f"{self.place}/crates/{crate.name}"
 
-    def take_in(self, crate):
+    def take_in(self, crate: Crate) -> None:
         """Lends the libraries below a crate, and moves here what was kept of earlier checks of it."""
         for below in order(crate, []):
             lent = f"{self.folder(below)}/out/rlib"
@@ -83,7 +101,7 @@ class Room:
         if os.path.isdir(f"{crate.folder}/out"):
             os.rename(f"{crate.folder}/out", f"{self.folder(crate)}/out")
 
-    def give_back(self, crate):
+    def give_back(self, crate: Crate) -> None:
         if os.path.isdir(f"{self.folder(crate)}/out"):
             os.rename(f"{self.folder(crate)}/out", f"{crate.folder}/out")
 
@@ -91,7 +109,7 @@ class Room:
 class Check:
     """A crate's check while it runs in a room, with what it has said so far. The processors serve one that leads first."""
 
-    def __init__(self, crate, room, jobs, leads):
+    def __init__(self, crate: Crate, room: Room, jobs: int, leads: bool) -> None:
         self.crate, self.room = crate, room
         self.said = tempfile.TemporaryFile("w+", encoding="utf-8", errors="replace")
         room.take_in(crate)
@@ -101,7 +119,7 @@ class Check:
         self.process = subprocess.Popen(words, cwd=room.folder(crate), stdin=subprocess.DEVNULL, stdout=self.said,
                                         stderr=subprocess.STDOUT)
 
-    def end(self, log):
+    def end(self, log: TextIO) -> bool:
         """Whether it ended well. Adds what it said to the log."""
         ended = self.process.wait()
         self.room.give_back(self.crate)
@@ -113,7 +131,7 @@ class Check:
         return ended == 0
 
 
-def note(rt, crate):
+def note(rt: Any, crate: Crate) -> None:
     """Notes where the kept work of a proved crate is, so that checks in other clones on this machine begin with it."""
     rt.offer(crate, crate.stamp())
 
@@ -121,20 +139,21 @@ def note(rt, crate):
 class Prover:
     """The crates that wait for their proof, and the checks that run."""
 
-    def __init__(self, rt, crates, rooms, processors, log):
+    def __init__(self, rt: Any, crates: list[Crate], rooms: list[Room], processors: int, log: TextIO) -> None:
         self.rt, self.waiting, self.rooms, self.processors, self.log = rt, list(crates), rooms, processors, log
-        self.running, self.height, self.count, self.start = [], heights(crates), len(crates), time.monotonic()
+        self.running: list[Check] = []
+        self.height, self.count, self.start = heights(crates), len(crates), time.monotonic()
 
-    def minutes(self):
+    def minutes(self) -> str:
         return f"{(time.monotonic() - self.start) / 60:.1f} minutes"
 
-    def ready(self):
+    def ready(self) -> list[Crate]:
         """The crates that stand on proved ones alone, those with most above them first."""
         unproved = {*self.waiting, *(it.crate for it in self.running)}
         free = [it for it in self.waiting if not unproved.intersection(order(it, []))]
         return sorted(free, key=lambda it: -self.height[it])
 
-    def begin(self, crate):
+    def begin(self, crate: Crate) -> None:
         """Begins a check. The crate with the longest chain above it, of those that wait or run, leads."""
         others = [*self.waiting, *(it.crate for it in self.running)]
         leads = all(self.height[crate] >= self.height[it] for it in others)
@@ -145,12 +164,12 @@ class Prover:
         self.waiting.remove(crate)
         self.running.append(Check(crate, self.rooms.pop(), jobs, leads))
 
-    def begin_those_ready(self):
+    def begin_those_ready(self) -> None:
         """Begins as many checks as there are rooms."""
         for crate in self.ready()[:len(self.rooms)]:
             self.begin(crate)
 
-    def end(self, check):
+    def end(self, check: Check) -> None:
         """Ends the program where the check did not end well, once the others have ended."""
         self.running.remove(check)
         self.rooms.append(check.room)
@@ -160,7 +179,7 @@ class Prover:
             kit.fail(f"{check.crate.name} is not proved: see {self.log.name}")
         note(self.rt, check.crate)
 
-    def prove(self):
+    def prove(self) -> None:
         while self.waiting or self.running:
             self.begin_those_ready()
             time.sleep(0.1)
@@ -168,12 +187,12 @@ class Prover:
                 self.end(check)
 
 
-def memory():
+def memory() -> int:
     """The bytes of memory of this machine."""
     return os.sysconf("SC_PAGE_SIZE") * os.sysconf("SC_PHYS_PAGES")
 
 
-def run(program, room, words, log):
+def run(program: Crate, room: Room, words: list[str], log: TextIO) -> bool:
     """Whether the toolchain proves the program in the room, and runs it well."""
     log.write(f"rt run in {program.folder}\n")
     log.flush()
@@ -184,7 +203,7 @@ def run(program, room, words, log):
     return said.returncode == 0
 
 
-def prove_all(rt, program, words, processors, log):
+def prove_all(rt: Any, program: Crate, words: list[str], processors: int, log: TextIO) -> None:
     """Proves the crates that are not proved yet, and then the program."""
     crates = order(program, [])
     count = max(1, min(processors, MOST_ROOMS, memory() // ROOM_BYTES))
@@ -202,10 +221,13 @@ def prove_all(rt, program, words, processors, log):
     print(f"proved in {prover.minutes()}")
 
 
-def main():
-    if len(sys.argv) < 3:
-        sys.exit(__doc__)
-    name, out = sys.argv[1], os.path.abspath(sys.argv[2])
+def main() -> None:
+    parser = argparse.ArgumentParser(description="Proves a program and the crates that it stands on, and says how far it is.")
+    parser.add_argument("crate", metavar="CRATE")
+    parser.add_argument("program", metavar="PROGRAM")
+    parser.add_argument("words", metavar="WORD", nargs=argparse.REMAINDER, help="it is run once with these words")
+    asked = parser.parse_args()
+    name, out = asked.crate, os.path.abspath(asked.program)
     kit.writable(out)
     place = f"{kit.ROOT}/crates/{name}"
     if not os.path.isdir(place):
@@ -218,7 +240,7 @@ def main():
     os.chdir(place)
     program = library.Crate(place, kit.ROOT, {}, ())
     with open(f"{os.path.dirname(out)}/make.log", "a", encoding="utf-8") as log:
-        prove_all(rt, program, sys.argv[3:], processors, log)
+        prove_all(rt, program, asked.words, processors, log)
     shutil.copy(f"{place}/out/{name}", f"{out}.part")
     os.replace(f"{out}.part", out)
 

@@ -3,6 +3,7 @@
 
     tools/build/quick_program.py [--static] MODULE.bc PROGRAM      (--static: with the system's C library in it, and no symbols)
 """
+import argparse
 import os
 import shlex
 import shutil
@@ -13,19 +14,24 @@ import tempfile
 sys.path.insert(0, os.path.dirname(os.path.dirname(os.path.dirname(os.path.realpath(__file__)))))
 from tools import kit  # noqa: E402
 
-TARGET = ["--target=x86_64-unknown-linux-gnu", "-march=x86-64", "--no-default-config", "-no-canonical-prefixes", "-fintegrated-cc1"]
+TARGET = ["--target=x86_64-unknown-linux-gnu", "-march=x86-64", "--no-default-config", "-no-canonical-prefixes",
+          "-fintegrated-cc1"]
 STATIC = ["-static-pie", "-s", "-Wl,--build-id=none"]
-CODE = ["-ffunction-sections", "-fdata-sections", "-mllvm", "-no-trap-after-noreturn", "-mllvm", "-trap-unreachable", "-fPIE", "-O2"]
+CODE = ["-ffunction-sections", "-fdata-sections", "-mllvm", "-no-trap-after-noreturn", "-mllvm", "-trap-unreachable", "-fPIE",
+        "-O2"]
 # Less is inlined than in a release: it compiles in half the time, and a step takes a fifth more instructions.
 FAST_TO_BUILD = ["-mllvm", "-inline-threshold=75"]
 
 
-def main():
-    static = STATIC if sys.argv[1:2] == ["--static"] else []
-    code = CODE if static else CODE + FAST_TO_BUILD
-    if len(sys.argv) != (4 if static else 3):
-        sys.exit(__doc__)
-    module, program = sys.argv[-2:]
+def main() -> None:
+    parser = argparse.ArgumentParser(description="Compiles an LLVM module of the program, and links it.")
+    parser.add_argument("--static", action="store_true", help="with the system's C library in it, and no symbols")
+    parser.add_argument("module", metavar="MODULE.bc")
+    parser.add_argument("program", metavar="PROGRAM")
+    asked = parser.parse_args()
+    static = STATIC if asked.static else []
+    code = CODE if asked.static else CODE + FAST_TO_BUILD
+    module, program = asked.module, asked.program
     if not os.path.isfile(module):
         kit.stop(f"there is no module {module}")
     kit.writable(program)

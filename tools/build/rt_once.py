@@ -14,7 +14,7 @@ sys.path.insert(0, os.path.dirname(os.path.dirname(os.path.dirname(os.path.realp
 from tools import kit  # noqa: E402
 
 
-def main():
+def main() -> None:
     rt = kit.command(kit.folder())
     rt.rtlib.Crate.stamp = functools.lru_cache(maxsize=None)(rt.rtlib.Crate.stamp)
     sys.exit(rt.main(sys.argv[1:]))

@@ -3,14 +3,16 @@
 
     tools/docs/reading.py [--check]
 
-Writes the last column of their tables 'To believe' anew: the lines of the named modules without imports, comments and empty lines.
-With --check it changes nothing, and tells each number that is not right. It tells, and changes nothing, where a row has
-another form or names a module that is not there. It always tells which modules the table of THEOREMS lacks of those that the
-promises above it need (tools/docs/cited.py has the rule), and which of its modules no promise needs.
+Writes the last column of their tables 'To believe' anew: the lines of the named modules without imports, comments and
+empty lines. With --check it changes nothing, and tells each number that is not right. It tells, and changes nothing, where a row
+has another form or names a module that is not there. It always tells which modules the table of THEOREMS lacks of those that
+the promises above it need (tools/docs/cited.py has the rule), and which of its modules no promise needs.
 """
+import argparse
 import os
 import re
 import sys
+from collections.abc import Iterator
 
 TOP = os.path.dirname(os.path.dirname(os.path.dirname(os.path.realpath(__file__))))
 sys.path.insert(0, TOP)
@@ -22,17 +24,17 @@ HEAD = "| To believe | Read | Lines |"
 ROW = re.compile(r"(\| .* \| (`gr_\w+`: .*|`\w+`: .*) \|) [\d,]+ \|")
 
 
-def path_of(crate, module):
+def path_of(crate: str, module: str) -> str:
     return os.path.join(TOP, "crates", crate, "specs", module + ".antt")
 
 
-def lines_of(crate, module):
+def lines_of(crate: str, module: str) -> int:
     with open(path_of(crate, module), encoding="utf-8") as file:
         lines = [line.strip() for line in file]
     return sum(1 for line in lines if line and not line.startswith(("--", "use ", "pub use ")))
 
 
-def modules_of(reading):
+def modules_of(reading: str) -> Iterator[tuple[str, str]]:
     """(crate, module) of each module of 'crate: Module, Module; crate: Module', crates in backquotes."""
     for part in reading.split(";"):
         crate, _, modules = part.partition(":")
@@ -40,7 +42,7 @@ def modules_of(reading):
             yield crate.strip(" `"), module.strip()
 
 
-def rows(page, lines):
+def rows(page: str, lines: list[str]) -> Iterator[tuple[str, re.Match[str] | None]]:
     """(place, row) of each row of the table of a page; a row that is not as it should be is None."""
     head = lines.index(HEAD)
     for number, line in enumerate(lines[head + 2:], head + 3):
@@ -49,7 +51,7 @@ def rows(page, lines):
         yield f"{page}:{number}", ROW.fullmatch(line)
 
 
-def faults(page, lines):
+def faults(page: str, lines: list[str]) -> Iterator[str]:
     """What is wrong with the table itself: it is not there, a row has another form, or names what is not there."""
     if HEAD not in lines:
         yield f"{page}: no table '{HEAD}'"
@@ -62,7 +64,7 @@ def faults(page, lines):
                 yield f"{place}: {crate} has no specs/{module}.antt"
 
 
-def counted(line):
+def counted(line: str) -> str:
     """The line of the page with the number that is right, if it has one."""
     row = ROW.fullmatch(line)
     if not row:
@@ -71,19 +73,21 @@ def counted(line):
     return f"{row[1]} {total:,} |"
 
 
-def differences(page, lines):
+def differences(page: str, lines: list[str]) -> Iterator[str]:
     """What to tell of each number that is not right."""
     for place, row in rows(page, lines):
+        if not row:
+            continue
         told, right = row[0].split("|")[-2].strip(), counted(row[0]).split("|")[-2].strip()
         if told != right:
             what = row[0].split("|")[1].strip()
             yield f"{place}: '{what}' has {told}, and its modules have {right} lines (tools/docs/reading.py)"
 
 
-def strangers(lines):
+def strangers(lines: list[str]) -> Iterator[str]:
     """What to tell of each module that is needed and not listed, or listed and not needed."""
     needed = cited.needed(lines)
-    listed = {it for _, row in rows(WHOLE, lines) for it in modules_of(row[2])}
+    listed = {it for _, row in rows(WHOLE, lines) if row for it in modules_of(row[2])}
     for crate, module in sorted(needed.keys() - listed):
         why = needed[crate, module]
         yield f"docs/THEOREMS.md: the table 'To believe' lacks {module} of {crate}: a promise needs its {why}"
@@ -91,7 +95,7 @@ def strangers(lines):
         yield f"docs/THEOREMS.md: no promise above needs {module} of {crate}, which is in the table 'To believe'"
 
 
-def of_page(page, only_checks):
+def of_page(page: str, only_checks: bool) -> list[str]:
     """What is wrong with a page, the numbers of which are written anew unless it is only checked."""
     path = os.path.join(TOP, page)
     with open(path, encoding="utf-8") as file:
@@ -107,8 +111,11 @@ def of_page(page, only_checks):
     return wrong
 
 
-def main():
-    wrong = [it for page in PAGES for it in of_page(page, "--check" in sys.argv[1:])]
+def main() -> int:
+    parser = argparse.ArgumentParser(description="Counts the lines of the definitions that THEOREMS and CLAIM list.")
+    parser.add_argument("--check", action="store_true", help="change nothing, and tell each number that is not right")
+    asked = parser.parse_args()
+    wrong = [it for page in PAGES for it in of_page(page, asked.check)]
     for line in wrong:
         print(line)
     return 1 if wrong else 0

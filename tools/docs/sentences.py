@@ -14,17 +14,18 @@ import os
 import re
 import statistics
 import sys
+from collections.abc import Iterable, Iterator
 
 TOP = os.path.dirname(os.path.dirname(os.path.dirname(os.path.realpath(__file__))))
 MOST = 35
 
 
-def documents():
+def documents() -> list[str]:
     found = glob.glob(f"{TOP}/*.md") + glob.glob(f"{TOP}/*/*.md") + glob.glob(f"{TOP}/*/*/*.md")
     return sorted(os.path.relpath(it, TOP) for it in found if "/out/" not in it and "/node_modules/" not in it)
 
 
-def lines_of(text, with_made):
+def lines_of(text: str, with_made: bool) -> Iterator[str]:
     """The lines outside code blocks and comments; with the tables that are made from `words`, or without them."""
     if not with_made:
         text = re.sub(r"<!-- words: (\w+) -->.*?<!-- end of \1 -->", "", text, flags=re.S)
@@ -37,14 +38,14 @@ def lines_of(text, with_made):
             yield line
 
 
-def pieces(line):
+def pieces(line: str) -> list[str]:
     """What stands for itself in a line: the cells of a row, or the line."""
     if line.startswith("|"):
         return [it.strip() for it in re.split(r"(?<!\\)\|", line.strip("|"))]
     return [re.sub(r"^\s*([-*]|\d+\.)\s+", "", line)]
 
 
-def sentences(path, with_made=True):
+def sentences(path: str, with_made: bool = True) -> Iterator[str]:
     """The sentences of a document, with code and links as one word each."""
     with open(os.path.join(TOP, path), encoding="utf-8") as file:
         text = file.read()
@@ -57,7 +58,7 @@ def sentences(path, with_made=True):
                     yield sentence
 
 
-def too_long(paths):
+def too_long(paths: Iterable[str]) -> Iterator[str]:
     """A line for each sentence that is too long."""
     for path in paths:
         for it in sentences(path, with_made=False):
@@ -65,7 +66,7 @@ def too_long(paths):
                 yield f"{path}: a sentence of {len(it.split())} words: {it[:100]}"
 
 
-def main():
+def main() -> int:
     parser = argparse.ArgumentParser(description=__doc__.splitlines()[0])
     parser.add_argument("--check", action="store_true")
     parser.add_argument("--longest", type=int, default=20)

@@ -3,36 +3,39 @@
 
     tools/measure/baseline.py [--rounds N] BASELINE [PROGRAM]      (9 rounds, bin/rewind)
 
-BASELINE takes the same commands and answers the same bytes: a plain program, say, that is not proved and has no threads. Prints for
-each stream the processor time of a step or line in both, best of the rounds, with what comes before it taken off; the bytes that
-each step keeps; and how many times as long as BASELINE the program takes, beside what is wanted at most.
+BASELINE takes the same commands and answers the same bytes: a plain program, say, that is not proved and has no threads. Prints
+for each stream the processor time of a step or line in both, best of the rounds, with what comes before it taken off; the bytes
+that each step keeps; and how many times as long as BASELINE the program takes, beside what is wanted at most.
 """
 import argparse
 import os
 import re
 import sys
+from collections.abc import Iterator
 
 sys.path.insert(0, os.path.dirname(os.path.dirname(os.path.dirname(os.path.realpath(__file__)))))
 from tools.measure.core import FIRST, PROGRAMS, RUN, once, peak  # noqa: E402
 
 # The programs that are run, and how many times as long as BASELINE each may take.
-RUNS = {"loop": 1.6, "loop_in_a_child": 1.6, "hand_to_hand": 2.0, "through_a_buffer": 2.0, "in_a_select": 2.0, "many_goroutines": 2.0,
-        "recursion": 2.0, "deep_calls": 2.0}
+RUNS = {"loop": 1.6, "loop_in_a_child": 1.6, "hand_to_hand": 2.0, "through_a_buffer": 2.0, "in_a_select": 2.0,
+        "many_goroutines": 2.0, "recursion": 2.0, "deep_calls": 2.0}
 LINES = 400_000
+# What is done, by which program, what comes before, the lines, how many steps or lines they are, and what is wanted at most.
+Stream = tuple[str, str, bytes, bytes, int, float]
 MISSED = "more than wanted"
 
 
-def steps_of(program, name, lines):
+def steps_of(program: str, name: str, lines: bytes) -> int:
     """How many steps the last of these lines takes, or names."""
     return int(re.findall(rb"^ok (\d+)", once([program, file_of(name)], lines)[1], re.MULTILINE)[-1])
 
 
-def file_of(name):
+def file_of(name: str) -> str:
     return os.path.join(PROGRAMS, name + ".go")
 
 
-def streams(program):
-    """What is done, by which program, what comes before, the lines, how many steps or lines they are, and what is wanted at most."""
+def streams(program: str) -> Iterator[Stream]:
+    """The streams that are compared."""
     loop, hand = (steps_of(program, name, RUN) for name in ("loop", "hand_to_hand"))
     for name, wanted in RUNS.items():
         yield name.replace("_", " "), name, FIRST, RUN, steps_of(program, name, RUN), wanted
@@ -52,11 +55,11 @@ def streams(program):
     yield "`log`, hand to hand", "hand_to_hand", RUN, b"log\n" * 3, 3 * hand, 2.0
 
 
-def least_times(programs, file, before, lines, rounds):
+def least_times(programs: list[str], file: str, before: bytes, lines: bytes, rounds: int) -> list[list[float]]:
     """For each program the least time of what comes before, and of all, where they answer the same."""
     best = [[float("inf")] * 2 for _ in programs]
     for _ in range(rounds):
-        answers = set()
+        answers: set[bytes] = set()
         for own, program in zip(best, programs):
             for part, script in enumerate((before, before + lines)):
                 time, answer = once([program, file], script)
@@ -67,13 +70,13 @@ def least_times(programs, file, before, lines, rounds):
     return best
 
 
-def kept(program, file, steps):
+def kept(program: str, file: str, steps: int) -> float:
     """The bytes that a step of a run keeps."""
     return (peak([program, file], RUN) - peak([program, file], FIRST)) / steps
 
 
-def main():
-    parser = argparse.ArgumentParser(description=__doc__.splitlines()[0])
+def main() -> None:
+    parser = argparse.ArgumentParser(description="Streams of commands, answered by a program and by a baseline by turns.")
     parser.add_argument("--rounds", type=int, default=9)
     parser.add_argument("baseline")
     parser.add_argument("program", nargs="?", default="bin/rewind")
@@ -83,9 +86,11 @@ def main():
         base, own = least_times(programs, file_of(name), before, lines, asked.rounds)
         sizes = [kept(program, file_of(name), count) for program in programs] if lines == RUN else []
         ratio = own[1] / base[1]
-        print("%s: %.0f ns, baseline %.0f ns%s; %.2f times as long (at most %.1f%s)" % (
-            what, (own[1] - own[0]) / count * 1e9, (base[1] - base[0]) / count * 1e9,
-            "; %.1f bytes, baseline %.1f" % (sizes[1], sizes[0]) if sizes else "", ratio, wanted, ": " + MISSED if ratio > wanted else ""), flush=True)
+        nanoseconds = [(it[1] - it[0]) / count * 1e9 for it in (own, base)]
+        told = f"{what}: {nanoseconds[0]:.0f} ns, baseline {nanoseconds[1]:.0f} ns"
+        told += f"; {sizes[1]:.1f} bytes, baseline {sizes[0]:.1f}" if sizes else ""
+        missed = f": {MISSED}" if ratio > wanted else ""
+        print(f"{told}; {ratio:.2f} times as long (at most {wanted:.1f}{missed})", flush=True)
 
 
 if __name__ == "__main__":

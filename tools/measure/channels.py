@@ -7,6 +7,7 @@ A goroutine sends to a buffer of 1,000,000 places and receives from it by turns,
 once with 100,000. Prints the processor time of such a step with its undoing by `back`, and the ratio, which is to be at
 most 2: the number of items does not count. What comes before is measured apart and taken off.
 """
+import argparse
 import os
 import sys
 import tempfile
@@ -23,35 +24,37 @@ STEPS = 600_000
 LIMIT = 2.0
 SOURCE = """package main
 
-func main() {
-	c := make(chan int, 1000000)
-	for i := 0; i < %d; i++ {
-		%s
-	}
-	for {
-		c <- 1
-		<-c
-	}
-}
+func main() {{
+\tc := make(chan int, 1000000)
+\tfor i := 0; i < {items}; i++ {{
+\t\t{what}
+\t}}
+\tfor {{
+\t\tc <- 1
+\t\t<-c
+\t}}
+}}
 """
 
 
-def seconds(program, what):
+def seconds(program: str, what: str) -> float:
     """The processor seconds of a step over the channel and its undoing."""
     with tempfile.NamedTemporaryFile("w", suffix=".go") as file:
-        file.write(SOURCE % (ITEMS, what))
+        file.write(SOURCE.format(items=ITEMS, what=what))
         file.flush()
         first = f"run {BEFORE}\n".encode()
         before, _ = least([program, file.name], first)
         script = first + f"run {STEPS}\nback g0#{BEFORE + 1}\n".encode()
         after, replies = least([program, file.name], script)
-    if not replies.splitlines()[-1].startswith(b"ok %d " % STEPS):
+    if not replies.splitlines()[-1].startswith(f"ok {STEPS} ".encode()):
         sys.exit(f"channels: {STEPS} steps are not taken back: {replies.splitlines()[-1][:100]!r}")
     return (after - before) / STEPS
 
 
-def main():
-    program = sys.argv[1] if len(sys.argv) > 1 else "bin/rewind"
+def main() -> int:
+    parser = argparse.ArgumentParser(description="The time of a step over a channel, with few items in its buffer and with many.")
+    parser.add_argument("program", nargs="?", default="bin/rewind")
+    program = parser.parse_args().program
     each = [seconds(os.path.abspath(program), what) for what in CASES.values()]
     for items, time in zip(CASES, each):
         print(f"beside {items:,} items: {time * 1e6:.3f} microseconds a step and its undoing")

@@ -7,6 +7,7 @@ Each row is one run of up to 1,000,000 steps, in a process of its own: the proce
 costs taken off, and the bytes that the process grew by for each step that it keeps. With `undo` all steps are taken
 back after that, by a command each.
 """
+import argparse
 import os
 import re
 import subprocess
@@ -23,7 +24,7 @@ FIRST = b"run 1\n"
 SOURCE_LIMIT = 1_048_576
 
 
-def once(command, script):
+def once(command: list[str], script: bytes) -> tuple[float, bytes]:
     """The processor seconds and the output of one process."""
     with tempfile.TemporaryFile() as lines, tempfile.TemporaryFile() as replies:
         lines.write(script)
@@ -37,43 +38,48 @@ def once(command, script):
         return used.ru_utime + used.ru_stime, replies.read()
 
 
-def peak(command, line=b"?\n"):
-    """The peak bytes of resident memory of a process that has answered a line. It is asked while the process lives: of one that has
-    ended, the peak is at least that of the process that began it."""
+def peak(command: list[str], line: bytes = b"?\n") -> int:
+    """The peak bytes of resident memory of a process that has answered a line.
+
+    It is asked while the process lives: of one that has ended, the peak is at least that of the process that began it.
+    """
     with subprocess.Popen(command, stdin=subprocess.PIPE, stdout=subprocess.PIPE) as process:
+        assert process.stdin and process.stdout
         process.stdin.write(line)
         process.stdin.flush()
         process.stdout.readline()
         with open(f"/proc/{process.pid}/status", encoding="utf-8") as status:
-            kilobytes = int(re.search(r"VmHWM:\s+(\d+) kB", status.read()).group(1))
+            kilobytes = int(re.findall(r"VmHWM:\s+(\d+) kB", status.read())[0])
         process.stdin.close()
     return kilobytes * 1024
 
 
-def least(command, script):
+def least(command: list[str], script: bytes) -> tuple[float, bytes]:
     runs = [once(command, script) for _ in range(ROUNDS)]
     return min(r[0] for r in runs), runs[0][1]
 
 
-def row(name, command):
+def row(name: str, command: list[str]) -> None:
     start = least(command, FIRST)
     forward = least(command, RUN)
-    steps = int(re.search(rb"ok (\d+)", forward[1]).group(1))
+    steps = int(re.findall(rb"ok (\d+)", forward[1])[0])
     back = least(command, RUN + b"undo\n" * steps)
     size = (peak(command, RUN) - peak(command, FIRST)) / steps
-    print("%-18s %8d %10.0f %10.0f %10.1f" % (
-        name, steps, (forward[0] - start[0]) / steps * 1e9, (back[0] - forward[0]) / steps * 1e9, size))
+    step, undo = (forward[0] - start[0]) / steps * 1e9, (back[0] - forward[0]) / steps * 1e9
+    print(f"{name:18} {steps:8} {step:10.0f} {undo:10.0f} {size:10.1f}")
 
 
-def large_source(size):
+def large_source(size: int) -> str:
     """A source of one long function, of at most this many bytes."""
     head, line, tail = "package main\nfunc main() {\n\ta, b := 1, 2\n", "\ta, b = b, a+b*3-(b/2+1)\n", "}\n"
     return head + line * ((size - len(head) - len(tail)) // len(line)) + tail
 
 
-def main():
-    program = sys.argv[1] if len(sys.argv) > 1 else "bin/rewind"
-    print("%-18s %8s %10s %10s %10s" % ("program", "steps", "ns a step", "ns an undo", "bytes"))
+def main() -> None:
+    parser = argparse.ArgumentParser(description="The time and memory of a step, forward and back.")
+    parser.add_argument("program", nargs="?", default="bin/rewind")
+    program = parser.parse_args().program
+    print(f"{'program':18} {'steps':>8} {'ns a step':>10} {'ns an undo':>10} {'bytes':>10}")
     for name in NAMES:
         row(name, [program, os.path.join(PROGRAMS, name + ".go")])
 

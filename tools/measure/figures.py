@@ -6,12 +6,12 @@ import subprocess
 TOP = os.path.dirname(os.path.dirname(os.path.dirname(os.path.realpath(__file__))))
 
 
-def told(*words):
+def told(*words: str) -> str:
     """What a command prints, without its newline."""
     return subprocess.run(words, cwd=TOP, stdout=subprocess.PIPE, check=True, text=True).stdout.strip()
 
 
-def machine():
+def machine() -> str:
     """The processor, how many there are, and the memory."""
     with open("/proc/cpuinfo", encoding="utf-8") as lines:
         name = next((line.partition(":")[2].strip() for line in lines if line.startswith("model name")), "unknown processor")
@@ -19,7 +19,8 @@ def machine():
     return f"{name}, {os.cpu_count()} processors, {gigabytes:.0f} GB"
 
 
-def origin(**more):
+def origin(**more: str) -> str:
     """A table of one row: the machine, the commit, the date, and what else is given."""
-    row = {"Machine": machine(), "Commit": told("git", "rev-parse", "--short", "HEAD"), "Date": datetime.date.today().isoformat(), **more}
+    commit, date = told("git", "rev-parse", "--short", "HEAD"), datetime.date.today().isoformat()
+    row = {"Machine": machine(), "Commit": commit, "Date": date, **more}
     return "\n".join(f"| {' | '.join(cells)} |" for cells in (row, ["---"] * len(row), row.values()))

@@ -6,6 +6,7 @@
 Counts with valgrind, so the figures do not depend on what else the machine does. A crate's part holds what the compiler copied
 into its functions of others. What takes less than a twentieth stands together at the end. The last row is of opening a source.
 """
+import argparse
 import collections
 import os
 import re
@@ -21,9 +22,11 @@ NAMES = ("loop", "hand_to_hand", "through_a_buffer", "in_a_select", "recursion")
 STEPS = 100_000
 SMALL = 128 * 1024
 LEAST = 0.05
+# How many instructions each crate takes, or a library.
+Counts = collections.Counter[str]
 
 
-def part_of(function):
+def part_of(function: str) -> str:
     """The crate of a function, or the library that it is of."""
     crate = re.match(r"\W*(\w+)::", function)
     if not crate:
@@ -31,20 +34,21 @@ def part_of(function):
     return crate[1] if crate[1].startswith(("gr_", "rewind")) else "other libraries"
 
 
-def instructions(command, script):
+def instructions(command: list[str], script: bytes) -> Counts:
     """How many instructions of each part a process takes."""
     with tempfile.TemporaryDirectory() as folder:
         out = os.path.join(folder, "out")
         valgrind = ["valgrind", "--tool=callgrind", f"--callgrind-out-file={out}"]
         subprocess.run([*valgrind, *command], input=script, stdout=subprocess.DEVNULL, stderr=subprocess.DEVNULL, check=True)
-        told = subprocess.run(["callgrind_annotate", "--threshold=100", out], stdout=subprocess.PIPE, text=True, check=True).stdout
-    counts = collections.Counter()
+        annotate = ["callgrind_annotate", "--threshold=100", out]
+        told = subprocess.run(annotate, stdout=subprocess.PIPE, text=True, check=True).stdout
+    counts: Counts = collections.Counter()
     for count, function in re.findall(r"^ *([\d,]+) \([ \d.]+%\)  [^:\n]*:(.*)$", told, re.MULTILINE):
         counts[part_of(function)] += int(count.replace(",", ""))
     return counts
 
 
-def tell(what, unit, counts, many):
+def tell(what: str, unit: str, counts: Counts, many: int) -> None:
     whole = sum(counts.values())
     large = [(part, count) for part, count in counts.most_common() if count >= LEAST * whole]
     rest = whole - sum(count for _, count in large)
@@ -52,13 +56,15 @@ def tell(what, unit, counts, many):
     print(f"{what}: {whole / many:.0f} instructions a {unit}: {', '.join(parts)}", flush=True)
 
 
-def main():
-    program = sys.argv[1] if len(sys.argv) > 1 else "bin/rewind"
+def main() -> None:
+    parser = argparse.ArgumentParser(description="How many instructions a step takes, and the part of each crate in it.")
+    parser.add_argument("program", nargs="?", default="bin/rewind")
+    program = parser.parse_args().program
     if not shutil.which("valgrind"):
         sys.exit("instructions: valgrind is not installed")
     for name in NAMES:
         command = [program, os.path.join(PROGRAMS, name + ".go")]
-        counts = instructions(command, b"run %d\n" % STEPS)
+        counts = instructions(command, f"run {STEPS}\n".encode())
         counts.subtract(instructions(command, FIRST))
         tell(name.replace("_", " "), "step", counts, STEPS)
     with tempfile.NamedTemporaryFile("w", suffix=".go") as file:

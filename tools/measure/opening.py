@@ -6,6 +6,7 @@
 The program is a whole process each time, `PROGRAM --check`, and Go's front reads the text ten times in one run. Prints the least
 time by the clock of each, and how many times as fast the program is. Takes `go` (golang-go of Debian).
 """
+import argparse
 import os
 import shutil
 import subprocess
@@ -23,21 +24,23 @@ SOURCES = (("one long function", large_source, 2.0), ("functions of all forms", 
 LEVELS = 150
 
 
-def nested(size):
+def nested(size: int) -> str:
     """A source of blocks in blocks. Of the texts of 1 MiB that were tried, it takes the most memory."""
     head, line, tail = "package main\nfunc main() {\n", "{" * LEVELS + "}" * LEVELS + "\n", "}\n"
     return head + line * ((size - len(head) - len(tail)) // len(line)) + tail
 
 
-def clock(command):
+def clock(command: list[str]) -> float:
     """The seconds by the clock of a process."""
     begun = time.perf_counter()
     subprocess.run(command, check=True)
     return time.perf_counter() - begun
 
 
-def main():
-    program = sys.argv[1] if len(sys.argv) > 1 else "bin/rewind"
+def main() -> None:
+    parser = argparse.ArgumentParser(description="The time and the memory of opening a source of 1 MiB, beside Go's own front.")
+    parser.add_argument("program", nargs="?", default="bin/rewind")
+    program = parser.parse_args().program
     if not shutil.which("go"):
         sys.exit("opening: go is not installed")
     with tempfile.TemporaryDirectory() as folder:
@@ -49,11 +52,11 @@ def main():
             own = min(clock([program, "--check", file]) for _ in range(ROUNDS)) * 1e3
             other = float(subprocess.run([front, file], stdout=subprocess.PIPE, check=True, text=True).stdout)
             megabytes = peak([program, file]) / 1e6
-            print("opening 1 MiB, %s: %.0f ms, %.0f MB; Go %.0f ms; %.2f times as fast (at least %.1f)"
-                  % (what, own, megabytes, other, other / own, wanted), flush=True)
+            print(f"opening 1 MiB, {what}: {own:.0f} ms, {megabytes:.0f} MB; Go {other:.0f} ms; {other / own:.2f} times as fast "
+                  f"(at least {wanted:.1f})", flush=True)
         with open(file, "w", encoding="utf-8") as source:
             source.write(nested(SOURCE_LIMIT))
-        print("opening 1 MiB, blocks in blocks: %.0f MB (at most 150)" % (peak([program, file]) / 1e6))
+        print(f"opening 1 MiB, blocks in blocks: {peak([program, file]) / 1e6:.0f} MB (at most 150)")
 
 
 if __name__ == "__main__":

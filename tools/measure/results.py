@@ -19,33 +19,31 @@ from tools.measure.figures import origin, told  # noqa: E402
 
 BENCHES = ("steps", "core", "instructions", "opening", "rollback", "workers", "channels", "front", "baseline")
 PROGRAM = f"{TOP}/bin/rewind"
-HEAD = """# Measurements
-
-Written by `make bench`. Times are of processors and not by the clock, but for those of `opening` and `workers`. The rows of `instructions` say how many a step takes, and in which crate. Where the machine is shared with others, the times of two runs may differ by a half, and the counts do not.
-
-The rows of `baseline` compare with a plain program that takes the same commands. It has no proofs and no threads, and is no part of this repository: `make bench BASELINE=PROGRAM`.
-
-%s
-
-| Bench | What | Figure |
-|---|---|---|
-"""
+HEAD = "\n".join((
+    "# Measurements", "",
+    "Written by `make bench`. Times are of processors and not by the clock, but for those of `opening` and `workers`. "
+    "The rows of `instructions` say how many a step takes, and in which crate. "
+    "Where the machine is shared with others, the times of two runs may differ by a half, and the counts do not.", "",
+    "The rows of `baseline` compare with a plain program that takes the same commands. "
+    "It has no proofs and no threads, and is no part of this repository: `make bench BASELINE=PROGRAM`.", "",
+    "{origin}", "",
+    "| Bench | What | Figure |", "|---|---|---|", ""))
 
 
-def row_of_core(line):
+def row_of_core(line: str) -> tuple[str, str]:
     """A program with its time a step, its time an undo, and its bytes."""
     name, steps, step, undo, size = line.split()
     return name.replace("_", " "), f"{step} ns a step, {undo} ns an undo, {size} bytes a step ({steps} steps)"
 
 
-def row_of_rollback(line):
+def row_of_rollback(line: str) -> tuple[str, str]:
     """Work on a log, and its time."""
-    found = re.match(r"(.+?)\s{2,}(\d+)\s+(-?[\d.]+)$", line)
-    time = f"{found[3]} ms" if float(found[3]) >= 1 else "under 1 ms"
-    return found[1], f"{time} ({found[2]} {'step' if found[2] == '1' else 'steps'})"
+    what, steps, milliseconds = re.findall(r"(.+?)\s{2,}(\d+)\s+(-?[\d.]+)$", line)[0]
+    time = f"{milliseconds} ms" if float(milliseconds) >= 1 else "under 1 ms"
+    return what, f"{time} ({steps} {'step' if steps == '1' else 'steps'})"
 
 
-def row(bench, line):
+def row(bench: str, line: str) -> tuple[str, str] | None:
     """What a line of a bench tells, and its figure. A heading is none."""
     if bench == "core" and len(line.split()) == 5 and line.split()[1].isdigit():
         return row_of_core(line)
@@ -55,15 +53,15 @@ def row(bench, line):
     return (" ".join(what.split()), figure.strip()) if colon else None
 
 
-def rows(bench, *before):
-    """The rows of a bench, which may end with a status of 1 where a limit is missed. It is given these words before its program."""
+def rows(bench: str, *before: str) -> tuple[list[tuple[str, str, str]], int]:
+    """The rows of a bench, which is given these words before its program. Its status is 1 where a limit is missed."""
     done = subprocess.run([f"{HERE}/{bench}.py", *before, PROGRAM], stdout=subprocess.PIPE, text=True)
     print(done.stdout, end="", flush=True)
     found = [row(bench, line) for line in done.stdout.splitlines()]
     return [(bench, *it) for it in found if it], done.returncode
 
 
-def main():
+def main() -> int:
     parser = argparse.ArgumentParser(description=__doc__.splitlines()[0])
     parser.add_argument("--out", default=f"{TOP}/bench/RESULTS.md")
     parser.add_argument("--only", choices=BENCHES)
@@ -71,15 +69,16 @@ def main():
     asked = parser.parse_args()
     if not os.access(PROGRAM, os.X_OK):
         sys.exit("results: there is no bin/rewind: run make first")
-    text, status = [], 0
+    text: list[str] = []
+    status = 0
     for bench in [asked.only] if asked.only else BENCHES:
         if bench == "baseline" and not asked.baseline:
             continue
         found, missed = rows(bench, *([asked.baseline] if bench == "baseline" else []))
-        text += ["| %s | %s | %s |\n" % it for it in found]
+        text += [f"| {' | '.join(it)} |\n" for it in found]
         status = status or missed
     with open(asked.out, "w", encoding="utf-8") as file:
-        file.write(HEAD % origin(Program=told(PROGRAM, "--version")) + "".join(text))
+        file.write(HEAD.format(origin=origin(Program=told(PROGRAM, "--version"))) + "".join(text))
     return status
 
 

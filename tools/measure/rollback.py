@@ -8,8 +8,10 @@ between those of the other and taken again. `deps` and `causes` ask for the firs
 of a goroutine behind half of the other's in a log of 100,000 steps. Processor time of whole processes, best of three, with what
 comes before taken off. The programs take turns, and have to answer the same bytes.
 """
+import argparse
 import os
 import sys
+from collections.abc import Iterator
 
 sys.path.insert(0, os.path.dirname(os.path.dirname(os.path.dirname(os.path.realpath(__file__)))))
 from tools.measure.core import PROGRAMS, once  # noqa: E402
@@ -17,43 +19,46 @@ from tools.measure.core import PROGRAMS, once  # noqa: E402
 ROUNDS = 3
 STEPS = 1_000_000
 FILE = os.path.join(PROGRAMS, "two_loops.go")
-RUN = b"run %d\n" % STEPS
+RUN = f"run {STEPS}\n".encode()
 
 
-def order(steps):
+def order(steps: int) -> list[bytes]:
     """A run of so many steps, and an order that moves the child's first step behind half of the steps of `g0`."""
     half = steps // 2
-    mine = [b"g0#%d" % n for n in range(1, half + 1)]
-    others = [b"g0.1#%d" % n for n in range(1, steps - half + 1)]
+    mine = [f"g0#{n}".encode() for n in range(1, half + 1)]
+    others = [f"g0.1#{n}".encode() for n in range(1, steps - half + 1)]
     names = mine[:half // 2]
     for pair in zip(mine[half // 2:], others):
         names += pair
     return names + others[half - half // 2:]
 
 
-def rows():
+def rows() -> Iterator[tuple[str, bytes, bytes, int]]:
     for k in (1, 1000, 100_000, 400_000):
-        at = b"back g0.1#%d\n" % (500_000 - k + 1)
-        yield "back and redo, k = %d" % k, RUN, at + b"redo\n", k
+        yield f"back and redo, k = {k}", RUN, f"back g0.1#{500_000 - k + 1}\nredo\n".encode(), k
     yield "back of all", RUN, b"back g0#1\n", STEPS
     yield "deps of the first step", RUN, b"deps g0#1\n", STEPS
     yield "causes of the last step", RUN, b"causes g0#500000\n", STEPS // 2
     small = 100_000
-    yield "order of 100,000", b"run %d\n" % small, b"order " + b" ".join(order(small)) + b"\n", small
+    yield "order of 100,000", f"run {small}\n".encode(), b"order " + b" ".join(order(small)) + b"\n", small
 
 
-def main():
-    programs = sys.argv[1:] or ["bin/rewind"]
-    print("%-26s %10s  %s" % ("work", "steps", "ms".rjust(10) * len(programs)))
+def main() -> None:
+    parser = argparse.ArgumentParser(description="The time of taking steps back with their consequences, and of what is asked.")
+    parser.add_argument("programs", nargs="*", default=["bin/rewind"])
+    programs = parser.parse_args().programs
+    print(f"{'work':26} {'steps':>10}  {'ms'.rjust(10) * len(programs)}")
     for name, before, work, steps in rows():
-        times, outputs = [[] for _ in programs], set()
+        times: list[list[float]] = [[] for _ in programs]
+        outputs = set()
         for _ in range(ROUNDS):
             for i, program in enumerate(programs):
                 start = once([program, FILE], before)
                 whole = once([program, FILE], before + work)
                 times[i].append(whole[0] - start[0])
                 outputs.add(whole[1])
-        print("%-26s %10d  %s%s" % (name, steps, "".join("%10.1f" % (min(t) * 1e3) for t in times), "" if len(outputs) == 1 else "  answers differ"))
+        told = "".join(f"{min(it) * 1e3:10.1f}" for it in times)
+        print(f"{name:26} {steps:10}  {told}{'' if len(outputs) == 1 else '  answers differ'}")
 
 
 if __name__ == "__main__":

@@ -19,10 +19,14 @@ PARTS = re.compile(r"(\.(Code|Mir|Statement|Key|Symbol|Layout|Kinds[-0-9]*|Lts[^
 # A module of one of several functions that call each other: the name of their group, which begins with '+', and its own.
 MEMBER = re.compile(r"(.*\+\w+)\.Lts-([^.]+)")
 
+Seconds = dict[str, float]
+# Seconds, a crate, and a function or a proof file.
+Row = tuple[float, str, str]
 
-def modules(crate):
+
+def modules(crate: str) -> list[tuple[str, float]]:
     """The modules of a crate's last check in the order in which they were written: each with its seconds."""
-    found = []
+    found: list[tuple[float, str]] = []
     for folder, _, names in os.walk(f"{crate}/out/incremental"):
         if os.path.basename(folder) != "records":
             found += [(os.path.getmtime(f"{folder}/{name}"), name) for name in names if name.endswith(".oantt")]
@@ -30,15 +34,16 @@ def modules(crate):
     return [(name.removesuffix(".oantt"), at - before) for (before, _), (at, name) in zip(found, found[1:])]
 
 
-def file_of(crate, module):
+def file_of(crate: str, module: str) -> str | None:
     """The proof file that a module is, if it is one."""
     path = module.partition("-proofs.")[2].replace(".", "/")
     return f"proofs/{path}.antt" if path and os.path.exists(f"{crate}/proofs/{path}.antt") else None
 
 
-def seconds_of(crate):
+def seconds_of(crate: str) -> tuple[Seconds, Seconds]:
     """The seconds of each function, or group of functions that call each other, and of each proof file of a crate."""
-    functions, files = collections.Counter(), collections.Counter()
+    functions: Seconds = collections.defaultdict(float)
+    files: Seconds = collections.defaultdict(float)
     for module, seconds in modules(crate):
         file, part = file_of(crate, module), module.partition("-proofs.")[2]
         if file:
@@ -48,9 +53,9 @@ def seconds_of(crate):
     return functions, files
 
 
-def members_of(crate):
+def members_of(crate: str) -> dict[str, set[str]]:
     """The functions of each group of a crate."""
-    groups = collections.defaultdict(set)
+    groups: dict[str, set[str]] = collections.defaultdict(set)
     for module, _ in modules(crate):
         member = MEMBER.match(module.partition("-proofs.")[2])
         if member:
@@ -58,22 +63,23 @@ def members_of(crate):
     return groups
 
 
-def shown(name, members):
+def shown(name: str, members: set[str] | None) -> str:
     """A function, a group with the number of its functions, or a proof file, as a cell of the table."""
     return f"`{name}`, {len(members)} functions that call each other" if members else f"`{name}`"
 
 
-def table(heading, rows):
+def table(heading: str, rows: list[Row]) -> str:
     lines = [f"| {crate} | {name} | {seconds:.1f} |" for seconds, crate, name in rows]
     return "\n".join([f"| Crate | {heading} | Seconds |", "|---|---|---|", *lines])
 
 
-def main():
+def main() -> None:
     options = argparse.ArgumentParser(description="Which functions and proof files took longest in the last check of crates.")
     options.add_argument("--most", type=int, default=12, metavar="N", help="how many of each are told (12)")
     options.add_argument("crates", nargs="+", metavar="CRATE", help="the folder of a crate")
     given = options.parse_args()
-    functions, files = [], []
+    functions: list[Row] = []
+    files: list[Row] = []
     for crate in given.crates:
         name, groups = os.path.basename(os.path.abspath(crate)), members_of(crate)
         for rows, seconds in zip((functions, files), seconds_of(crate)):

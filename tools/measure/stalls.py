@@ -23,35 +23,35 @@ BASE = 0x108000
 class Trace:
     """The last stores of a program that runs, and the loads that waited for them."""
 
-    def __init__(self):
+    def __init__(self) -> None:
         self.instructions, self.at, self.stores = 0, 0, 0
-        self.written = {}
-        self.waited = collections.Counter()
-        self.sources = collections.defaultdict(collections.Counter)
+        self.written: dict[int, tuple[int, int, int]] = {}
+        self.waited: collections.Counter[int] = collections.Counter()
+        self.sources: dict[int, collections.Counter[tuple[int, ...]]] = collections.defaultdict(collections.Counter)
 
-    def load(self, address, size):
-        recent = set()
+    def load(self, address: int, size: int) -> None:
+        recent: set[tuple[int, int] | None] = set()
         for byte in range(address, address + size):
-            number, instruction, place = self.written.get(byte, (None, -WINDOW, None))
+            number, instruction, place = self.written.get(byte, (0, -WINDOW, 0))
             recent.add((number, place) if self.instructions - instruction < WINDOW else None)
         if len(recent) > 1:
             self.waited[self.at] += 1
             self.sources[self.at][tuple(sorted({it[1] for it in recent if it}))] += 1
 
-    def store(self, address, size):
+    def store(self, address: int, size: int) -> None:
         self.stores += 1
         for byte in range(address, address + size):
             self.written[byte] = (self.stores, self.instructions, self.at)
         if self.stores % FORGET == 0:
             self.written = {byte: it for byte, it in self.written.items() if self.instructions - it[1] < WINDOW}
 
-    def read(self, line):
+    def read(self, line: str) -> None:
         """One line of the trace: an instruction, a load, a store, or both (` M`)."""
         kind = line[:2].strip()
         if kind not in ("I", "L", "S", "M"):
             return
-        address, size = line[3:].split(",")
-        address, size = int(address, 16), int(size)
+        first, count = line[3:].split(",")
+        address, size = int(first, 16), int(count)
         if kind == "I":
             self.at = address
             self.instructions += 1
@@ -65,12 +65,12 @@ class Trace:
 class Symbols:
     """The functions of a program, by their places."""
 
-    def __init__(self, program):
+    def __init__(self, program: str) -> None:
         said = subprocess.run(["nm", "-C", program], stdout=subprocess.PIPE, stderr=subprocess.DEVNULL, text=True).stdout
         fields = (line.split(" ", 2) for line in said.splitlines())
         self.functions = sorted((int(it[0], 16), it[2]) for it in fields if len(it) == 3 and it[0] and it[1] in "tT")
 
-    def name(self, place):
+    def name(self, place: int) -> str:
         found = bisect.bisect(self.functions, (place - BASE, "\x7f")) - 1
         if found < 0:
             return f"{place:x}"
@@ -78,11 +78,12 @@ class Symbols:
         return f"{name}+{place - BASE - start:x}"
 
 
-def traced(program, source, steps):
+def traced(program: str, source: str, steps: int) -> Trace:
     """The trace of a run of so many steps. Opening the program is traced too."""
     command = ["valgrind", "--tool=lackey", "--trace-mem=yes", "--log-fd=2", program, source]
     trace = Trace()
     with subprocess.Popen(command, stdin=subprocess.PIPE, stdout=subprocess.DEVNULL, stderr=subprocess.PIPE, text=True) as it:
+        assert it.stdin and it.stderr
         it.stdin.write(f"run {steps}\nquit\n")
         it.stdin.close()
         for line in it.stderr:
@@ -90,7 +91,7 @@ def traced(program, source, steps):
     return trace
 
 
-def main():
+def main() -> None:
     parser = argparse.ArgumentParser(description=__doc__.splitlines()[0])
     parser.add_argument("program")
     parser.add_argument("source")

@@ -7,6 +7,7 @@ Steps through each program and takes it all back, again and again, until both ha
 the processor time of a command, and the ratio, which is to be at most 1.5: neither the length of the log nor that
 of the program counts. The time of opening the program is measured apart and taken off.
 """
+import argparse
 import os
 import resource
 import subprocess
@@ -19,26 +20,28 @@ ROUNDS = 5
 LIMIT = 1.5
 
 
-def source(statements):
+def source(statements: int) -> str:
     lines = ["package main", "func main() {", "\tx, y := 1, 2"]
     lines += ["\tx, y = y, x+y*3" if k % 2 else "\tprintln(x, y)" for k in range(statements - 1)]
     return "\n".join(lines + ["}", ""])
 
 
-def processor_time(command, script):
+def processor_time(command: list[str], script: bytes) -> float:
     before = resource.getrusage(resource.RUSAGE_CHILDREN)
     subprocess.run(command, input=script, stdout=subprocess.DEVNULL, check=True)
     after = resource.getrusage(resource.RUSAGE_CHILDREN)
     return after.ru_utime + after.ru_stime - before.ru_utime - before.ru_stime
 
 
-def least(command, script):
+def least(command: list[str], script: bytes) -> float:
     return min(processor_time(command, script) for _ in range(ROUNDS))
 
 
-def main():
-    program = sys.argv[1] if len(sys.argv) > 1 else "bin/rewind"
-    each = []
+def main() -> int:
+    parser = argparse.ArgumentParser(description="The time of a step, and of taking it back, in short and in long programs.")
+    parser.add_argument("program", nargs="?", default="bin/rewind")
+    program = parser.parse_args().program
+    each: list[float] = []
     for statements in SIZES:
         with tempfile.TemporaryDirectory() as folder:
             file = os.path.join(folder, "program.go")
@@ -47,9 +50,9 @@ def main():
             script = (b"step g0\n" * statements + b"undo\n" * statements) * (STEPS // statements)
             opening = least([program, file], b"")
             each.append((least([program, file], script) - opening) / (2 * STEPS) * 1e6)
-        print("%6d statements: %.3f microseconds a command (opening: %.1f ms)" % (statements, each[-1], opening * 1e3))
+        print(f"{statements:6} statements: {each[-1]:.3f} microseconds a command (opening: {opening * 1e3:.1f} ms)")
     ratio = each[1] / each[0]
-    print("ratio: %.2f (at most %.1f)" % (ratio, LIMIT))
+    print(f"ratio: {ratio:.2f} (at most {LIMIT:.1f})")
     return 0 if ratio <= LIMIT else 1
 
 

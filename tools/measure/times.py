@@ -20,26 +20,27 @@ TARGETS = [["demo", "test"], ["quick"], ["quick-page"]]
 PROCESSORS = 2
 
 
-def output(*words):
+def output(*words: str) -> str:
     return subprocess.run(words, cwd=kit.ROOT, stdout=subprocess.PIPE, text=True, check=True).stdout.strip()
 
 
-def model():
+def model() -> str:
     with open("/proc/cpuinfo", encoding="utf-8") as lines:
         return next(line.partition(":")[2].strip() for line in lines if line.startswith("model name"))
 
 
-def timed(target, clone):
+def timed(target: str, clone: str) -> tuple[float, str]:
     """The seconds that a target takes, and its last line."""
     start = time.monotonic()
-    ran = subprocess.run(["make", target], cwd=clone, stdin=subprocess.DEVNULL, stdout=subprocess.PIPE, stderr=subprocess.STDOUT, text=True)
+    words = ["make", target]
+    ran = subprocess.run(words, cwd=clone, stdin=subprocess.DEVNULL, stdout=subprocess.PIPE, stderr=subprocess.STDOUT, text=True)
     if ran.returncode:
         sys.stderr.write(ran.stdout[-2000:])
         kit.fail(f"'make {target}' ended with status {ran.returncode}")
     return time.monotonic() - start, ran.stdout.rstrip().splitlines()[-1]
 
 
-def main():
+def main() -> None:
     kit.folder()
     os.sched_setaffinity(0, sorted(os.sched_getaffinity(0))[:PROCESSORS])
     print("| Target | Seconds | Last line |\n|---|---|---|")
@@ -49,7 +50,8 @@ def main():
             for target in targets:
                 seconds, last = timed(target, room)
                 print(f"| `make {target}` | {seconds:.0f} | {last} |", flush=True)
-    print(f"\n{PROCESSORS} processors of {model()}, {datetime.date.today()}, commit {output('git', 'rev-parse', '--short', 'HEAD')}")
+    commit = output("git", "rev-parse", "--short", "HEAD")
+    print(f"\n{PROCESSORS} processors of {model()}, {datetime.date.today()}, commit {commit}")
 
 
 main()

@@ -10,6 +10,7 @@ The same commit gives the same bytes: an archive has its files in the order of t
 and one owner. The tree must be that of a commit, but for the folder dist, and the version that of CHANGELOG.md. A trial
 may be of a changed tree, of any version and of the quick build; its texts say so.
 """
+import argparse
 import glob
 import hashlib
 import io
@@ -47,33 +48,39 @@ PACKAGES = {
 }
 
 
-def said_by(*words):
+def said_by(*words: str) -> str:
     return subprocess.run(words, cwd=kit.ROOT, stdout=subprocess.PIPE, text=True, check=True).stdout.strip()
 
 
-def read(path):
+def read(path: str) -> str:
     with open(path, encoding="utf-8") as file:
         return file.read()
 
 
-def version():
+def first(pattern: str, path: str) -> str:
+    """What the group of a pattern finds first in a file."""
+    found = re.search(pattern, read(path), re.M)
+    return found[1] if found else kit.stop(f"{path} has nothing of the form {pattern}")
+
+
+def version() -> str:
     """The program's version, by the file that its texts are made from."""
-    return re.search(r"^version\n    text: (\S+)$", read(f"{kit.ROOT}/words/program.txt"), re.M)[1]
+    return first(r"^version\n    text: (\S+)$", f"{kit.ROOT}/words/program.txt")
 
 
-def check_tree():
+def check_tree() -> None:
     """Ends the program where the tree is not that of a commit, or CHANGELOG.md does not begin with the version."""
     changed = said_by("git", "status", "--porcelain", "--", ".", ":!dist")
     if changed:
         kit.stop(f"a release is of a commit, and the tree has changed: {changed.splitlines()[0]}")
     if not re.fullmatch(r"\d+\.\d+\.\d+", version()):
         kit.stop(f"{version()} is no version of a release: CONTRIBUTING.md says how to make one")
-    newest = re.search(r"^## (.*)$", read(f"{kit.ROOT}/CHANGELOG.md"), re.M)[1]
+    newest = first(r"^## (.*)$", f"{kit.ROOT}/CHANGELOG.md")
     if newest != version():
         kit.stop(f"CHANGELOG.md begins with '{newest}', and the program's version is {version()}")
 
 
-def check_program(program, is_trial):
+def check_program(program: str, is_trial: bool) -> None:
     """Ends the program where that of the release has another version, or is not proved."""
     said = said_by(program, "--version")
     wanted = f"rewind {version()}"
@@ -82,14 +89,14 @@ def check_program(program, is_trial):
         kit.stop(f"the program says '{said}', and that of a release says '{wanted}'")
 
 
-def version_of(package):
+def version_of(package: str) -> str:
     """The version of a package of Debian."""
     words = ["dpkg-query", "--show", "--showformat", "${Version}", package]
     ran = subprocess.run(words, capture_output=True, text=True) if shutil.which(words[0]) else None
     return ran.stdout if ran and not ran.returncode else "not known"
 
 
-def facts(is_trial):
+def facts(is_trial: bool) -> dict[str, str]:
     """What the texts of a release say of it."""
     rows = [(f"`{name}`", version_of(name), what) for name, what in PACKAGES.items()]
     compiler = said_by("cc", "--version").splitlines()[0]
@@ -103,22 +110,22 @@ def facts(is_trial):
     }
 
 
-def filled(name, told):
+def filled(name: str, told: dict[str, str]) -> str:
     """A text of the release, with what is told in place of words in capitals."""
     return re.sub(rf"\b({'|'.join(told)})\b", lambda word: told[word[0]], read(f"{TEXTS}/{name}"))
 
 
-def write(path, content):
+def write(path: str, content: bytes) -> None:
     with open(path, "wb") as file:
         file.write(content)
     os.chmod(path, 0o644)
 
 
-def quietly(*words, **more):
+def quietly(*words: str, **more: str) -> None:
     subprocess.run(words, stdout=subprocess.DEVNULL, check=True, env={**os.environ, **more})
 
 
-def staged(program, folder, told):
+def staged(program: str, folder: str, told: dict[str, str]) -> None:
     """Leaves the files of the archive in `folder`."""
     quietly(f"{kit.ROOT}/tools/install.sh", folder, "/", REWIND_PROGRAM=program)
     quietly(f"{kit.ROOT}/tools/vsix.py", "--stored", program, f"{folder}/rewind.vsix")
@@ -132,7 +139,7 @@ def staged(program, folder, told):
             shutil.copy(f"{SESSIONS}/{name}.{ending}", f"{folder}/examples")
 
 
-def entry_of(archive, path, name, time):
+def entry_of(archive: tarfile.TarFile, path: str, name: str, time: int) -> tarfile.TarInfo:
     """The entry of a file, which tells nothing of the machine, its user and their settings."""
     entry = archive.gettarinfo(path, arcname=name)
     entry.uid = entry.gid = 0
@@ -143,7 +150,7 @@ def entry_of(archive, path, name, time):
     return entry
 
 
-def packed(folder, top, time):
+def packed(folder: str, top: str, time: int) -> bytes:
     """The archive of a folder, whose files are named below `top`."""
     content = io.BytesIO()
     with tarfile.open(fileobj=content, mode="w", format=tarfile.USTAR_FORMAT) as archive:
@@ -157,7 +164,7 @@ def packed(folder, top, time):
     return lzma.compress(content.getvalue(), preset=6 | lzma.PRESET_EXTREME)
 
 
-def made(module, page, told, is_trial):
+def made(module: str, page: str, told: dict[str, str], is_trial: bool) -> dict[str, bytes]:
     """The name and the bytes of each file."""
     top = f"rewind-{told['VERSION']}-x86_64-linux"
     time = int(said_by("git", "log", "-1", "--format=%ct"))
@@ -172,7 +179,7 @@ def made(module, page, told, is_trial):
         return {f"{top}.tar.xz": archive, PAGE: file.read()}
 
 
-def check_sizes(files):
+def check_sizes(files: dict[str, bytes]) -> None:
     """Ends the program where a file is larger than a release may be."""
     for name, content in files.items():
         most = MOST[name.rpartition(".")[2]]
@@ -180,7 +187,7 @@ def check_sizes(files):
             kit.fail(f"{name} has {len(content):,} bytes, and a release at most {most:,}")
 
 
-def emptied(folder):
+def emptied(folder: str) -> None:
     """Makes the folder, or removes from it what an earlier release left."""
     os.makedirs(folder, exist_ok=True)
     strange = [name for name in sorted(os.listdir(folder)) if not NAMES.fullmatch(name)]
@@ -190,7 +197,7 @@ def emptied(folder):
         os.remove(f"{folder}/{name}")
 
 
-def make(module, page, folder, is_trial):
+def make(module: str, page: str, folder: str, is_trial: bool) -> None:
     if not is_trial:
         check_tree()
     told = facts(is_trial)
@@ -206,15 +213,17 @@ def make(module, page, folder, is_trial):
     print("\n".join(f"{folder}/{name}: {len(content):,} bytes" for name, content in files.items()))
 
 
-def main():
-    words = [it for it in sys.argv[1:] if it != "--trial"]
-    if len(words) != 3:
-        sys.exit(__doc__)
-    module, page, folder = map(os.path.abspath, words)
+def main() -> None:
+    parser = argparse.ArgumentParser(description="Makes a release of the proved program: files that need no toolchain.")
+    parser.add_argument("--trial", action="store_true", help="of a changed tree, any version, and the quick build")
+    for name in ("module", "page", "folder"):
+        parser.add_argument(name)
+    asked = parser.parse_args()
+    module, page, folder = (os.path.abspath(it) for it in (asked.module, asked.page, asked.folder))
     for path in (module, page):
         if not os.path.isfile(path):
             kit.stop(f"there is no {path}")
-    make(module, page, folder, len(words) < len(sys.argv) - 1)
+    make(module, page, folder, asked.trial)
 
 
 if __name__ == "__main__":

@@ -13,26 +13,27 @@ LIBRARY = """The GNU C Library, and parts of GCC's runtime library, which its ex
 Rewind's sources are free, so 'make dist' links the program with another C library."""
 
 
-def read(path):
+def read(path: str) -> str:
     with open(path, encoding="utf-8") as file:
         return file.read().strip()
 
 
-def crates(folder):
+def crates(folder: str) -> list[str]:
     """The names of the toolchain's crates that the program is made of."""
     library = kit.library(folder)
     crate = library.Crate(f"{kit.ROOT}/crates/rewind_cli", kit.ROOT, {}, ())
     words = library.kit_sources(name for it in [crate, *crate.below()] for name in it.of_kit)
-    return sorted(re.search(r"/(\w+)/src/lib\.rt$", word)[1] for word in words if word.endswith("/src/lib.rt"))
+    found = [re.search(r"/(\w+)/src/lib\.rt$", word) for word in words]
+    return sorted(it[1] for it in found if it)
 
 
-def license_of(folder, name):
+def license_of(folder: str, name: str) -> str | None:
     """The text of a crate's license, where the toolchain has one."""
     found = [path for path in (f"{folder}/rattle/{name}/{it}" for it in TERMS) if os.path.exists(path)]
     return read(found[0]) if found else None
 
 
-def of_crates(folder):
+def of_crates(folder: str) -> list[str]:
     """The licenses of the crates, and which crates have none."""
     told = {name: license_of(folder, name) for name in crates(folder)}
     without = ", ".join(name for name, text in told.items() if not text)
@@ -40,17 +41,17 @@ def of_crates(folder):
     return [*texts, f"The toolchain has no text of a license for its crates {without}."]
 
 
-def joined(parts):
+def joined(parts: list[str]) -> str:
     return f"\n\n{'-' * 78}\n\n".join(parts) + "\n"
 
 
-def of_program(folder):
+def of_program(folder: str) -> str:
     """The text for an archive of the program."""
     if not os.path.exists(C_LIBRARY):
         kit.stop(f"there is no {C_LIBRARY}, which the archive must hold: install Debian's package libc6-dev")
     return joined([HEAD, *of_crates(folder), LIBRARY, read(C_LIBRARY)])
 
 
-def of_page(folder, editor):
+def of_page(folder: str, editor: str) -> str:
     """The text for the page, with that of Rewind and of the page's editor."""
     return joined([read(f"{kit.ROOT}/LICENSE"), editor.strip(), OF_PAGE, *of_crates(folder)])

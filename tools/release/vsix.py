@@ -5,10 +5,12 @@
 
 The same files give the same bytes: each entry has a fixed time, and they stand in the order of their names.
 """
+import argparse
 import json
 import os
 import sys
 import zipfile
+from typing import Any
 from xml.sax.saxutils import quoteattr
 
 TOP = os.path.dirname(os.path.dirname(os.path.dirname(os.path.realpath(__file__))))
@@ -22,7 +24,7 @@ TYPES = {".json": "application/json", ".js": "application/javascript", ".md": "t
 TYPES[".vsixmanifest"] = "text/xml"
 
 
-def files(program):
+def files(program: str) -> dict[str, str]:
     """The path in the package of each file, with where it lies."""
     found = {name: os.path.join(EXTENSION, name) for name in OWN}
     found["clients/rewind-dap"] = os.path.join(CLIENTS, "rewind-dap")
@@ -36,11 +38,11 @@ def files(program):
     return {"extension/" + name: path for name, path in sorted(found.items())}
 
 
-def manifest(package):
+def manifest(package: dict[str, Any]) -> str:
     """What the package is, as VS Code reads it."""
     identity = {"Language": "en-US", "Id": package["name"], "Version": package["version"], "Publisher": package["publisher"]}
     identity["TargetPlatform"] = "linux-x64"
-    told = " ".join("%s=%s" % (name, quoteattr(value)) for name, value in identity.items())
+    told = " ".join(f"{name}={quoteattr(value)}" for name, value in identity.items())
     return f"""<?xml version="1.0" encoding="utf-8"?>
 <PackageManifest Version="2.0.0" xmlns="http://schemas.microsoft.com/developer/vsx-schema/2011">
   <Metadata>
@@ -63,7 +65,7 @@ def manifest(package):
 """
 
 
-def content_types():
+def content_types() -> str:
     rows = "".join(f'  <Default Extension="{name}" ContentType="{kind}" />\n' for name, kind in sorted(TYPES.items()))
     return (
         '<?xml version="1.0" encoding="utf-8"?>\n'
@@ -71,18 +73,18 @@ def content_types():
     )
 
 
-def pack(program, out, method):
+def pack(program: str, out: str, method: int) -> None:
     with open(os.path.join(EXTENSION, "package.json"), encoding="utf-8") as file:
         package = json.load(file)
     with zipfile.ZipFile(out, "w", method) as archive:
         write(archive, "extension.vsixmanifest", manifest(package).encode(), False)
         write(archive, "[Content_Types].xml", content_types().encode(), False)
         for name, path in files(program).items():
-            with open(path, "rb") as file:
-                write(archive, name, file.read(), os.access(path, os.X_OK))
+            with open(path, "rb") as content:
+                write(archive, name, content.read(), os.access(path, os.X_OK))
 
 
-def write(archive, name, content, runs):
+def write(archive: zipfile.ZipFile, name: str, content: bytes, runs: bool) -> None:
     entry = zipfile.ZipInfo(name, TIME)
     entry.compress_type = archive.compression
     entry.create_system = 3
@@ -90,17 +92,18 @@ def write(archive, name, content, runs):
     archive.writestr(entry, content, compresslevel=9)
 
 
-def main():
-    is_stored = sys.argv[1:2] == ["--stored"]
-    if len(sys.argv) != 3 + is_stored:
-        print("usage: tools/release/vsix.py [--stored] PROGRAM OUT", file=sys.stderr)
-        return 2
-    program, out = sys.argv[-2:]
+def main() -> int:
+    parser = argparse.ArgumentParser(description="Packs the extension for VS Code into a file that VS Code installs.")
+    parser.add_argument("--stored", action="store_true", help="compress nothing, for an archive that is compressed itself")
+    parser.add_argument("program", metavar="PROGRAM")
+    parser.add_argument("out", metavar="OUT")
+    asked = parser.parse_args()
+    program, out = asked.program, asked.out
     if not os.access(program, os.X_OK):
         print(f"vsix: there is no program {program}: build one by 'make quick' or 'make'", file=sys.stderr)
         return 2
     os.makedirs(os.path.dirname(os.path.abspath(out)), exist_ok=True)
-    pack(program, out, zipfile.ZIP_STORED if is_stored else zipfile.ZIP_DEFLATED)
+    pack(program, out, zipfile.ZIP_STORED if asked.stored else zipfile.ZIP_DEFLATED)
     print(f"{out}: {os.path.getsize(out):,} bytes")
     return 0
 
