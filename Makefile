@@ -11,9 +11,9 @@ RT = $(if $(HAS_RT),rt,$(error rewind: 'rt' is not on the path: install the Ratt
 NEEDS_RT = @: $(RT)
 
 .DEFAULT_GOAL := $(if $(HAS_RT),all,help)
-.PHONY: all help quick quick-page demo test gate prove edits words command-line-test bench replay second-opinion beside-go hostile times gate-times \
-	make-times slowest stalls faces \
-	dap-test page page-test page-lint vsix dist quick-dist dist-check release-check page-pictures install uninstall clean
+.PHONY: all help quick quick-page demo test lint gate prove edits words command-line-test bench replay second-opinion beside-go hostile times \
+	gate-times make-times slowest stalls faces dap-test page page-test page-lint vsix dist quick-dist dist-check release-check release-test \
+	bare-debian page-pictures install uninstall clean
 
 ## Use it
 
@@ -91,6 +91,12 @@ dist-check: ## makes the release in two fresh clones, and compares the files byt
 release-check: ## checks the committed release without the toolchain: it starts, a plain model answers alike, the documents hold (30 seconds)
 	tests/released.sh
 
+release-test: ## starts each file of a release where nothing else is (1 minute; FOLDER=dist)
+	tests/run.sh --rewind $(firstword $(wildcard bin/rewind) bin/rewind-quick) --release $(or $(FOLDER),dist) tests/test_release.py
+
+bare-debian: ## the archive of a release on bare Debian, in folders that debootstrap makes (10 minutes; as root, with a network)
+	tests/bare_debian.sh $(or $(ARCHIVE),$(wildcard dist/*.tar.xz))
+
 install: ## installs the program, its manual page and the clients (PREFIX=/usr/local, DESTDIR)
 	tools/release/install.sh "$(DESTDIR)" "$(PREFIX)"
 
@@ -99,8 +105,14 @@ uninstall: ## removes what install installed
 
 ## Test it
 
-test: bin/rewind-quick ## every test, without proofs (10 minutes on two processors)
-	tests/run.py bin/rewind-quick
+# What is given to pytest besides: K='-k sessions' chooses tests by their names, and T='--durations 20' is any other word of it.
+PYTEST = tests/run.sh --rewind $(REWIND) $(K) $(T)
+
+test: bin/rewind-quick ## every test, without proofs (10 minutes on two processors; K='-k sessions' chooses)
+	tests/run.sh --rewind bin/rewind-quick $(K) $(T)
+
+lint: ## the style and the types of all Python, scripts for the shell, and the page (1 minute)
+	tests/lint.sh
 
 gate: ## the gate: each proof from nothing, edits that must be refused, all tests and programs (an hour on four processors)
 	RT_JOBS=$(RT_JOBS) $(RT) ci
@@ -115,22 +127,22 @@ edits: ## the edits that must be refused and that the gate leaves out (hours; CR
 
 command-line-test: $(REWIND) ## what the program writes by its command line, with pipes and at a terminal (1 minute)
 	words/make.py --check
-	tests/command_line.py $(REWIND)
+	$(PYTEST) tests/test_command_line.py
 
-replay: $(REWIND) ## steps of 1,000 random sessions, taken again in fresh sessions and in other orders (5 minutes)
-	tests/replay.py $(REWIND)
+replay: $(REWIND) ## steps of random sessions, taken again in fresh sessions and in other orders (5 minutes; SECONDS=N)
+	$(PYTEST) --seconds $(or $(SECONDS),300) tests/test_replay.py
 
 second-opinion: $(REWIND) ## random sessions, answered by a plain model too (10 minutes; SECONDS=N)
-	tests/second.py --sessions 1000000 --seconds $(or $(SECONDS),600) $(REWIND)
+	$(PYTEST) --seconds $(or $(SECONDS),600) tests/test_second_opinion.py
 
 faces: $(REWIND) ## what page, shell and adapter say of all programs and of 2,000 random ones, compared (10 minutes on four processors)
-	tests/faces.py --random 2000 $(REWIND)
+	$(PYTEST) --full tests/test_faces.py
 
 beside-go: $(REWIND) ## programs as Go runs them: some schedule of the rules comes to each outcome (2 minutes; needs go)
-	tests/beside_go.py $(REWIND)
+	$(PYTEST) --full tests/test_beside_go.py
 
-dap-test: $(REWIND) ## the adapter for editors (1 minute)
-	REWIND=$(REWIND) editors/dap/tests/run
+dap-test: $(REWIND) ## the adapter for editors, and their set-ups (2 minutes)
+	$(PYTEST) clients/tests/dap
 
 IS_QUICK = $(filter rewind-quick,$(notdir $(REWIND)))
 
@@ -142,7 +154,8 @@ page-lint: ## types and style of the page, its tests and the extension for VS Co
 	page/lint.sh
 
 hostile: $(REWIND) bin/races ## hostile sources and commands, failing devices, refused memory, races (6 processor minutes)
-	tests/hostile/all.sh $(REWIND)
+	$(PYTEST) --full tests/hostile
+	cd crates/races && ../../bin/races 4 2 1000 100 data/*.go && ../../bin/races 2 4 1000 100 data/*.go
 
 bench: bin/rewind ## times of steps, rollback, workers, channels and the front, into bench/RESULTS.md (minutes; BASELINE=PROGRAM compares)
 	tools/measure/results.py $(if $(BASELINE),--baseline $(BASELINE))

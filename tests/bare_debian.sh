@@ -2,7 +2,7 @@
 # bare_debian.sh ARCHIVE [NAME..]: tries the archive of a release on bare Debian (bullseye, bookworm and trixie), each in a folder
 # that debootstrap makes with no more than the least of packages. The program tells its version, and gives the replies that lie
 # beside the examples. Then Python is installed, and the shell, the hunt and the adapter start. It needs root, debootstrap and a
-# network. The last line counts the checks.
+# network. Each check gets a line, and the status is 1 where one fails.
 set -eu
 if ! [ -f "${1:-}" ]; then
   echo "tests: name the archive of a release, as tests/bare_debian.sh dist/rewind-1.1.0-x86_64-linux.tar.xz" >&2
@@ -15,17 +15,16 @@ top=$(basename "$archive" .tar.xz)
 work=$(mktemp -d "${TMPDIR:-/var/tmp}/rewind-bare.XXXXXX")
 trap 'rm -rf --one-file-system "$work"' EXIT
 REQUEST='{"seq": 1, "type": "request", "command": "initialize", "arguments": {"adapterID": "rewind"}}'
-passed=0
 failed=0
 
-# holds SENTENCE COMMAND..: counts a check.
+# holds SENTENCE COMMAND..: tells whether a check holds.
 holds() {
   sentence=$1
   shift
   if "$@" >"$work/said" 2>&1; then
-    passed=$((passed + 1))
+    echo "$debian: $sentence"
   else
-    failed=$((failed + 1))
+    failed=1
     echo "FAILED $debian: $sentence: $(tail -n 1 "$work/said")"
   fi
 }
@@ -37,7 +36,7 @@ inside() {
 
 for debian; do
   debootstrap --variant=minbase "$debian" "$work/$debian" >"$work/log" 2>&1 || {
-    failed=$((failed + 1))
+    failed=1
     echo "FAILED $debian: debootstrap makes no folder: $(tail -n 1 "$work/log")"
     continue
   }
@@ -54,5 +53,4 @@ for debian; do
   holds "the adapter answers an editor" inside 'bin/rewind-dap </request | grep supportsStepBack'
   rm -rf --one-file-system "${work:?}/$debian"
 done
-echo "$passed passed, $failed failed"
 [ "$failed" = 0 ]

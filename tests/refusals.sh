@@ -1,23 +1,20 @@
 #!/usr/bin/env bash
 # Refuses each growth in the tests of channels that go on after a refusal (crates/test_parts/src/channels/refusals.rt). The tests
 # are built once, without proofs. Of each test the K-th growth is refused, for K = 1, 2, .. until it meets none, and the test
-# must pass. The last line is `N passed, M failed`.
+# must pass. It prints how many growths each test has, and the status is 1 where one of them did not pass.
 #
 #     tests/refusals.sh
 set -eu
 top=$(cd "$(dirname "${BASH_SOURCE[0]}")/.." && pwd)
 work=$(mktemp -d)
 trap 'rm -rf "$work"' EXIT
-passed=0
 failed=0
 
-# Refuses each growth of one test, and counts.
+# Refuses each growth of one test.
 refuse_all() {
   local growth=1 growths=1 said counted
   while [ "$growth" -le "$growths" ]; do
-    if said=$(REFUSE_LINE=0 REFUSE_AT=$growth REFUSE_COUNT=1 LD_PRELOAD=$work/faults.so "$work/tests" "$1" 2>&1); then
-      passed=$((passed + 1))
-    else
+    if ! said=$(REFUSE_LINE=0 REFUSE_AT=$growth REFUSE_COUNT=1 LD_PRELOAD=$work/faults.so "$work/tests" "$1" 2>&1); then
       failed=$((failed + 1))
       printf 'FAILED %s, growth %s refused:\n%s\n' "$1" "$growth" "$said"
     fi
@@ -32,10 +29,9 @@ refuse_all() {
 "$top/tools/build/quick_module.py" --tests test_parts "$work/tests.bc"
 "$top/tools/build/quick_program.py" "$work/tests.bc" "$work/tests"
 cc -O2 -shared -fPIC -o "$work/faults.so" "$top/tests/hostile/faults.c" -ldl
-for name in $("$work/tests" --list | sed -n 's/^\(channels::refusals::.*\): test$/\1/p'); do
+names=$("$work/tests" --list | sed -n 's/^\(channels::refusals::.*\): test$/\1/p')
+[ -n "$names" ] || { echo "refusals: there is no test" >&2; exit 1; }
+for name in $names; do
   refuse_all "$name"
 done
-# Without a test there is nothing to pass.
-[ "$passed" -gt 0 ] || failed=$((failed + 1))
-echo "$passed passed, $failed failed"
 [ "$failed" -eq 0 ]

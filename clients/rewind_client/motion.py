@@ -11,7 +11,6 @@ from enum import Enum
 from itertools import count
 from typing import AbstractSet, Callable, Generator, NamedTuple, Optional
 
-from .core import Refused
 from .ledger import FRAMES
 from .names import name_order, step_owner
 from .replies import Entry, Goroutine, KindWord, Ran, Reason, State

@@ -6,7 +6,7 @@ from typing import Iterator, List, Sequence
 from .explanations import Explanation, Fault, Standing, Starved
 from .meanings import DEADLOCK, FAULTS
 from .names import step_owner
-from .notes import Note, Place
+from .notes import Place
 from .operations import Verb
 from .endings import DRAIN, Ending, Fate
 from .session import Session

@@ -10,7 +10,6 @@ from rewind_client.explanations import explain
 from rewind_client.follower import NOTED
 from rewind_client.meanings import DEADLOCK, FAULTS
 from rewind_client.motion import StopReason
-from rewind_client.names import step_owner
 from rewind_client.replies import Entry, Goroutine, Reason
 from rewind_client.sentences import Sentences
 from rewind_client.session import Session

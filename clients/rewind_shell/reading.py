@@ -82,14 +82,14 @@ class RichReader:
 
 def completer_of(completing: Completing) -> Completer:
     """Completion as prompt_toolkit asks for it."""
-    from prompt_toolkit.completion import Completer, Completion
+    from prompt_toolkit import completion
 
-    class Words(Completer):
+    class Words(completion.Completer):
         def get_completions(self, document: Document, complete_event: CompleteEvent) -> Iterable[Completion]:
             before = document.text_before_cursor
             last = before.split(" ")[-1]
             for text in completing.of(before):
-                yield Completion(text, start_position=-len(last))
+                yield completion.Completion(text, start_position=-len(last))
 
     return Words()
 

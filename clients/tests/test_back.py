@@ -17,7 +17,7 @@ from rewind_client.session import Session
 from rewind_client.watched import ChannelWatch, Watch, Way
 from rewind_client.watches import backward_to_value, forward_to_value
 
-from test_session import Open, random_command, session  # noqa: F401
+from opened import Open, random_command
 
 PROGRAMS = ("leak", "lost_update", "worker_pool", "send_on_closed", "starved_select", "philosophers")
 Found = TypeVar("Found")
@@ -44,7 +44,7 @@ def place_by_undo(one: Session, lines: Set[int]) -> int:
 
 
 @pytest.mark.parametrize("seed", range(12))
-def test_the_last_step_at_a_line(session: Open, seed: int, monkeypatch: pytest.MonkeyPatch) -> None:  # noqa: F811
+def test_the_last_step_at_a_line(session: Open, seed: int, monkeypatch: pytest.MonkeyPatch) -> None:
     monkeypatch.setattr(scout, "FIRST_PORTION", 2)
     monkeypatch.setattr(scout, "MOST_COMMANDS", 40 if seed % 2 else 10**6)
     chance = random.Random(seed)
@@ -62,7 +62,7 @@ def test_the_last_step_at_a_line(session: Open, seed: int, monkeypatch: pytest.M
     assert found == [wanted] * 2 and by_turns in (None, wanted)
 
 
-def test_a_log_by_turns_is_gone_through_by_runs(session: Open, monkeypatch: pytest.MonkeyPatch) -> None:  # noqa: F811
+def test_a_log_by_turns_is_gone_through_by_runs(session: Open, monkeypatch: pytest.MonkeyPatch) -> None:
     monkeypatch.setattr(scout, "FAR", 100)
     monkeypatch.setattr(scout, "lines_back", None)
     one = session("starved_select")
@@ -73,7 +73,7 @@ def test_a_log_by_turns_is_gone_through_by_runs(session: Open, monkeypatch: pyte
 
 
 @pytest.mark.parametrize("name", PROGRAMS)
-def test_the_others_run_until_a_goroutine_can_go_on(session: Open, core: Callable[[str], Core], name: str) -> None:  # noqa: F811
+def test_the_others_run_until_a_goroutine_can_go_on(session: Open, core: Callable[[str], Core], name: str) -> None:
     """They stop where one turn after the other would let it go on, or where it takes its next step."""
     one, chance = session(name), random.Random(name)
     for _ in range(40):
@@ -118,7 +118,7 @@ def value(one: Session, watch: Watch) -> str:
     return shown.frames[0].value_of(watch.variable) if shown and shown.frames else ""
 
 
-def test_values_that_are_given_forward_and_back(session: Open) -> None:  # noqa: F811
+def test_values_that_are_given_forward_and_back(session: Open) -> None:
     one, watch = session(VALUES), Watch("g0.1", "sum")
     seen: List[str] = []
     stop: Optional[motion.Stop] = None
@@ -133,7 +133,7 @@ def test_values_that_are_given_forward_and_back(session: Open) -> None:  # noqa:
     assert one.log() == []
 
 
-def test_two_watched_variables_stop_in_the_order_of_the_steps(session: Open) -> None:  # noqa: F811
+def test_two_watched_variables_stop_in_the_order_of_the_steps(session: Open) -> None:
     one, watches = session(VALUES), [Watch("g0", "last"), Watch("g0.1", "sum")]
     stops = [driven(forward_to_value(one, set, lambda: watches, "g0")) for _ in range(6)]
     names = [(stop.goroutine, stop.before) for stop in stops]
@@ -143,7 +143,7 @@ def test_two_watched_variables_stop_in_the_order_of_the_steps(session: Open) -> 
     assert steps == sorted(steps) and len(steps) == 6
 
 
-def test_a_channel_is_watched_forward_and_back(session: Open) -> None:  # noqa: F811
+def test_a_channel_is_watched_forward_and_back(session: Open) -> None:
     """Each send is stopped at once, and each of them again on the way back; so are the receives."""
     for way in Way:
         one, watch = session(VALUES), ChannelWatch("g0/c1", way)
@@ -163,14 +163,14 @@ def test_a_channel_is_watched_forward_and_back(session: Open) -> None:  # noqa: 
         assert back == steps[::-1]
 
 
-def test_a_loop_on_one_line_is_no_statement_that_goes_back_whole(session: Open) -> None:  # noqa: F811
+def test_a_loop_on_one_line_is_no_statement_that_goes_back_whole(session: Open) -> None:
     one = session("package main\nfunc main() {\n\tx := 0\n\tfor {\n\t\tx++\n\t}\n}\n")
     one.run(50)
     shown = one.goroutine("g0")
     assert shown and motion.line_before(one, shown) == "g0#50"
 
 
-def test_where_lines_were_printed(session: Open) -> None:  # noqa: F811
+def test_where_lines_were_printed(session: Open) -> None:
     one = session("worker_pool")
     one.run(1000)
     lines = printing_lines(one)
@@ -178,7 +178,7 @@ def test_where_lines_were_printed(session: Open) -> None:  # noqa: F811
     assert len(lines) == len(one.core.console())
 
 
-def test_a_cut_leaves_the_first_steps(session: Open) -> None:  # noqa: F811
+def test_a_cut_leaves_the_first_steps(session: Open) -> None:
     one = session("leak")
     one.run(50)
     log = list(one.log())

@@ -1,7 +1,6 @@
-#!/usr/bin/env python3
 """The stories of the examples: what the shell says is what their transcripts have.
 
-Called as a program with `--write`, it writes the transcripts anew from the commands in them.
+    tests/run.sh clients/tests/test_examples.py --record      writes the transcripts anew from the commands in them
 """
 from __future__ import annotations
 
@@ -13,8 +12,8 @@ from typing import List
 
 import pytest
 
-CLIENTS = Path(__file__).resolve().parent.parent
-EXAMPLES = CLIENTS / "examples"
+from support.places import CLIENTS, EXAMPLES
+
 SHELL = CLIENTS / "rewind-shell"
 STORIES = sorted(EXAMPLES.glob("*.transcript"))
 MOST_COMMANDS = 3
@@ -36,7 +35,9 @@ def told(story: Path) -> str:
 
 
 @pytest.mark.parametrize("story", STORIES, ids=[story.stem for story in STORIES])
-def test_a_story(story: Path) -> None:
+def test_a_story(story: Path, pytestconfig: pytest.Config) -> None:
+    if pytestconfig.getoption("--record"):
+        story.write_text(told(story), encoding="utf-8")
     assert told(story) == story.read_text()
     assert len(parts(story.read_text())[1]) <= MOST_COMMANDS
 
@@ -55,8 +56,3 @@ def test_the_session_of_the_readme() -> None:
     words = [sys.executable, str(SHELL), str(EXAMPLES / "lock_order.go")]
     done = subprocess.run(words, input=given, stdout=subprocess.PIPE, text=True, timeout=60, check=True)
     assert done.stdout.splitlines() == echoed
-
-
-if __name__ == "__main__":
-    for path in STORIES if sys.argv[1:] == ["--write"] else []:
-        path.write_text(told(path))

@@ -10,7 +10,7 @@ from rewind_client.replies import KindWord
 from rewind_client.sentences import Sentences
 from rewind_client.session import Session
 
-from test_session import Open, session  # noqa: F401
+from opened import Open
 
 
 def explained(one: Session, steps: int = 1000) -> Explanation:
@@ -22,7 +22,7 @@ def said(one: Session) -> List[str]:
     return Sentences(one).all(explain(one))
 
 
-def test_lock_order(session: Open) -> None:  # noqa: F811
+def test_lock_order(session: Open) -> None:
     found = explained(session("lock_order"))
     assert found.standing is Standing.DEADLOCK
     assert found.cycle == ("g0.1", "g0.2")
@@ -30,25 +30,25 @@ def test_lock_order(session: Open) -> None:  # noqa: F811
     assert found.waits[1].wishes[0].taken.step == "g0.2#2"  # type: ignore[union-attr]
 
 
-def test_philosophers(session: Open) -> None:  # noqa: F811
+def test_philosophers(session: Open) -> None:
     found = explained(session("philosophers"))
     assert found.cycle == ("g0.1", "g0.2", "g0.3")
     assert [wait.waits_for for wait in found.waits] == [("g0.1", "g0.2", "g0.3"), ("g0.2",), ("g0.3",), ("g0.1",)]
 
 
-def test_a_send_that_nobody_can_receive(session: Open) -> None:  # noqa: F811
+def test_a_send_that_nobody_can_receive(session: Open) -> None:
     found = explained(session("unbuffered"))
     assert [(wish.value, wish.servers) for wish in found.waits[0].wishes] == [("42", ())]
     assert not found.cycle
 
 
-def test_off_by_one(session: Open) -> None:  # noqa: F811
+def test_off_by_one(session: Open) -> None:
     found = explained(session("off_by_one"))
     assert found.waits[0].waits_for == ("g0.1",)
     assert found.waits[1].wishes[0].servers == ()
 
 
-def test_faults(session: Open) -> None:  # noqa: F811
+def test_faults(session: Open) -> None:
     found = explained(session("double_close")).fault
     assert found and found.closed_by and (found.name, found.step, found.closed_by.step) == ("CloseOfClosed", "g0#9", "g0.1#9")
     assert [place.line for place in found.places] == [5, 22]
@@ -56,20 +56,20 @@ def test_faults(session: Open) -> None:  # noqa: F811
     assert other and other.closed_by and (other.step, other.closed_by.line) == ("g0.2#9", 8)
 
 
-def test_a_division_by_zero(session: Open) -> None:  # noqa: F811
+def test_a_division_by_zero(session: Open) -> None:
     one = session("package main\nfunc main() {\n\tx, y := 1, 0\n\tprintln(x / y)\n}\n")
     one.run(10)
     assert said(one)[0] == "panic: runtime error: integer divide by zero"
     assert said(one)[2].strip() == "there x is 1, y is 0"
 
 
-def test_a_nil_channel(session: Open) -> None:  # noqa: F811
+def test_a_nil_channel(session: Open) -> None:
     one = session("package main\nfunc main() {\n\tvar c chan int\n\tc <- 1\n}\n")
     one.run(10)
     assert said(one)[1:] == ["g0 waits to send to a nil channel at line 4: c <- 1", "    a nil channel blocks for ever"]
 
 
-def test_a_select_that_waits(session: Open) -> None:  # noqa: F811
+def test_a_select_that_waits(session: Open) -> None:
     one = session(
         "package main\nfunc main() {\n\tc, d := make(chan int), make(chan int)\n\tselect {\n\tcase <-c:\n\tcase d <- 3:\n\t}\n}\n"
     )
@@ -77,26 +77,26 @@ def test_a_select_that_waits(session: Open) -> None:  # noqa: F811
     assert "receive from c (g0/c1) or send 3 to d (g0/c2)" in said(one)[1]
 
 
-def test_what_is_left(session: Open) -> None:  # noqa: F811
+def test_what_is_left(session: Open) -> None:
     found = explained(session("leak"))
     assert found.standing is Standing.ENDED
     assert [wait.goroutine for wait in found.waits] == ["g0.2", "g0.3", "g0.5"]
     assert [(it.goroutine, it.ending) for it in found.fates] == [(name, Ending.WAIT) for name in ("g0.2", "g0.3", "g0.5")]
 
 
-def test_a_starved_clause(session: Open) -> None:  # noqa: F811
+def test_a_starved_clause(session: Open) -> None:
     found = explained(session("starved_select")).starved
     assert [(it.clause, it.waiting, it.place.line) for it in found] == [(2, "g0.2", 20)]
 
 
-def test_a_program_that_is_well(session: Open) -> None:  # noqa: F811
+def test_a_program_that_is_well(session: Open) -> None:
     one = session("lost_update")
     assert said(one) == ["The program can go on: g0 is ready."]
     one.run(1000)
     assert said(one) == ["The program has ended, and every goroutine is done."]
 
 
-def test_direct_causes(session: Open) -> None:  # noqa: F811
+def test_direct_causes(session: Open) -> None:
     one = session("double_close")
     one.run(1000)
     finder = DirectCauses(one)
@@ -110,7 +110,7 @@ def test_direct_causes(session: Open) -> None:  # noqa: F811
     assert edges["g0#1"] == []
 
 
-def test_the_direct_cause_of_a_wait(session: Open) -> None:  # noqa: F811
+def test_the_direct_cause_of_a_wait(session: Open) -> None:
     one = session("philosophers")
     one.run(1000)
     found = DirectCauses(one).of("g0.1#3")

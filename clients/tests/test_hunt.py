@@ -27,8 +27,8 @@ from rewind_hunt.shortening import Shortener
 from rewind_hunt.story import Story
 from rewind_hunt.ways import Ways
 
-CLIENTS = Path(__file__).resolve().parents[1]
-EXAMPLES = CLIENTS / "examples"
+from support.places import CLIENTS, EXAMPLES
+
 COMMAND = [sys.executable, str(CLIENTS / "rewind-hunt")]
 # What counts as bad in each example. A select is starved in a schedule that does not end, whatever its other schedules do.
 BAD = {

@@ -7,7 +7,7 @@ import sys
 
 from rewind_client.meanings import DEADLOCK, FAULTS, REFUSED_COMMANDS, REFUSED_SOURCES
 
-from conftest import CLIENTS
+from support.places import CLIENTS
 
 WORDS = CLIENTS.parent / "words"
 

@@ -1,12 +1,11 @@
 """What is said of each form of a refused source: refused/NAME.go is the source, and refused/NAME.expect what is said of it.
 
-    WRITE_EXPECTED=1 python3 -m pytest clients/tests/test_refusals.py      writes the .expect files anew
+    tests/run.sh clients/tests/test_refusals.py --record      writes the .expect files anew
 
 What to write instead is put in its place, and is then not refused again. test_refusals_of_the_page.py compares with what the page says.
 """
 from __future__ import annotations
 
-import os
 import re
 from pathlib import Path
 
@@ -15,8 +14,9 @@ import pytest
 from rewind_client.refusals import Change, Refusal, explain_refusal, table
 
 from checking import SOURCES, checked_all, code_of, source_of
+from support.places import TOP
 
-CODES = Path(__file__).parents[2] / "words" / "codes.txt"
+CODES = TOP / "words" / "codes.txt"
 PHASES = "SPC"  # the scanner refuses first, then the parser, then the checker
 
 
@@ -31,10 +31,10 @@ def refusals() -> dict[str, Refusal]:
 
 
 @pytest.mark.parametrize("name", [path.stem for path in SOURCES])
-def test_what_is_said(name: str, refusals: dict[str, Refusal]) -> None:
+def test_what_is_said(name: str, refusals: dict[str, Refusal], pytestconfig: pytest.Config) -> None:
     said = refusals[name].text(name + ".go") + "\n"
     expected = SOURCES[0].with_name(name + ".expect")
-    if os.environ.get("WRITE_EXPECTED"):
+    if pytestconfig.getoption("--record"):
         expected.write_text(said, encoding="utf-8")
     assert said == expected.read_text(encoding="utf-8")
 
@@ -82,8 +82,8 @@ def test_code_and_sentences_are_told_apart() -> None:
 )
 def test_a_name_is_offered_where_it_fits(statement: str, meant: str) -> None:
     """A function is offered for a call alone, and a variable of the type that is wanted for a value."""
-    lines = ["package main", "func worker() {", "}", "func main() {", "worked, done, dine := 1, make(chan int, 1), 2", statement, "println(dine)", "}"]
-    source = "\n".join(lines)
+    beginning = ["package main", "func worker() {", "}", "func main() {", "worked, done, dine := 1, make(chan int, 1), 2"]
+    source = "\n".join([*beginning, statement, "println(dine)", "}"])
     code = code_of(source)
     assert code
     assert (explain_refusal(source, *code).instead or "") == meant

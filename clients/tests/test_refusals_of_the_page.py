@@ -8,16 +8,15 @@ import json
 import random
 import shutil
 import subprocess
-from pathlib import Path
 
 import pytest
 
 from checking import SOURCES, Code, checked_all, source_of
 from rewind_client.refusals import explain_refusal
 from rewind_client.refused.tokens import Token, tokens_of
+from support.places import EXAMPLES, TOP
 
-TOP = Path(__file__).parents[2]
-PROGRAMS = sorted((TOP / "clients" / "examples").glob("*.go"))
+PROGRAMS = sorted(EXAMPLES.glob("*.go"))
 CHANGES = 120
 OTHER = [
     "defer", "[", "*x", "&x", "1.5", "'a'", '"text"', "switch", "fmt.Println(1)", "mu.Lock()", "import", "}", "{", "(", ")", ":=", "=", "!",

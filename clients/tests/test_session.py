@@ -3,13 +3,12 @@ from __future__ import annotations
 
 import random
 from pathlib import Path
-from typing import Callable, Iterator, List, Sequence
+from typing import List, Sequence
 
 import pytest
 
 from rewind_client.core import Refused, step_command
 from rewind_client.errors import Cancelled, RewindError
-from rewind_client.finding import start
 from rewind_client.follower import Follower
 from rewind_client.ledger import Ledger
 from rewind_client.motion import next_in_turn
@@ -17,13 +16,10 @@ from rewind_client.notes import Place
 from rewind_client.opening import open_session
 from rewind_client.operations import Verb
 from rewind_client.process import never
-from rewind_client.program import read_program
 from rewind_client.replies import Entry, KindWord, State
-from rewind_client.session import Session
 
-from conftest import EXAMPLES
-
-Open = Callable[[str], Session]
+from opened import Open, random_command
+from support.places import EXAMPLES
 
 TWO_CALLS = """package main
 func get(c chan int) int {
@@ -38,28 +34,6 @@ func main() {
 	println(get(b) + <-a)
 }
 """
-
-
-def opened(rewind: str, path: Path) -> Session:
-    return Session(start(rewind, str(path)), read_program(str(path)), lambda: start(rewind, str(path)))
-
-
-@pytest.fixture
-def session(rewind: str, tmp_path: Path) -> Iterator[Open]:
-    """Opens sessions on examples by their names, or on texts."""
-    begun: List[Session] = []
-
-    def begin(text: str) -> Session:
-        path = EXAMPLES / (text + ".go")
-        if "\n" in text:
-            path = tmp_path / "source.go"
-            path.write_text(text)
-        begun.append(opened(rewind, path))
-        return begun[-1]
-
-    yield begin
-    for one in begun:
-        one.end()
 
 
 def test_names(session: Open) -> None:
@@ -180,18 +154,6 @@ def test_what_is_kept_is_what_rewind_tells(session: Open, seed: int) -> None:
         assert [one.core.channel(it.name) for it in one.channels()] == one.channels()
         assert one.core.show("%s.%d" % ("g0", 99)) is None
     assert [note.step for note in one.notes()] == [entry.step for entry in one.log()]
-
-
-def random_command(one: Session, chance: random.Random) -> None:
-    names, log = one.goroutine_names(), one.log()
-    step = chance.choice(log).step if log else "g0#1"
-    choices = ["step %s" % chance.choice(names)] * 4 + ["run %d" % chance.randint(1, 9)] * 3 + ["undo", "redo", "back " + step]
-    order = [entry.step for entry in log]
-    if len(order) > 1:
-        at = chance.randrange(len(order) - 1)
-        order[at], order[at + 1] = order[at + 1], order[at]
-        choices.append("order " + " ".join(order))
-    one.ask(chance.choice(choices))
 
 
 def test_the_second_session_begins_anew_where_it_ended(session: Open) -> None:

@@ -6,7 +6,6 @@ import os
 import random
 import re
 import stat
-import re
 import subprocess
 import sys
 from functools import partial
@@ -26,8 +25,8 @@ from rewind_shell.shell import Shell
 from rewind_shell.terminal import Screen
 from rewind_shell.words import ALIASES, WORDS
 
-from conftest import CLIENTS, EXAMPLES
-from test_session import Open, session  # noqa: F401
+from support.places import CLIENTS, EXAMPLES
+from opened import Open
 
 SHELL = CLIENTS / "rewind-shell"
 Talk = Callable[..., "subprocess.CompletedProcess[str]"]
@@ -497,7 +496,7 @@ def test_a_source_of_the_greatest_length(talk: Talk, tmp_path: Path) -> None:
     assert done.returncode == 1 and "long.go" in done.stderr
 
 
-def test_a_run_in_portions_is_the_run(session: Open, monkeypatch: pytest.MonkeyPatch) -> None:  # noqa: F811
+def test_a_run_in_portions_is_the_run(session: Open, monkeypatch: pytest.MonkeyPatch) -> None:
     """Where a run ends, with breakpoints, does not depend on the size of the portions."""
     ends = []
     for portion in (1, 2, 7, 50_000):
@@ -522,7 +521,7 @@ def finished(movement: motion.Motion) -> motion.Stop:
             return stop
 
 
-def test_a_run_can_be_left_between_portions(session: Open, monkeypatch: pytest.MonkeyPatch) -> None:  # noqa: F811
+def test_a_run_can_be_left_between_portions(session: Open, monkeypatch: pytest.MonkeyPatch) -> None:
     monkeypatch.setattr(motion, "RUN_PORTION", 10)
     one = session("starved_select")
     movement = motion.forward(one, lambda: set(), "g0")
@@ -531,7 +530,7 @@ def test_a_run_can_be_left_between_portions(session: Open, monkeypatch: pytest.M
     assert len(one.core.log()) == 20
 
 
-def test_backward_to_a_breakpoint(session: Open, core: Callable[[str], Core]) -> None:  # noqa: F811
+def test_backward_to_a_breakpoint(session: Open, core: Callable[[str], Core]) -> None:
     one = session("off_by_one")
     one.run(1000)
     stop = finished(motion.backward(one, lambda: {14}))

@@ -17,7 +17,7 @@ from typing import Callable, Dict, Iterator, List, Optional
 
 import pytest
 
-from conftest import CLIENTS, EXAMPLES
+from support.places import CLIENTS, EXAMPLES
 
 SHELL = CLIENTS / "rewind-shell"
 LIMIT = 30.0

@@ -14,7 +14,7 @@ from rewind_client.stories import Stories
 from rewind_hunt.outcomes import Judge
 from rewind_hunt.schedules import Scheduler
 
-from test_session import Open, session  # noqa: F401
+from opened import Open
 
 HEAD = "package main\n"
 
@@ -51,7 +51,7 @@ func main() {
 """
 
 
-def test_a_lock_by_sending_that_is_never_given_back(session: Open) -> None:  # noqa: F811
+def test_a_lock_by_sending_that_is_never_given_back(session: Open) -> None:
     one = session(KEPT)
     told = why(one)
     culprit = "    g0.1, which is done, put {} into lock at line 3: lock <- struct{}{} ('back g0.1#1' takes that back)"
@@ -78,14 +78,14 @@ func main() {
 """
 
 
-def test_two_locks_by_sending_in_two_orders(session: Open) -> None:  # noqa: F811
+def test_two_locks_by_sending_in_two_orders(session: Open) -> None:
     told = why(session(BOTH), *["step g0"] * 6, "step g0.1", "step g0.2")
     held = "    g0.2, which may still receive from it, put 2 into second at line 3: first <- id ('back g0.2#1' takes that back)"
     assert held in told
     assert told[-1] == "A cycle: g0.1 waits for g0.2, g0.2 waits for g0.1."
 
 
-def test_a_semaphore_of_two(session: Open) -> None:  # noqa: F811
+def test_a_semaphore_of_two(session: Open) -> None:
     one = session(
         HEAD
         + """func use(seats chan struct{}, done chan bool) {
@@ -110,7 +110,7 @@ func main() {
     assert told[-1] == "A cycle: g0.1 waits for g0.2, g0.2 waits for g0.1."
 
 
-def test_who_gave_a_lock_back_is_not_blamed(session: Open) -> None:  # noqa: F811
+def test_who_gave_a_lock_back_is_not_blamed(session: Open) -> None:
     one = session(
         HEAD
         + """func work(lock chan int, id int, done chan bool) {
@@ -152,19 +152,19 @@ func main() {
 """
 
 
-def test_a_mere_holder_of_a_channel_is_in_no_cycle(session: Open) -> None:  # noqa: F811
+def test_a_mere_holder_of_a_channel_is_in_no_cycle(session: Open) -> None:
     one = session(RING)
     told = why(one)
     assert edges(one)["g0.1"] == ("g0.3",) and edges(one)["g0"] == ("g0.3",)
     assert told[-1].startswith("A cycle: g0.1 waits for g0.3, g0.3 waits for g0.2, g0.2 waits for g0.1")
 
 
-def test_what_a_goroutine_calls_a_channel(session: Open) -> None:  # noqa: F811
+def test_what_a_goroutine_calls_a_channel(session: Open) -> None:
     told = why(session(RING))
     assert "g0.2 waits to receive from left (g0/c2) at line 3: v := <-left" in told
 
 
-def test_what_is_done_already_is_no_longer_served(session: Open) -> None:  # noqa: F811
+def test_what_is_done_already_is_no_longer_served(session: Open) -> None:
     """Of the parts of one statement, those before the one that waits are done."""
     one = session(
         HEAD
@@ -174,7 +174,7 @@ def test_what_is_done_already_is_no_longer_served(session: Open) -> None:  # noq
     assert "    no other goroutine can still receive from c" in why(one)
 
 
-def test_a_channel_that_comes_over_another_one(session: Open) -> None:  # noqa: F811
+def test_a_channel_that_comes_over_another_one(session: Open) -> None:
     """A goroutine that may be given the channel may serve; the one that sends it away does not any more."""
     one = session(
         HEAD
@@ -196,12 +196,12 @@ func main() {
     assert "    no other goroutine can still send to gate or close it" in told
 
 
-def test_a_channel_that_nobody_takes_out(session: Open) -> None:  # noqa: F811
+def test_a_channel_that_nobody_takes_out(session: Open) -> None:
     one = session(HEAD + "func main() {\n\tc, d := make(chan chan int, 1), make(chan int)\n\tc <- d\n\t<-d\n}\n")
     assert why(one)[2] == "    no other goroutine can still send to d or close it"
 
 
-def test_goroutines_that_one_would_start(session: Open) -> None:  # noqa: F811
+def test_goroutines_that_one_would_start(session: Open) -> None:
     one = session(
         HEAD
         + """func give(c chan int) { c <- 1 }
@@ -220,7 +220,7 @@ func main() {
     assert edges(one)["g0"] == ("g0.1",)
 
 
-def test_a_range_over_a_channel_that_nobody_closes(session: Open) -> None:  # noqa: F811
+def test_a_range_over_a_channel_that_nobody_closes(session: Open) -> None:
     one = session(
         HEAD
         + "func give(c chan int) {\n\tc <- 1\n}\nfunc main() {\n\tc := make(chan int)\n\tgo give(c)\n\tfor v := range c {\n\t\tprintln(v)\n\t}\n}\n"
@@ -235,7 +235,7 @@ def test_a_range_over_a_channel_that_nobody_closes(session: Open) -> None:  # no
         ("var c chan int; <-c", ["g0 waits to receive from a nil channel at line 3: var c chan int; <-c", "    a nil channel blocks for ever"]),
     ],
 )
-def test_what_waits_for_ever(session: Open, statement: str, told: List[str]) -> None:  # noqa: F811
+def test_what_waits_for_ever(session: Open, statement: str, told: List[str]) -> None:
     assert why(session(HEAD + "func main() {\n\t%s\n}\n" % statement))[1:] == told
 
 
@@ -256,21 +256,21 @@ func main() {
 """
 
 
-def test_only_what_would_wait_for_ever_is_a_leak(session: Open) -> None:  # noqa: F811
+def test_only_what_would_wait_for_ever_is_a_leak(session: Open) -> None:
     told = why(session(PIPELINE))
     assert told[0] == "The program has ended. 2 goroutines were not done when main returned, and 1 is a leak."
     assert told[1] == "g0.1 would wait for ever to send 1 to out (g0/c1) at line 4: out <- i"
     assert told[-1] == "g0.2 would end"
 
 
-def test_what_would_go_on_or_stop_the_program(session: Open) -> None:  # noqa: F811
+def test_what_would_go_on_or_stop_the_program(session: Open) -> None:
     told = why(session(HEAD + "func spin() {\n\tfor {\n\t}\n}\nfunc main() {\n\tgo spin()\n}\n"))
     assert told[1].startswith("g0.1 would still go on after 2,000 steps, at line 3")
     told = why(session(HEAD + "func fail(n int) {\n\tprintln(1 / n)\n}\nfunc main() {\n\tgo fail(0)\n}\n"), "step g0", "step g0")
     assert told[1] == "g0.1 would stop the program at line 3: println(1 / n) (panic: runtime error: integer divide by zero)"
 
 
-def test_a_cycle_that_may_come_loose_is_none(session: Open) -> None:  # noqa: F811
+def test_a_cycle_that_may_come_loose_is_none(session: Open) -> None:
     """Two wait for each other, or for a third one that can still go on."""
     one = session(
         HEAD
@@ -297,7 +297,7 @@ func main() {
     assert explain(one).cycle == ()
 
 
-def test_a_lock_that_another_one_may_give_back_closes_no_cycle(session: Open) -> None:  # noqa: F811
+def test_a_lock_that_another_one_may_give_back_closes_no_cycle(session: Open) -> None:
     """Its holder waits in a circle, and `main`, which can go on, may fill the buffer too."""
     one = session(
         HEAD
@@ -324,13 +324,13 @@ func main() {
     assert explain(one).cycle == ()
 
 
-def test_what_history_says_of_a_send_to_a_nil_channel(session: Open) -> None:  # noqa: F811
+def test_what_history_says_of_a_send_to_a_nil_channel(session: Open) -> None:
     one = session(HEAD + "func main() {\n\tvar c chan int\n\tc <- 1\n}\n")
     one.run(10)
     assert Stories(one).step(one.notes()[-1]) == "waits to send to a channel"
 
 
-def test_of_two_sends_on_a_line_each_has_its_own_value(session: Open) -> None:  # noqa: F811
+def test_of_two_sends_on_a_line_each_has_its_own_value(session: Open) -> None:
     """The log tells the line alone, so the text does not tell which of them a step was."""
     one = session(HEAD + "func f(c chan int, n int) { c <- 3; c <- n }\nfunc main() {\n\tc := make(chan int)\n\tgo f(c, 1)\n\t<-c\n\t<-c\n}\n")
     for name in ["g0"] * 4 + ["g0.1", "g0", "g0.1"]:
@@ -338,8 +338,11 @@ def test_of_two_sends_on_a_line_each_has_its_own_value(session: Open) -> None:  
     assert [note.value for note in one.notes() if note.sends()] == ["3", "1"]
 
 
-@pytest.mark.parametrize("name", ["leak", "lost_update", "worker_pool", PIPELINE, KEPT, "package main\nfunc f() {\n\tselect {}\n}\nfunc main() {\n\tgo f()\n}\n"])
-def test_hunt_and_shell_agree_on_what_is_a_leak(session: Open, name: str) -> None:  # noqa: F811
+NOBODY_ENDS_IT = "package main\nfunc f() {\n\tselect {}\n}\nfunc main() {\n\tgo f()\n}\n"
+
+
+@pytest.mark.parametrize("name", ["leak", "lost_update", "worker_pool", PIPELINE, KEPT, NOBODY_ENDS_IT])
+def test_hunt_and_shell_agree_on_what_is_a_leak(session: Open, name: str) -> None:
     """Of the first schedule, which is round robin."""
     one = session(name)
     one.run(5000)

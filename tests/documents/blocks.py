@@ -1,8 +1,7 @@
 """Runs the code blocks of the documents. The kind of a block is seen by what is in it; a block of no known kind is
 a failure, so that none stands untested. A comment `<!-- not run: REASON -->` before a block says why it is not run."""
 
-from . import contracts, diagrams, editors, fragments, repository, shell, stories
-from .markdown import page
+from . import contracts, diagrams, editors, fragments, shell, stories
 
 
 def first_line(block):
@@ -47,8 +46,6 @@ def check_block(checks, program, block):
         check(checks, program, block)
 
 
-def check(checks, program):
-    for name in repository.documents():
-        program.shown.clear()
-        for block in page(name).blocks:
-            check_block(checks, program, block)
+def check(checks, program, document):
+    for block in document.blocks:
+        check_block(checks, program, block)

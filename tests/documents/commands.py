@@ -11,7 +11,7 @@ PAGE = "docs/COMMANDS.md"
 NAME = r"g0(?:\.\d+)*"
 STEP = rf"{NAME}#\d+"
 # What stands in a reply for what.
-PARTS = {
+STANDS_FOR = {
     "G#N": STEP,
     "KIND": r"[a-z-]+(?: \d+)?",
     "REASON": r"[a-z]+(?: \d+)?",
@@ -32,7 +32,7 @@ def last_reply(program, source, before, command):
 
 def pattern_of(reply):
     """What a line looks like that the page writes with capitals in place of its parts."""
-    words = [PARTS.get(word, re.escape(word)) for word in reply.split(" ")]
+    words = [STANDS_FOR.get(word, re.escape(word)) for word in reply.split(" ")]
     return " ".join(words)
 
 
@@ -42,8 +42,9 @@ def reply_told(rows, cell):
     return reply_told(rows, rows[same[1]].cells[2]) if same else spans(cell)[0]
 
 
-def check_forms(checks, program, document):
+def check_forms(checks, program):
     """Each command that the table has gets the reply that it tells."""
+    document = page(PAGE)
     rows = {form: row for row in document.rows_of("Command", "What it does", "Reply") for form in spans(row.cells[0])}
     codes = {row.cells[0] for row in document.rows_of("Code", "Meaning", "Example")}
     checks.same_sets(PAGE, "the commands with an example", rows, FORMS)
@@ -59,8 +60,9 @@ def check_forms(checks, program, document):
         checks.holds(rows[form].place, refusals <= codes, f"{form}: not all of {sorted(refusals)} are in the table of codes")
 
 
-def check_refusals(checks, program, document):
+def check_refusals(checks, program):
     """Each refusal comes for its example, which names the command first in code font, and may name the reply behind it."""
+    document = page(PAGE)
     for row in document.rows_of("Code", "Meaning", "Example"):
         code, _, example = row.cells[:3]
         check_meaning(checks, program, row, code)
@@ -81,7 +83,8 @@ def kinds_in(program, source):
     return [line.split(" ", 2)[2] for line in lines if line.startswith("| ")]
 
 
-def check_kinds(checks, program, document):
+def check_kinds(checks, program):
+    document = page(PAGE)
     seen = {re.sub(r" .*", "", kind) for source in KINDS for kind in kinds_in(program, source)}
     told = [spans(row.cells[0])[0].split()[0] for row in document.rows_of("Kind", "What the step did")]
     checks.same_sets(PAGE, "the kinds of steps", seen, told)
@@ -92,7 +95,8 @@ def check_kinds(checks, program, document):
         checks.same(row.place, "the faults", faults if listed else [], listed)
 
 
-def check_faults(checks, program, document):
+def check_faults(checks, program):
+    document = page(PAGE)
     for row in document.rows_of("Fault", "Meaning", "Example"):
         fault = spans(row.cells[0])[0]
         check_meaning(checks, program, row, fault)
@@ -102,8 +106,9 @@ def check_faults(checks, program, document):
             checks.holds(row.place, example in FAULTS[fault], f"the example of {fault} in the tests has no {example!r}")
 
 
-def check_ends(checks, program, document):
+def check_ends(checks, program):
     """Each end of a run that the reply of `run` tells."""
+    document = page(PAGE)
     row = next(it for it in document.rows_of("Command") if "`run N`" in it.cells[0])
     told = [it for it in spans(row.cells[2]) if not it.startswith("ok")]
     checks.same_sets(row.place, "the ends of a run", set(ENDS), set(told) - WITHOUT_RUN)
@@ -113,7 +118,8 @@ def check_ends(checks, program, document):
         checks.holds(row.place, re.fullmatch(wanted, got), f"{end}: got {got!r}")
 
 
-def check_statuses(checks, program, document):
+def check_statuses(checks, program):
+    document = page(PAGE)
     program.write("two.go", TWO)
     program.write("refused.go", file_of("println(1 / 0)"))
     program.write("long.go", "package main\n" + "/" * 1048576)
@@ -129,7 +135,8 @@ def check_statuses(checks, program, document):
             checks.holds(rows[status].place, as_told, f"{line}: the page does not tell of {told!r}")
 
 
-def check_lines(checks, program, document):
+def check_lines(checks, program):
+    document = page(PAGE)
     for claim, lines in LINES.items():
         checks.holds(PAGE, document.has(claim), f"it no longer says {claim!r} (tests/documents/cases.py)")
         for line, wanted in lines:
@@ -152,8 +159,4 @@ def check_codes(checks, program):
         checks.holds("--explain", ran.status == 0 and ran.out.startswith(f"{code}: "), f"no page on {code}")
 
 
-def check(checks, program):
-    document = page(PAGE)
-    for part in (check_forms, check_refusals, check_kinds, check_faults, check_ends, check_statuses, check_lines):
-        part(checks, program, document)
-    check_codes(checks, program)
+PARTS = (check_forms, check_refusals, check_kinds, check_faults, check_ends, check_statuses, check_lines, check_codes)

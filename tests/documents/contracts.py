@@ -5,7 +5,6 @@ import os
 import re
 
 from . import repository
-from .markdown import page
 
 ENDINGS = {"rattle": ".rt", "antt": ".antt"}
 LINK = re.compile(r"\[`(\w+::)?(\w+)`\]\(([^)#]+\.rt)\)")
@@ -26,10 +25,9 @@ def check_quote(checks, program, block):
     checks.holds(block.place(), any(wanted in stripped(repository.read(it).split("\n")) for it in known), "no source has these lines")
 
 
-def check(checks, program):
-    for name in repository.documents():
-        for number, line in enumerate(page(name).prose):
-            for _, function, link in LINK.findall(line):
-                path = os.path.normpath(os.path.join(os.path.dirname(name), link))
-                has = path in repository.files() and re.search(rf"\bfn {function}\b", repository.read(path))
-                checks.holds(f"{name}:{number + 1}", has, f"{link} has no function {function}")
+def check(checks, document):
+    for number, line in enumerate(document.prose):
+        for _, function, link in LINK.findall(line):
+            path = os.path.normpath(os.path.join(os.path.dirname(document.name), link))
+            has = path in repository.files() and re.search(rf"\bfn {function}\b", repository.read(path))
+            checks.holds(f"{document.name}:{number + 1}", has, f"{link} has no function {function}")

@@ -4,17 +4,16 @@ of the adapter."""
 import json
 import os
 import re
+import sys
 
 from . import repository
 from .markdown import page, spans
 
-try:
+if sys.version_info >= (3, 11):
     import tomllib
-except ImportError:  # Python before 3.11
-    tomllib = None
 
 PAIRS = {")": "(", "]": "[", "}": "{"}
-STORY = "editors/dap/tests/story.txt"
+PAGE, STORY = "docs/EDITORS.md", "clients/tests/dap/story.txt"
 
 
 def kind_of(block):
@@ -49,7 +48,7 @@ def fault_of(kind, text):
     try:
         if kind == "JSON":
             json.loads(text)
-        elif kind == "TOML" and tomllib:
+        elif kind == "TOML" and sys.version_info >= (3, 11):
             tomllib.loads(text)
     except ValueError as error:
         return str(error)
@@ -94,7 +93,8 @@ def adapter():
     return "\n".join(repository.read(it) for it in repository.files() if it.startswith(folder) and it.endswith(".py"))
 
 
-def check_tables(checks, document):
+def check_tables(checks):
+    document = page(PAGE)
     rows = document.rows_of("Member")
     place = rows[0].place if rows else document.name
     told = [spans(it.cells[0])[0] for it in rows]
@@ -112,8 +112,9 @@ def is_told(words, told):
     return f'"expression":"{words}"' in told or request in told or f'"output":"{words}\\n"' in told
 
 
-def check_story(checks, document):
+def check_story(checks):
     """Whether the commands and the printed lines of the story are in the recorded one."""
+    document = page(PAGE)
     told = repository.read(STORY)
     section = next((it for it in document.sections if document.headings.get(it) == "A story"), None)
     if not checks.holds(document.name, section is not None, "no section 'A story'"):
@@ -124,10 +125,10 @@ def check_story(checks, document):
                 checks.holds(f"{document.name}:{number}", is_told(words, told), f"{STORY} has no {words!r}")
 
 
-def check(checks, program):
-    document = page("docs/EDITORS.md")
-    check_tables(checks, document)
-    check_story(checks, document)
-    for name in ("editors/dap/rewind-dap", "editors/vscode/rewind-dap"):
+def check_launchers(checks):
+    for name in ("clients/rewind-dap", "editors/vscode/rewind-dap"):
         runs = os.access(repository.path_of(name), os.X_OK)
         checks.holds(name, runs, "an editor cannot run it")
+
+
+PARTS = (check_tables, check_story, check_launchers)

@@ -121,12 +121,6 @@ def check_paths(checks, document):
                 checks.holds(f"{document.name}:{number + 1}", known, f"there is no {word}")
 
 
-def check(checks, program):
-    for name in repository.documents():
-        document = page(name)
-        for line, link, is_picture in document.links():
-            check_link(checks, document, line, link, is_picture)
-    for name in repository.documents():
-        check_paths(checks, page(name))
-        check_words(checks, program, page(name))
-    check_unused(checks)
+def check_links(checks, document):
+    for line, link, is_picture in document.links():
+        check_link(checks, document, line, link, is_picture)

@@ -17,7 +17,7 @@ def keys_of_page():
     return table + [(key, f"in the picture: {says}") for key, says in IN_PICTURE.findall(text)]
 
 
-def check(checks, program):
+def check(checks):
     rows = page(GUIDE).rows_of("Key", "What it does")
     told = [(row.cells[0].strip("`"), row.cells[1]) for row in rows]
     checks.same(f"{GUIDE}:1", "keys", keys_of_page(), told)

@@ -50,8 +50,9 @@ def source_of(code, example):
     return file_of(text)
 
 
-def check_codes(checks, program, document):
+def check_codes(checks, program):
     """Each code comes for its example, at the place that is told; and `--explain` has the meaning that the table has."""
+    document = page(PAGE)
     for row in document.rows_of("Code", "Meaning", "Example", "Refused at"):
         code, _, example, where = row.cells
         check_meaning(checks, program, row, code)
@@ -76,8 +77,9 @@ def check_example(checks, program, place, example):
         checks.same(place, f"what {example.text} prints", example.result, shown)
 
 
-def check_forms(checks, program, document, examples):
+def check_forms(checks, program):
     """Each row of the tables of forms has examples, and each example is as the row says."""
+    document, examples = page(PAGE), entries_of("language.txt")
     rows = document.rows_of("Form", "What is there", "Left out")
     keys = {f"{row.section} / {row.cells[0].replace('`', '')}": row for row in rows}
     known = {key for key in examples if " / " in key}
@@ -87,8 +89,9 @@ def check_forms(checks, program, document, examples):
             check_example(checks, program, keys[key].place, example)
 
 
-def check_claims(checks, program, document, examples):
+def check_claims(checks, program):
     """Each claim that has examples is still made, and holds."""
+    document, examples = page(PAGE), entries_of("language.txt")
     for claim in examples:
         if " / " not in claim:
             place = f"{PAGE}:{document.line_of(claim)}"
@@ -124,7 +127,8 @@ LIMITS = {
 WITHOUT_RUN = ("goroutines that one goroutine starts",)
 
 
-def check_limits(checks, program, document):
+def check_limits(checks, program):
+    document = page(PAGE)
     for row in document.rows_of("Limit", "Value", "Beyond it"):
         name, value, beyond = row.cells
         ends = re.findall(r"\b[SPC]\d+\b|(?<=`)\w+(?=`)", beyond)
@@ -141,10 +145,4 @@ def check_limits(checks, program, document):
             checks.holds(row.place, name.startswith(WITHOUT_RUN), f"no test knows the limit '{name}'")
 
 
-def check(checks, program):
-    document = page(PAGE)
-    examples = entries_of("language.txt")
-    check_codes(checks, program, document)
-    check_forms(checks, program, document, examples)
-    check_claims(checks, program, document, examples)
-    check_limits(checks, program, document)
+PARTS = (check_codes, check_forms, check_claims, check_limits)

@@ -45,8 +45,9 @@ def tagged(section, text):
     return found
 
 
-def check_synopsis(checks, program, text):
+def check_synopsis(checks, program):
     """Whether the program takes each form of the synopsis, with and without what stands in brackets."""
+    text = repository.read(MANUAL)
     forms = re.findall(r"^\.B rewind\n(.+)$", text, re.M)
     checks.holds(MANUAL, forms, "no synopsis")
     values = {"N": "2", "FILE": EXAMPLE, "CODE": "N1"}
@@ -56,23 +57,26 @@ def check_synopsis(checks, program, text):
             checks.same(MANUAL, f"status of rewind {reading}", 0, ran.status)
 
 
-def check_options(checks, program, text):
+def check_options(checks, program):
+    text = repository.read(MANUAL)
     help_text = program.run(["--help"]).out
     told = set(re.findall(r"--[a-z]+", help_text.split("\nCommands")[0]))
     options = {word for _, tag, _ in tagged("OPTIONS", text) for word in tag.split() if word.startswith("--")}
     checks.same_sets(MANUAL, "the options of the manual page", told, options)
 
 
-def check_commands(checks, program, text):
+def check_commands(checks, program):
     """Whether the manual page and `--help` have the same commands."""
+    text = repository.read(MANUAL)
     listed = program.run(["--help"]).out.split("Commands")[1].split("\n\n")[0]
     helped = [re.split(r"\s{2,}", line.strip())[0] for line in listed.splitlines()[1:] if re.match(r"  \S", line)]
     named = [tag for _, tag, _ in tagged("COMMANDS", text)]
     checks.same_sets(MANUAL, "the commands of the manual page", helped, named)
 
 
-def check_meanings(checks, program, text):
+def check_meanings(checks, program):
     """Whether each code of the manual page has the meaning there that `--explain` gives."""
+    text = repository.read(MANUAL)
     sections = [it for it in re.findall(r"^\.SH (.+)$", text, re.M) if re.match(r"CODES|KINDS|ENDS|FAULTS|FAILURES", it)]
     checks.holds(MANUAL, sections, "no sections of codes")
     for section in sections:
@@ -82,17 +86,18 @@ def check_meanings(checks, program, text):
             checks.same(f"{MANUAL}:{line}", f"--explain {code}", f"{code}: {meaning}", told)
 
 
-def check_version(checks, program, text):
+def check_version(checks, program):
     """The version in the head of the manual page is that of the program."""
+    text = repository.read(MANUAL)
     told = re.findall(r'^\.TH .* "Rewind ([^"]*)"', text, re.M)
     checks.same(f"{MANUAL}:2", "the version", [program.run(["--version"]).out.strip()], [f"rewind {it}" for it in told])
 
 
-def check(checks, program):
-    text = repository.read(MANUAL)
+def check_examples(checks, program):
+    """The examples of the manual page and of `--help`."""
     program.write("first.go", FIRST)
-    blocks = examples(MANUAL, text) + [example_of_help(program.run(["--help"]).out)]
-    for block in blocks:
+    for block in examples(MANUAL, repository.read(MANUAL)) + [example_of_help(program.run(["--help"]).out)]:
         check_transcript(checks, program, block)
-    for part in (check_version, check_synopsis, check_options, check_commands, check_meanings):
-        part(checks, program, text)
+
+
+PARTS = (check_examples, check_version, check_synopsis, check_options, check_commands, check_meanings)

@@ -193,10 +193,8 @@ def check_map(checks):
     checks.same(f"{MAP}:1", "crates that are not on the map", [], missing)
 
 
-def check(checks, program):
-    for name in PROMISING:
-        check_tables(checks, page(name))
-    for name in repository.documents():
-        check_prose(checks, page(name))
-        check_everywhere(checks, page(name))
-    check_map(checks)
+def check(checks, document):
+    if document.name in PROMISING:
+        check_tables(checks, document)
+    check_prose(checks, document)
+    check_everywhere(checks, document)

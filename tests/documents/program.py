@@ -2,12 +2,10 @@
 the repository's folders, and the program as `rewind`, `bin/rewind` and `bin/rewind-quick`."""
 
 import os
-import pty
 import re
-import select
 import subprocess
-import termios
-import time
+
+from support.terminal import END, Terminal
 
 from . import repository
 
@@ -40,55 +38,7 @@ def replies_of(lines):
     return found + ([lines_so_far] if lines_so_far else [])
 
 
-class Terminal:
-    """A run whose standard streams are one terminal, without echo: `screen` has what was written and typed, in its order."""
-
-    def __init__(self, words, folder, prompt):
-        self.prompt = prompt
-        self.master, terminal = pty.openpty()
-        mode = termios.tcgetattr(terminal)
-        mode[0] &= ~(termios.ICRNL | termios.INLCR | termios.IGNCR)
-        mode[1] &= ~termios.OPOST
-        mode[3] &= ~(termios.ECHO | termios.ECHONL | termios.ISIG)
-        termios.tcsetattr(terminal, termios.TCSANOW, mode)
-        streams = {"stdin": terminal, "stdout": terminal, "stderr": terminal}
-        self.process = subprocess.Popen(words, cwd=folder, **streams)
-        os.close(terminal)
-        self.screen, self.end = "", time.monotonic() + SECONDS
-
-    def read(self):
-        """Takes what was written; false where there is no more."""
-        ready, _, _ = select.select([self.master], [], [], max(0, self.end - time.monotonic()))
-        try:
-            got = os.read(self.master, 65536) if ready else b""
-        except OSError:
-            got = b""
-        self.screen += got.decode("utf-8", "replace")
-        return bool(got)
-
-    def until_prompt(self):
-        while not self.screen.endswith(self.prompt):
-            if not self.read():
-                return False
-        return True
-
-    def type(self, lines):
-        """Types each line when it is asked for, and then ends the input."""
-        for line in lines:
-            if not self.until_prompt():
-                break
-            os.write(self.master, line.encode() + b"\n")
-            self.screen += line + "\n"
-        if lines and lines[-1].strip() != "quit" and self.until_prompt():
-            os.write(self.master, b"\4")
-        while self.read():
-            pass
-        self.process.kill()
-        os.close(self.master)
-        return Ran(self.process.wait(), self.screen, "")
-
-
-class Program:
+class Scratch:
     """A built program, and the scratch folder of its runs. `shown` has the files there that a document shows, and `status`
     is that of the last line for a shell."""
 
@@ -115,7 +65,12 @@ class Program:
 
     def at_terminal(self, words, lines, prompt=PROMPT):
         """What a terminal shows of a command that asks for lines; the first word is the command."""
-        return Terminal(words, self.folder, prompt).type(lines)
+        path = os.path.join(self.folder, words[0]) if "/" in words[0] else words[0]
+        terminal = Terminal([path, *words[1:]], prompt, self.folder)
+        is_open = terminal.type([f"{line}\n" for line in lines])
+        if is_open and lines and lines[-1].strip() != "quit" and terminal.is_asked():
+            terminal.child.send(END)
+        return Ran(terminal.end(), terminal.screen, "")
 
     def shell(self, line):
         """What a shell writes for a line, both streams together. `$?` is the status of the line before."""

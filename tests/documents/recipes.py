@@ -84,8 +84,3 @@ def check_recipe(checks, sample):
         checks.holds(f"{MAP}:1", known, f"{sample.recipe}: the sample stands in {name}, which the recipe does not name")
     for pattern, place in named.items():
         checks.holds(place, fnmatch.filter(files, pattern), f"{sample.recipe}: the sample does not stand in {pattern}")
-
-
-def check(checks, program):
-    for sample in SAMPLES:
-        check_recipe(checks, sample)

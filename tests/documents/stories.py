@@ -10,6 +10,8 @@ from .fragments import is_go_file
 from .markdown import page, spans
 from .program import PROMPT
 
+PAGE = "docs/SESSIONS.md"
+
 
 def session_named(text):
     """The example session that a text in code font names."""
@@ -120,8 +122,9 @@ def check_story(checks, document, section, blocks):
     checks.same_lines(lambda n: place, f"replies of {name}.expect", expected, replies)
 
 
-def check_table(checks, document):
+def check_table(checks):
     """Whether the table of sessions has each example session once, and no other."""
+    document = page(PAGE)
     rows = document.rows_of("Session")
     named = [name for row in rows for name in spans(row.cells[0])]
     place = f"{document.name}:{rows[0].line if rows else 1}"
@@ -130,10 +133,17 @@ def check_table(checks, document):
         checks.fail(place, f"the table of sessions: {name} is there twice")
 
 
-def check(checks, program):
-    document = page("docs/SESSIONS.md")
-    check_table(checks, document)
+def check_stories(checks):
+    """Each story of the page of sessions is an example session."""
+    document = page(PAGE)
     for section, blocks in stories_of(document):
         check_story(checks, document, section, blocks)
+
+
+def check_count(checks):
+    """The number of sessions that the gate tells."""
     count = f"{len(repository.session_names())} sessions are as expected"
     checks.same("crates/sessions/stdout:1", "the number of sessions", count, repository.read("crates/sessions/stdout").splitlines()[0])
+
+
+PARTS = (check_table, check_stories, check_count)

@@ -3,22 +3,27 @@
 The random ones have locks that are taken by a send and by a receive, channels of channels, selects, closes, calls, and several
 goroutines of one function. They are made so that the checker accepts them, and mostly end, or get stuck, within some hundred steps.
 """
-import glob
-import json
-import os
-import random
+from __future__ import annotations
 
-ROOT = os.path.dirname(os.path.dirname(os.path.dirname(os.path.abspath(__file__))))
+import json
+import random
+from pathlib import Path
+
+from support.places import TOP
+
 FOLDERS = ["crates/sessions/data", "clients/examples", "bench/programs", "crates/races/data"]
 NUMBERS, CARRIERS = "chan int", "chan chan int"
 
+# The variables that are known in a block, each with its type.
+Scope = dict[str, str]
 
-def of_repository():
-    """The paths of the programs of the repository: examples, stories, exercises."""
-    found = [path for folder in FOLDERS for path in sorted(glob.glob(os.path.join(ROOT, folder, "*.go")))]
-    with open(os.path.join(ROOT, "page", "exercises.json"), encoding="utf-8") as file:
-        found += [os.path.join(ROOT, it["source"]) for it in json.load(file)]
-    return list(dict.fromkeys(path for path in found if os.path.getsize(path) < 20_000))
+
+def of_repository() -> list[Path]:
+    """The programs of the repository: examples, stories, exercises."""
+    found = [path for folder in FOLDERS for path in sorted((TOP / folder).glob("*.go"))]
+    exercises = json.loads((TOP / "page" / "exercises.json").read_text(encoding="utf-8"))
+    found += [TOP / it["source"] for it in exercises]
+    return list(dict.fromkeys(path for path in found if path.stat().st_size < 20_000))
 
 
 class Source:

@@ -1,32 +1,37 @@
 """What each face says of a state: the shell, the adapter, and the modules of the page, which node runs."""
+from __future__ import annotations
+
 import io
 import json
-import os
 import re
 import subprocess
-import sys
+from collections.abc import Iterable
+from pathlib import Path
+from typing import Any, Optional
 
-from .sources import ROOT
+from rewind_client.explanations import explain
+from rewind_shell.interrupts import Interrupts
+from rewind_shell.shell import Shell
+from rewind_shell.terminal import Screen
 
-sys.path[:0] = [os.path.join(ROOT, "clients"), os.path.join(ROOT, "editors", "dap", "tests")]
-
-from rewind_client.explanations import explain  # noqa: E402
-from rewind_shell.interrupts import Interrupts  # noqa: E402
-from rewind_shell.shell import Shell  # noqa: E402
-from rewind_shell.terminal import Screen  # noqa: E402
+from dap.client import Client
+from support.places import CLIENTS, TOP
 
 LAST = 200
-WORDS = os.path.join(ROOT, "clients", "rewind_client", "words.json")
+WORDS = CLIENTS / "rewind_client" / "words.json"
+
+# What the page and the shell tell, as values of JSON.
+Said = dict[str, Any]
 
 
-def of_shell(program, path, commands):
+def of_shell(program: str, path: Path, commands: Iterable[str]) -> Said:
     """The lines of `why`, for whom each goroutine waits, the cycle, and line, value and row of each of the last steps."""
     out = io.StringIO()
-    shell = Shell(program, path, Screen(out, lambda: False), Interrupts(), None)
+    shell = Shell(program, str(path), Screen(out, lambda: False), Interrupts(), None)
     try:
         for command in commands:
             shell.obey(command)
-        lines = [answer_of(shell, out, "why"), answer_of(shell, out, "history %d" % LAST)]
+        lines = [answer_of(shell, out, "why"), answer_of(shell, out, f"history {LAST}")]
         found = explain(shell.session)
         notes = shell.session.notes()[-LAST:]
         rows = [line for line in lines[1] if re.match(r"g0[.0-9]*#", line)]
@@ -37,7 +42,7 @@ def of_shell(program, path, commands):
         shell.end()
 
 
-def answer_of(shell, out, line):
+def answer_of(shell: Shell, out: io.StringIO, line: str) -> list[str]:
     """What the shell writes in answer to a line, but for the note on long logs."""
     out.seek(0)
     out.truncate()
@@ -45,13 +50,11 @@ def answer_of(shell, out, line):
     return [text for text in out.getvalue().splitlines() if not text.startswith("(")]
 
 
-def of_adapter(path, commands):
+def of_adapter(path: Path, commands: Iterable[str]) -> list[str]:
     """What the adapter answers to `why` in its console."""
-    from client import Client
-
     client = Client()
     try:
-        client.launch(path)
+        client.launch(str(path))
         client.stop()
         answer = ""
         for command in [*commands, "why"]:
@@ -64,21 +67,24 @@ def of_adapter(path, commands):
 class Page:
     """The modules of the page in a process of node, which is started when it is wanted."""
 
-    def __init__(self, program):
-        self.words = ["node", os.path.join(ROOT, "page", "test", "faces.mjs"), program, WORDS]
-        self.child = None
+    def __init__(self, program: str) -> None:
+        self.words = ["node", str(TOP / "page" / "test" / "faces.mjs"), program, str(WORDS)]
+        self.child: Optional[subprocess.Popen[str]] = None
 
-    def told(self, source, commands):
+    def told(self, source: str, commands: list[str]) -> Said:
+        """What the page says after these commands."""
         if self.child is None or self.child.poll() is not None:
             self.child = subprocess.Popen(self.words, stdin=subprocess.PIPE, stdout=subprocess.PIPE, text=True)
+        assert self.child.stdin and self.child.stdout
         self.child.stdin.write(json.dumps({"source": source, "commands": commands}) + "\n")
         self.child.stdin.flush()
-        found = json.loads(self.child.stdout.readline() or '{"fault": "node ended"}')
+        found: Said = json.loads(self.child.stdout.readline() or '{"fault": "node ended"}')
         if "fault" in found:
             raise RuntimeError(found["fault"])
         return found
 
-    def end(self):
+    def end(self) -> None:
         if self.child is not None:
+            assert self.child.stdin
             self.child.stdin.close()
             self.child.wait()

@@ -121,7 +121,9 @@ class Grammar:
         return self.maybe(lambda: self.maybe(lambda: self.simple(1)) + " ; ", 0.3) + self.expression(1) + " "
 
     def if_statement(self, level):
-        otherwise = lambda: " else " + self.one_of(lambda: self.if_statement(level - 1), lambda: self.block(level - 1))
+        def otherwise():
+            return " else " + self.one_of(lambda: self.if_statement(level - 1), lambda: self.block(level - 1))
+
         return "if " + self.condition(level) + self.block(level - 1) + (self.maybe(otherwise) if level > 0 else "")
 
     def for_statement(self, level):
@@ -191,7 +193,10 @@ class Typed:
         pick, held = self.chance.random(), self.held(scope, "int")
         if level <= 0 or pick < 0.35:
             return self.chance.choice(held if held and pick < 0.25 else ("0", "1", "2", "7", "100", "0x1F", "0b101", "017"))
-        part = lambda: self.number(scope, level - 1)
+
+        def part():
+            return self.number(scope, level - 1)
+
         if pick < 0.65:
             return "%s %s %s" % (part(), self.chance.choice(("+", "-", "*", "&", "|", "^", "&^")), part())
         if pick < 0.72:
@@ -314,8 +319,11 @@ class Typed:
     def statement(self, scope, level):
         if level <= 0 or self.chance.random() < 0.6:
             return [self.flat(scope)]
-        way = self.chance.choice((self.branch, self.loop, self.choose, lambda s, l: ["{"] + self.body(s, l) + ["}"]))
+        way = self.chance.choice((self.branch, self.loop, self.choose, self.nested))
         return way(scope, level)
+
+    def nested(self, scope, level):
+        return ["{"] + self.body(scope, level) + ["}"]
 
     def function(self, heading, scope, ending=(), least=3, most=9):
         lines = [line for _ in range(self.chance.randint(least, most)) for line in self.statement(scope, 3)]

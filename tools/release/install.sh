@@ -37,7 +37,7 @@ if [ ! -x "$program" ]; then
   kind='the quick build, which is not proved'
 fi
 [ -x "$program" ] || stop "there is no program: build one by 'make' or 'make quick'"
-mkdir -p "$to/bin" "$to/share/man/man1" "$to/lib/rewind/bin" "$to/lib/rewind/editors" 2>/dev/null || stop "cannot write in $to"
+mkdir -p "$to/bin" "$to/share/man/man1" "$to/lib/rewind/bin" 2>/dev/null || stop "cannot write in $to"
 for folder in bin share/man/man1 lib/rewind; do
   [ -w "$to/$folder" ] || stop "cannot write in $to"
 done
@@ -48,9 +48,7 @@ rm -rf "$to/share/doc/rewind"
 (cd "$top" && find README.md CHANGELOG.md docs clients/README.md page/README.md -name '*.md' -o -name '*.svg') | while read -r file; do
   install -D -m 644 "$top/$file" "$to/share/doc/rewind/$file"
 done
-rm -rf "$to/lib/rewind/editors/dap" "$to/lib/rewind/clients"
-mkdir -p "$to/lib/rewind/editors/dap"
-install -m 755 "$top/editors/dap/rewind-dap" "$to/lib/rewind/editors/dap/rewind-dap"
+rm -rf "$to/lib/rewind/clients"
 for package in "$top"/clients/rewind_*; do
   mkdir -p "$to/lib/rewind/clients/${package##*/}"
   (cd "$package" && find . -name '*.py' -o -name '*.json') | while read -r file; do

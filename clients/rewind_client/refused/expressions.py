@@ -5,7 +5,7 @@ from typing import Optional
 
 from .reader import Reader, plainly
 from .values import (
-    COMPARISONS, PRECEDENCES, PREDECLARED, SHIFTS, TYPES, Value, direction_of, element_of, fits, is_channel, joined, result_of,
+    PRECEDENCES, PREDECLARED, SHIFTS, TYPES, Value, direction_of, element_of, fits, is_channel, joined, result_of,
     number_of, wanted_by,
 )  # fmt: skip
 

@@ -8,7 +8,7 @@ from itertools import accumulate
 from typing import Any, Mapping, Optional
 
 from .fields import around, computed
-from .tokens import END_OF_FILE, Token, byte_length, open_brackets, text_of, tokens_of
+from .tokens import Token, byte_length, open_brackets, text_of, tokens_of
 
 Form = Mapping[str, Any]
 Matches = Mapping[str, "re.Match[str]"]

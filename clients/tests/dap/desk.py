@@ -1,0 +1,66 @@
+"""What the tests of a user's view share: a program is written, launched, moved and looked at."""
+import os
+import tempfile
+import textwrap
+import unittest
+from typing import Any, Dict, List, Tuple
+
+from .client import Client
+
+
+class Desk(unittest.TestCase):
+    """A client with a folder for programs, and the commands that Rewind was given."""
+
+    def setUp(self) -> None:
+        folder = tempfile.TemporaryDirectory()
+        self.addCleanup(folder.cleanup)
+        self.folder = folder.name
+        self.commands = os.path.join(folder.name, "commands")
+        self.client = Client(commands=self.commands)
+        self.addCleanup(self.client.close)
+
+    def file(self, name: str, text: str) -> str:
+        path = os.path.join(self.folder, name)
+        with open(path, "w", encoding="utf-8") as file:
+            file.write(textwrap.dedent(text))
+        return path
+
+    def start(self, program: str, *lines: int, **arguments: Any) -> None:
+        self.client.launch(program, list(lines), **arguments)
+        self.assertEqual(self.client.stop()["reason"], "entry")
+
+    def move(self, command: str, thread: int = 1, **more: Any) -> Any:
+        """A movement: what the `stopped` event after it says; the events before that are in `client.passed`."""
+        return self.client.move(command, {"threadId": thread, **more})
+
+    def frames(self, thread: int = 1) -> List[Tuple[str, int]]:
+        body = self.client.body("stackTrace", {"threadId": thread})
+        return [(frame["name"], frame["line"]) for frame in body["stackFrames"]]
+
+    def frame(self, thread: int = 1) -> int:
+        return self.client.body("stackTrace", {"threadId": thread})["stackFrames"][0]["id"]
+
+    def typed(self, text: str, **more: Any) -> str:
+        """What the console answers."""
+        return self.client.body("evaluate", {"expression": text, "context": "repl", **more})["result"]
+
+    def moved(self, text: str, **more: Any) -> Any:
+        """A word of the console that moves the program: what the `stopped` event after it says."""
+        self.typed(text, **more)
+        return self.client.stop()
+
+    def threads(self) -> Dict[int, str]:
+        return {one["id"]: one["name"] for one in self.client.body("threads")["threads"]}
+
+    def given(self) -> List[str]:
+        """The commands that Rewind was given so far."""
+        with open(self.commands, encoding="utf-8") as file:
+            return file.read().splitlines()
+
+    def set_breakpoints(self, path: str, *wishes: Any) -> List[Any]:
+        arguments = {"source": {"path": path}, "breakpoints": list(wishes)}
+        return self.client.body("setBreakpoints", arguments)["breakpoints"]
+
+    def told(self, name: str) -> List[Any]:
+        """The bodies of the events of a name that came in and were not waited for."""
+        return [event["body"] for event in self.client.passed + self.client.events if event["event"] == name]

@@ -1,0 +1,1 @@
+"""Hostile sources, commands and devices, and memory that is refused."""

@@ -1,0 +1,39 @@
+#!/bin/sh
+# lint.sh [PART..]: checks style and types: flake8 and `mypy --strict` over all Python, shellcheck over all scripts for the shell, and tsc
+# and eslint over the page. The parts are flake8, mypy, shellcheck and page; with none named, all of them.
+set -eu
+top=$(cd "$(dirname "$0")/.." && pwd)
+cd "$top"
+python=$(tests/python.sh)
+
+# The files that git knows whose first line names an interpreter, or whose names end so.
+files() {
+  git ls-files --cached --others --exclude-standard "*.$1"
+  git ls-files --cached --others --exclude-standard | grep -v '\.[a-z]*$' | while read -r file; do
+    if [ -f "$file" ] && head -n 1 "$file" | grep -q "^#!.*$2\$"; then echo "$file"; fi
+  done
+}
+
+lint() {
+  case $1 in
+    flake8) files py python3 | xargs "$python" -m flake8 ;;
+    mypy) "$python" -m mypy ;;
+    shellcheck) files sh '\(ba\)\?sh' | xargs shellcheck ;;
+    page)
+      page/needs.sh nodejs node-typescript eslint
+      tsc -p page
+      eslint -f compact --ext .js,.mjs page/src page/test
+      ;;
+    *)
+      echo "rewind: lint has the parts flake8, mypy, shellcheck and page" >&2
+      exit 2
+      ;;
+  esac
+}
+
+[ $# -gt 0 ] || set -- flake8 mypy shellcheck page
+status=0
+for part; do
+  (lint "$part") || status=1
+done
+exit "$status"
