@@ -28,11 +28,11 @@ def place_of(program: Program, wanted: str) -> Breakpoint:
     if wanted.isdigit():
         place = program.statement_at(int(wanted))
         if place is None:
-            raise NoPlace("no statement begins on line %s or after it: the source has %d lines" % (wanted, len(program.lines)))
+            raise NoPlace(f"no statement begins on line {wanted} or after it: the source has {len(program.lines)} lines")
         return Breakpoint(place, wanted)
     function = program.functions.get(wanted)
     if function is None:
-        raise NoPlace("there is no function %s: the functions are %s" % (wanted, ", ".join(sorted(program.functions))))
+        raise NoPlace(f"there is no function {wanted}: the functions are {', '.join(sorted(program.functions))}")
     inside = program.statements_between(function.line, function.last_line)
     after = [line for line in inside if line > function.line]
     return Breakpoint((after or inside)[0], wanted)

@@ -126,7 +126,7 @@ class Core:
 
     def run(self, most: int) -> Ran:
         """Takes steps, round robin."""
-        return self.asked("run %d" % most, replies.ran)
+        return self.asked(f"run {most}", replies.ran)
 
     def undo(self) -> str:
         """Takes the last step back: its name."""
@@ -145,10 +145,10 @@ class Core:
         self.asked("order " + " ".join(names), lambda reply: None)
 
     def set_breakpoint(self, line: int) -> None:
-        self.asked("break %d" % line, lambda reply: None)
+        self.asked(f"break {line}", lambda reply: None)
 
     def clear_breakpoint(self, line: int) -> None:
-        self.asked("clear %d" % line, lambda reply: None)
+        self.asked(f"clear {line}", lambda reply: None)
 
     # What only asks.
 
@@ -207,7 +207,7 @@ def first_word(command: str) -> str:
 
 
 def step_words(goroutine: str, clause: int = 0) -> str:
-    return "step %s %d" % (goroutine, clause) if clause else "step " + goroutine
+    return f"step {goroutine} {clause}" if clause else "step " + goroutine
 
 
 def step_command(entry: Entry) -> str:

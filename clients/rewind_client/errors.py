@@ -25,7 +25,7 @@ class MalformedReply(ProcessError):
 
     def __init__(self, name: str, command: str, reply: List[str]) -> None:
         shown = reply[-1][:80] if reply else ""
-        super().__init__("%s gave an answer to '%s' that means nothing: %s" % (name, command[:80], shown))
+        super().__init__(f"{name} gave an answer to '{command[:80]}' that means nothing: {shown}")
         self.command = command
         self.reply = reply
 

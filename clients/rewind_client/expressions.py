@@ -54,12 +54,12 @@ def fault_of_condition(expression: str, program: Program, function: str) -> str:
     """Why an expression cannot be a condition in a function; an empty text where it may be one."""
     strange = [name for name in names_in(expression) if not program.has_variable(function, name)]
     if strange:
-        return "there is no variable '%s' here" % strange[0][:40]
+        return f"there is no variable '{strange[0][:40]}' here"
     try:
         found = TypeReading(words_in(expression), variables_of(program, function)).whole()
     except NotPlain as fault:
         return str(fault)
-    return "" if found in (Type.BOOL, Type.UNKNOWN) else "it is %s, and no truth value" % found.value
+    return "" if found in (Type.BOOL, Type.UNKNOWN) else f"it is {found.value}, and no truth value"
 
 
 class TypeReading(Reading[Type]):
@@ -88,7 +88,7 @@ class TypeReading(Reading[Type]):
 
     def measured(self, word: str, name: str) -> Type:
         if self.variables.get(name, Type.UNKNOWN) in (Type.INT, Type.BOOL):
-            raise NotPlain("'%s' wants a channel" % word)
+            raise NotPlain(f"'{word}' wants a channel")
         return Type.INT
 
     def number(self, token: str) -> Type:

@@ -26,13 +26,13 @@ def find_rewind(named: Optional[str] = None) -> str:
     for how, path in (("--rewind", named), ("$REWIND", os.environ.get("REWIND"))):
         if path:
             if not is_program(path):
-                raise NotFound("there is no program %s, which %s names" % (path, how))
+                raise NotFound(f"there is no program {path}, which {how} names")
             return os.path.abspath(path)
     beside = [os.path.join(REPOSITORY, "bin", name) for name in PROGRAMS]
     found = next(filter(is_program, beside), None) or shutil.which("rewind")
     if not found:
-        looked = "%s, %s and the path" % (beside[0], beside[1])
-        raise NotFound("no rewind was found in %s: build one by 'make quick', or name one by --rewind PATH" % looked)
+        looked = f"{beside[0]}, {beside[1]} and the path"
+        raise NotFound(f"no rewind was found in {looked}: build one by 'make quick', or name one by --rewind PATH")
     return found
 
 
@@ -74,6 +74,6 @@ def refusal_of(path: str, said: str) -> Exception:
     if not found:
         return ProcessError(said)
     code, line, column = found.group(1), int(found.group(2) or 0), int(found.group(3) or 0)
-    place = ":%d:%d" % (line, column) if line else ""
-    sentence = "%s%s: %s (%s)" % (path, place, REFUSED_SOURCES.get(code, "it is refused"), code)
+    place = f":{line}:{column}" if line else ""
+    sentence = f"{path}{place}: {REFUSED_SOURCES.get(code, 'it is refused')} ({code})"
     return SourceRefused(sentence, code, line, column)

@@ -152,7 +152,7 @@ class Follower:
         """Sees that the steps taken are those of the log."""
         for entry, reply in zip(entries, found):
             if not replies.is_ok(reply) or replies.stepped(reply) != entry:
-                raise ProcessError("the second session went another way at %s: %s" % (entry.step, reply[-1][:80]))
+                raise ProcessError(f"the second session went another way at {entry.step}: {reply[-1][:80]}")
 
     def take_noted(self, entries: Sequence[Entry]) -> None:
         """Takes steps twice: first for their lines and variables, then for what they do to the channels that these name."""
@@ -196,14 +196,14 @@ class Follower:
         core, owner = self.session(), step_owner(entry.step)
         shown = core.show(owner)
         assert shown is not None
-        for command in ["step " + owner] + ["step %s %d" % (owner, clause) for clause in range(1, MAX_CLAUSES)]:
+        for command in ["step " + owner] + [f"step {owner} {clause}" for clause in range(1, MAX_CLAUSES)]:
             reply = core.ask(command)
             if replies.is_ok(reply):
                 if replies.stepped(reply) == entry:
                     self.fault_command = command
                     return shown
                 core.undo()
-        raise ProcessError("the second session does not meet the fault %s" % entry.step)
+        raise ProcessError(f"the second session does not meet the fault {entry.step}")
 
     def taken_again(self, entries: Sequence[Entry], uses: Sequence[List[Use]]) -> List[Tuple[List[Channel], List[Channel]]]:
         """The states of the channels that steps use, before and after each."""

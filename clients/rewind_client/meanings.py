@@ -24,7 +24,7 @@ def meaning_of_refusal(reply: str) -> str:
     """A reply `no CODE ..` with the meaning of its code."""
     code = reply.split(" ")[1] if reply.startswith("no ") else ""
     meaning = REFUSED_COMMANDS.get(code, "it is no command" if reply.startswith("?") else "it was refused")
-    return "%s (%s)" % (meaning, reply)
+    return f"{meaning} ({reply})"
 
 
 def meaning_of_exit(status: Optional[int], said: str) -> str:
@@ -34,5 +34,5 @@ def meaning_of_exit(status: Optional[int], said: str) -> str:
     if status is None:
         return "it closed its output and goes on"
     if status < 0:
-        return "signal %d ended it" % -status
-    return "exit status %d%s" % (status, ": " + EXIT_STATUSES[status] if status in EXIT_STATUSES else "")
+        return f"signal {-status} ended it"
+    return f"exit status {status}{': ' + EXIT_STATUSES[status] if status in EXIT_STATUSES else ''}"

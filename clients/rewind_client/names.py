@@ -32,7 +32,7 @@ def step_number(step: str) -> int:
 
 
 def step_of(goroutine: str, number: int) -> str:
-    return "%s#%d" % (goroutine, number)
+    return f"{goroutine}#{number}"
 
 
 def channel_maker(channel: str) -> str:
@@ -41,12 +41,12 @@ def channel_maker(channel: str) -> str:
 
 
 def channel_of(maker: str, number: int) -> str:
-    return "%s/c%d" % (maker, number)
+    return f"{maker}/c{number}"
 
 
 def child_of(goroutine: str, number: int) -> str:
     """The goroutine that another one started as its first, second, .."""
-    return "%s.%d" % (goroutine, number)
+    return f"{goroutine}.{number}"
 
 
 def name_order(goroutine: str) -> Tuple[int, ...]:

@@ -50,7 +50,7 @@ class Process:
         try:
             self.child = subprocess.Popen(words, stdin=pipe, stdout=pipe, stderr=pipe, bufsize=0, start_new_session=True)
         except (OSError, ValueError) as fault:
-            raise ProcessError("%s cannot be started: %s" % (words[0], fault)) from None
+            raise ProcessError(f"{words[0]} cannot be started: {fault}") from None
         assert self.child.stdin and self.child.stdout and self.child.stderr
         self.input = self.child.stdin.fileno()
         self.output = self.child.stdout.fileno()
@@ -94,7 +94,7 @@ class Process:
         """The next reply, and what is still to be written."""
         while not self.whole:
             if self.held > MAX_REPLY:
-                raise self.ended_for("%s gave an answer of more than %d bytes, and was ended" % (self.name, MAX_REPLY))
+                raise self.ended_for(f"{self.name} gave an answer of more than {MAX_REPLY} bytes, and was ended")
             events = self.wait(len(rest), until)
             if events & 1:
                 rest = self.write_some(rest)
@@ -153,7 +153,7 @@ class Process:
         while True:
             found = ready.poll(TICK_MS)
             if time.monotonic() > until:
-                raise self.ended_for("%s gave no answer within %g seconds, and was ended" % (self.name, self.timeout))
+                raise self.ended_for(f"{self.name} gave no answer within {self.timeout:g} seconds, and was ended")
             if found:
                 return sum(1 if handle == self.input else 2 for handle, _ in found)
             if left == 0 and self.cancelled():
@@ -165,7 +165,7 @@ class Process:
             status: Optional[int] = self.child.wait(1)
         except subprocess.TimeoutExpired:
             status = None
-        return self.ended_for("%s has ended: %s" % (self.name, meaning_of_exit(status, self.said())))
+        return self.ended_for(f"{self.name} has ended: {meaning_of_exit(status, self.said())}")
 
     def ended_for(self, why: str) -> ProcessError:
         """Ends the process, for a reason in words."""

@@ -85,4 +85,4 @@ def read_program(path: str) -> Program:
             return Program(file.read(), path)
     except (OSError, ValueError) as fault:
         reason = getattr(fault, "strerror", None) or str(fault)
-        raise RewindError("%s cannot be read: %s" % (path, reason)) from None
+        raise RewindError(f"{path} cannot be read: {reason}") from None

@@ -120,7 +120,7 @@ class Goroutine(NamedTuple):
 
     @property
     def last_step(self) -> str:
-        return "%s#%d" % (self.name, self.steps)
+        return f"{self.name}#{self.steps}"
 
 
 class Waiter(NamedTuple):

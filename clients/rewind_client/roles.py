@@ -117,7 +117,7 @@ class Roles:
         if expression.form is Form.NAME:
             return life.variables.get(expression.name, set())
         if expression.form is Form.MAKE:
-            return {"made at %d for %s" % (expression.token, life.root)}
+            return {f"made at {expression.token} for {life.root}"}
         held = {ANY} if expression.token in life.held else set()
         if expression.form is Form.CALL:
             return held | self.returned.get((life.root, expression.name), set())

@@ -15,7 +15,7 @@ def run(name: str, main: Callable[[List[str]], int], failed: int, reads: bool = 
     try:
         closed = closed_stream(reads)
         if closed:
-            return told(name, "%s is closed" % closed, failed)
+            return told(name, f"{closed} is closed", failed)
         status = main(sys.argv[1:])
         sys.stdout.flush()
         return status
@@ -27,7 +27,7 @@ def run(name: str, main: Callable[[List[str]], int], failed: int, reads: bool = 
     except OSError as fault:
         silence()
         what = fault.filename or "standard output"
-        return told(name, "%s cannot be written: %s" % (what, fault.strerror or fault), failed)
+        return told(name, f"{what} cannot be written: {fault.strerror or fault}", failed)
     finally:
         signal.signal(signal.SIGINT, signal.SIG_DFL)
 
@@ -48,7 +48,7 @@ def closed_stream(reads: bool) -> str:
 def told(name: str, why: str, status: int) -> int:
     """Says in one sentence why a program ends."""
     try:
-        sys.stderr.write("%s: %s\n" % (name, why))
+        sys.stderr.write(f"{name}: {why}\n")
         sys.stderr.flush()
     except OSError:
         pass

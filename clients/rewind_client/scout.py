@@ -57,8 +57,8 @@ class Scout:
             self.core, self.given = self.begin(), self.at
             steps = self.log[: self.at]
             found = self.core.process.ask_all([step_command(entry) for entry in steps])
-            if steps and found[-1] != ["ok %s %s" % (steps[-1].step, steps[-1].kind)]:
-                raise ProcessError("a second session went another way: %s" % found[-1][-1][:80])
+            if steps and found[-1] != [f"ok {steps[-1].step} {steps[-1].kind}"]:
+                raise ProcessError(f"a second session went another way: {found[-1][-1][:80]}")
         return self.core
 
     def lines_before(self, count: int) -> List[int]:

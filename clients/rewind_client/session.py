@@ -148,7 +148,7 @@ class Session:
         return self.moved(step_words(goroutine, clause), replies.stepped)
 
     def run(self, most: int) -> Ran:
-        return self.moved("run %d" % most, replies.ran)
+        return self.moved(f"run {most}", replies.ran)
 
     def undo(self) -> str:
         return self.moved("undo", replies.undone)
@@ -266,7 +266,7 @@ class Session:
         core, found = self.follow().session(), []
         with self.follower.whole():
             for clause in range(1, count + 1):
-                if replies.is_ok(core.ask("step %s %d" % (goroutine, clause))):
+                if replies.is_ok(core.ask(f"step {goroutine} {clause}")):
                     found.append(clause)
                     core.undo()
         return found
@@ -276,7 +276,7 @@ class Session:
     def name_of(self, channel: str) -> str:
         """A channel by its first variable and its name: `jobs (g0/c1)`."""
         variable = self.variable_of(channel)
-        return "%s (%s)" % (variable, channel) if variable else channel
+        return f"{variable} ({channel})" if variable else channel
 
     def variable_of(self, channel: str) -> str:
         """The variable that held a channel first, else one that holds it now."""

@@ -26,7 +26,7 @@ class Source:
                 with open(path, "wb") as file:
                     file.write(self.program.bytes)
             except OSError as fault:
-                raise RewindError("a copy of %s cannot be written: %s" % (self.program.path, fault.strerror)) from None
+                raise RewindError(f"a copy of {self.program.path} cannot be written: {fault.strerror}") from None
             yield path
 
     def has_changed(self) -> bool:

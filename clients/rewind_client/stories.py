@@ -23,10 +23,10 @@ class Stories:
         """What a step did; an empty text where it touched its own goroutine alone."""
         word = note.kind.word
         plain = {
-            KindWord.RETURN: "leaves %s" % note.place.function,
+            KindWord.RETURN: f"leaves {note.place.function}",
             KindWord.EXIT: "ends the program",
-            KindWord.GO: "starts %s" % self.made.get(note.step, "a goroutine"),
-            KindWord.MAKE: "makes %s" % self.name(self.made.get(note.step, "")),
+            KindWord.GO: f"starts {self.made.get(note.step, 'a goroutine')}",
+            KindWord.MAKE: f"makes {self.name(self.made.get(note.step, ''))}",
             KindWord.DEFAULT: "takes the default case",
             KindWord.SELECT_WAIT: "waits on all cases",
             KindWord.FAULT: FAULTS.get(note.kind.fault, note.kind.fault),
@@ -39,30 +39,30 @@ class Stories:
         """A step that used a channel."""
         name, value = self.name(note.channel), note.value
         partner = " or ".join(step_owner(wait) for wait in note.woke)
-        clause = "case %d: " % note.kind.clause if note.kind.clause else ""
+        clause = f"case {note.kind.clause}: " if note.kind.clause else ""
         if note.verb is Verb.CLOSE:
-            return "closes %s%s" % (name, ", and wakes " + partner if partner else "")
+            return f"closes {name}{', and wakes ' + partner if partner else ''}"
         if note.verb is Verb.LENGTH:
-            return "takes the length of %s" % name
+            return f"takes the length of {name}"
         if note.kind.waits:
             return self.wait(note, name)
         if note.verb is Verb.SEND:
-            return "%ssends %s to %s%s" % (clause, value or "a value", name, ", to " + partner if partner else "")
+            return f"{clause}sends {value or 'a value'} to {name}{', to ' + partner if partner else ''}"
         if note.verb is Verb.RECEIVE and note.kind.word is KindWord.CLOSED:
-            return "finds %s closed and empty" % name
+            return f"finds {name} closed and empty"
         if note.verb is Verb.RECEIVE:
             source = ", of " + partner if partner and note.kind.word is not KindWord.TAKE else ""
-            return "%sreceives %s from %s%s" % (clause, value or "a value", name, source)
+            return f"{clause}receives {value or 'a value'} from {name}{source}"
         return clause.rstrip(": ")
 
     def wait(self, note: Note, name: str) -> str:
         """A step that began to wait, and what ended the wait."""
         verb = Verb.SEND if note.kind.word is KindWord.SEND_WAIT else Verb.RECEIVE
-        wish = "send %s to" % note.value if verb is Verb.SEND and note.value else verb.value
+        wish = f"send {note.value} to" if verb is Verb.SEND and note.value else verb.value
         waker = self.session.follower.wakers.get(note.step, "")
         value = self.session.follower.notes[waker].value if waker and note.verb is Verb.RECEIVE else ""
-        until = ", until %s%s" % (waker, " with " + value if value else "") if waker else ""
-        return "waits to %s %s%s" % (wish, name, until)
+        until = f", until {waker}{' with ' + value if value else ''}" if waker else ""
+        return f"waits to {wish} {name}{until}"
 
     def name(self, channel: str) -> str:
         return self.session.variable_of(channel) or channel if channel else "a channel"
@@ -73,29 +73,29 @@ class Stories:
             return "done"
         function = goroutine.frames[0].function if goroutine.frames else "?"
         state = goroutine.state.value
-        return "%s at line %d of %s: %s" % (state, goroutine.line, function, self.session.program.line(goroutine.line))
+        return f"{state} at line {goroutine.line} of {function}: {self.session.program.line(goroutine.line)}"
 
     def channel(self, channel: Channel) -> str:
         """A channel and its queues: `open, 1 of 2 items: 3; g0.1 waits to send 4`."""
         parts = ["open" if channel.is_open else "closed"]
         if channel.capacity:
             items = ": " + " ".join(channel.items[:20]) + (" .." if len(channel.items) > 20 else "") if channel.items else ""
-            parts.append("%d of %d items%s" % (len(channel.items), channel.capacity, items))
+            parts.append(f"{len(channel.items)} of {channel.capacity} items{items}")
         else:
             parts.append("no buffer")
-        senders = [waiter_in_words(it, "send %s" % it.value) for it in channel.senders[:10]]
+        senders = [waiter_in_words(it, f"send {it.value}") for it in channel.senders[:10]]
         receivers = [waiter_in_words(it, "receive") for it in channel.receivers[:10]]
         return "; ".join([", ".join(parts), *senders, *receivers])
 
     def value(self, value: str) -> str:
         """A value, with a variable's name where it is a channel."""
         variable = self.session.variable_of(value) if "/c" in value else ""
-        return "%s (%s)" % (variable, value) if variable else value
+        return f"{variable} ({value})" if variable else value
 
 
 def waiter_in_words(waiter: Waiter, wish: str) -> str:
-    clause = " (case %d)" % waiter.clause if waiter.clause else ""
-    return "%s waits to %s%s" % (waiter.goroutine, wish, clause)
+    clause = f" (case {waiter.clause})" if waiter.clause else ""
+    return f"{waiter.goroutine} waits to {wish}{clause}"
 
 
 def relation(edge: Edge, source: Optional[Note], step: Optional[Note]) -> str:

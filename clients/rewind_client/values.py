@@ -37,7 +37,7 @@ def quotient(left: int, right: int) -> int:
 
 def shifted(left: int, count: int) -> int:
     if not -BITS <= count <= BITS:
-        raise NotPlain("it shifts by %d" % count)
+        raise NotPlain(f"it shifts by {count}")
     return left << count if count >= 0 else left >> -count
 
 
@@ -128,7 +128,7 @@ class Reading(Generic[Operand]):
         found = self.expression(1)
         if self.at < len(self.tokens):
             hint = ", '==' compares" if self.tokens[self.at] == "=" else ""
-            raise NotPlain("'%s' is not expected there%s" % (self.tokens[self.at][:40], hint))
+            raise NotPlain(f"'{self.tokens[self.at][:40]}' is not expected there{hint}")
         return found
 
     def take(self) -> str:
@@ -139,7 +139,7 @@ class Reading(Generic[Operand]):
 
     def expect(self, wanted: str) -> None:
         if self.take() != wanted:
-            raise NotPlain("a '%s' is missing" % wanted)
+            raise NotPlain(f"a '{wanted}' is missing")
 
     def expression(self, least: int) -> Operand:
         """Operands with operators between them that bind at least so closely."""
@@ -172,7 +172,7 @@ class Reading(Generic[Operand]):
         if token[0].isdigit():
             return self.number(token)
         if not token.isidentifier():
-            raise NotPlain("'%s' is not expected there" % token[:40])
+            raise NotPlain(f"'{token[:40]}' is not expected there")
         return self.named(token)
 
     def combined(self, operator: str, left: Operand, right: Operand) -> Operand:
@@ -240,7 +240,7 @@ class Evaluation(Reading[Value]):
 
     def measured(self, word: str, name: str) -> Value:
         found = self.measure(word, self.variable(name))
-        return int(found) if found else Failed("%s(%s) has no value here" % (word, name[:40]))
+        return int(found) if found else Failed(f"{word}({name[:40]}) has no value here")
 
     def number(self, token: str) -> Value:
         return number_of(token)
@@ -250,15 +250,15 @@ class Evaluation(Reading[Value]):
             return token == "true"
         text = self.variable(token) or ("nil" if token == "nil" else "")
         if not text:
-            return Failed("'%s' has no value here" % token[:40])
+            return Failed(f"'{token[:40]}' has no value here")
         return text == "true" if text in ("true", "false") else int(text) if NUMBER.fullmatch(text) else text
 
 
 def unfit(operator: str) -> str:
     """Why an operator cannot be applied."""
     if operator in LOGICAL or operator == "!":
-        return "'%s' wants truth values" % operator
-    return "'%s' wants two of one type" % operator if operator in EQUAL else "'%s' wants numbers" % operator
+        return f"'{operator}' wants truth values"
+    return f"'{operator}' wants two of one type" if operator in EQUAL else f"'{operator}' wants numbers"
 
 
 def number_of(token: str) -> int:
@@ -266,4 +266,4 @@ def number_of(token: str) -> int:
     try:
         return int(token.replace("_", ""), 8) if octal else int(token, 0)
     except ValueError:
-        raise NotPlain("'%s' is no number" % token[:40]) from None
+        raise NotPlain(f"'{token[:40]}' is no number") from None

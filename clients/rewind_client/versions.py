@@ -16,10 +16,10 @@ def version_of(rewind: str) -> str:
     """The version that a `rewind` prints; one that is no release with the commit of the checkout in which the clients lie."""
     said = output([rewind, "--version"]).split(" ", 1)
     if len(said) != 2 or said[0] != "rewind":
-        raise RewindError("%s does not tell its version" % rewind)
+        raise RewindError(f"{rewind} does not tell its version")
     version = said[1]
     commit = output(["git", "-C", REPOSITORY, "rev-parse", "--short", "HEAD"]) if is_unreleased(version) else ""
-    return "%s (%s)" % (version, commit) if commit else version
+    return f"{version} ({commit})" if commit else version
 
 
 def is_unreleased(version: str) -> bool:

@@ -13,11 +13,11 @@ class Watch(NamedTuple):
 
     def did(self, _name_of: Callable[[str], str], _waits: bool) -> str:
         """What a step did that is watched."""
-        return "gave %s a value" % self.variable
+        return f"gave {self.variable} a value"
 
     def target(self, _number: int) -> str:
         """What `back` takes back of it: the last time."""
-        return "var %s %s" % (self.goroutine, self.variable)
+        return f"var {self.goroutine} {self.variable}"
 
 
 class Way(Enum):
@@ -44,7 +44,7 @@ class ChannelWatch(NamedTuple):
 
     def target(self, number: int) -> str:
         """What `back` takes back of it: the time of a number, counted from 1."""
-        return "%s %s %d" % (self.way.value, self.channel, number)
+        return f"{self.way.value} {self.channel} {number}"
 
 
 Watched = Union[Watch, ChannelWatch]

@@ -64,7 +64,7 @@ class Adapter:
                 if message is None:
                     self.guarded(self.advance)
                 elif isinstance(message, Malformed):
-                    self.say("stderr", "This message was dropped: %s" % message.reason)
+                    self.say("stderr", f"This message was dropped: {message.reason}")
                 else:
                     self.answer(message)
         except Cancelled:
@@ -95,7 +95,7 @@ class Adapter:
     def body_for(self, command: str, arguments: Any) -> Optional[Body]:
         handler = self.handlers.get(command)
         if handler is None:
-            raise BadRequest("there is no request '%s' here" % command[:80])
+            raise BadRequest(f"there is no request '{command[:80]}' here")
         if not self.greeted and command not in ("initialize", "disconnect"):
             raise BadRequest("'initialize' comes first")
         return handler(Arguments(arguments))

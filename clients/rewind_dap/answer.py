@@ -53,7 +53,7 @@ class Answer:
     def tell_chosen(self) -> None:
         found = self.session.goroutine(self.chosen)
         if found is not None:
-            self.screen.say("%s is %s" % (self.chosen, Stories(self.session).goroutine(found)))
+            self.screen.say(f"{self.chosen} is {Stories(self.session).goroutine(found)}")
 
     def text(self) -> str:
         return self.out.getvalue().rstrip("\n")

@@ -17,12 +17,12 @@ class Arguments:
         if members is None:
             members = {}
         if not isinstance(members, dict):
-            raise BadRequest("%s must be an object" % where)
+            raise BadRequest(f"{where} must be an object")
         self.members: Dict[str, Any] = members
         self.where = where
 
     def wrong(self, name: str, kind: str) -> BadRequest:
-        return BadRequest("%s: %s must be %s" % (self.where, name, kind))
+        return BadRequest(f"{self.where}: {name} must be {kind}")
 
     def text(self, name: str, default: Optional[str] = None) -> str:
         """A string; without a default it must be there."""
@@ -49,7 +49,7 @@ class Arguments:
         if not isinstance(value, int) or isinstance(value, bool):
             raise self.wrong(name, "a whole number")
         if not least <= value <= most:
-            raise BadRequest("%s: %s must lie between %d and %d" % (self.where, name, least, most))
+            raise BadRequest(f"{self.where}: {name} must lie between {least} and {most}")
         return value
 
     def seconds(self, name: str, default: float) -> float:
@@ -60,7 +60,7 @@ class Arguments:
         if not isinstance(value, (int, float)) or isinstance(value, bool):
             raise self.wrong(name, "a number of seconds")
         if not 0 < value <= 86_400:
-            raise BadRequest("%s: %s must lie between 0 and 86400" % (self.where, name))
+            raise BadRequest(f"{self.where}: {name} must lie between 0 and 86400")
         return float(value)
 
     def object(self, name: str) -> Arguments:

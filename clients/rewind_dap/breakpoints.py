@@ -65,7 +65,7 @@ class Breakpoints:
         """
         asked = [one.number("line", least=0, most=2**31) - self.first_line + 1 for one in wanted]
         if not self.is_here(path):
-            return [self.refused(line, "Only %s is debugged" % self.described["path"]) for line in asked]
+            return [self.refused(line, f"Only {self.described['path']} is debugged") for line in asked]
         before = self.lines()
         self.wishes = {}
         bodies = [self.one(line, wish) for line, wish in zip(asked, wanted)]
@@ -96,7 +96,7 @@ class Breakpoints:
         except NoPlace as fault:
             return self.not_set(str(fault))
         if name.isdigit():
-            return self.not_set("there is no function %s" % name)
+            return self.not_set(f"there is no function {name}")
         condition = condition_of(self.session.program, place, wanted)
         if isinstance(condition, str):
             return self.not_set(condition)

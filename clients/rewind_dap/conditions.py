@@ -39,7 +39,7 @@ class Condition:
             if found.value == "false":
                 return False
             if found.value != "true":
-                self.fault = found.why or "it is %s, and no truth value" % found.value
+                self.fault = found.why or f"it is {found.value}, and no truth value"
         self.hits += 1
         compares = {
             ">": self.hits > self.count,
@@ -59,8 +59,8 @@ class Condition:
         if not self.fault or self.is_told:
             return ""
         self.is_told = True
-        told = (self.expression[:SHOWN], line, self.fault)
-        return "The condition '%s' on line %d has no truth value: %s. The breakpoint stops wherever that is so." % told
+        place = f"'{self.expression[:SHOWN]}' on line {line}"
+        return f"The condition {place} has no truth value: {self.fault}. The breakpoint stops wherever that is so."
 
 
 def condition_of(program: Program, line: int, wanted: Arguments) -> Union[Condition, str]:
@@ -71,7 +71,7 @@ def condition_of(program: Program, line: int, wanted: Arguments) -> Union[Condit
         return "A hit condition is a number, or one behind '>=', '>', '==' or '%'"
     why = fault_of_condition(expression, program, program.function_at(line)) if expression else ""
     if why:
-        return "'%s' is no condition: %s" % (expression[:SHOWN], why)
+        return f"'{expression[:SHOWN]}' is no condition: {why}"
     return Condition(expression, found[1] or ">=", int(found[2]), wanted.text("logMessage", ""))
 
 

@@ -98,11 +98,11 @@ class Console:
     def set_breakpoint(self, debuggee: Debuggee, wanted: str) -> Body:
         """`break LINE` or `break FUNCTION`; on a line without a statement it is moved."""
         found = place_of(debuggee.session.program, wanted.rpartition(":")[2])
-        reply = debuggee.session.ask("break %d" % found.line)
+        reply = debuggee.session.ask(f"break {found.line}")
         if is_ok(reply):
             debuggee.breakpoints.note_command(["break", str(found.line)])
         if found.is_moved or not wanted.isdigit():
-            reply = reply + ["The breakpoint is on line %d: %s" % (found.line, debuggee.session.program.line(found.line))]
+            reply = reply + [f"The breakpoint is on line {found.line}: {debuggee.session.program.line(found.line)}"]
         return said("\n".join(reply))
 
     def after_command(self, debuggee: Debuggee, words: List[str], last: str) -> None:
@@ -116,7 +116,7 @@ class Console:
         elif words[0] in MOVING:
             named = [step_owner(word) for word in last.split(" ") if "#" in word]
             focus = named[-1 if words[0] in ("step", "redo") else 0] if named else debuggee.focus
-            stop = Stop("step", focus, "After '%s': %s" % (" ".join(words)[:40], last[:80]))
+            stop = Stop("step", focus, f"After '{' '.join(words)[:40]}': {last[:80]}")
             self.adapter.stop_at(end(debuggee.session) if debuggee.session.stopped_by() else stop)
 
     def set_workers_going(self, debuggee: Debuggee, steps: int) -> None:
@@ -142,11 +142,11 @@ class Console:
         if not bodies and is_channel(text) and debuggee.session.channel(text) is not None:
             view.renew()
             bodies = [view.values.variable(text, text)]
-        why = "there is no variable '%s' with a value here" % text[:80]
+        why = f"there is no variable '{text[:80]}' with a value here"
         if not bodies and frame:
             found = in_frame(text, debuggee.session, view.frame_at(frame))
             bodies = [view.values.variable(text, found.value)] if found.value else []
-            why = why if text.isidentifier() else "'%s' has no value: %s" % (text[:80], found.why)
+            why = why if text.isidentifier() else f"'{text[:80]}' has no value: {found.why}"
         if not bodies:
             raise BadRequest(why)
         return {"result": bodies[-1]["value"], **{key: bodies[-1][key] for key in ("type", "variablesReference")}}

@@ -62,10 +62,10 @@ class Lives:
             return refusal
         shift = (self.adapter.first_line - 1, self.adapter.first_column - 1)
         place = {"source": described(path), "line": refusal.line + shift[0], "column": refusal.column + shift[1]}
-        self.adapter.say("stderr", "%s (%s)" % (found.text(path), refusal.code), place if refusal.line else None)
+        self.adapter.say("stderr", f"{found.text(path)} ({refusal.code})", place if refusal.line else None)
         sentence = found.text(path).split("\n")[0]
-        instead = "; write instead: %s" % found.instead if found.instead else ""
-        return BadRequest("%s%s (%s)" % (sentence, instead, refusal.code))
+        instead = f"; write instead: {found.instead}" if found.instead else ""
+        return BadRequest(f"{sentence}{instead} ({refusal.code})")
 
     def attach(self, _arguments: Arguments) -> None:
         raise BadRequest("Rewind runs programs itself and attaches to none: use launch")

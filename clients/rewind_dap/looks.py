@@ -151,14 +151,14 @@ def step_name(debuggee: Debuggee, arguments: Arguments) -> str:
         return one_word(arguments.text("step"))
     goroutine = debuggee.view.goroutine_of(arguments.number("threadId"))
     if goroutine.steps == 0:
-        raise BadRequest("%s has taken no step" % goroutine.name)
+        raise BadRequest(f"{goroutine.name} has taken no step")
     return goroutine.last_step
 
 
 def one_word(text: str) -> str:
     """A word of a command; more than one is refused."""
     if not text or any(character <= " " for character in text):
-        raise BadRequest("'%s' is no name of a step" % text[:80])
+        raise BadRequest(f"'{text[:80]}' is no name of a step")
     return text
 
 
@@ -166,7 +166,7 @@ def one_line(text: str) -> str:
     """A command as it is sent: a newline or another control character would make more, or none, of it."""
     line = text.strip(" \t\r\n")
     if len(line) > MAX_COMMAND:
-        raise BadRequest("a command has at most %d bytes" % MAX_COMMAND)
+        raise BadRequest(f"a command has at most {MAX_COMMAND} bytes")
     if CONTROL.search(line):
         raise BadRequest("a command is one line, without control characters")
     return line

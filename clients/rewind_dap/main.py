@@ -32,13 +32,13 @@ def main(words: List[str]) -> int:
     given = arguments(words)
     try:
         if given.version:
-            print("rewind-dap %s" % version_of(find_rewind(given.rewind)))
+            print(f"rewind-dap {version_of(find_rewind(given.rewind))}")
             return 0
         with open(given.commands, "w", encoding="utf-8", errors="backslashreplace", buffering=1) as commands:
             Adapter(standard_streams(), given.rewind, lambda line: print(line, file=commands)).serve()
     except BrokenPipeError:
         return FAILED
     except (OSError, RewindError) as fault:
-        print("rewind-dap: %s" % fault, file=sys.stderr)
+        print(f"rewind-dap: {fault}", file=sys.stderr)
         return FAILED
     return 0

@@ -84,7 +84,7 @@ class Moves:
         place = debuggee.view.place(arguments.number("frameId"))
         goroutine = place.goroutine
         if not goroutine.frames:
-            raise BadRequest("%s has ended and has no frame" % goroutine.name)
+            raise BadRequest(f"{goroutine.name} has ended and has no frame")
         first = first_step_of_frame(debuggee.session, goroutine, place.depth)
         if step_number(first) > goroutine.steps:
             self.adapter.stop_at(Stop("restart", goroutine.name, "The start of the frame"))
@@ -96,7 +96,7 @@ class Moves:
         debuggee = self.adapter.stopped_debuggee()
         step = debuggee.targets.get(arguments.number("targetId"))
         if step is None:
-            raise BadRequest("there is no target %d" % arguments.number("targetId"))
+            raise BadRequest(f"there is no target {arguments.number('targetId')}")
         self.take_back(debuggee, "goto", step_owner(step), step)
 
     def take_back(self, debuggee: Debuggee, reason: str, goroutine: str, target: str) -> List[str]:

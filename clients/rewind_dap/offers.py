@@ -18,7 +18,7 @@ Body = Dict[str, Any]
 
 MAX_OFFERS = 50
 # A channel as lists and the console name it: `jobs (g0/c1)`, or `g0/c1`.
-CHANNEL_NAME = re.compile(r"(?:^|\()(%s)\)?$" % CHANNEL.pattern)
+CHANNEL_NAME = re.compile(rf"(?:^|\()({CHANNEL.pattern})\)?$")
 # The target of a step that leaves the choice to Rewind: the first case that can proceed.
 ONE_STEP = 0
 
@@ -47,7 +47,7 @@ class Offers:
         targets: List[Body] = [{"id": ONE_STEP, "label": "one step"}]
         for number in ready:
             clause = clauses[number - 1]
-            label = "case %d: %s" % (number, clause.text.replace("case ", "", 1))
+            label = f"case {number}: {clause.text.replace('case ', '', 1)}"
             targets.append({"id": number, "label": label, "line": clause.line + debuggee.first_line - 1})
         return {"targets": targets}
 
@@ -65,7 +65,7 @@ class Offers:
     def goto_target(self, debuggee: Debuggee, name: str, line: int) -> Body:
         step, number = last_at_line(debuggee.session, name, line), debuggee.view.next_number()
         debuggee.targets[number] = step
-        return {"id": number, "label": "back to %s before %s" % (name, step), "line": line + debuggee.first_line - 1}
+        return {"id": number, "label": f"back to {name} before {step}", "line": line + debuggee.first_line - 1}
 
     def data_breakpoint_info(self, arguments: Arguments) -> Body:
         """Whether one can watch a variable of a frame or of a list of variables, or a channel that is shown by its name."""
@@ -86,10 +86,10 @@ class Offers:
         name = name.split(" ")[0]
         if not goroutine or not name.isidentifier():
             return {"dataId": None, "description": "only variables of a frame and channels can be watched"}
-        words = "%s of %s is given a value" % (name, goroutine)
-        return {"dataId": "%s %s" % (goroutine, name), "description": words, "accessTypes": ["write"], "canPersist": False}
+        words = f"{name} of {goroutine} is given a value"
+        return {"dataId": f"{goroutine} {name}", "description": words, "accessTypes": ["write"], "canPersist": False}
 
     def of_channel(self, channel: str) -> Body:
         """A write is a send, and a read is a receive."""
-        words = "%s: a write is a send, a read is a receive" % self.adapter.stopped_debuggee().session.name_of(channel)
+        words = f"{self.adapter.stopped_debuggee().session.name_of(channel)}: a write is a send, a read is a receive"
         return {"dataId": channel, "description": words, "accessTypes": ["read", "write", "readWrite"], "canPersist": False}

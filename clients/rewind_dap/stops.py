@@ -50,8 +50,8 @@ def in_words(session: Session, view: View, found: motion.Stop) -> Stop:
     if reason in (StopReason.ENDED, StopReason.FAULT):
         return end(session)
     if reason is StopReason.BREAKPOINT:
-        before = ", before %s" % found.before if found.before else ""
-        return Stop("breakpoint", name, "Breakpoint on line %d%s" % (found.line, before), line=found.line)
+        before = f", before {found.before}" if found.before else ""
+        return Stop("breakpoint", name, f"Breakpoint on line {found.line}{before}", line=found.line)
     if reason in (StopReason.VALUE, StopReason.VALUE_TAKEN_BACK) and found.entry and found.watch:
         return Stop("data breakpoint", name, watch_in_words(session, found.entry, found), watch=found.watch)
     if reason is StopReason.DEADLOCK:
@@ -62,7 +62,7 @@ def in_words(session: Session, view: View, found: motion.Stop) -> Stop:
         return Stop("pause", name, "There is no memory for the next step")
     if reason is StopReason.ENTRY:
         return Stop("entry", "g0", "The start of the program")
-    return Stop("step", name, "After %s %s" % found.entry if found.entry else "Stopped")
+    return Stop("step", name, f"After {found.entry.step} {found.entry.kind}" if found.entry else "Stopped")
 
 
 def deadlock(session: Session) -> str:
@@ -80,14 +80,14 @@ def end(session: Session) -> Stop:
     fault = found.entry.kind.fault
     text = FAULTS.get(fault, fault)
     what = "Panic" if text.startswith("panic") else "Fault"
-    return Stop("exception", found.goroutine, "%s: %s" % (what, fault), text, name=fault)
+    return Stop("exception", found.goroutine, f"{what}: {fault}", text, name=fault)
 
 
 def watch_in_words(session: Session, entry: Entry, found: motion.Stop) -> str:
     """What a step did that is watched; on the way back it was taken back."""
     assert found.watch
-    told = (entry.step, found.watch.did(session.name_of, entry.kind.waits))
-    return "Took back %s, which %s" % told if found.reason is StopReason.VALUE_TAKEN_BACK else "%s %s" % told
+    did = found.watch.did(session.name_of, entry.kind.waits)
+    return f"Took back {entry.step}, which {did}" if found.reason is StopReason.VALUE_TAKEN_BACK else f"{entry.step} {did}"
 
 
 def with_filters(session: Session, stop: Stop, filters: AbstractSet[Filter]) -> Stop:
@@ -100,9 +100,9 @@ def with_filters(session: Session, stop: Stop, filters: AbstractSet[Filter]) -> 
     left = [fate for fate in fates if fate.ending is Ending.WAIT]
     if not left:
         return stop
-    lines = ["leak: %s blocked for ever" % ("1 goroutine is" if len(left) == 1 else "%d goroutines are" % len(left))]
+    lines = [f"leak: {'1 goroutine is' if len(left) == 1 else f'{len(left)} goroutines are'} blocked for ever"]
     places = [(fate.goroutine, fate.place.line) for fate in left[:LISTED]]
-    lines += ["%s at line %d: %s" % (name, line, session.program.line(line)) for name, line in places]
+    lines += [f"{name} at line {line}: {session.program.line(line)}" for name, line in places]
     return Stop("exception", left[0].goroutine, "Leak: main has returned", "\n".join(lines), name="Leak")
 
 
@@ -121,7 +121,7 @@ def step_back(session: Session, goroutine: Goroutine, whole: bool) -> Motion:
     """Takes the last step of the goroutine back, or the whole statement to which it belongs, with all that depends on it."""
     yield from ()
     if goroutine.steps == 0:
-        words = "%s has taken no step; 'back go %s' takes its start back" % (goroutine.name, goroutine.name)
+        words = f"{goroutine.name} has taken no step; 'back go {goroutine.name}' takes its start back"
         return Stop("step", goroutine.name, words if goroutine.name != "g0" else "The start of the program")
     step = motion.line_before(session, goroutine) if whole else goroutine.last_step
     return taken("Took back", session.back(step), goroutine.name)
@@ -129,11 +129,11 @@ def step_back(session: Session, goroutine: Goroutine, whole: bool) -> Motion:
 
 def taken(did: str, names: List[str], goroutine: str) -> Stop:
     """Steps were taken back or again, in words: all of them where they are few, else how many more there are."""
-    number = "%s %d %s" % (did, len(names), "step" if len(names) == 1 else "steps")
+    number = f"{did} {len(names)} {'step' if len(names) == 1 else 'steps'}"
     listed = " ".join(names[:LISTED]) + (" .." if len(names) > LISTED else "")
-    more = " and %d more" % (len(names) - 1) if len(names) > 1 else ""
-    return Stop("step", goroutine, "%s %s%s" % (did, " ".join(names[:1]), more), "%s: %s" % (number, listed))
+    more = f" and {len(names) - 1} more" if len(names) > 1 else ""
+    return Stop("step", goroutine, f"{did} {' '.join(names[:1])}{more}", f"{number}: {listed}")
 
 
 def not_taken(why: RewindError, goroutine: str) -> Stop:
-    return Stop("pause", goroutine, "No step was taken: %s" % why)
+    return Stop("pause", goroutine, f"No step was taken: {why}")

@@ -31,7 +31,7 @@ def tell_output(adapter: Adapter, debuggee: Debuggee) -> None:
     try:
         debuggee.printed = debuggee.session.core.console()
     except Refused as refusal:
-        adapter.say("stderr", "What is printed cannot be told: %s" % refusal)
+        adapter.say("stderr", f"What is printed cannot be told: {refusal}")
     debuggee.printed_at = debuggee.session.version
     for category, text in changes_in_words(before, debuggee.printed):
         if category == "stdout":

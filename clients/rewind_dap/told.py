@@ -31,7 +31,7 @@ def changes_in_words(before: List[str], now: List[str]) -> Iterator[Tuple[str, s
 def first_lines(lines: List[str]) -> List[str]:
     """No more than MAX_LINES of some lines, with a word for the others."""
     left_out = len(lines) - MAX_LINES
-    return lines[:MAX_LINES] + ["(and %d lines more)" % left_out] if left_out > 0 else lines
+    return lines[:MAX_LINES] + [f"(and {left_out} lines more)"] if left_out > 0 else lines
 
 
 def pieces(printed: Sequence[str], places: Sequence[int]) -> Iterator[Piece]:

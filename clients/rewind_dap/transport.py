@@ -77,12 +77,12 @@ class Transport:
 
     def refuse(self, length: int) -> None:
         """A message that is too long is skipped; where that would never end, the next header is looked for."""
-        told = "a message of %d bytes is refused: at most %d are read" % (length, MAX_MESSAGE)
+        told = f"a message of {length} bytes is refused: at most {MAX_MESSAGE} are read"
         if length <= MOST_SKIPPED:
             self.complain(told)
             self.skip(length)
         else:
-            self.complain(told + ", and no more than %d are skipped: the next header is looked for" % MOST_SKIPPED)
+            self.complain(told + f", and no more than {MOST_SKIPPED} are skipped: the next header is looked for")
 
     def complain(self, reason: str) -> None:
         self.inbox.put(Malformed(reason))
@@ -103,7 +103,7 @@ class Transport:
             if told is not None:
                 length = int(told.group(1))
             if not FIELD.match(line) or (told is None and LENGTH_NAME.match(line)):
-                self.complain("a malformed header: %s" % shown(line))
+                self.complain(f"a malformed header: {shown(line)}")
 
     def read_body(self, length: int) -> Union[Message, Malformed]:
         body = self.source.read(length)
@@ -112,7 +112,7 @@ class Transport:
         try:
             message = json.loads(body.decode("utf-8"))
         except (ValueError, RecursionError) as fault:
-            return Malformed("a message that is no JSON: %s" % fault)
+            return Malformed(f"a message that is no JSON: {fault}")
         if not isinstance(message, dict):
             return Malformed("a message that is no JSON object")
         return message

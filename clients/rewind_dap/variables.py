@@ -32,7 +32,7 @@ class Variables:
 
     def children_of(self, number: int) -> List[Body]:
         if number not in self.children:
-            raise BadRequest("there are no variables %d in the present state" % number)
+            raise BadRequest(f"there are no variables {number} in the present state")
         return self.children[number]()
 
     def part_of(self, number: int, wanted: str, start: int, count: int) -> List[Body]:
@@ -61,7 +61,7 @@ class Variables:
         bodies = []
         for variable in variables:
             told[variable.name] = count = told.get(variable.name, 0) + 1
-            name = variable.name if count == 1 else "%s (%d)" % (variable.name, count)
+            name = variable.name if count == 1 else f"{variable.name} ({count})"
             bodies.append(self.variable(name, variable.value))
         return bodies
 
@@ -113,18 +113,18 @@ class Variables:
     def of_list(self, members: Sequence[Member], show: Callable[[int, Member], Body]) -> List[Body]:
         bodies = [show(place, member) for place, member in enumerate(members[:MAX_SHOWN])]
         left_out = len(members) - MAX_SHOWN
-        return bodies + [plain("..", "%d more" % left_out)] if left_out > 0 else bodies
+        return bodies + [plain("..", f"{left_out} more")] if left_out > 0 else bodies
 
     def item(self, place: int, value: str) -> Body:
-        return self.variable("[%d]" % place, value)
+        return self.variable(f"[{place}]", value)
 
     def waiter(self, _place: int, one: Waiter) -> Body:
         """A goroutine that waits: at which case of a select, and with which value to send, or at which line."""
-        at = " (case %d)" % one.clause if one.clause else ""
+        at = f" (case {one.clause})" if one.clause else ""
         if one.value:
             return self.variable(one.goroutine + at, one.value)
         shown = self.session.goroutine(one.goroutine)
-        return plain(one.goroutine + at, "waits at line %d" % shown.line if shown else "waits")
+        return plain(one.goroutine + at, f"waits at line {shown.line}" if shown else "waits")
 
 
 def plain(name: str, value: str) -> Body:
@@ -146,9 +146,9 @@ def state_of(channel: Channel) -> str:
 
 def channel_in_words(channel: Channel) -> str:
     """A channel on one line: `g0/c1 (open, 2 of 2, 1 waits to send)`."""
-    held = "%d of %d" % (len(channel.items), channel.capacity) if channel.capacity else "no buffer"
+    held = f"{len(channel.items)} of {channel.capacity}" if channel.capacity else "no buffer"
     parts = [state_of(channel), held]
     for waiters, wish in ((channel.senders, "send"), (channel.receivers, "receive")):
         if waiters:
-            parts.append("%d %s to %s" % (len(waiters), "waits" if len(waiters) == 1 else "wait", wish))
-    return "%s (%s)" % (channel.name, ", ".join(parts))
+            parts.append(f"{len(waiters)} {'waits' if len(waiters) == 1 else 'wait'} to {wish}")
+    return f"{channel.name} ({', '.join(parts)})"

@@ -91,7 +91,7 @@ class View:
         name = self.names[thread - 1] if 0 < thread <= len(self.names) else ""
         goroutine = self.session.goroutine(name) if name else None
         if goroutine is None:
-            raise BadRequest("there is no thread %d" % thread)
+            raise BadRequest(f"there is no thread {thread}")
         return goroutine
 
     def threads(self, focus: str) -> List[Body]:
@@ -145,7 +145,7 @@ class View:
     def place(self, number: int) -> FramePlace:
         self.renew()
         if number not in self.frames:
-            raise BadRequest("there is no frame %d in the present state" % number)
+            raise BadRequest(f"there is no frame {number} in the present state")
         return self.frames[number]
 
     def goroutine_at(self, number: int) -> Optional[Goroutine]:
@@ -191,4 +191,4 @@ def thread_name(goroutine: Goroutine) -> str:
     """How a goroutine is listed: `g0.1 deposit, waiting at line 15`."""
     if goroutine.state is State.DONE:
         return goroutine.name + ", done"
-    return "%s %s, %s at line %d" % (goroutine.name, goroutine.frames[0].function, goroutine.state.value, goroutine.line)
+    return f"{goroutine.name} {goroutine.frames[0].function}, {goroutine.state.value} at line {goroutine.line}"

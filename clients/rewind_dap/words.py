@@ -102,7 +102,7 @@ class Words:
         path, refused = " ".join(words), 0
         saved = read_script(path)
         if not saved.is_of(debuggee.session.program):
-            self.adapter.say("important", "%s is of another source: its commands may mean something else here" % path)
+            self.adapter.say("important", f"{path} is of another source: its commands may mean something else here")
         for line in map(with_plain_blanks, saved.commands):
             given = words_of(line)
             if given and given[0] != "quit":
@@ -110,7 +110,7 @@ class Words:
                 refused += not is_ok(reply)
                 if given[0] in ("break", "clear") and is_ok(reply):
                     debuggee.breakpoints.note_command(given)
-        stop = Stop("step", goroutine.name, "After the commands of %s, %d of them refused" % (path, refused))
+        stop = Stop("step", goroutine.name, f"After the commands of {path}, {refused} of them refused")
         self.adapter.stop_at(end(debuggee.session) if debuggee.session.stopped_by() else stop)
 
     # Looks.
@@ -124,7 +124,7 @@ def preview(desk: Answer, words: List[str]) -> None:
     """The steps that `back` would take back."""
     target = target_of(desk.debuggee, desk.chosen, words)
     names = desk.session.preview(target)
-    desk.screen.say("'back %s' would take back %d steps: %s" % (target, len(names), " ".join(names)))
+    desk.screen.say(f"'back {target}' would take back {len(names)} steps: {' '.join(names)}")
 
 
 def save(desk: Answer, words: List[str]) -> None:
@@ -132,7 +132,7 @@ def save(desk: Answer, words: List[str]) -> None:
     if not words:
         raise BadRequest("save wants a file: save session.script")
     write_script(" ".join(words), desk.session.core.given, desk.program)
-    desk.screen.say("%d commands are in %s" % (len(desk.session.core.given), " ".join(words)))
+    desk.screen.say(f"{len(desk.session.core.given)} commands are in {' '.join(words)}")
 
 
 def target_of(debuggee: Debuggee, name: str, words: List[str]) -> str:
@@ -147,7 +147,7 @@ def target_of(debuggee: Debuggee, name: str, words: List[str]) -> str:
         why = no_variable(debuggee.session, variable)
         if why:
             raise BadRequest(why)
-        return "var %s %s" % (name, variable)
+        return f"var {name} {variable}"
     target = " ".join(words)
     if is_step(target) or (len(words) > 1 and words[0] in ("go", "send", "recv", "var")):
         return target

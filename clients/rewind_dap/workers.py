@@ -36,4 +36,4 @@ def rested(debuggee: Debuggee, taken: int) -> Stop:
         return in_words(session, debuggee.view, motion.end(session))
     if not any(one.state is State.READY for one in session.goroutines()):
         return in_words(session, debuggee.view, motion.Stop(StopReason.DEADLOCK, debuggee.focus))
-    return Stop("step", debuggee.focus, "The workers took %d %s" % (taken, "step" if taken == 1 else "steps"))
+    return Stop("step", debuggee.focus, f"The workers took {taken} {'step' if taken == 1 else 'steps'}")

@@ -40,11 +40,11 @@ def content(name: str) -> bytes:
         if name == STANDARD_INPUT:
             return sys.stdin.buffer.read(MOST_BYTES)
         if stat.S_ISDIR(os.stat(name).st_mode):
-            raise RewindError("%s is a folder: name the source in it" % name)
+            raise RewindError(f"{name} is a folder: name the source in it")
         with open(name, "rb") as file:
             return file.read(MOST_BYTES)
     except (OSError, ValueError) as fault:
-        raise RewindError("%s cannot be read: %s" % (name, getattr(fault, "strerror", None) or fault)) from None
+        raise RewindError(f"{name} cannot be read: {getattr(fault, 'strerror', None) or fault}") from None
 
 
 def check_names(names: Sequence[str]) -> None:

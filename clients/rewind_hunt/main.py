@@ -32,7 +32,7 @@ def main(words: List[str]) -> int:
     try:
         given = wanted(words)
         if given.version:
-            print("rewind-hunt %s" % version_of(given.rewind))
+            print(f"rewind-hunt {version_of(given.rewind)}")
             return NOTHING
     except RewindError as fault:
         return failed(str(fault))
@@ -41,7 +41,7 @@ def main(words: List[str]) -> int:
 
 
 def failed(why: str) -> int:
-    print("rewind-hunt: %s" % why, file=sys.stderr)
+    print(f"rewind-hunt: {why}", file=sys.stderr)
     return FAULT
 
 
@@ -94,7 +94,7 @@ class Teller:
                 say(["", report.title(one, groups[one]), *self.behind(reducer, report, one, short, most)])
                 path = self.kept(path, short)
             if len(bad) > len(told):
-                say(["", "%d things more were found: --full shows them" % (len(bad) - len(told))])
+                say(["", f"{len(bad) - len(told)} things more were found: --full shows them"])
             for outcomes in found.outputs().values() if self.given.each else ():
                 one = Found(Kind.OUTPUT)
                 short = Shortener(reducer, one, outcomes).short()
@@ -146,8 +146,8 @@ class Progress:
         if not self.shown or share == self.last:
             return
         self.last = share
-        filled = BAR * count // self.runs
-        self.out.write("\r[%s%s] %d of %d, %d bad" % ("#" * filled, " " * (BAR - filled), count, self.runs, self.bad))
+        filled = "#" * (BAR * count // self.runs)
+        self.out.write(f"\r[{filled:{BAR}}] {count} of {self.runs}, {self.bad} bad")
         self.out.flush()
 
     def clear(self) -> None:

@@ -26,7 +26,7 @@ class Parser(argparse.ArgumentParser):
     """Tells what is wrong with a command line in one sentence."""
 
     def error(self, message: str) -> NoReturn:
-        raise RewindError("%s; 'rewind-hunt --help' tells how it is used" % message)
+        raise RewindError(f"{message}; 'rewind-hunt --help' tells how it is used")
 
 
 class Wanted(NamedTuple):
@@ -77,7 +77,7 @@ def number(least: int, most: int) -> Callable[[str], int]:
 
     def read(text: str) -> int:
         if not (text.isascii() and text.isdecimal() and least <= int(text) <= most):
-            raise argparse.ArgumentTypeError("%s is no number from %d to %d" % (text, least, most))
+            raise argparse.ArgumentTypeError(f"{text} is no number from {least} to {most}")
         return int(text)
 
     return read
@@ -106,21 +106,21 @@ def check_files(files: List[str], script: Optional[str]) -> None:
     if script and len(files) > 1:
         raise RewindError("--script keeps the commands for one FILE: name one")
     if script and not may_write(script):
-        raise RewindError("%s cannot be written" % script)
+        raise RewindError(f"{script} cannot be written")
 
 
 def pattern(text: Optional[str]) -> Optional[Pattern[str]]:
     try:
         return re.compile(text, re.MULTILINE) if text is not None else None
     except re.error as fault:
-        raise RewindError("--expect has a pattern that means nothing: %s" % fault) from None
+        raise RewindError(f"--expect has a pattern that means nothing: {fault}") from None
 
 
 def kinds(text: str) -> Tuple[Kind, ...]:
     ignored = [word for word in text.split(",") if word]
     unknown = [word for word in ignored if word not in KINDS]
     if unknown:
-        raise RewindError("--ignore has a kind that is none: %s (there are %s)" % (unknown[0], ", ".join(KINDS)))
+        raise RewindError(f"--ignore has a kind that is none: {unknown[0]} (there are {', '.join(KINDS)})")
     return tuple(Kind(word) for word in ignored)
 
 

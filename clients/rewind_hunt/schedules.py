@@ -112,7 +112,7 @@ class Scheduler:
         """Takes a schedule from the start of the program; the process stands at its end then."""
         self.go_to_start()
         self.schedule = Schedule()
-        self.random = Random("%d/%d" % (self.seed, number))
+        self.random = Random(f"{self.seed}/{number}")
         manners = {Manner.TURNS: self.by_turns, Manner.EVENLY: self.evenly, Manner.BURSTS: self.in_bursts, Manner.RANKS: self.by_ranks}
         manners[self.manner_of(number)]()
         return self.schedule
@@ -151,7 +151,7 @@ class Scheduler:
             elif last == "no N4":
                 self.schedule.done.add(command.split(" ")[1])
             elif last in NO_ROOM:
-                raise RewindError("a schedule is longer than %s keeps: allow fewer --steps" % self.core.process.name)
+                raise RewindError(f"a schedule is longer than {self.core.process.name} keeps: allow fewer --steps")
         return taken
 
     def step(self, goroutine: str) -> str:
@@ -174,7 +174,7 @@ class Scheduler:
 
     def by_turns(self) -> None:
         """As `run` goes."""
-        reply = self.ask(["run %d" % self.most_steps])[0]
+        reply = self.ask([f"run {self.most_steps}"])[0]
         for entry in self.core.log():
             self.schedule.note(entry)
         if replies.ran([reply]).reason is replies.Reason.STUCK:

@@ -159,7 +159,7 @@ class Reducer:
         for by_turns in dict.fromkeys((self.by_turns(entries), 0)):
             taken = self.taken_by_turns(by_turns)
             rest = [it for it in entries if it.step not in {entry.step for entry in taken}]
-            commands = (["run %d" % by_turns] if by_turns else []) + [step_command(it) for it in rest]
+            commands = ([f"run {by_turns}"] if by_turns else []) + [step_command(it) for it in rest]
             if rest and rest[-1].kind.stops:
                 commands[-1] = schedule[-1]
             if self.leads_to(outcome, found, commands, taken + rest):
@@ -176,7 +176,7 @@ class Reducer:
         """The first steps that `run` takes."""
         if count == 0:
             return []
-        self.from_start(["run %d" % count])
+        self.from_start([f"run {count}"])
         return self.scheduler.core.log()
 
     def from_start(self, commands: Sequence[str]) -> List[str]:
@@ -189,7 +189,7 @@ class Reducer:
         if self.scheduler.core.log() != list(entries):
             return False
         if outcome.end is End.DEADLOCK:
-            self.scheduler.ask(["run %d" % (self.most_steps * 2)])
+            self.scheduler.ask([f"run {self.most_steps * 2}"])
         come = self.now(outcome.number)
         return come.end is End.DEADLOCK if outcome.end is End.DEADLOCK else self.hunted.has_come_to(outcome, found, come)
 

@@ -43,7 +43,7 @@ class Shortener:
         self.reducer = reducer
         self.found = found
         self.fewest = sorted(outcomes, key=lambda outcome: (outcome.steps, outcome.number))
-        self.run = "run %d" % reducer.most_steps
+        self.run = f"run {reducer.most_steps}"
         self.left = TRIES
         self.until = time.monotonic() + SECONDS
         self.best: List[str] = []
@@ -107,7 +107,7 @@ class Shortener:
 
     def before(self, place: int) -> List[str]:
         """The run up to a place."""
-        return ["run %d" % place] if place else []
+        return [f"run {place}"] if place else []
 
     def with_fewer(self, outcome: Outcome, commands: List[str]) -> List[str]:
         """The commands without parts that are not needed, and with runs for parts that are; the half first and single ones last."""
@@ -116,7 +116,7 @@ class Shortener:
             at = 0
             while at < len(commands) - 1 and self.is_left():
                 rest = commands[min(at + size, len(commands) - 1) :]
-                instead: List[List[str]] = [[], ["run %d" % size]] if size > 1 else [[]]
+                instead: List[List[str]] = [[], [f"run {size}"]] if size > 1 else [[]]
                 fewer = next((found for part in instead if self.comes_to(outcome, found := [*commands[:at], *part, *rest])), None)
                 if fewer:
                     commands = fewer

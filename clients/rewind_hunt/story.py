@@ -96,16 +96,16 @@ class Sentences:
             KindWord.PURE: self.pure, KindWord.CALL: self.call, KindWord.RETURN: lambda it: "returns from " + it.place.function,
             KindWord.EXIT: lambda _: "returns from main, which ends the program", KindWord.GO: self.go, KindWord.MAKE: self.make,
             KindWord.LENGTH: lambda it: "takes the length of " + self.channel(it), KindWord.HAND: self.hand,
-            KindWord.MEET: self.meet, KindWord.BUFFER: lambda it: "puts %s into %s" % (self.value(it), self.channel(it)),
-            KindWord.TAKE: lambda it: "takes %s out of %s" % (self.value(it), self.channel(it)),
-            KindWord.CLOSED: lambda it: "finds %s closed and empty" % self.channel(it),
-            KindWord.SEND_WAIT: lambda it: "waits to send %s to %s" % (self.value(it), self.channel(it)),
+            KindWord.MEET: self.meet, KindWord.BUFFER: lambda it: f"puts {self.value(it)} into {self.channel(it)}",
+            KindWord.TAKE: lambda it: f"takes {self.value(it)} out of {self.channel(it)}",
+            KindWord.CLOSED: lambda it: f"finds {self.channel(it)} closed and empty",
+            KindWord.SEND_WAIT: lambda it: f"waits to send {self.value(it)} to {self.channel(it)}",
             KindWord.RECEIVE_WAIT: lambda it: "waits to receive from " + self.channel(it),
             KindWord.PICK: self.pick, KindWord.DEFAULT: lambda _: "takes the default of a select, since no case is ready",
             KindWord.SELECT_WAIT: lambda _: "waits at a select", KindWord.CLOSE: lambda it: "closes " + self.channel(it),
             KindWord.FAULT: self.fault,
         }  # fmt: skip
-        return "%s %s" % (owner, tells[note.kind.word](note))
+        return f"{owner} {tells[note.kind.word](note)}"
 
     def channel(self, note: Note) -> str:
         return self.session.name_of(note.channel) if note.channel else "a channel"
@@ -127,25 +127,25 @@ class Sentences:
         child = child_of(step_owner(note.step), self.numbers[note.step])
         function = self.session.program.functions.get(note.place.function)
         starts = [it.function for it in function.calls if it.starts and it.line == note.line] if function else []
-        return "starts %s%s" % (child, " (%s)" % starts[0] if len(starts) == 1 else "")
+        return f"starts {child}{f' ({starts[0]})' if len(starts) == 1 else ''}"
 
     def make(self, note: Note) -> str:
         return "makes " + self.session.name_of(channel_of(step_owner(note.step), self.numbers[note.step]))
 
     def hand(self, note: Note) -> str:
-        return "hands %s to %s, which waits at %s" % (self.value(note), self.partner(note), self.channel(note))
+        return f"hands {self.value(note)} to {self.partner(note)}, which waits at {self.channel(note)}"
 
     def meet(self, note: Note) -> str:
-        return "takes %s from %s, which waits at %s" % (self.value(note), self.partner(note), self.channel(note))
+        return f"takes {self.value(note)} from {self.partner(note)}, which waits at {self.channel(note)}"
 
     def pick(self, note: Note) -> str:
         verb = {Verb.SEND: "sends %s to", Verb.RECEIVE: "receives %s from"}.get(note.verb or Verb.LENGTH)
         does = " and " + verb % self.value(note) + " " + self.channel(note) if verb else ""
-        return "takes case %d of a select%s" % (note.kind.clause, does)
+        return f"takes case {note.kind.clause} of a select{does}"
 
     def fault(self, note: Note) -> str:
         why = FAULTS.get(note.kind.fault, note.kind.fault)
-        return "stops with %s (%s)%s" % (why, note.kind.fault, " at " + self.channel(note) if note.channel else "")
+        return f"stops with {why} ({note.kind.fault}){' at ' + self.channel(note) if note.channel else ''}"
 
 
 def grouped(told: Sequence[Told]) -> List[Told]:

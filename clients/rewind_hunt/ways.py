@@ -72,7 +72,7 @@ class Ways:
 
     def tried(self, step: str, first: Sequence[str]) -> Optional[WayBack]:
         """Takes the step back and goes on from there; none where the program does not end then, or the same comes again."""
-        commands = [*first, "run %d" % self.reducer.most_steps]
+        commands = [*first, f"run {self.reducer.most_steps}"]
         answers = self.reducer.from_start([*self.commands, "back " + step, *commands])
         behind = answers[len(self.commands) :]
         if not all(answer.startswith("ok") for answer in behind) or not behind[-1].endswith(" ended"):

@@ -54,7 +54,7 @@ class Looking:
                 for word in group:
                     if word.name == FOR_WORKERS and not self.shell.has_workers:
                         continue
-                    self.screen.say("  %-28s %s" % (used(word), word.does))
+                    self.screen.say(f"  {used(word):<28} {word.does}")
             self.screen.say("'help WORD' tells more of a word, and 'help CODE' of a code such as N3 or SendOnClosed.")
             return
         name = word_of(words[0])
@@ -77,7 +77,7 @@ class Looking:
             self.screen.say(TERMS[code.lower()])
             return
         lines = self.shell.explained(CODES.get(code.lower(), code))
-        for line in lines or ["there is no command and no code '%s'; 'help' lists the commands" % code[:40]]:
+        for line in lines or [f"there is no command and no code '{code[:40]}'; 'help' lists the commands"]:
             self.screen.say(line)
 
     # Who is where.
@@ -87,12 +87,12 @@ class Looking:
         found = session.goroutines()
         for one in found[:MAX_ROWS]:
             mark = "*" if one.name == self.shell.chosen else " "
-            self.screen.row("%s %-8s %s" % (mark, one.name, stories.goroutine(one)))
+            self.screen.row(f"{mark} {one.name:<8} {stories.goroutine(one)}")
         self.more(len(found) - MAX_ROWS, "goroutines")
 
     def more(self, number: int, what: str) -> None:
         if number > 0:
-            self.screen.say("and %d %s more" % (number, what))
+            self.screen.say(f"and {number} {what} more")
 
     def choose(self, words: List[str]) -> None:
         if words:
@@ -106,14 +106,14 @@ class Looking:
         """A goroutine that the user named, or none, with a sentence."""
         found = self.shell.session.goroutine(name) if is_goroutine(name) else None
         if found is None:
-            self.screen.say("there is no goroutine %s; 'goroutines' lists them" % name[:40], "error")
+            self.screen.say(f"there is no goroutine {name[:40]}; 'goroutines' lists them", "error")
         return found
 
     def channels(self, _words: List[str]) -> None:
         stories = Stories(self.shell.session)
         found = self.shell.session.channels()
         for one in found[:MAX_ROWS]:
-            self.screen.say("%s: %s" % (self.shell.session.name_of(one.name), stories.channel(one)))
+            self.screen.say(f"{self.shell.session.name_of(one.name)}: {stories.channel(one)}")
         self.more(len(found) - MAX_ROWS, "channels")
         if not found:
             self.screen.say("no channel is made yet")
@@ -146,11 +146,11 @@ class Looking:
         if goroutine is None:
             return
         stories = Stories(self.shell.session)
-        self.screen.say("%s: %s" % (goroutine.name, stories.goroutine(goroutine)))
+        self.screen.say(f"{goroutine.name}: {stories.goroutine(goroutine)}")
         for number, (frame, place) in enumerate(zip(goroutine.frames, self.shell.session.places(goroutine))):
-            at = "line %d: %s" % (place.line, self.shell.program.line(place.line)) if place.line else "line not known"
-            self.screen.say("#%d %s, %s" % (number, frame.function, at))
-            values = ["%s=%s" % (it.name, stories.value(it.value)) for it in frame.variables]
+            at = f"line {place.line}: {self.shell.program.line(place.line)}" if place.line else "line not known"
+            self.screen.say(f"#{number} {frame.function}, {at}")
+            values = [f"{it.name}={stories.value(it.value)}" for it in frame.variables]
             if values:
                 self.screen.say("   " + " ".join(values), "faint")
 
@@ -173,7 +173,7 @@ class Looking:
             mark = "=>" if number == here else " *" if number in stops else "  "
             names = "   <- " + " ".join(standing[number][:8]) if number in standing else ""
             text = program.lines[number - 1].rstrip().replace("\t", "    ")
-            self.screen.row("%s %4d  %s%s" % (mark, number, text, names), "source" if number == here else "")
+            self.screen.row(f"{mark} {number:4}  {text}{names}", "source" if number == here else "")
 
     def print(self, words: List[str]) -> None:
         text = " ".join(words)
@@ -191,8 +191,8 @@ class Looking:
         for frame in goroutine.frames if goroutine else ():
             values = frame.values_of(name)
             for value in values:
-                blocks = ", in one of %d blocks" % len(values) if len(values) > 1 else ""
-                self.screen.say("%s = %s   (in %s%s)" % (name, stories.value(value), frame.function, blocks))
+                blocks = f", in one of {len(values)} blocks" if len(values) > 1 else ""
+                self.screen.say(f"{name} = {stories.value(value)}   (in {frame.function}{blocks})")
                 if is_channel(value):
                     self.one_channel(value)
             if values:
@@ -213,19 +213,19 @@ class Looking:
         variable: Callable[[str], str] = lambda name: next((found for found in (it.value_of(name) for it in frames) if found), "")
         found = evaluated(text, self.shell.session, variable)
         if found.value:
-            self.screen.say("%s = %s" % (text[:SHOWN_TEXT], Stories(self.shell.session).value(found.value)))
+            self.screen.say(f"{text[:SHOWN_TEXT]} = {Stories(self.shell.session).value(found.value)}")
         elif text.isidentifier():
-            told = (self.shell.chosen, text[:SHOWN_TEXT])
-            self.screen.say("%s has no variable '%s' with a value here; 'bt' shows those it has" % told, "error")
+            name = text[:SHOWN_TEXT]
+            self.screen.say(f"{self.shell.chosen} has no variable '{name}' with a value here; 'bt' shows those it has", "error")
         else:
-            self.screen.say("'%s' has no value: %s" % (text[:SHOWN_TEXT], found.why), "error")
+            self.screen.say(f"'{text[:SHOWN_TEXT]}' has no value: {found.why}", "error")
 
     def one_channel(self, name: str) -> None:
         channel = self.shell.session.channel(name)
         if channel is None:
-            self.screen.say("there is no channel %s; 'channels' lists them" % name, "error")
+            self.screen.say(f"there is no channel {name}; 'channels' lists them", "error")
         else:
-            self.screen.say("%s: %s" % (self.shell.session.name_of(name), Stories(self.shell.session).channel(channel)))
+            self.screen.say(f"{self.shell.session.name_of(name)}: {Stories(self.shell.session).channel(channel)}")
 
     # Steps.
 
@@ -242,7 +242,7 @@ class Looking:
         stories = Stories(self.shell.session)
         left_out = len(self.shell.session.log()) - len(chosen)
         if (wanted.isdigit() or wanted == "all") and left_out > 0:
-            self.screen.say("(%d steps before these)" % left_out, "faint")
+            self.screen.say(f"({left_out} steps before these)", "faint")
         for note in chosen:
             self.screen.row(row(stories, self.shell.program.line(note.line), note))
             if self.shell.interrupts.pending():
@@ -267,7 +267,7 @@ class Looking:
             return
         finder, step = DirectCauses(self.shell.session), words[0]
         if step not in finder.kinds:
-            self.screen.say("there is no step %s in the log; 'log' and 'history' list them" % step, "error")
+            self.screen.say(f"there is no step {step} in the log; 'log' and 'history' list them", "error")
             return
         stories, notes = Stories(self.shell.session), self.shell.session.follow().notes
         self.about(stories, step, notes, "")
@@ -276,11 +276,11 @@ class Looking:
             self.about(stories, edge.source, notes, relation(edge, notes.get(edge.source), notes.get(step)))
         if not edges:
             own = (
-                "; its own step before it is %s" % step_of(step_owner(step), step_number(step) - 1)
+                f"; its own step before it is {step_of(step_owner(step), step_number(step) - 1)}"
                 if step_number(step) > 1
                 else ""
             )
-            self.screen.say("    it depends directly on no step of another goroutine%s" % own)
+            self.screen.say(f"    it depends directly on no step of another goroutine{own}")
         if any(name not in notes for name in [step, *(edge.source for edge in edges)]) or not edges:
             self.tell_limit()
 
@@ -288,17 +288,17 @@ class Looking:
         """A step, and what it was to another one."""
         note = notes.get(step)
         told = row(stories, self.shell.program.line(note.line), note) if note else step
-        self.screen.row("%s%s" % ("    " if related else "", told))
+        self.screen.row(f"{'    ' if related else ''}{told}")
         if related:
             self.screen.say("        " + related, "faint")
 
 
 def used(word: Word) -> str:
-    return "%s%s" % (word.use, " (%s)" % word.short if word.short else "")
+    return f"{word.use}{f' ({word.short})' if word.short else ''}"
 
 
 def row(stories: Stories, text: str, note: Note) -> str:
     """A step with its kind, line and statement, and what it did."""
     did = stories.step(note)
     shown = text if len(text) <= SHOWN_TEXT else text[: SHOWN_TEXT - 2] + ".."
-    return ("%-8s %-11s %4d: %-30s %s" % (note.step, note.kind, note.line, shown, did)).rstrip()
+    return f"{note.step:<8} {note.kind!s:<11} {note.line:4}: {shown:<30} {did}".rstrip()

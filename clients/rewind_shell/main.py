@@ -29,7 +29,7 @@ class Parser(argparse.ArgumentParser):
     """A parser that tells what is wrong in one sentence."""
 
     def error(self, message: str) -> NoReturn:
-        error("%s; 'rewind-shell --help' tells how it is used" % message)
+        error(f"{message}; 'rewind-shell --help' tells how it is used")
         sys.exit(USAGE)
 
 
@@ -61,7 +61,7 @@ def main(words: List[str]) -> int:
     given = arguments(words)
     try:
         if given.version:
-            print("rewind-shell %s" % version_of(find_rewind(given.rewind)))
+            print(f"rewind-shell {version_of(find_rewind(given.rewind))}")
             return 0
         if sys.stdin is None:
             raise RewindError("standard input is closed: there is nobody to give commands")
@@ -81,9 +81,9 @@ def main(words: List[str]) -> int:
 def begun(given: argparse.Namespace) -> int:
     """Begins a session on the file, and converses."""
     if os.path.isdir(given.file):
-        raise RewindError("%s is a folder: name the source in it" % given.file)
+        raise RewindError(f"{given.file} is a folder: name the source in it")
     if not os.path.isfile(given.file):
-        raise RewindError("there is no file %s" % given.file)
+        raise RewindError(f"there is no file {given.file}")
     interrupts = Interrupts()
     shell = Shell(find_rewind(given.rewind), given.file, Screen(sys.stdout, interrupts.pending), interrupts, asking())
     try:
@@ -112,7 +112,7 @@ def converse(shell: Shell, script: Optional[str]) -> int:
     is_terminal = sys.stdin.isatty()
     reader = reader_for(shell)
     if is_terminal:
-        shell.screen.say("Rewind on %s: 'help' lists the commands, 'quit' leaves." % shell.program.path)
+        shell.screen.say(f"Rewind on {shell.program.path}: 'help' lists the commands, 'quit' leaves.")
         shell.script.begin(shell.program)
         shell.tell_saved()
     shell.guarded(lambda: take_saved(shell, script))
@@ -143,7 +143,7 @@ def take_saved(shell: Shell, script: Optional[str]) -> None:
 
 def obey_next(shell: Shell, reader: Reader, before: str, is_terminal: bool) -> str:
     """Reads a line and obeys it; an empty one stands for the one before. The line that an empty one after it stands for."""
-    text = reader.read("(rewind %s) " % shell.chosen)
+    text = reader.read(f"(rewind {shell.chosen}) ")
     if is_terminal and not text.strip():
         text = before
     lines = text.split("\n")

@@ -48,7 +48,7 @@ class Moving:
         """The chosen goroutine; none where it takes no step, with a sentence."""
         found = self.shell.session.goroutine(self.shell.chosen)
         if found is None:
-            self.screen.say("there is no goroutine %s any more; 'goroutine G' chooses another" % self.shell.chosen, "error")
+            self.screen.say(f"there is no goroutine {self.shell.chosen} any more; 'goroutine G' chooses another", "error")
             return None
         if self.shell.session.stopped_by():
             self.screen.say("the program has stopped; 'undo' or 'back' takes steps back", "error")
@@ -56,9 +56,9 @@ class Moving:
         if found.state is State.READY:
             return found
         ready = [it.name for it in self.shell.session.ready()]
-        others = "'goroutine %s' chooses another" % ready[0] if ready else "'why' tells for what"
+        others = f"'goroutine {ready[0]}' chooses another" if ready else "'why' tells for what"
         state = "waits" if found.state is State.WAITING else "is done"
-        self.screen.say("%s %s; %s" % (found.name, state, others), "error")
+        self.screen.say(f"{found.name} {state}; {others}", "error")
         return None
 
     def step(self, words: List[str]) -> None:
@@ -67,7 +67,7 @@ class Moving:
         if goroutine and 0 < times <= MAX_RUN:
             self.drive(motion.some_steps(self.shell.session, goroutine.name, times))
         elif goroutine:
-            self.screen.say("step takes 1 to %d steps" % MAX_RUN, "error")
+            self.screen.say(f"step takes 1 to {MAX_RUN} steps", "error")
 
     def along(self, how: Callable[..., Motion]) -> None:
         goroutine = self.chosen()
@@ -81,7 +81,7 @@ class Moving:
         line = self.shell.program.statement_at(int(words[0]))
         goroutine = self.chosen()
         if line is None:
-            self.screen.say("no statement begins on line %s or after it" % words[0], "error")
+            self.screen.say(f"no statement begins on line {words[0]} or after it", "error")
         elif goroutine:
             self.drive(motion.until_line(self.shell.session, goroutine, self.shell.breakpoints.lines, line))
 
@@ -96,8 +96,8 @@ class Moving:
         lines = self.shell.breakpoints.lines
         taken, stop = self.driven(motion.forward(self.shell.session, lines, self.shell.chosen, int(words[0])))
         ran = stop.ran if stop and stop.ran else Ran(taken, Reason.COUNT)
-        line = " %d" % ran.line if ran.reason is Reason.BREAK else ""
-        self.screen.reply(["ok %d %s%s" % (ran.taken, ran.reason.value, line)])
+        line = f" {ran.line}" if ran.reason is Reason.BREAK else ""
+        self.screen.reply([f"ok {ran.taken} {ran.reason.value}{line}"])
         self.tell(stop, taken, False)
 
     def drive(self, movement: Motion) -> None:
@@ -123,7 +123,7 @@ class Moving:
         """The sentence for a stop, and where the chosen goroutine stands."""
         self.shell.tell_printed()
         if stop is None:
-            self.screen.say("Stopped by Ctrl-C after %d steps; 'continue' goes on." % taken, "note")
+            self.screen.say(f"Stopped by Ctrl-C after {taken} steps; 'continue' goes on.", "note")
             return
         if stop.reason in (StopReason.BREAKPOINT, StopReason.FAULT, StopReason.WAITS):
             self.shell.chosen = stop.goroutine
@@ -135,11 +135,11 @@ class Moving:
 
     def sentence(self, stop: Stop) -> str:
         if stop.reason is StopReason.BREAKPOINT:
-            return "Breakpoint on line %d: %s comes to %s" % (stop.line, stop.goroutine, self.shell.program.line(stop.line))
+            return f"Breakpoint on line {stop.line}: {stop.goroutine} comes to {self.shell.program.line(stop.line)}"
         if stop.reason is StopReason.ENTRY:
             return "The start of the program."
         if stop.reason is StopReason.COUNT and stop.ran:
-            return "The run has taken the %s that it was to take." % ("step" if stop.ran.taken == 1 else "%d steps" % stop.ran.taken)
+            return f"The run has taken the {'step' if stop.ran.taken == 1 else f'{stop.ran.taken} steps'} that it was to take."
         if stop.reason is StopReason.FULL:
             return "The log is full with 1,000,000 steps; 'undo' or 'back' takes steps back."
         if stop.reason is StopReason.MEMORY:
@@ -155,7 +155,7 @@ class Moving:
         step = motion.line_before(self.shell.session, goroutine) if goroutine else ""
         if not step:
             self.screen.say(
-                "%s has taken no step that is noted; 'back go G' takes the start of a goroutine back" % self.shell.chosen, "error"
+                f"{self.shell.chosen} has taken no step that is noted; 'back go G' takes the start of a goroutine back", "error"
             )
             return
         self.take_back(step, asks=False)
@@ -184,7 +184,7 @@ class Moving:
         if why:
             self.screen.say(why, "error")
         else:
-            self.take_back("var %s %s" % (self.shell.chosen, name), asks=True)
+            self.take_back(f"var {self.shell.chosen} {name}", asks=True)
 
     def take_back(self, target: str, asks: bool) -> None:
         """Takes a step back; where it asks, after a preview and, at a terminal, a question."""
@@ -194,7 +194,7 @@ class Moving:
             if not self.shell.agrees("Take them back?"):
                 return
         gone = self.shell.session.back(target)
-        self.screen.reply(["ok %d %s" % (len(gone), " ".join(gone))])
+        self.screen.reply([f"ok {len(gone)} {' '.join(gone)}"])
         self.shell.tell_printed()
         self.shell.tell_chosen()
 
@@ -203,21 +203,21 @@ class Moving:
         if len(words) == 1 and words[0].isdigit():
             target = motion.last_at_line(self.shell.session, self.shell.chosen, int(words[0]))
         elif len(words) == 2 and words[0] == "var":
-            target = "var %s %s" % (self.shell.chosen, words[1])
+            target = f"var {self.shell.chosen} {words[1]}"
         is_target = bool(target) and (is_step(target) or target.split()[0] in ("go", "send", "recv", "var"))
         if not is_target:
             self.screen.say("preview wants what back wants: preview g0.1#3, preview 12, preview var x", "error")
             return
-        self.tell_steps("'back %s' would take back" % target, self.shell.session.preview(target))
+        self.tell_steps(f"'back {target}' would take back", self.shell.session.preview(target))
 
     def tell_steps(self, did: str, names: List[str]) -> None:
         """Steps that go, and of which goroutines they are."""
         of: Dict[str, int] = {}
         for name in names:
             of[step_owner(name)] = of.get(step_owner(name), 0) + 1
-        counts = ", ".join("%d of %s" % (number, name) for name, number in list(of.items())[:LISTED])
-        number = "1 step" if len(names) == 1 else "%d steps" % len(names)
-        self.screen.say("%s %s (%s): %s" % (did, number, counts, listed(names)))
+        counts = ", ".join(f"{number} of {name}" for name, number in list(of.items())[:LISTED])
+        number = "1 step" if len(names) == 1 else f"{len(names)} steps"
+        self.screen.say(f"{did} {number} ({counts}): {listed(names)}")
 
     # Breakpoints.
 
@@ -225,7 +225,7 @@ class Moving:
         breakpoints = self.shell.breakpoints
         if not words:
             for one in breakpoints.all():
-                self.screen.say("line %d: %s" % (one.line, self.shell.program.line(one.line)))
+                self.screen.say(f"line {one.line}: {self.shell.program.line(one.line)}")
             if not breakpoints.all():
                 self.screen.say("no breakpoint is set; 'break 12' or 'break main' sets one")
             return
@@ -237,7 +237,7 @@ class Moving:
         self.screen.reply(["ok"])
         if found.is_moved or not wanted.isdigit():
             why = "moved to" if found.is_moved else "set on"
-            self.screen.say("The breakpoint is %s line %d: %s" % (why, found.line, self.shell.program.line(found.line)), "note")
+            self.screen.say(f"The breakpoint is {why} line {found.line}: {self.shell.program.line(found.line)}", "note")
 
     def clear(self, words: List[str]) -> None:
         if len(words) != 1 or not words[0].isdigit() or not int(words[0]):
@@ -246,25 +246,25 @@ class Moving:
         was_there = self.shell.breakpoints.clear(int(words[0]))
         self.screen.reply(["ok"])
         if not was_there:
-            self.screen.say("there was no breakpoint on line %s; 'break' lists them" % words[0])
+            self.screen.say(f"there was no breakpoint on line {words[0]}; 'break' lists them")
 
 
 def no_variable(session: Session, name: str) -> str:
     """Why a name is no variable whose value can be taken back; an empty text where it may be one."""
     functions = session.program.functions
     if name in functions and not any(name in it.names for it in functions.values()):
-        return "%s is a function; 'back go G' takes back the start of a goroutine, and 'back LINE' what was done on a line" % name
+        return f"{name} is a function; 'back go G' takes back the start of a goroutine, and 'back LINE' what was done on a line"
     if not any(name in it.names for it in functions.values()):
-        return "there is no variable '%s' in the program; %s" % (name[:40], HINTS["back"])
+        return f"there is no variable '{name[:40]}' in the program; {HINTS['back']}"
     return ""
 
 
 def never_there(session: Session, chosen: str, line: str) -> str:
     """That a goroutine has not been on a line, as far as that is known."""
     if len(session.log()) > NOTED:
-        return "%s has taken no step on line %s among the last %d, of which lines are known" % (chosen, line, NOTED)
-    return "%s has taken no step on line %s" % (chosen, line)
+        return f"{chosen} has taken no step on line {line} among the last {NOTED}, of which lines are known"
+    return f"{chosen} has taken no step on line {line}"
 
 
 def listed(names: List[str]) -> str:
-    return " ".join(names[:LISTED]) + (" .. %s" % names[-1] if len(names) > LISTED else "")
+    return " ".join(names[:LISTED]) + (f" .. {names[-1]}" if len(names) > LISTED else "")

@@ -39,7 +39,7 @@ class FileReader:
         try:
             line = sys.stdin.buffer.readline()
         except OSError as fault:
-            raise CannotRead("standard input cannot be read: %s" % fault.strerror) from None
+            raise CannotRead(f"standard input cannot be read: {fault.strerror}") from None
         if not line:
             raise EOFError
         return line.decode("utf-8", "backslashreplace").rstrip("\n")

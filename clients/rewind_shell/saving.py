@@ -48,16 +48,16 @@ class Script:
         try:
             folder = os.path.join(state_folder(), "sessions")
             os.makedirs(folder, mode=0o700, exist_ok=True)
-            named = "%s-%s-%d" % (stem, time.strftime("%Y%m%d-%H%M%S"), os.getpid())
+            named = f"{stem}-{time.strftime('%Y%m%d-%H%M%S')}-{os.getpid()}"
             for number in range(1, 1000):
-                path = os.path.join(folder, "%s%s.script" % (named, "-%d" % number if number > 1 else ""))
+                path = os.path.join(folder, f"{named}{f'-{number}' if number > 1 else ''}.script")
                 if not os.path.exists(path):
                     break
             self.file = open(path, "x", encoding="utf-8", errors="backslashreplace")
             self.file.write(heading(program) + "\n")
             self.path = path
         except OSError as fault:
-            self.fault = "the session is not saved, since %s cannot be written: %s" % (fault.filename, fault.strerror)
+            self.fault = f"the session is not saved, since {fault.filename} cannot be written: {fault.strerror}"
 
     def note(self, command: str) -> None:
         """Keeps a command that the library gives, where it changes the session."""
@@ -77,7 +77,7 @@ class Script:
             self.file.write(command + "\n")
             self.file.flush()
         except OSError as fault:
-            self.fault = "the session is saved no more: %s" % fault.strerror
+            self.fault = f"the session is saved no more: {fault.strerror}"
             self.file = None
 
     def save(self, path: str, program: Program) -> None:
@@ -93,7 +93,7 @@ class Script:
                 if not self.lines:
                     os.unlink(self.path)
             except OSError as fault:
-                self.fault = "the session is saved no more: %s" % fault.strerror
+                self.fault = f"the session is saved no more: {fault.strerror}"
 
 
 def write_script(path: str, commands: Sequence[str], program: Program) -> None:
@@ -104,13 +104,13 @@ def write_script(path: str, commands: Sequence[str], program: Program) -> None:
             file.write("".join(line + "\n" for line in [heading(program), *commands]))
         os.replace(made, path)
     except (OSError, ValueError) as fault:
-        raise CannotSave("%s cannot be written: %s" % (path, getattr(fault, "strerror", None) or fault)) from None
+        raise CannotSave(f"{path} cannot be written: {getattr(fault, 'strerror', None) or fault}") from None
 
 
 def heading(program: Program) -> str:
     """The first line of a script: the file of the source, and the SHA-256 of its text."""
     name = CONTROL.sub("?", os.path.basename(program.path))
-    return "%s %s, SHA-256 %s" % (HEADING, name, digest(source_part(program.bytes)))
+    return f"{HEADING} {name}, SHA-256 {digest(source_part(program.bytes))}"
 
 
 def digest(text: bytes) -> str:
@@ -154,4 +154,4 @@ def read_script(path: str) -> Saved:
         with open(path, "rb") as file:
             return saved_in(file.read())
     except (OSError, ValueError) as fault:
-        raise RewindError("%s cannot be read: %s" % (path, getattr(fault, "strerror", None) or fault)) from None
+        raise RewindError(f"{path} cannot be read: {getattr(fault, 'strerror', None) or fault}") from None

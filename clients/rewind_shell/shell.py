@@ -128,8 +128,8 @@ class Shell:
     def lost(self, fault: ProcessError) -> None:
         """The process is gone: what is left."""
         self.screen.say(str(fault), "error")
-        saved = "; the commands so far are in %s" % self.script.path if self.script.path else ""
-        self.screen.say("'restart' begins the program anew%s" % saved, "note")
+        saved = f"; the commands so far are in {self.script.path}" if self.script.path else ""
+        self.screen.say(f"'restart' begins the program anew{saved}", "note")
         self.is_lost = True
 
     # Commands of Rewind.
@@ -162,7 +162,7 @@ class Shell:
         code = reply.split(" ")[1] if " " in reply else ""
         meaning = REFUSED_COMMANDS.get(code)
         if meaning:
-            self.screen.say("%s: %s ('help %s' tells more)" % (code, meaning, code), "note")
+            self.screen.say(f"{code}: {meaning} ('help {code}' tells more)", "note")
 
     # What is told after a movement.
 
@@ -173,32 +173,28 @@ class Shell:
             last = session.log()[-1]
             shown = session.goroutine(step_owner(last.step))
             line = shown.line if shown else 0
-            place = "%s at line %d: %s" % (step_owner(last.step), line, self.program.line(line))
-            return "%s, in %s ('why' tells more)" % (FAULTS.get(last.kind.fault, last.kind.fault), place)
+            place = f"{step_owner(last.step)} at line {line}: {self.program.line(line)}"
+            return f"{FAULTS.get(last.kind.fault, last.kind.fault)}, in {place} ('why' tells more)"
         if standing is Standing.ENDED:
             number = sum(it.state is not State.DONE for it in session.goroutines())
             if not number:
                 return "The program has ended, and every goroutine is done."
-            return "The program has ended. %s not done when main returned ('why' tells what they would do)." % (
-                "1 goroutine was" if number == 1 else "%d goroutines were" % number
-            )
+            were = "1 goroutine was" if number == 1 else f"{number} goroutines were"
+            return f"The program has ended. {were} not done when main returned ('why' tells what they would do)."
         if standing is Standing.DEADLOCK:
             names = [it.name for it in session.goroutines() if it.state is State.WAITING]
             named = ", ".join(names[:8]) + (", .." if len(names) > 8 else "")
-            return "Deadlock: %s %s, and no goroutine is ready ('why' tells for what)." % (
-                named,
-                "waits" if len(names) == 1 else "wait",
-            )
+            return f"Deadlock: {named} {'waits' if len(names) == 1 else 'wait'}, and no goroutine is ready ('why' tells for what)."
         return ""
 
     def tell_chosen(self, entry: Optional[Entry] = None) -> None:
         """Where the chosen goroutine stands, and its last step where one was taken."""
         found = self.session.goroutine(self.chosen)
         if found is None:
-            self.screen.say("%s is not started any more; 'goroutine G' chooses another" % self.chosen)
+            self.screen.say(f"{self.chosen} is not started any more; 'goroutine G' chooses another")
             return
-        taken = "%s %s; " % (entry.step, entry.kind) if entry else ""
-        self.screen.say("%s%s is %s" % (taken, self.chosen, Stories(self.session).goroutine(found)))
+        taken = f"{entry.step} {entry.kind}; " if entry else ""
+        self.screen.say(f"{taken}{self.chosen} is {Stories(self.session).goroutine(found)}")
 
     def tell_printed(self) -> None:
         """The lines that the program has printed since the last command, and those that it no longer has.
@@ -215,9 +211,9 @@ class Shell:
         found, self.printed = change(self.printed, now), now
         for lines, did in ((found.added, "prints"), (found.taken_back, "no longer prints")):
             for text in lines[:MAX_PRINTED]:
-                self.screen.line("%s: %s" % (did, text), "source")
+                self.screen.line(f"{did}: {text}", "source")
             if len(lines) > MAX_PRINTED:
-                self.screen.say("(and %d lines more: 'console' shows all that is printed)" % (len(lines) - MAX_PRINTED))
+                self.screen.say(f"(and {len(lines) - MAX_PRINTED} lines more: 'console' shows all that is printed)")
         if len(now) > MAX_TOLD:
             self.tell_printed_no_more()
 
@@ -246,7 +242,7 @@ class Shell:
             return
         path = " ".join(words)
         self.script.save(path, self.program)
-        self.screen.say("%s in %s" % (counted(len(self.script.lines), "command is", "commands are"), path))
+        self.screen.say(f"{counted(len(self.script.lines), 'command is', 'commands are')} in {path}")
 
     def load(self, words: List[str]) -> None:
         if not words:
@@ -258,7 +254,7 @@ class Shell:
         """Takes the commands of a script, and tells the last reply."""
         saved = read_script(path)
         if not saved.is_of(self.program):
-            self.screen.say("%s is of another source than %s: its commands may mean something else here" % (path, self.path), "error")
+            self.screen.say(f"{path} is of another source than {self.path}: its commands may mean something else here", "error")
         self.take(saved.commands, path)
 
     def take(self, lines: Sequence[str], path: str) -> None:
@@ -274,10 +270,10 @@ class Shell:
             elif given[0] == "clear" and reply[-1] == "ok":
                 self.breakpoints.by_line.pop(int(given[1]), None)
             if self.interrupts.pending():
-                self.screen.say("Stopped by Ctrl-C after %s of %s" % (counted(number, "command", "commands"), path), "note")
+                self.screen.say(f"Stopped by Ctrl-C after {counted(number, 'command', 'commands')} of {path}", "note")
                 return
-        taken = counted(len(commands), "command of %s was" % path, "commands of %s were" % path)
-        self.screen.say("%s taken, %d of them refused; the last gave" % (taken, refused))
+        taken = counted(len(commands), f"command of {path} was", f"commands of {path} were")
+        self.screen.say(f"{taken} taken, {refused} of them refused; the last gave")
         self.screen.reply(reply[-1:])
         self.tell_printed()
         named = [word for word in reply[-1].split(" ") if is_step(word)]
@@ -292,7 +288,7 @@ class Shell:
         self.begin()
         old.end()
         if self.script.path:
-            self.screen.say("The commands before are in %s" % self.script.path)
+            self.screen.say(f"The commands before are in {self.script.path}")
             self.script.begin(self.program)
         else:
             del kept[:]
@@ -302,7 +298,7 @@ class Shell:
             try:
                 self.breakpoints.set(str(one.line))
             except NoPlace as fault:
-                self.screen.say("the breakpoint on line %d is gone: %s" % (one.line, fault), "note")
+                self.screen.say(f"the breakpoint on line {one.line} is gone: {fault}", "note")
         self.tell_saved()
         self.tell_chosen()
 
@@ -310,11 +306,11 @@ class Shell:
         if self.script.fault:
             self.screen.say(self.script.fault, "error")
         elif self.script.path:
-            self.screen.say("The session is saved as it goes: %s" % self.script.path, "faint")
+            self.screen.say(f"The session is saved as it goes: {self.script.path}", "faint")
 
 
 def counted(number: int, one: str, more: str) -> str:
-    return "1 %s" % one if number == 1 else "%d %s" % (number, more)
+    return f"1 {one}" if number == 1 else f"{number} {more}"
 
 
 def refusal_in_words(path: str, refused: SourceRefused) -> str:
@@ -323,7 +319,7 @@ def refusal_in_words(path: str, refused: SourceRefused) -> str:
         told = explain_refusal(read_program(path).text, refused.code, refused.line, refused.column)
     except RewindError:
         return str(refused)
-    return "%s\nmore: rewind --explain %s" % (told.text(path), refused.code)
+    return f"{told.text(path)}\nmore: rewind --explain {refused.code}"
 
 
 def is_for_rewind(words: Sequence[str]) -> bool:

@@ -29,7 +29,7 @@ class Screen:
         return max(LEAST_WIDTH, shutil.get_terminal_size((80, 24)).columns)
 
     def colour(self, text: str, name: str) -> str:
-        return "\x1b[%sm%s\x1b[0m" % (COLOURS[name], text) if self.has_colours and name and text else text
+        return f"\x1b[{COLOURS[name]}m{text}\x1b[0m" if self.has_colours and name and text else text
 
     def line(self, text: str = "", colour: str = "") -> None:
         """A line as it is, but for control characters at a terminal."""
@@ -67,5 +67,5 @@ class Screen:
 
 def error(text: str) -> None:
     """One sentence on standard error."""
-    sys.stderr.write("rewind-shell: %s\n" % text)
+    sys.stderr.write(f"rewind-shell: {text}\n")
     sys.stderr.flush()

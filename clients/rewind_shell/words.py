@@ -181,8 +181,8 @@ def too_many(name: str, words: Sequence[str]) -> str:
     if word.most is None or len(words) <= word.most:
         return ""
     if word.most == 0:
-        return "%s stands alone: '%s' is not taken" % (name, " ".join(words)[:LONGEST])
-    return "%s takes one word: '%s' is not taken. It is used so: %s" % (name, " ".join(words[1:])[:LONGEST], word.use)
+        return f"{name} stands alone: '{' '.join(words)[:LONGEST]}' is not taken"
+    return f"{name} takes one word: '{' '.join(words[1:])[:LONGEST]}' is not taken. It is used so: {word.use}"
 
 
 # Of a longer word no more is compared.
@@ -198,7 +198,7 @@ def hint(line: str) -> str:
     if word in HINTS:
         return HINTS[word]
     if word.lower() in BY_NAME:
-        return "commands are written in small letters: %s" % word.lower()
+        return f"commands are written in small letters: {word.lower()}"
     near = difflib.get_close_matches(word[:LONGEST], [*BY_NAME, *ALIASES], 1)
-    also = "did you mean '%s'? " % near[0] if near else ""
-    return "there is no command '%s'; %s'help' lists them" % (word[:LONGEST], also)
+    also = f"did you mean '{near[0]}'? " if near else ""
+    return f"there is no command '{word[:LONGEST]}'; {also}'help' lists them"

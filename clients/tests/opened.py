@@ -20,7 +20,7 @@ def opened(rewind: str, path: Path) -> Session:
 def random_command(one: Session, chance: random.Random) -> None:
     names, log = one.goroutine_names(), one.log()
     step = chance.choice(log).step if log else "g0#1"
-    choices = ["step %s" % chance.choice(names)] * 4 + ["run %d" % chance.randint(1, 9)] * 3 + ["undo", "redo", "back " + step]
+    choices = [f"step {chance.choice(names)}"] * 4 + [f"run {chance.randint(1, 9)}"] * 3 + ["undo", "redo", "back " + step]
     order = [entry.step for entry in log]
     if len(order) > 1:
         at = chance.randrange(len(order) - 1)

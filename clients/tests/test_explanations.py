@@ -101,7 +101,7 @@ def test_direct_causes(session: Open) -> None:
     one.run(1000)
     finder = DirectCauses(one)
     edges: Dict[str, List[str]] = {
-        entry.step: ["%s %s" % (edge.source, edge.kind.name) for edge in finder.of(entry.step)] for entry in one.log()
+        entry.step: [f"{edge.source} {edge.kind.name}" for edge in finder.of(entry.step)] for entry in one.log()
     }
     assert edges["g0#9"] == ["g0.1#9 CLOSE"]
     assert edges["g0.1#1"] == ["g0#4 START"]

@@ -345,7 +345,7 @@ def test_a_search_for_a_way_back_that_the_clock_ends(
     search = Ways(reducers(found), outcome_commands(reducers(found), outcome), about).search()
     assert search.way is None and search.tried < search.steps
     told = Report(found, found.plan.program()).way(search, about)
-    assert "not found. Only the last 0 steps of %d were tried" % search.steps in told
+    assert f"not found. Only the last 0 steps of {search.steps} were tried" in told
 
 
 def outcome_commands(reducer: Reducer, outcome: Outcome) -> List[str]:
@@ -486,14 +486,14 @@ def test_several_files(rewind: str, source: Callable[[str], Path], tmp_path: Pat
     assert done.returncode == 1 and done.stdout.count("schedules of ") == 2
     lost = run(rewind, "--runs", "5", good, str(tmp_path / "none.go"), str(EXAMPLES / "double_close.go"))
     assert lost.returncode == 2 and lost.stdout.count("schedules of ") == 2
-    assert lost.stderr == "rewind-hunt: %s cannot be read: No such file or directory\n" % (tmp_path / "none.go")
+    assert lost.stderr == f"rewind-hunt: {tmp_path / 'none.go'} cannot be read: No such file or directory\n"
     assert run(rewind, "--runs", "5", good, good).returncode == 0
 
 
 def test_the_version_is_that_of_the_program(rewind: str) -> None:
     version = subprocess.run([rewind, "--version"], capture_output=True, text=True, check=True).stdout.split(" ", 1)[1].strip()
     done = run(rewind, "--version")
-    assert done.returncode == 0 and done.stdout.startswith("rewind-hunt %s" % version)
+    assert done.returncode == 0 and done.stdout.startswith(f"rewind-hunt {version}")
 
 
 @pytest.mark.parametrize("console, others, pattern", [
@@ -513,7 +513,7 @@ def test_a_pattern_for_one_output(console: Tuple[str, ...], others: List[Tuple[s
 ])  # fmt: skip
 def test_a_stream_that_is_closed_or_full(closed: str, status: int, said: str, rewind: str) -> None:
     words = [*COMMAND, "--jobs", "1", "--runs", "3", str(EXAMPLES / "double_close.go")]
-    shell, environment = ["sh", "-c", '"$@" %s' % closed, "sh"], {**os.environ, "REWIND": rewind}
+    shell, environment = ["sh", "-c", f'"$@" {closed}', "sh"], {**os.environ, "REWIND": rewind}
     done = subprocess.run([*shell, *words], capture_output=True, text=True, env=environment)
     assert (done.returncode, done.stderr) == (status, said)
 

@@ -91,7 +91,7 @@ def test_a_child_that_is_not_there() -> None:
 
 @pytest.mark.parametrize("answer", ["what", "ok", "ok g0#1", "ok g0#1 nothing", "ok g0#1 pick x"])
 def test_a_malformed_reply_is_named(answer: str) -> None:
-    core = Core(fake("for line in sys.stdin: print(%r)" % answer))
+    core = Core(fake(f"for line in sys.stdin: print({answer!r})"))
     with pytest.raises(MalformedReply, match="to 'step g0' that means nothing: " + answer):
         core.step("g0")
     assert core.process.ended

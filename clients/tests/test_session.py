@@ -40,7 +40,7 @@ def test_names(session: Open) -> None:
     one = session("leak")
     one.run(1000)
     assert one.goroutine_names() == ["g0", "g0.1", "g0.2", "g0.3", "g0.4", "g0.5", "g0.6"]
-    assert one.channel_names() == ["g0/c%d" % number for number in range(1, 7)]
+    assert one.channel_names() == [f"g0/c{number}" for number in range(1, 7)]
     assert one.name_of("g0/c2") == "late (g0/c2)"
 
 
@@ -152,7 +152,7 @@ def test_what_is_kept_is_what_rewind_tells(session: Open, seed: int) -> None:
         assert len(one.log()) == one.core.kept
         assert [one.core.show(it.name) for it in one.goroutines()] == one.goroutines()
         assert [one.core.channel(it.name) for it in one.channels()] == one.channels()
-        assert one.core.show("%s.%d" % ("g0", 99)) is None
+        assert one.core.show(f"{'g0'}.{99}") is None
     assert [note.step for note in one.notes()] == [entry.step for entry in one.log()]
 
 

@@ -363,7 +363,7 @@ def test_expressions_and_channels(talk: Talk) -> None:
 
 def test_a_statement_that_is_cut_has_a_mark(talk: Talk, tmp_path: Path) -> None:
     makes = "a, b, c := make(chan int, 10), make(chan int, 10), make(chan struct{}, 10)"
-    (tmp_path / "long.go").write_text("package main\nfunc main() {\n\t%s\n\tprintln(len(a), len(b), len(c))\n}\n" % makes)
+    (tmp_path / "long.go").write_text(f"package main\nfunc main() {{\n\t{makes}\n\tprintln(len(a), len(b), len(c))\n}}\n")
     shown = talk("long.go", "run 1", "history").stdout
     assert re.search(r"3: a, b, c := make.*\.\. makes g0/c1$", shown, re.MULTILINE)
 
@@ -374,7 +374,7 @@ def test_free_is_no_word_without_workers(talk: Talk) -> None:
 
 @pytest.mark.parametrize("blank", ["\u00a0", "\u2003", "\u3000", "\x1c", "\x85", "\u2028", "\u200b", "\ufeff", "\x0b"])
 def test_blanks_of_every_alphabet(talk: Talk, blank: str) -> None:
-    done = talk(example("lock_order"), blank, blank * 3, "step%sg0" % blank, "%sgoroutines" % blank)
+    done = talk(example("lock_order"), blank, blank * 3, f"step{blank}g0", f"{blank}goroutines")
     assert done.stderr == "" and done.returncode == 0
     assert "ok g0#1 make" in done.stdout and "* g0 " in done.stdout
 
@@ -387,23 +387,23 @@ def test_blanks_of_every_alphabet(talk: Talk, blank: str) -> None:
 ])  # fmt: skip
 def test_a_stream_that_is_closed_or_full(closed: str, status: int, said: str, rewind: str) -> None:
     words = [sys.executable, str(SHELL), "--rewind", rewind, example("lock_order")]
-    done = subprocess.run(["sh", "-c", '"$@" %s' % closed, "sh", *words], input="why\nrun 9\n", capture_output=True, text=True, timeout=60)
+    done = subprocess.run(["sh", "-c", f'"$@" {closed}', "sh", *words], input="why\nrun 9\n", capture_output=True, text=True, timeout=60)
     assert (done.returncode, done.stderr) == (status, said)
 
 
 def test_the_version_is_that_of_the_program(rewind: str) -> None:
     version = subprocess.run([rewind, "--version"], capture_output=True, text=True, check=True).stdout.split(" ", 1)[1].strip()
     done = subprocess.run([sys.executable, str(SHELL), "--rewind", rewind, "--version"], capture_output=True, text=True, check=True)
-    assert done.stdout.startswith("rewind-shell %s" % version)
+    assert done.stdout.startswith(f"rewind-shell {version}")
 
 
 def test_a_version_between_releases_has_its_commit(tmp_path: Path) -> None:
     """A program that names its own commit is not told another one."""
     commit = output(["git", "-C", str(CLIENTS), "rev-parse", "--short", "HEAD"])
-    unreleased = "1.2.0-dev (%s)" % commit if commit else "1.2.0-dev"
+    unreleased = f"1.2.0-dev ({commit})" if commit else "1.2.0-dev"
     for said, told in (("1.2.0-dev", unreleased), ("1.2.0-dev+abc", "1.2.0-dev+abc"), ("1.1.0", "1.1.0")):
         path = tmp_path / "rewind"
-        path.write_text("#!/bin/sh\necho rewind %s\n" % said)
+        path.write_text(f"#!/bin/sh\necho rewind {said}\n")
         path.chmod(0o755)
         assert version_of(str(path)) == told
 
@@ -411,15 +411,14 @@ def test_a_version_between_releases_has_its_commit(tmp_path: Path) -> None:
 @pytest.mark.parametrize("word", ["quit", "q", "exit"])
 def test_leaving(talk: Talk, word: str) -> None:
     done = talk(example("lock_order"), word, "step g0")
-    assert done.stdout == "> %s\nok\n" % word and done.returncode == 0
+    assert done.stdout == f"> {word}\nok\n" and done.returncode == 0
 
 
 def fake(tmp_path: Path, body: str) -> str:
     """A program in place of Rewind, that answers the first question and then does something else."""
     path = tmp_path / "fake"
     path.write_text(
-        "#!%s\nimport sys, time, os, signal\nsys.stdin.readline()\nprint('| g0 ready 0 line 1\\n| main\\nok', flush=True)\n%s\n"
-        % (sys.executable, body)
+        f"#!{sys.executable}\nimport sys, time, os, signal\nsys.stdin.readline()\nprint('| g0 ready 0 line 1\\n| main\\nok', flush=True)\n{body}\n"
     )
     path.chmod(path.stat().st_mode | stat.S_IXUSR)
     return str(path)
@@ -456,7 +455,7 @@ def test_a_core_that_answers_nothing(
     shell.obey("step g0")
     said = capsys.readouterr().out
     assert "gave no answer within 0.5 seconds, and was ended" in said
-    assert "'restart' begins the program anew; the commands so far are in %s" % shell.script.path in said
+    assert f"'restart' begins the program anew; the commands so far are in {shell.script.path}" in said
     assert Path(shell.script.path).read_text().splitlines()[1:] == ["step g0"]
     shell.rewind = rewind
     shell.obey("restart")

@@ -67,7 +67,7 @@ class Terminal:
         until = time.monotonic() + LIMIT
         while self.text.find(wanted, self.at) < 0:
             if time.monotonic() > until or (not self.read(0.5) and self.process.poll() is not None):
-                raise AssertionError("no %r in %r" % (wanted, self.text[self.at :][-2000:]))
+                raise AssertionError(f"no {wanted!r} in {self.text[self.at :][-2000:]!r}")
         end = self.text.find(wanted, self.at) + len(wanted)
         found, self.at = self.text[self.at : end], end
         return found
@@ -148,7 +148,7 @@ def test_ctrl_c_ends_a_run_and_not_the_session(begin: Begin) -> None:
 def test_ctrl_c_where_rewind_hangs(begin: Begin, tmp_path: Path) -> None:
     path = tmp_path / "hangs"
     body = "print('| g0 ready 0 line 1\\n| main\\nok', flush=True)\nsys.stdin.readline()\ntime.sleep(60)\n"
-    path.write_text("#!%s\nimport sys, time\nsys.stdin.readline()\n%s" % (sys.executable, body))
+    path.write_text(f"#!{sys.executable}\nimport sys, time\nsys.stdin.readline()\n{body}")
     path.chmod(0o755)
     terminal = begin(rewind_path=str(path))
     terminal.write("log\r")

@@ -236,7 +236,7 @@ def test_a_range_over_a_channel_that_nobody_closes(session: Open) -> None:
     ],
 )
 def test_what_waits_for_ever(session: Open, statement: str, told: List[str]) -> None:
-    assert why(session(HEAD + "func main() {\n\t%s\n}\n" % statement))[1:] == told
+    assert why(session(HEAD + f"func main() {{\n\t{statement}\n}}\n"))[1:] == told
 
 
 PIPELINE = HEAD + """func count(out chan int) {

@@ -40,14 +40,14 @@ class Source:
         """The name of a function and the types of its parameters, after a number."""
         kinds = [NUMBERS, self.chance.choice([NUMBERS, NUMBERS, CARRIERS])] + [NUMBERS] * self.chance.randint(0, 2)
         self.chance.shuffle(kinds)
-        return "f%d" % number, kinds
+        return f"f{number}", kinds
 
     def maybe(self, share):
         return self.chance.random() < share
 
     def new(self, start):
         self.names += 1
-        return "%s%d" % (start, self.names)
+        return f"{start}{self.names}"
 
     def text(self):
         pick = "func pick(n int, a, b chan int) chan int {\n\tif n > 1 {\n\t\treturn a\n\t}\n\treturn b\n}\n"
@@ -57,10 +57,10 @@ class Source:
     def function(self, number):
         name, kinds = self.functions[number]
         scope = {self.new("p"): kind for kind in kinds}
-        heading = "func %s(n int, %s) {" % (name, ", ".join("%s %s" % pair for pair in scope.items()))
+        heading = f"func {name}(n int, {', '.join(f'{it} {kind}' for it, kind in scope.items())}) {{"
         if self.maybe(0.15):
-            return "%s %s; %s }\n" % (heading, self.use(scope), self.use(scope))
-        return "%s\n%s}\n" % (heading, self.block(scope, number, 2, self.chance.randint(1, 4)))
+            return f"{heading} {self.use(scope)}; {self.use(scope)} }}\n"
+        return f"{heading}\n{self.block(scope, number, 2, self.chance.randint(1, 4))}}}\n"
 
     def main(self):
         scope, made = {}, []
@@ -68,22 +68,22 @@ class Source:
             name = self.new("c")
             scope[name] = kind
             size = self.chance.choice([0, 0, 1, 1, 2])
-            made.append("\t%s := make(%s, %d)\n" % (name, kind, size))
+            made.append(f"\t{name} := make({kind}, {size})\n")
             if size and kind == NUMBERS and self.maybe(0.4):
-                made.append("\t%s <- 7\n" % name)
+                made.append(f"\t{name} <- 7\n")
         started = []
         for _ in range(self.chance.randint(1, 3)):
             number = self.chance.randrange(len(self.functions))
-            started += ["\t%s\n" % self.go(number, scope)] * self.chance.randint(1, 2)
+            started += [f"\t{self.go(number, scope)}\n"] * self.chance.randint(1, 2)
         body = self.block(scope, -1, 2, self.chance.randint(1, 4))
-        return "func main() {\n\tn := 1\n%s%s%s}\n" % ("".join(made), "".join(started), body)
+        return f"func main() {{\n\tn := 1\n{''.join(made)}{''.join(started)}{body}}}\n"
 
     # Statements.
 
     def block(self, scope, number, depth, count):
         """Some statements; what they declare is known to those behind them."""
         scope = dict(scope)
-        return "".join("\t%s\n" % line for _ in range(count) for line in self.statement(scope, number, depth).split("\n"))
+        return "".join(f"\t{line}\n" for _ in range(count) for line in self.statement(scope, number, depth).split("\n"))
 
     def statement(self, scope, number, depth):
         kinds = [self.use] * 6 + [self.locked] * 2 + [self.declared] * 2 + [self.choice] * 2 + [self.loop, self.branch, self.called, self.called]
@@ -100,51 +100,54 @@ class Source:
         """A send, a receive or a close."""
         c, carrier = self.channel(scope), self.channel(scope, CARRIERS)
         if carrier and self.maybe(0.35):
-            return self.chance.choice(["%s <- %s" % (carrier, c), "<-<-%s" % carrier, "<-%s <- n" % carrier, "%s <- pick(n, %s, %s)" % (carrier, c, c)])
+            return self.chance.choice([f"{carrier} <- {c}", f"<-<-{carrier}", f"<-{carrier} <- n", f"{carrier} <- pick(n, {c}, {c})"])
         other = self.channel(scope)
-        plain = ["%s <- n" % c, "<-%s" % c, "n = <-%s" % c, "%s <- n + 1" % c, "<-%s" % c, "%s <- 3" % c]
-        odd = ["println(<-%s, <-%s)" % (c, other), "<-pick(n, %s, %s)" % (c, other), "pick(n, %s, %s) <- 5" % (c, other), "close(%s)" % c, "%s <- <-%s" % (c, other)]
+        plain = [f"{c} <- n", f"<-{c}", f"n = <-{c}", f"{c} <- n + 1", f"<-{c}", f"{c} <- 3"]
+        odd = [f"println(<-{c}, <-{other})", f"<-pick(n, {c}, {other})", f"pick(n, {c}, {other}) <- 5", f"close({c})", f"{c} <- <-{other}"]
         return self.chance.choice(plain * 2 + odd)
 
     def locked(self, scope):
         """A lock of one kind or the other around a use; now and then it is not given back."""
         lock, inner = self.channel(scope), self.use(scope)
-        take, give = self.chance.choice([("%s <- n" % lock, "<-%s" % lock), ("<-%s" % lock, "%s <- 1" % lock)])
+        take, give = self.chance.choice([(f"{lock} <- n", f"<-{lock}"), (f"<-{lock}", f"{lock} <- 1")])
         forgets = "if n > 1 {\n\treturn\n}\n" if self.maybe(0.2) else ""
-        return "%s\n%s\n%s%s" % (take, inner, forgets, give)
+        return f"{take}\n{inner}\n{forgets}{give}"
 
     def declared(self, scope):
         c, carrier, name = self.channel(scope), self.channel(scope, CARRIERS), self.new("v")
-        made = "make(chan int, %d)" % self.chance.randint(0, 1)
-        value = self.chance.choice([made, c, "pick(n, %s, %s)" % (c, self.channel(scope))] + (["<-%s" % carrier] * 3 if carrier else []))
+        made = f"make(chan int, {self.chance.randint(0, 1)})"
+        value = self.chance.choice([made, c, f"pick(n, {c}, {self.channel(scope)})"] + ([f"<-{carrier}"] * 3 if carrier else []))
         scope[name] = NUMBERS
         if self.maybe(0.1):
-            return "var %s chan int" % name
-        return "%s := %s" % (name, value)
+            return f"var {name} chan int"
+        return f"{name} := {value}"
 
     def choice(self, scope, number, depth):
         """A select."""
         if self.maybe(0.05):
             return "select {}"
-        cases = ["case %s:\n%s" % (self.communication(scope), self.block(scope, number, depth, self.chance.randint(0, 1))) for _ in range(self.chance.randint(1, 3))]
+        cases = [self.case(scope, number, depth) for _ in range(self.chance.randint(1, 3))]
         if self.maybe(0.3):
             cases.append("default:\n")
-        return "select {\n%s}" % "".join(cases)
+        return f"select {{\n{''.join(cases)}}}"
+
+    def case(self, scope, number, depth):
+        return f"case {self.communication(scope)}:\n{self.block(scope, number, depth, self.chance.randint(0, 1))}"
 
     def communication(self, scope):
         c = self.channel(scope)
-        return self.chance.choice(["%s <- n" % c, "<-%s" % c, "n = <-%s" % c])
+        return self.chance.choice([f"{c} <- n", f"<-{c}", f"n = <-{c}"])
 
     def loop(self, scope, number, depth):
         if self.maybe(0.3):
-            return "for range %s {\n%s}" % (self.channel(scope), self.block(scope, number, depth, 1))
+            return f"for range {self.channel(scope)} {{\n{self.block(scope, number, depth, 1)}}}"
         i = self.new("i")
-        return "for %s := 0; %s < %d; %s++ {\n%s}" % (i, i, self.chance.randint(1, 3), i, self.block(scope, number, depth, self.chance.randint(1, 2)))
+        return f"for {i} := 0; {i} < {self.chance.randint(1, 3)}; {i}++ {{\n{self.block(scope, number, depth, self.chance.randint(1, 2))}}}"
 
     def branch(self, scope, number, depth):
         inner = self.block(scope, number, depth, 1)
-        other = " else {\n%s}" % self.block(scope, number, depth, 1) if self.maybe(0.3) else ""
-        return "if n > %d {\n%s}%s" % (self.chance.randint(0, 3), inner, other)
+        other = f" else {{\n{self.block(scope, number, depth, 1)}}}" if self.maybe(0.3) else ""
+        return f"if n > {self.chance.randint(0, 3)} {{\n{inner}}}{other}"
 
     def called(self, scope, number):
         """A call of a function further down, so that calls end, or a start of one."""
@@ -157,7 +160,7 @@ class Source:
     def go(self, number, scope):
         name, kinds = self.functions[number]
         given = [self.channel(scope, kind) or "nil" for kind in kinds]
-        return "go %s(%s, %s)" % (name, self.chance.choice(["n", "1", "2", "3"]), ", ".join(given))
+        return f"go {name}({self.chance.choice(['n', '1', '2', '3'])}, {', '.join(given)})"
 
 
 def random_source(seed):

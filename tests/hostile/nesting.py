@@ -5,7 +5,7 @@ MIB = 1 << 20
 
 
 def in_main(text):
-    return "package main\nfunc main() {\n\t%s\n}\n" % text
+    return f"package main\nfunc main() {{\n\t{text}\n}}\n"
 
 
 def around(opening, middle, closing, within=0):
@@ -33,7 +33,7 @@ FORMS = {
     "for with a condition": around("for true {", "", "}", 1),
     "select": around("select { default: ", "", "}"),
     "select with a receive": (lambda n: in_main("var c chan int; " + "select { case <-c: " * n + "}" * n), LEVELS - 2),
-    "labels": (lambda n: in_main("".join("L%06d: " % i for i in range(n)) + "{}"), LEVELS - 1),
+    "labels": (lambda n: in_main("".join(f"L{i:06}: " for i in range(n)) + "{}"), LEVELS - 1),
     "channel types": (lambda n: in_main("var c " + "chan " * n + "int"), LEVELS - 2),
     "receiving types": (lambda n: in_main("var c " + "<-chan " * n + "int"), LEVELS - 2),
     "types in parentheses": (lambda n: in_main("var c " + "(" * n + "int" + ")" * n), LEVELS - 2),

@@ -18,7 +18,7 @@ def token_list(chance):
     """Random tokens, half of the times in the body of a function."""
     pool = TOKENS if chance.random() < 0.7 else TOKENS + MALFORMED
     text = " ".join(chance.choice(pool) + ("\n" if chance.random() < 0.1 else "") for _ in range(chance.randint(1, 60)))
-    whole = text if chance.random() < 0.5 else "package main\nfunc main() {\n%s\n}\n" % text
+    whole = text if chance.random() < 0.5 else f"package main\nfunc main() {{\n{text}\n}}\n"
     return whole.encode("latin-1")
 
 
@@ -177,7 +177,7 @@ class Typed:
 
     def fresh(self):
         self.count += 1
-        return "v%d" % self.count
+        return f"v{self.count}"
 
     def held(self, scope, *types):
         """The variables of these types."""
@@ -198,17 +198,17 @@ class Typed:
             return self.number(scope, level - 1)
 
         if pick < 0.65:
-            return "%s %s %s" % (part(), self.chance.choice(("+", "-", "*", "&", "|", "^", "&^")), part())
+            return f"{part()} {self.chance.choice(('+', '-', '*', '&', '|', '^', '&^'))} {part()}"
         if pick < 0.72:
-            return "(%s)" % part()
+            return f"({part()})"
         if pick < 0.8:
-            return self.chance.choice("-^+") + "(%s)" % part()
+            return self.chance.choice("-^+") + f"({part()})"
         if pick < 0.86 and self.receives(scope):
             return "<-" + self.chance.choice(self.receives(scope))
         channels = [name for name, type in scope.items() if "chan" in type]
         if pick < 0.93 and channels:
-            return self.chance.choice(("len", "cap")) + "(%s)" % self.chance.choice(channels)
-        return "twice(%s)" % part()
+            return self.chance.choice(("len", "cap")) + f"({self.chance.choice(channels)})"
+        return f"twice({part()})"
 
     def truth(self, scope, level):
         pick, held = self.chance.random(), self.held(scope, "bool")
@@ -216,13 +216,13 @@ class Typed:
             return self.chance.choice(held + ["true", "false"])
         if pick < 0.6:
             comparison = self.chance.choice(("==", "!=", "<", "<=", ">", ">="))
-            return "%s %s %s" % (self.number(scope, level - 1), comparison, self.number(scope, level - 1))
+            return f"{self.number(scope, level - 1)} {comparison} {self.number(scope, level - 1)}"
         if pick < 0.8:
-            return "(%s %s %s)" % (self.truth(scope, level - 1), self.chance.choice(("&&", "||")), self.truth(scope, level - 1))
+            return f"({self.truth(scope, level - 1)} {self.chance.choice(('&&', '||'))} {self.truth(scope, level - 1)})"
         channels = self.held(scope, "chan int")
         if pick < 0.9 or not channels:
             return "!" + self.chance.choice(held + ["true"])
-        return "%s == nil" % self.chance.choice(channels)
+        return f"{self.chance.choice(channels)} == nil"
 
     def value(self, scope, type):
         if type == "int":
@@ -234,44 +234,44 @@ class Typed:
         held = self.held(scope, type) + (self.held(scope, "chan int") if type in ("<-chan int", "chan<- int") else [])
         if held and self.chance.random() < 0.5:
             return self.chance.choice(held)
-        size = self.chance.choice(("", "", ", 2", ", %d" % self.chance.randint(0, 9)))
-        return "make(%s%s)" % (type if type.startswith("chan ") else "chan int", size)
+        size = self.chance.choice(("", "", ", 2", f", {self.chance.randint(0, 9)}"))
+        return f"make({type if type.startswith('chan ') else 'chan int'}{size})"
 
     def define(self, scope):
         type = self.chance.choice(self.TYPES)
         name, value = self.fresh(), self.value(scope, type)
         plain = type not in ("<-chan int", "chan<- int")
         scope[name] = type
-        ways = ["var %s %s = %s" % (name, type, value), "var %s %s" % (name, type)]
-        return self.chance.choice(ways + ["%s := %s" % (name, value)] * (2 if plain else 0))
+        ways = [f"var {name} {type} = {value}", f"var {name} {type}"]
+        return self.chance.choice(ways + [f"{name} := {value}"] * (2 if plain else 0))
 
     def assign(self, scope):
         held = self.held(scope, "int")
         if not held:
-            return "_ = %s" % self.number(scope, 2)
+            return f"_ = {self.number(scope, 2)}"
         x, y = self.chance.choice(held), self.chance.choice(held)
         operator = self.chance.choice(("+=", "-=", "*=", "&=", "|=", "^=", "&^="))
         return self.chance.choice((
-            "%s = %s" % (x, self.number(scope, 3)), "%s, %s = %s, %s" % (x, y, y, x),
-            "%s %s %s" % (x, operator, self.number(scope, 2)),
-            x + self.chance.choice(("++", "--")), "%s, _ = %s, true" % (x, self.number(scope, 1))))
+            f"{x} = {self.number(scope, 3)}", f"{x}, {y} = {y}, {x}",
+            f"{x} {operator} {self.number(scope, 2)}",
+            x + self.chance.choice(("++", "--")), f"{x}, _ = {self.number(scope, 1)}, true"))
 
     def speak(self, scope):
         parts = [self.number(scope, 2), self.truth(scope, 2), '"text"', '"\\t\\"q\\\\"']
-        return "println(%s)" % ", ".join(self.chance.sample(parts, self.chance.randint(0, 3)))
+        return f"println({', '.join(self.chance.sample(parts, self.chance.randint(0, 3)))})"
 
     def flat(self, scope):
         sends, receives = self.sends(scope), self.receives(scope)
-        ways = [self.define, self.define, self.assign, self.assign, self.speak, lambda s: "twice(%s)" % self.number(s, 1)]
-        ways += [lambda s: "%s <- %s" % (self.chance.choice(sends), self.number(s, 2))] * bool(sends)
+        ways = [self.define, self.define, self.assign, self.assign, self.speak, lambda s: f"twice({self.number(s, 1)})"]
+        ways += [lambda s: f"{self.chance.choice(sends)} <- {self.number(s, 2)}"] * bool(sends)
         ways += [lambda s: "<-" + self.chance.choice(receives), self.pair] * bool(receives)
-        ways += [lambda s: "close(%s)" % self.chance.choice(sends)] * (bool(sends) and self.chance.random() < 0.3)
-        ways += [lambda s: "go work(%s, %s)" % (self.value(s, "chan int"), self.number(s, 1)), lambda s: "return"]
+        ways += [lambda s: f"close({self.chance.choice(sends)})"] * (bool(sends) and self.chance.random() < 0.3)
+        ways += [lambda s: f"go work({self.value(s, 'chan int')}, {self.number(s, 1)})", lambda s: "return"]
         return self.chance.choice(ways)(scope) if self.chance.random() < 0.97 else ""
 
     def pair(self, scope):
         name, open = self.fresh(), self.fresh()
-        text = "%s, %s := <-%s" % (name, open, self.chance.choice(self.receives(scope)))
+        text = f"{name}, {open} := <-{self.chance.choice(self.receives(scope))}"
         scope[name], scope[open] = "int", "bool"
         return text
 
@@ -283,19 +283,19 @@ class Typed:
         return self.indented([line for _ in range(self.chance.randint(0, 3)) for line in self.statement(inner, level - 1)])
 
     def branch(self, scope, level):
-        lines = ["if %s {" % self.truth(scope, 2)] + self.body(scope, level)
+        lines = [f"if {self.truth(scope, 2)} {{"] + self.body(scope, level)
         pick = self.chance.random()
         if pick < 0.2:
-            return lines + ["} else if %s {" % self.truth(scope, 1)] + self.body(scope, level) + ["}"]
+            return lines + [f"}} else if {self.truth(scope, 1)} {{"] + self.body(scope, level) + ["}"]
         return lines + (["} else {"] + self.body(scope, level) if pick < 0.6 else []) + ["}"]
 
     def loop(self, scope, level):
         i, receives = self.fresh(), self.receives(scope)
         inner = dict(scope, **{i: "int"})
-        heading = "for %s := 0; %s < %d; %s++ {" % (i, i, self.chance.randint(1, 4), i)
+        heading = f"for {i} := 0; {i} < {self.chance.randint(1, 4)}; {i}++ {{"
         if receives and self.chance.random() < 0.4:
-            heading = "for %s := range %s {" % (i, self.chance.choice(receives))
-        jump = self.chance.choice(([], ["\tbreak"], ["\tcontinue"], ["\tif %s {" % self.truth(inner, 1), "\t\tbreak", "\t}"]))
+            heading = f"for {i} := range {self.chance.choice(receives)} {{"
+        jump = self.chance.choice(([], ["\tbreak"], ["\tcontinue"], [f"\tif {self.truth(inner, 1)} {{", "\t\tbreak", "\t}"]))
         if self.chance.random() < 0.2:
             label = "L" + self.fresh()
             return [label + ":", heading] + self.body(inner, level) + ["\tcontinue " + label, "}"]
@@ -305,10 +305,10 @@ class Typed:
         lines = ["select {"]
         for _ in range(self.chance.randint(0, 3)):
             sends, receives, inner, name = self.sends(scope), self.receives(scope), dict(scope), self.fresh()
-            heads = ["case %s <- %s:" % (self.chance.choice(sends), self.number(scope, 1))] if sends else []
+            heads = [f"case {self.chance.choice(sends)} <- {self.number(scope, 1)}:"] if sends else []
             if receives:
                 channel = self.chance.choice(receives)
-                heads += ["case <-%s:" % channel, "case %s := <-%s:" % (name, channel)]
+                heads += [f"case <-{channel}:", f"case {name} := <-{channel}:"]
             if heads:
                 head = self.chance.choice(heads)
                 if ":=" in head:
@@ -335,7 +335,7 @@ class Typed:
         lines += self.function("func work(c chan int, n int)", {"c": "chan int", "n": "int"})
         length = 0
         while length < size:
-            heading = "func %sf(c chan int, n int, b bool)" % self.fresh()
+            heading = f"func {self.fresh()}f(c chan int, n int, b bool)"
             more = self.function(heading, {"c": "chan int", "n": "int", "b": "bool"})
             length += sum(map(len, more)) + len(more)
             lines += more

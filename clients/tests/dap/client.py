@@ -51,7 +51,7 @@ class Client:
     def more(self) -> bool:
         """Reads some bytes more; False at the end."""
         if not select.select([self.process.stdout], [], [], LIMIT)[0]:
-            raise Hang("nothing in %g seconds" % LIMIT)
+            raise Hang(f"nothing in {LIMIT:g} seconds")
         part = os.read(self.process.stdout.fileno(), 1 << 16)
         self.unread += part
         return bool(part)

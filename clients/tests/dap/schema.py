@@ -108,10 +108,10 @@ class Schema:
             yield from self.faults_of_part(value, kind, where)
         elif kind in BASIC:
             if not isinstance(value, BASIC[kind]) or (kind == "number" and isinstance(value, bool)):
-                yield "%s is no %s: %r" % (where, kind, value)
+                yield f"{where} is no {kind}: {value!r}"
         elif kind.startswith("'"):
             if value != kind[1:-1]:
-                yield "%s is not %s: %r" % (where, kind, value)
+                yield f"{where} is not {kind}: {value!r}"
         elif self.types[kind][0] == "object":
             yield from self.faults_of_object(value, self.fields(kind), where)
         else:
@@ -124,22 +124,22 @@ class Schema:
         elif kind[0] == "object":
             yield from self.faults_of_object(value, kind[1], where)
         elif not isinstance(value, list):
-            yield "%s is no list: %r" % (where, value)
+            yield f"{where} is no list: {value!r}"
         else:
             for number, one in enumerate(value):
-                yield from self.faults(one, kind[1], "%s[%d]" % (where, number))
+                yield from self.faults(one, kind[1], f"{where}[{number}]")
 
     def faults_of_object(self, value: Any, fields: Dict[str, Field], where: str) -> Iterator[str]:
         if not isinstance(value, dict):
-            yield "%s is no object: %r" % (where, value)
+            yield f"{where} is no object: {value!r}"
             return
         for name, field in fields.items():
             if name in value:
                 yield from self.faults(value[name], field.type, where + "." + name)
             elif not field.optional and name != "[]":
-                yield "%s.%s is missing" % (where, name)
+                yield f"{where}.{name} is missing"
         if "[]" not in fields:
-            yield from ("%s.%s is not in the protocol" % (where, name) for name in value if name not in fields)
+            yield from (f"{where}.{name} is not in the protocol" for name in value if name not in fields)
 
     def faults_of_message(self, message: Dict[str, Any]) -> List[str]:
         """What is wrong with an event or a response; the requests of Rewind itself have no definition."""
@@ -149,7 +149,7 @@ class Schema:
             kind = "ErrorResponse"
         if kind not in self.types:
             is_own = message["type"] == "response" and name.startswith("rewind/")
-            return [] if is_own else ["there is no %s" % kind]
+            return [] if is_own else [f"there is no {kind}"]
         return list(self.faults(message, kind, kind))
 
 

@@ -18,7 +18,7 @@ PROGRAM = os.path.join(DATA, "deadlock.go")
 def set_up(heading: str) -> str:
     """The first block of a section, with the path of this repository."""
     with open(os.path.join(REPOSITORY, "docs", "EDITORS.md"), encoding="utf-8") as file:
-        section = file.read().split("\n## %s" % heading)[1].split("\n## ")[0]
+        section = file.read().split(f"\n## {heading}")[1].split("\n## ")[0]
     block = re.search(r"\n\n((?:    .*\n)+)", section)
     assert block
     return re.sub("^    ", "", block[1], flags=re.M).replace("REPOSITORY", REPOSITORY)

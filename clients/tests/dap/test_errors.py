@@ -136,8 +136,8 @@ class Sources(unittest.TestCase):
                 message = client.ask("launch", {"program": path})["message"]
                 event = client.event("output")["body"]
                 self.assertTrue(message.startswith(event["output"].split("\n")[0]), message)
-                self.assertTrue(message.startswith(path + ":") and message.endswith(" (%s)" % code), message)
-                self.assertEqual("%d:%d" % (event["line"], event["column"]), place)
+                self.assertTrue(message.startswith(path + ":") and message.endswith(f" ({code})"), message)
+                self.assertEqual(f"{event['line']}:{event['column']}", place)
                 number += 1
         self.assertGreater(number, 20)
 
@@ -196,7 +196,7 @@ class Failures(unittest.TestCase):
         self.assertIn("gave no answer", self.refused("yes '| more'", timeout=0.3))
 
     def test_it_dies_later(self) -> None:
-        fake = self.script("head -n 1 | %s \"$@\"\nexit 7" % REWIND)
+        fake = self.script(f"head -n 1 | {REWIND} \"$@\"\nexit 7")
         self.assertTrue(self.launch(fake)["success"])
         self.client.event("initialized")
         self.client.body("configurationDone")
@@ -206,7 +206,7 @@ class Failures(unittest.TestCase):
         self.assertFalse(self.client.ask("threads")["success"])
 
     def test_it_dies_in_a_run(self) -> None:
-        fake = self.script("sed -u '/^run/q' | sed -u 's/^run.*/quit/' | %s \"$@\"\nexit 7" % REWIND)
+        fake = self.script(f"sed -u '/^run/q' | sed -u 's/^run.*/quit/' | {REWIND} \"$@\"\nexit 7")
         self.assertTrue(self.launch(fake, stopOnEntry=False)["success"])
         self.client.body("configurationDone")
         self.assertIn("stderr", self.client.event("output")["body"]["category"])
@@ -215,13 +215,13 @@ class Failures(unittest.TestCase):
 
     def child_ends(self, leave: Any) -> None:
         """Whether the process under the adapter ends when the client leaves."""
-        fake = self.script("echo $$ > %s/pid\nexec %s \"$@\"" % (self.folder, REWIND))
+        fake = self.script(f"echo $$ > {self.folder}/pid\nexec {REWIND} \"$@\"")
         self.assertTrue(self.launch(fake)["success"])
         with open(os.path.join(self.folder, "pid"), encoding="utf-8") as file:
             pid = int(file.read())
         leave()
         until = time.monotonic() + 20
-        while os.path.exists("/proc/%d" % pid):
+        while os.path.exists(f"/proc/{pid}"):
             self.assertLess(time.monotonic(), until, "it goes on")
             time.sleep(0.01)
 

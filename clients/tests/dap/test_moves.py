@@ -47,15 +47,15 @@ func main() {
 
 ENDLESS = "package main\n\nfunc main() {\n\tx := 0\n\tfor {\n\t\tx++\n\t}\n}\n"
 
-SLOW = """\
-#!%s
+SLOW = f"""\
+#!{sys.executable}
 import subprocess, sys, time
-child = subprocess.Popen([%r] + sys.argv[1:], stdin=subprocess.PIPE)
+child = subprocess.Popen([{REWIND!r}] + sys.argv[1:], stdin=subprocess.PIPE)
 for line in sys.stdin.buffer:
     time.sleep(0.05 if line.startswith(b"run") else 0)
     child.stdin.write(line)
     child.stdin.flush()
-""" % (sys.executable, REWIND)
+"""
 
 
 class Moves(unittest.TestCase):

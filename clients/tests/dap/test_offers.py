@@ -117,7 +117,7 @@ class Conditions(Desk):
         for condition in ("n >", "(n", "n && 1", "n", "n = 5", "n / 2", "n ==", "f(n)", "n > 1)", "\u00e9", "n > 1 n", "!n"):
             body = self.set_breakpoints(path, {"line": 4, "condition": condition})[0]
             self.assertFalse(body["verified"], condition)
-            self.assertTrue(body["message"].startswith("'%s' is no condition: " % condition), body)
+            self.assertTrue(body["message"].startswith(f"'{condition}' is no condition: "), body)
         self.assertEqual(self.move("continue")["reason"], "ended")
         for condition in ("n > 1 && n / 1 == 2", "true", " ", "!(n > 3) || false"):
             self.assertTrue(self.set_breakpoints(path, {"line": 4, "condition": condition})[0]["verified"], condition)
@@ -306,7 +306,7 @@ class Words(Desk):
             for name in filter(None, (one.name, one.short)):
                 self.moved("restart")
                 self.moved("run 20")
-                text = "%s %s" % (name, wants.get(one.name, ""))
+                text = f"{name} {wants.get(one.name, '')}"
                 answer = self.client.ask("evaluate", {"expression": text, "context": "repl"})
                 self.assertTrue(answer["success"], answer)
                 self.assertNotIn("?", answer["body"]["result"].split("\n")[-1], text)
@@ -501,7 +501,7 @@ class Output(Desk):
 
     def test_much_output_comes_in_pieces(self) -> None:
         text = "x" * 1000
-        program = 'package main\n\nfunc main() {\n\tfor i := 0; i < 300; i++ {\n\t\tprintln("%s")\n\t}\n}\n' % text
+        program = f'package main\n\nfunc main() {{\n\tfor i := 0; i < 300; i++ {{\n\t\tprintln("{text}")\n\t}}\n}}\n'
         self.client.launch(self.file("b.go", program), stopOnEntry=False)
         self.client.stop()
         pieces = [body["output"] for body in self.told("output") if body["category"] == "stdout"]

@@ -94,7 +94,7 @@ class Lines(unittest.TestCase):
 def stands(path: str) -> List[int]:
     """The lines on which goroutines stand in the first steps of a program; none where it is refused."""
     names = ["g0", "g0.1", "g0.2", "g0.1.1"]
-    commands = "".join("run 1\n" + "".join("show %s\n" % name for name in names) for _ in range(120))
+    commands = "".join("run 1\n" + "".join(f"show {name}\n" for name in names) for _ in range(120))
     done = subprocess.run([REWIND, path], input=commands.encode(), stdout=subprocess.PIPE, stderr=subprocess.DEVNULL)
     return [int(line) for line in re.findall(r"^\| g0[.0-9]* \w+ \d+ line (\d+)$", done.stdout.decode(), re.M)]
 

@@ -88,7 +88,7 @@ class Wanderer:
         if kind < 0.75:
             return "evaluate", {"expression": choose(WORDS + GOING), "context": "repl"}
         if kind < 0.8:
-            step = "g0%s#%d" % (choose(("", ".1", ".2")), self.chance.randint(1, 5))
+            step = f"g0{choose(('', '.1', '.2'))}#{self.chance.randint(1, 5)}"
             return choose(("rewind/back", "rewind/redo", "rewind/causes")), {"step": step}
         names = ("threadId", "frameId", "variablesReference", "step", "expression", "source", "breakpoints", "start", "target")
         odd = {choose(names): choose(ODD) for _ in range(2)}
@@ -96,7 +96,7 @@ class Wanderer:
 
     def condition(self) -> dict[str, Any]:
         """What a breakpoint may want besides a line."""
-        holds = {"condition": "%s > 1" % self.chance.choice(VARIABLES)}
+        holds = {"condition": f"{self.chance.choice(VARIABLES)} > 1"}
         parts = self.chance.choices((*VARIABLES, *PARTS), k=self.chance.randint(1, 5))
         malformed = {"condition": self.chance.choice(("", " ")).join(parts)}
         return self.chance.choice(({}, holds, malformed, malformed, {"hitCondition": "2"}, {"logMessage": "{x} {balance} {x +}"}))
@@ -105,8 +105,8 @@ class Wanderer:
         """A request for what an editor offers: variables to watch, lines and frames to go back to, clauses."""
         command = self.chance.choice(OFFERED)
         if command == "setDataBreakpoints":
-            watches = [{"dataId": "g0%s %s" % (self.chance.choice(("", ".1")), self.chance.choice(VARIABLES))}]
-            channels = [{"dataId": "g0/c%d" % self.chance.randint(1, 3), "accessType": self.chance.choice(("read", "write", "readWrite"))}]
+            watches = [{"dataId": f"g0{self.chance.choice(('', '.1'))} {self.chance.choice(VARIABLES)}"}]
+            channels = [{"dataId": f"g0/c{self.chance.randint(1, 3)}", "accessType": self.chance.choice(("read", "write", "readWrite"))}]
             return command, {"breakpoints": self.chance.choice(([], watches, channels))}
         if command == "setFunctionBreakpoints":
             return command, {"breakpoints": [{"name": self.chance.choice(FUNCTIONS), **self.condition()}]}
@@ -149,16 +149,16 @@ class Wanderer:
         frames = self.client.body("stackTrace", {"threadId": thread["id"]})["stackFrames"]
         scopes = self.client.body("scopes", {"frameId": frames[0]["id"]})["scopes"]
         state = {one["name"]: one["value"] for one in self.variables(scopes[1])}
-        first = "| %s %s %s" % (state["name"], state["state"], state["steps"])
+        first = f"| {state['name']} {state['state']} {state['steps']}"
         if state["state"] == "done":
             return [first]
-        first += " line %d" % frames[0]["line"]
+        first += f" line {frames[0]['line']}"
         return [first] + [self.frame(frame) for frame in frames]
 
     def frame(self, frame: dict[str, Any]) -> str:
         scopes = self.client.body("scopes", {"frameId": frame["id"]})["scopes"]
         pairs = [(re.sub(r" \(\d+\)$", "", one["name"]), one["value"].split(" ")[0]) for one in self.variables(scopes[0])]
-        return " ".join(["|", frame["name"]] + ["%s=%s" % pair for pair in pairs])
+        return " ".join(["|", frame["name"]] + [f"{name}={value}" for name, value in pairs])
 
     def variables(self, scope: dict[str, Any]) -> list[dict[str, Any]]:
         return self.client.body("variables", {"variablesReference": scope["variablesReference"]})["variables"]

@@ -79,7 +79,7 @@ class Workers(Desk):
         self.typed("free 1000000")
         self.assertEqual(self.client.stop()["reason"], "deadlock")
         printed = [body for body in self.told("output") if body["category"] == "stdout"]
-        self.assertEqual("".join(body["output"] for body in printed), "".join("%d\n" % number for number in range(30)))
+        self.assertEqual("".join(body["output"] for body in printed), "".join(f"{number}\n" for number in range(30)))
 
     def test_pause_stops_the_workers(self) -> None:
         self.start(self.file("e.go", ENDLESS), workers=1)
