@@ -57,6 +57,8 @@ def pytest_collection_modifyitems(config: pytest.Config, items: list[pytest.Item
 class OneByOne(LoadScheduling):  # type: ignore[misc]  # xdist has no types
     """Gives each processor one case to run and the next one, so that no long cases stand in one row."""
 
+    collection: Optional[list[str]]
+
     def check_schedule(self, node: Any, duration: float = 0) -> None:
         if node.shutting_down:
             return
@@ -67,8 +69,8 @@ class OneByOne(LoadScheduling):  # type: ignore[misc]  # xdist has no types
 
     def schedule(self) -> None:
         if self.collection is None and self._check_nodes_have_same_collection():
-            self.collection = next(iter(self.node2collection.values()))
-            self.pending[:] = range(len(self.collection))
+            listed: list[str] = next(iter(self.node2collection.values()))
+            self.collection, self.pending[:] = listed, range(len(listed))
             for node in self.nodes:
                 self._send_tests(node, 1)
         for node in self.nodes:

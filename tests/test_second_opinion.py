@@ -74,7 +74,7 @@ def lines_of(script: Path) -> list[str]:
         return file.read().split("\n")
 
 
-@pytest.mark.parametrize("source", filter(is_short, sorted(SESSIONS.glob("*.go"))), ids=lambda path: str(path.stem))
+@pytest.mark.parametrize("source", [path for path in sorted(SESSIONS.glob("*.go")) if is_short(path)], ids=lambda path: str(path.stem))
 def test_an_example(source: Path) -> None:
     expected = source.with_suffix(".expect").read_text(encoding="latin-1")
     check(source.read_bytes(), list(answered(lines_of(source.with_suffix(".script")), expected)))

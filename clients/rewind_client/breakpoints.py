@@ -1,7 +1,7 @@
 """Breakpoints as the user wants them, and the lines on which Rewind has one."""
 from __future__ import annotations
 
-from typing import Dict, List, NamedTuple, Set
+from typing import NamedTuple
 
 from .errors import RewindError
 from .program import Program
@@ -43,12 +43,12 @@ class Breakpoints:
 
     def __init__(self, session: Session) -> None:
         self.session = session
-        self.by_line: Dict[int, Breakpoint] = {}
+        self.by_line: dict[int, Breakpoint] = {}
 
-    def lines(self) -> Set[int]:
+    def lines(self) -> set[int]:
         return set(self.by_line)
 
-    def all(self) -> List[Breakpoint]:
+    def all(self) -> list[Breakpoint]:
         return [self.by_line[line] for line in sorted(self.by_line)]
 
     def note(self, line: int) -> None:

@@ -5,7 +5,7 @@ dependence they lead to the state in which it was made.
 """
 from __future__ import annotations
 
-from typing import Callable, List, Sequence, Tuple
+from collections.abc import Callable, Sequence
 
 from . import replies
 from .core import Core, step_command
@@ -16,14 +16,14 @@ from .replies import Entry, Goroutine, KindWord
 MAX_STEPS = 100_000
 
 
-def callers_taken_again(core: Core, log: Sequence[Entry], goroutine: Goroutine, begin: Callable[[], Core]) -> Tuple[Place, ...]:
+def callers_taken_again(core: Core, log: Sequence[Entry], goroutine: Goroutine, begin: Callable[[], Core]) -> tuple[Place, ...]:
     """The places, the innermost first; none where there are too many steps. `begin` starts a session."""
     calls = open_calls(goroutine.name, log)
     if len(log) > MAX_STEPS or not calls or len(calls) != len(goroutine.frames) - 1:
         return ()
     kinds = {entry.step: entry for entry in log}
-    commands: List[str] = []
-    shown: List[int] = []
+    commands: list[str] = []
+    shown: list[int] = []
     for step in core.causes(calls[-1]):
         if step in calls:
             shown.append(len(commands))
@@ -38,9 +38,9 @@ def callers_taken_again(core: Core, log: Sequence[Entry], goroutine: Goroutine, 
     return tuple(Place(one.frames[0].function, one.line) for one in reversed(before) if one.frames)
 
 
-def open_calls(goroutine: str, log: Sequence[Entry]) -> List[str]:
+def open_calls(goroutine: str, log: Sequence[Entry]) -> list[str]:
     """The steps of a goroutine that called a function which has not returned, in their order."""
-    calls: List[str] = []
+    calls: list[str] = []
     for entry in log:
         if step_owner(entry.step) == goroutine:
             if entry.kind.word is KindWord.CALL:

@@ -2,7 +2,8 @@
 from __future__ import annotations
 
 import re
-from typing import Callable, List, Optional, Sequence, TypeVar
+from collections.abc import Callable, Sequence
+from typing import Optional, TypeVar
 
 from . import replies
 from .errors import MalformedReply, RewindError
@@ -50,16 +51,16 @@ class Core:
         self.process = process
         self.journal = journal
         self.changes = 0
-        self.given: List[str] = []
+        self.given: list[str] = []
         self.kept = 0
         self.end: Optional[Reason] = None
         self.end_taken_back: Optional[Reason] = None
 
-    def ask(self, command: str) -> List[str]:
+    def ask(self, command: str) -> list[str]:
         """The lines of the reply to any command, whatever it says."""
         return self.ask_all([command])[0]
 
-    def ask_all(self, commands: Sequence[str]) -> List[List[str]]:
+    def ask_all(self, commands: Sequence[str]) -> list[list[str]]:
         """The replies to commands, asked in one go."""
         for command in commands:
             if "\n" in command or not words_of(command):
@@ -132,11 +133,11 @@ class Core:
         """Takes the last step back: its name."""
         return self.asked("undo", replies.undone)
 
-    def back(self, target: str) -> List[str]:
+    def back(self, target: str) -> list[str]:
         """Takes a step back with all that depends on it: their names in log order."""
         return self.asked("back " + target, replies.steps)
 
-    def redo(self) -> List[str]:
+    def redo(self) -> list[str]:
         """Takes the steps again that were taken back last: their names in their order."""
         return self.asked("redo", replies.steps)
 
@@ -168,23 +169,23 @@ class Core:
                 return None
             raise
 
-    def text(self, goroutine: str) -> List[str]:
+    def text(self, goroutine: str) -> list[str]:
         """The lines that a goroutine printed; none where there is no such goroutine."""
         return self.known("text " + goroutine, replies.lines_within) or []
 
-    def console(self) -> List[str]:
+    def console(self) -> list[str]:
         """All lines that were printed, in the order of their steps."""
         return self.asked("console", replies.lines_within)
 
-    def log(self) -> List[Entry]:
+    def log(self) -> list[Entry]:
         """The kept steps in their order."""
         return self.asked("log", replies.log)
 
-    def causes(self, step: str) -> List[str]:
+    def causes(self, step: str) -> list[str]:
         """The steps that a step depends on, itself included."""
         return self.asked("causes " + step, replies.steps)
 
-    def dependents(self, step: str) -> List[str]:
+    def dependents(self, step: str) -> list[str]:
         """The steps that depend on a step, itself included."""
         return self.asked("deps " + step, replies.steps)
 
@@ -196,7 +197,7 @@ def with_plain_blanks(line: str) -> str:
     return "".join(" " if one.isspace() or one in INVISIBLE else one for one in line)
 
 
-def words_of(command: str) -> List[str]:
+def words_of(command: str) -> list[str]:
     """The words of a command, as Rewind tells them apart."""
     return [word for word in command.replace("\t", " ").replace("\r", " ").split(" ") if word]
 

@@ -5,8 +5,9 @@ or took the value, ended the wait of the goroutine's step before, or was first i
 """
 from __future__ import annotations
 
+from collections.abc import Sequence
 from enum import Enum
-from typing import Dict, List, NamedTuple, Sequence
+from typing import NamedTuple
 
 from .follower import Follower
 from .names import step_number, step_of, step_owner
@@ -40,10 +41,10 @@ class DirectCauses:
     def __init__(self, session: Session) -> None:
         self.follower: Follower = session.follow()
         self.entries = session.log()
-        self.kinds: Dict[str, Kind] = {it.step: it.kind for it in self.entries}
-        self.known: Dict[str, Dict[str, int]] = {}
+        self.kinds: dict[str, Kind] = {it.step: it.kind for it in self.entries}
+        self.known: dict[str, dict[str, int]] = {}
 
-    def of(self, step: str) -> List[Edge]:
+    def of(self, step: str) -> list[Edge]:
         """The direct causes of a kept step, in the order of the log."""
         kind, before = self.kinds[step], self.before(step)
         if kind.word in LOCAL and before and not self.kinds[before].waits:
@@ -65,29 +66,29 @@ class DirectCauses:
         number = step_number(step)
         return step_of(step_owner(step), number - 1) if number > 1 else ""
 
-    def causes(self, step: str) -> Dict[str, int]:
+    def causes(self, step: str) -> dict[str, int]:
         """Of the steps that a step depends on, the number of the last one of each goroutine."""
         if step not in self.known:
-            last: Dict[str, int] = {}
+            last: dict[str, int] = {}
             for cause in self.follower.session().causes(step):
                 last[step_owner(cause)] = step_number(cause)
             self.known[step] = last
         return self.known[step]
 
-    def new_sources(self, step: str, before: str) -> List[str]:
+    def new_sources(self, step: str, before: str) -> list[str]:
         """The last step of each other goroutine that a step depends on, and the one before it does not."""
         known = self.causes(before) if before else {}
         others = [(name, number) for name, number in self.causes(step).items() if name != step_owner(step)]
         return [step_of(name, number) for name, number in others if number > known.get(name, 0)]
 
-    def unimplied(self, sources: Sequence[str]) -> List[str]:
+    def unimplied(self, sources: Sequence[str]) -> list[str]:
         """The sources on which no other one depends."""
         return [it for it in sources if not any(other != it and self.depends(other, it) for other in sources)]
 
     def depends(self, step: str, earlier: str) -> bool:
         return self.causes(step).get(step_owner(earlier), 0) >= step_number(earlier)
 
-    def close_before(self, step: str, before: str) -> List[str]:
+    def close_before(self, step: str, before: str) -> list[str]:
         """The close that a fault met: that of its channel, where it is known, else the only one that is new."""
         if not self.kinds[step].fault.endswith("Closed"):
             return []

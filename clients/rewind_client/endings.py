@@ -4,9 +4,9 @@ The exit is taken back in a session of its own, and the others go on as far as t
 """
 from __future__ import annotations
 
+from collections.abc import Callable, Sequence
 from dataclasses import dataclass
 from enum import Enum
-from typing import Callable, List, Sequence, Set, Tuple
 
 from . import replies
 from .core import step_command, step_words
@@ -41,7 +41,7 @@ class Fate:
     fault: str = ""
 
 
-def drained(names: Callable[[], Sequence[str]], take: Callable[[List[str]], Sequence[Entry]]) -> int:
+def drained(names: Callable[[], Sequence[str]], take: Callable[[list[str]], Sequence[Entry]]) -> int:
     """Lets goroutines go on until none is ready, one stops the program, or many steps are taken: how many were.
 
     `names` are the goroutines that may go on, and `take` takes steps, some of which may be refused.
@@ -60,14 +60,14 @@ class Rest:
 
     def __init__(self, session: Session) -> None:
         self.session = Session(session.begin(), session.program, session.begin)
-        self.names: List[str] = ["g0"]
-        self.done: Set[str] = {"g0"}
+        self.names: list[str] = ["g0"]
+        self.done: set[str] = {"g0"}
         commands = [step_command(entry) for entry in session.log()[:-1]]
         for at in range(0, len(commands), PORTION):
             self.take(commands[at : at + PORTION])
         self.first = [it.name for it in session.goroutines() if it.state is not State.DONE and it.name != "g0"]
 
-    def take(self, commands: List[str]) -> List[Entry]:
+    def take(self, commands: list[str]) -> list[Entry]:
         """Takes steps, some of which may be refused."""
         taken = []
         for command, reply in zip(commands, self.session.core.ask_all(commands)):
@@ -82,7 +82,7 @@ class Rest:
         self.session.forget()
         return taken
 
-    def fates(self) -> Tuple[List[Fate], List[Wait]]:
+    def fates(self) -> tuple[list[Fate], list[Wait]]:
         """What would become of each goroutine, and what those wait for that would wait for ever."""
         drained(lambda: [it for it in self.names if it not in self.done], self.take)
         last = self.session.log()[-1]
@@ -98,7 +98,7 @@ class Rest:
         return fates, [it for it in Waits(self.session).all() if it.goroutine != "g0"]
 
 
-def fates_of(session: Session) -> Tuple[List[Fate], List[Wait]]:
+def fates_of(session: Session) -> tuple[list[Fate], list[Wait]]:
     """What would become of the goroutines of a program that has ended, and the waits of those that would wait for ever."""
     if all(it.state is State.DONE or it.name == "g0" for it in session.goroutines()):
         return [], []

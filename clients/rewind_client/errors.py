@@ -1,8 +1,6 @@
 """What can go wrong between a client and `rewind`. The text of each error is one sentence for the user."""
 from __future__ import annotations
 
-from typing import List
-
 
 class RewindError(Exception):
     """Something went wrong; the text says what, in words for the user."""
@@ -23,7 +21,7 @@ class Cancelled(RewindError):
 class MalformedReply(ProcessError):
     """A reply has not the form that the replies to its command have."""
 
-    def __init__(self, name: str, command: str, reply: List[str]) -> None:
+    def __init__(self, name: str, command: str, reply: list[str]) -> None:
         shown = reply[-1][:80] if reply else ""
         super().__init__(f"{name} gave an answer to '{command[:80]}' that means nothing: {shown}")
         self.command = command

@@ -3,7 +3,7 @@ from __future__ import annotations
 
 from dataclasses import dataclass
 from enum import Enum
-from typing import Dict, List, Optional, Tuple
+from typing import Optional
 
 from .endings import Fate, fates_of
 from .notes import Note, Place
@@ -28,8 +28,8 @@ class Fault:
 
     name: str
     step: str
-    places: Tuple[Place, ...]
-    variables: Tuple[Variable, ...]
+    places: tuple[Place, ...]
+    variables: tuple[Variable, ...]
     channel: str = ""
     closed_by: Optional[Note] = None
 
@@ -44,7 +44,7 @@ class Starved:
     channel: str
     waiting: str
     since: str
-    taken: Tuple[Tuple[int, int], ...]
+    taken: tuple[tuple[int, int], ...]
 
 
 @dataclass(frozen=True)
@@ -56,12 +56,12 @@ class Explanation:
     """
 
     standing: Standing
-    waits: Tuple[Wait, ...] = ()
-    cycle: Tuple[str, ...] = ()
+    waits: tuple[Wait, ...] = ()
+    cycle: tuple[str, ...] = ()
     fault: Optional[Fault] = None
-    ready: Tuple[Goroutine, ...] = ()
-    fates: Tuple[Fate, ...] = ()
-    starved: Tuple[Starved, ...] = ()
+    ready: tuple[Goroutine, ...] = ()
+    fates: tuple[Fate, ...] = ()
+    starved: tuple[Starved, ...] = ()
     printed: int = 0
 
 
@@ -105,9 +105,9 @@ def fault_of(session: Session) -> Optional[Fault]:
     return Fault(last.kind.fault, last.step, places, frame.variables if frame else (), last.channel, closed_by)
 
 
-def starved(session: Session, waits: Tuple[Wait, ...]) -> List[Starved]:
+def starved(session: Session, waits: tuple[Wait, ...]) -> list[Starved]:
     """The clauses of selects that were passed over each time, though somebody waited for them."""
-    picks: Dict[Tuple[str, Place], Dict[int, int]] = {}
+    picks: dict[tuple[str, Place], dict[int, int]] = {}
     for note in session.notes():
         if note.kind.word is KindWord.PICK:
             of_select = picks.setdefault((note.step.partition("#")[0], note.place), {})

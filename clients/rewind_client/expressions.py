@@ -1,8 +1,9 @@
 """Expressions that a user writes: whether they can be read, of which type they are, and their values in a frame."""
 from __future__ import annotations
 
+from collections.abc import Callable, Iterator, Sequence
 from enum import Enum
-from typing import Callable, Dict, Iterator, List, Optional, Sequence
+from typing import Optional
 
 from .names import is_channel
 from .program import Program
@@ -23,12 +24,12 @@ class Type(Enum):
 TYPES = {"int": Type.INT, "bool": Type.BOOL}
 
 
-def words_in(expression: str) -> List[str]:
+def words_in(expression: str) -> list[str]:
     """The tokens of an expression."""
     return [token.text for token in all_tokens(expression.encode("utf-8", "replace")) if token.text != ";"]
 
 
-def names_in(expression: str) -> List[str]:
+def names_in(expression: str) -> list[str]:
     """The variables that an expression names."""
     words = words_in(expression)
     calls = [word in ("len", "cap") and after == "(" for word, after in zip(words, [*words[1:], ""])]
@@ -65,7 +66,7 @@ def fault_of_condition(expression: str, program: Program, function: str) -> str:
 class TypeReading(Reading[Type]):
     """Reads the type of an expression."""
 
-    def __init__(self, tokens: Sequence[str], variables: Dict[str, Type]) -> None:
+    def __init__(self, tokens: Sequence[str], variables: dict[str, Type]) -> None:
         super().__init__(tokens)
         self.variables = variables
 
@@ -101,9 +102,9 @@ class TypeReading(Reading[Type]):
         return Type.OTHER if token == "nil" else self.variables.get(token, Type.UNKNOWN)
 
 
-def variables_of(program: Program, function: str) -> Dict[str, Type]:
+def variables_of(program: Program, function: str) -> dict[str, Type]:
     """The types of the variables of a function, as far as declarations tell them; a name of two types is not known."""
-    found: Dict[str, Type] = {}
+    found: dict[str, Type] = {}
     place = program.functions.get(function)
     if place is None:
         return found
@@ -115,7 +116,7 @@ def variables_of(program: Program, function: str) -> Dict[str, Type]:
     return found
 
 
-def declarations(words: Sequence[str], known: Dict[str, Type]) -> "Iterator[tuple[List[str], Type]]":
+def declarations(words: Sequence[str], known: dict[str, Type]) -> "Iterator[tuple[list[str], Type]]":
     """The names that the heading of a function and its statements declare, with their types; `known` has those before."""
     if "(" in words and ")" in words:
         yield from listed(words[words.index("(") + 1 : words.index(")")])
@@ -133,7 +134,7 @@ def behind(words: Sequence[str], at: int, ends: Sequence[str]) -> int:
     return next((place for place in range(at + 1, len(words)) if words[place] in ends), len(words))
 
 
-def names_before(words: Sequence[str], at: int) -> List[str]:
+def names_before(words: Sequence[str], at: int) -> list[str]:
     """The names of a list that ends before a place."""
     found = [words[at - 1]]
     while at >= 3 and words[at - 2] == ",":
@@ -142,9 +143,9 @@ def names_before(words: Sequence[str], at: int) -> List[str]:
     return found
 
 
-def listed(words: Sequence[str]) -> "Iterator[tuple[List[str], Type]]":
+def listed(words: Sequence[str]) -> "Iterator[tuple[list[str], Type]]":
     """Names with their types: `a, b int, c chan int`."""
-    names: List[str] = []
+    names: list[str] = []
     parts = " ".join(words).split(" , ")
     for part in parts:
         name, _, type_words = part.partition(" ")
@@ -154,7 +155,7 @@ def listed(words: Sequence[str]) -> "Iterator[tuple[List[str], Type]]":
             names = []
 
 
-def type_behind(words: Sequence[str], known: Dict[str, Type]) -> Type:
+def type_behind(words: Sequence[str], known: dict[str, Type]) -> Type:
     """The type of what a variable is given first."""
     try:
         found: Optional[Type] = TypeReading(words, known).whole()

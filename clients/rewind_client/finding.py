@@ -5,7 +5,8 @@ import os
 import re
 import shutil
 import subprocess
-from typing import Callable, List, Optional
+from collections.abc import Callable
+from typing import Optional
 
 from .core import Core, unnoted
 from .errors import NotFound, ProcessError, SourceRefused
@@ -42,7 +43,7 @@ def start(
     timeout: float = TIMEOUT,
     cancelled: Callable[[], bool] = never,
     journal: Callable[[str], None] = unnoted,
-    options: Optional[List[str]] = None,
+    options: Optional[list[str]] = None,
 ) -> Core:
     """A session on a source; SourceRefused where Rewind refuses it.
 
@@ -56,7 +57,7 @@ def start(
     return Core(process, journal)
 
 
-def explained(rewind: str, code: str) -> List[str]:
+def explained(rewind: str, code: str) -> list[str]:
     """What a `rewind` tells of a code, in any letters; nothing where it is none."""
     for text in (code, code.upper()):
         try:

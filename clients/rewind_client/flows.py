@@ -5,9 +5,10 @@ the source. `at` tells what is done before what: operands before what uses them,
 """
 from __future__ import annotations
 
+from collections.abc import Iterator, Sequence
 from dataclasses import dataclass
 from enum import Enum
-from typing import Iterator, List, NamedTuple, Optional, Sequence, Tuple
+from typing import NamedTuple, Optional
 
 from .operations import LENGTHS, Verb
 from .tokens import Token
@@ -73,15 +74,15 @@ class Calling:
     at: float
     line: int
     function: str
-    arguments: Tuple[Optional[Expression], ...]
+    arguments: tuple[Optional[Expression], ...]
 
 
 class Flows(NamedTuple):
     """All that the parts of a function do."""
 
-    uses: List[Use]
-    givings: List[Giving]
-    callings: List[Calling]
+    uses: list[Use]
+    givings: list[Giving]
+    callings: list[Calling]
 
 
 def flows_of(tokens: Sequence[Token], parts: Sequence[Part]) -> Flows:
@@ -136,7 +137,7 @@ class Reading:
         targets = self.names(begin + (self.text(begin) == "var"), equals)
         if self.text(equals + 1) == "range":
             kept = self.whole(equals + 2, end)
-            values: List[Optional[Expression]] = [Expression(Form.RECEIVE, equals + 1, inner=kept)] if kept else []
+            values: list[Optional[Expression]] = [Expression(Form.RECEIVE, equals + 1, inner=kept)] if kept else []
         else:
             values = self.between_commas(equals + 1, end)
         for target, value in zip(targets, values):
@@ -162,7 +163,7 @@ class Reading:
         found, after = self.operand(begin)
         return found if after == end else None
 
-    def operand(self, at: int) -> Tuple[Optional[Expression], int]:
+    def operand(self, at: int) -> tuple[Optional[Expression], int]:
         """The operand that begins there, and the place behind it."""
         if self.text(at) == "(":
             return self.operand(at + 1)[0], self.closing(at) + 1
@@ -185,7 +186,7 @@ class Reading:
                 return place
         return self.part.end
 
-    def between_commas(self, begin: int, end: int) -> List[Optional[Expression]]:
+    def between_commas(self, begin: int, end: int) -> list[Optional[Expression]]:
         """The values of a list, none for one that is no channel."""
         depth, first, found = 0, begin, []
         for at in range(begin, end):
@@ -195,7 +196,7 @@ class Reading:
                 first = at + 1
         return [*found, self.whole(first, end)] if end > begin else []
 
-    def names(self, begin: int, end: int) -> List[str]:
+    def names(self, begin: int, end: int) -> list[str]:
         """The variables on the left of an assignment."""
         found, expected = [], True
         for at in range(begin, end):

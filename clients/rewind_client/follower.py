@@ -5,8 +5,9 @@ they differ, and steps on from there. Steps far back in a long log are taken wit
 """
 from __future__ import annotations
 
+from collections.abc import Callable, Iterator, Sequence
 from contextlib import contextmanager
-from typing import Callable, Dict, Iterator, List, Optional, Sequence, Tuple
+from typing import Optional
 
 from . import replies
 from .core import Core, step_command
@@ -33,15 +34,15 @@ class Follower:
         self.begin = begin
         self.program = program
         self.core: Optional[Core] = None
-        self.entries: List[Entry] = []
+        self.entries: list[Entry] = []
         # From this place on all steps are noted.
         self.noted_from = 0
-        self.notes: Dict[str, Note] = {}
-        self.wakers: Dict[str, str] = {}
-        self.channel_names: Dict[str, str] = {}
-        self.counts: Dict[str, int] = {}
+        self.notes: dict[str, Note] = {}
+        self.wakers: dict[str, str] = {}
+        self.channel_names: dict[str, str] = {}
+        self.counts: dict[str, int] = {}
         self.fault_command = ""
-        self.unvalued: List[int] = []
+        self.unvalued: list[int] = []
 
     def end(self) -> None:
         if self.core is not None:
@@ -93,7 +94,7 @@ class Follower:
             else:
                 self.take_noted(log[at : at + PORTION])
 
-    def catch_up(self, log: Sequence[Entry], commands: Sequence[str], told: Callable[[], List[str]]) -> None:
+    def catch_up(self, log: Sequence[Entry], commands: Sequence[str], told: Callable[[], list[str]]) -> None:
         """Comes near the end of a long log by the commands that made it; `told` gives the log as the other session tells it."""
         if len(log) - len(self.entries) < FAR or len(commands) * STEPS_FOR_A_COMMAND > len(log):
             return
@@ -187,7 +188,7 @@ class Follower:
         """The command that takes a step of the log again."""
         return self.fault_command if entry.kind.word is KindWord.FAULT else step_command(entry)
 
-    def uses(self, entry: Entry, shown: Goroutine) -> List[Use]:
+    def uses(self, entry: Entry, shown: Goroutine) -> list[Use]:
         function = shown.frames[0].function if shown.frames else ""
         return uses_of(entry.kind, shown, self.program.operations(function, shown.line))
 
@@ -205,9 +206,9 @@ class Follower:
                 core.undo()
         raise ProcessError(f"the second session does not meet the fault {entry.step}")
 
-    def taken_again(self, entries: Sequence[Entry], uses: Sequence[List[Use]]) -> List[Tuple[List[Channel], List[Channel]]]:
+    def taken_again(self, entries: Sequence[Entry], uses: Sequence[list[Use]]) -> list[tuple[list[Channel], list[Channel]]]:
         """The states of the channels that steps use, before and after each."""
-        asked: List[str] = []
+        asked: list[str] = []
         for entry, used in zip(entries, uses):
             queries = ["chan " + use.channel for use in used]
             asked += [*queries, self.command(entry), *queries]
@@ -219,7 +220,7 @@ class Follower:
             states.append((before, [replies.channel(use.channel, next(found)) for use in used]))
         return states
 
-    def note(self, entry: Entry, shown: Goroutine, used: List[Use], states: Tuple[List[Channel], List[Channel]]) -> None:
+    def note(self, entry: Entry, shown: Goroutine, used: list[Use], states: tuple[list[Channel], list[Channel]]) -> None:
         """Keeps what was found of the next step."""
         named = self.keep_names(shown)
         place = Place(shown.frames[0].function if shown.frames else "", shown.line)
@@ -241,7 +242,7 @@ class Follower:
         """The last step of a goroutine so far, with which it began to wait."""
         return step_of(goroutine, self.counts.get(goroutine, 0))
 
-    def keep_names(self, shown: Goroutine) -> Tuple[str, ...]:
+    def keep_names(self, shown: Goroutine) -> tuple[str, ...]:
         """Keeps the first variable that was seen to hold each channel: the channels that are new."""
         new = []
         for frame in reversed(shown.frames):
@@ -251,7 +252,7 @@ class Follower:
                     new.append(variable.value)
         return tuple(new)
 
-    def callers_before(self, step: str) -> Tuple[Place, ...]:
+    def callers_before(self, step: str) -> tuple[Place, ...]:
         """The places of the outer frames before a step, from those of the step before it."""
         before = self.note_before(step)
         if before is None:
@@ -264,6 +265,6 @@ class Follower:
         """What is noted of the step before, of the same goroutine."""
         return self.notes.get(step_of(step_owner(step), step_number(step) - 1))
 
-    def callers_now(self, goroutine: Goroutine) -> Tuple[Place, ...]:
+    def callers_now(self, goroutine: Goroutine) -> tuple[Place, ...]:
         """The places of the outer frames of a goroutine behind the last step."""
         return self.callers_before(step_of(goroutine.name, goroutine.steps + 1))

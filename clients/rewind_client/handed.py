@@ -4,7 +4,6 @@ No reply tells it, so the wait is taken back: then the send waits itself, or fil
 """
 from __future__ import annotations
 
-from typing import Tuple
 
 from . import replies
 from .core import Core
@@ -15,7 +14,7 @@ from .replies import Channel, KindWord
 SHOWING = frozenset((KindWord.SEND_WAIT, KindWord.SELECT_WAIT, KindWord.BUFFER))
 
 
-def handed_value(core: Core, note: Note) -> Tuple[str, int]:
+def handed_value(core: Core, note: Note) -> tuple[str, int]:
     """The value of a send, in a session that stands before it, and how many steps went back for it.
 
     It is not found where the sender itself came there only after the wait, and then it is an empty text.

@@ -5,12 +5,12 @@ It goes on with each step that is taken or taken back, so that a long log costs 
 from __future__ import annotations
 
 from bisect import bisect_left, insort
-from typing import Dict, Iterable, List, Set, Tuple
+from collections.abc import Iterable
 
 from .names import channel_of, channel_order, child_of, name_order, step_owner
 from .replies import Entry, KindWord
 
-Names = List[Tuple[Tuple[int, ...], str]]
+Names = list[tuple[tuple[int, ...], str]]
 # What a step of a kind adds to the frames of its goroutine.
 FRAMES = {KindWord.CALL: 1, KindWord.RETURN: -1, KindWord.EXIT: -1}
 
@@ -19,12 +19,12 @@ class Ledger:
     """The goroutines and channels of a log. `made` has what each step made which made one."""
 
     def __init__(self, log: Iterable[Entry] = ()) -> None:
-        self.made: Dict[str, str] = {}
-        self.frames: Dict[str, int] = {}
-        self.counts: Dict[str, int] = {}
+        self.made: dict[str, str] = {}
+        self.frames: dict[str, int] = {}
+        self.counts: dict[str, int] = {}
         self.goroutines: Names = [(name_order("g0"), "g0")]
         self.channels: Names = []
-        self.done: Set[str] = set()
+        self.done: set[str] = set()
         for entry in log:
             self.add(entry)
 

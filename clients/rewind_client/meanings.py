@@ -3,10 +3,10 @@ from __future__ import annotations
 
 import json
 import os
-from typing import Dict, Optional
+from typing import Optional
 
 with open(os.path.join(os.path.dirname(__file__), "words.json"), encoding="utf-8") as table:
-    WORDS: Dict[str, Dict[str, str]] = json.load(table)
+    WORDS: dict[str, dict[str, str]] = json.load(table)
 REFUSED_SOURCES = WORDS["sources"]
 REFUSED_COMMANDS = WORDS["replies"]
 # A fault in the words of Go, which has none for what is a limit of Rewind.

@@ -6,10 +6,11 @@ before it is left stays done.
 from __future__ import annotations
 
 from bisect import bisect_right
+from collections.abc import Callable, Generator
 from contextlib import closing
 from enum import Enum
 from itertools import count
-from typing import AbstractSet, Callable, Generator, NamedTuple, Optional
+from typing import AbstractSet, NamedTuple, Optional
 
 from .ledger import FRAMES
 from .names import name_order, step_owner

@@ -2,7 +2,6 @@
 from __future__ import annotations
 
 import re
-from typing import Tuple
 
 GOROUTINE = re.compile(r"g0(\.[1-9][0-9]*)*")
 CHANNEL = re.compile(GOROUTINE.pattern + r"/c[1-9][0-9]*")
@@ -49,12 +48,12 @@ def child_of(goroutine: str, number: int) -> str:
     return f"{goroutine}.{number}"
 
 
-def name_order(goroutine: str) -> Tuple[int, ...]:
+def name_order(goroutine: str) -> tuple[int, ...]:
     """A key that sorts goroutines as Rewind does."""
     return tuple(int(count) for count in goroutine[1:].split("."))
 
 
-def channel_order(channel: str) -> Tuple[int, ...]:
+def channel_order(channel: str) -> tuple[int, ...]:
     """A key that sorts channels by the goroutines that made them; a 0 stands before the number of each."""
     maker, _, number = channel.partition("/c")
     return (*name_order(maker), 0, int(number))

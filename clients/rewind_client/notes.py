@@ -2,7 +2,7 @@
 from __future__ import annotations
 
 from dataclasses import replace
-from typing import List, NamedTuple, Optional, Tuple
+from typing import NamedTuple, Optional
 
 from .operations import Operation, Verb
 from .replies import Channel, Goroutine, Kind, KindWord, Waiter
@@ -27,12 +27,12 @@ class Note(NamedTuple):
     step: str
     kind: Kind
     place: Place
-    callers: Tuple[Place, ...]
+    callers: tuple[Place, ...]
     verb: Optional[Verb] = None
     channel: str = ""
     value: str = ""
-    woke: Tuple[str, ...] = ()
-    named: Tuple[str, ...] = ()
+    woke: tuple[str, ...] = ()
+    named: tuple[str, ...] = ()
 
     @property
     def line(self) -> int:
@@ -69,7 +69,7 @@ class Use(NamedTuple):
     is_alone: bool = True
 
 
-def uses_of(kind: Kind, shown: Goroutine, operations: List[Operation]) -> List[Use]:
+def uses_of(kind: Kind, shown: Goroutine, operations: list[Operation]) -> list[Use]:
     """The uses of channels that a step may have been, by its kind, its statement and the variables of its frame."""
     if not shown.frames:
         return []
@@ -84,7 +84,7 @@ def uses_of(kind: Kind, shown: Goroutine, operations: List[Operation]) -> List[U
     return [it for it in named if "/c" in it.channel]
 
 
-def found_use(kind: Kind, uses: List[Use], before: List[Channel], after: List[Channel]) -> Optional[Tuple[Use, Channel, Channel]]:
+def found_use(kind: Kind, uses: list[Use], before: list[Channel], after: list[Channel]) -> Optional[tuple[Use, Channel, Channel]]:
     """The use that the step was: the only one, or the only one whose channel the step changed."""
     told = list(zip(uses, before, after))
     if len({use.channel for use in uses}) > 1 or not all(use.is_alone for use in uses):
@@ -113,7 +113,7 @@ def value_over(goroutine: Goroutine, kind: Kind, use: Use, before: Channel, afte
     return value_of(use.operation.value, goroutine.frames[0].value_of)
 
 
-def woken(kind: Kind, use: Use, before: Channel) -> Tuple[Waiter, ...]:
+def woken(kind: Kind, use: Use, before: Channel) -> tuple[Waiter, ...]:
     """The goroutines that the step let go on."""
     if kind.waits or kind.word is KindWord.FAULT:
         return ()

@@ -1,7 +1,8 @@
 """A session on a source, and a second one beside it when that is wanted."""
 from __future__ import annotations
 
-from typing import Callable, List, Optional
+from collections.abc import Callable
+from typing import Optional
 
 from .core import Core, unnoted
 from .errors import RewindError
@@ -18,7 +19,7 @@ def open_session(
     timeout: float = TIMEOUT,
     cancelled: Callable[[], bool] = never,
     journal: Callable[[str], None] = unnoted,
-    options: Optional[List[str]] = None,
+    options: Optional[list[str]] = None,
 ) -> Session:
     """A session on a source; SourceRefused where Rewind refuses it. The second session has no options and no journal."""
     core = start(rewind, path, timeout, cancelled, journal, options)

@@ -1,9 +1,9 @@
 """What a statement does with channels and functions, as its tokens tell it."""
 from __future__ import annotations
 
+from collections.abc import Iterator, Sequence
 from dataclasses import dataclass
 from enum import Enum
-from typing import Iterator, List, Sequence, Tuple
 
 from .tokens import Token
 
@@ -30,7 +30,7 @@ class Operation:
     channel: str
     line: int
     clause: int = 0
-    value: Tuple[str, ...] = ()
+    value: tuple[str, ...] = ()
 
 
 @dataclass(frozen=True)
@@ -38,7 +38,7 @@ class Call:
     """A call, or what `go` starts; an argument is a plain name, or empty. `width` is the length of its statement's tokens."""
 
     function: str
-    arguments: Tuple[str, ...]
+    arguments: tuple[str, ...]
     line: int
     starts: bool = False
     width: int = 0
@@ -82,7 +82,7 @@ def plain_name(part: Sequence[Token], place: int) -> str:
     return part[place].text if is_name and text_at(part, place + 1) != "(" else ""
 
 
-def arguments_at(part: Sequence[Token], place: int) -> Tuple[str, ...]:
+def arguments_at(part: Sequence[Token], place: int) -> tuple[str, ...]:
     """The arguments between the parentheses of which one opens there."""
     depth, first, found = 0, place + 1, []
     for at in range(place, len(part)):
@@ -100,7 +100,7 @@ def argument(part: Sequence[Token]) -> str:
     return part[0].text if len(part) == 1 and part[0].is_name else ""
 
 
-def parameters_of(part: Sequence[Token]) -> List[str]:
+def parameters_of(part: Sequence[Token]) -> list[str]:
     """The names of parameters, from the tokens between the parentheses of a heading."""
     expected, depth, names = True, 0, []
     for token in part:

@@ -1,14 +1,15 @@
 """The lines that a program printed, and what became of them."""
 from __future__ import annotations
 
-from typing import List, NamedTuple, Sequence
+from collections.abc import Sequence
+from typing import NamedTuple
 
 
 class Change(NamedTuple):
     """Lines that are new, lines that are no longer printed, and whether the others stand in another order."""
 
-    added: List[str]
-    taken_back: List[str]
+    added: list[str]
+    taken_back: list[str]
     reordered: bool
 
 

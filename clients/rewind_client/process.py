@@ -10,7 +10,8 @@ import select
 import subprocess
 import time
 from collections import deque
-from typing import Callable, Deque, Iterable, List, Optional, Sequence
+from collections.abc import Callable, Iterable, Sequence
+from typing import Optional
 
 from .errors import Cancelled, ProcessError
 from .meanings import meaning_of_exit
@@ -42,9 +43,9 @@ class Process:
         self.cancelled = cancelled
         self.ended: Optional[str] = None
         self.owed = 0
-        self.whole: Deque[List[str]] = deque()
-        self.begun: List[str] = []
-        self.rest: List[bytes] = []
+        self.whole: deque[list[str]] = deque()
+        self.begun: list[str] = []
+        self.rest: list[bytes] = []
         self.held = 0
         pipe = subprocess.PIPE
         try:
@@ -58,7 +59,7 @@ class Process:
         for handle in (self.input, self.output, self.said_by):
             os.set_blocking(handle, False)
 
-    def ask(self, command: str) -> List[str]:
+    def ask(self, command: str) -> list[str]:
         """The lines of the reply to a command of one line, which must hold a word.
 
         Raises ProcessError where the process is gone or gives no answer in time; it is ended then. Raises Cancelled where the
@@ -66,15 +67,15 @@ class Process:
         """
         return self.ask_all([command])[0]
 
-    def ask_all(self, commands: Iterable[str]) -> List[List[str]]:
+    def ask_all(self, commands: Iterable[str]) -> list[list[str]]:
         """The replies to commands, asked in one go."""
         listed = list(commands)
-        replies: List[List[str]] = []
+        replies: list[list[str]] = []
         for at in range(0, len(listed), MAX_BATCH):
             replies += self.exchange(listed[at : at + MAX_BATCH])
         return replies
 
-    def exchange(self, commands: Sequence[str]) -> List[List[str]]:
+    def exchange(self, commands: Sequence[str]) -> list[list[str]]:
         """Writes commands and reads their replies, each as the other end is ready for it."""
         if self.ended is not None:
             raise ProcessError(self.ended)
@@ -90,7 +91,7 @@ class Process:
             until = time.monotonic() + self.timeout
         return replies
 
-    def read_reply(self, rest: memoryview, until: float) -> "tuple[List[str], memoryview]":
+    def read_reply(self, rest: memoryview, until: float) -> "tuple[list[str], memoryview]":
         """The next reply, and what is still to be written."""
         while not self.whole:
             if self.held > MAX_REPLY:

@@ -7,7 +7,7 @@ from __future__ import annotations
 
 import re
 from bisect import bisect_left
-from typing import Dict, List, Optional
+from typing import Optional
 
 from .errors import RewindError
 from .operations import Operation
@@ -28,11 +28,11 @@ class Program:
         self.path = path
         self.bytes = text
         self.text = text.decode("utf-8", "replace")
-        self.lines: List[str] = self.text.split("\n")
-        self.functions: Dict[str, Function] = walk.functions
-        self.statements: List[int] = sorted(walk.lines)
-        self.widths: Dict[int, int] = walk.widths
-        self.selects: Dict[int, List[Clause]] = walk.selects
+        self.lines: list[str] = self.text.split("\n")
+        self.functions: dict[str, Function] = walk.functions
+        self.statements: list[int] = sorted(walk.lines)
+        self.widths: dict[int, int] = walk.widths
+        self.selects: dict[int, list[Clause]] = walk.selects
         self.carries = CARRIES.search(" ".join(token.text for token in found)) is not None
 
     def line(self, number: int) -> str:
@@ -44,10 +44,10 @@ class Program:
         place = bisect_left(self.statements, line)
         return self.statements[place] if place < len(self.statements) else None
 
-    def statements_between(self, first: int, last: int) -> List[int]:
+    def statements_between(self, first: int, last: int) -> list[int]:
         return [line for line in self.statements if first <= line <= last]
 
-    def calling_lines(self, caller: str, callee: str) -> List[int]:
+    def calling_lines(self, caller: str, callee: str) -> list[int]:
         """The lines of the statements of one function that call another one, in their order."""
         calls = self.functions[caller].calls if caller in self.functions else []
         return sorted({call.line for call in calls if call.function == callee and not call.starts})
@@ -72,7 +72,7 @@ class Program:
         printing = [call.width for it in self.functions.values() for call in it.calls if call.function == "println"]
         return WIDEST * max(printing, default=0)
 
-    def operations(self, function: str, line: int) -> List[Operation]:
+    def operations(self, function: str, line: int) -> list[Operation]:
         """What a statement of a function does with channels."""
         found = self.functions[function].operations if function in self.functions else []
         return [it for it in found if it.line == line]

@@ -35,10 +35,11 @@ from __future__ import annotations
 
 import json
 import re
+from collections.abc import Mapping
 from dataclasses import dataclass
 from functools import lru_cache
 from pathlib import Path
-from typing import Any, Mapping, Optional
+from typing import Any, Optional
 
 from .refused.matching import Place, at_byte, in_text, in_tokens, number_at, placed, statement
 from .refused.reader import Fault, Names

@@ -3,9 +3,10 @@ from __future__ import annotations
 
 import gc
 import re
+from collections.abc import Sequence
 from enum import Enum
 from functools import lru_cache
-from typing import List, NamedTuple, Sequence, Tuple
+from typing import NamedTuple
 
 LAST_LINE = re.compile(r"ok( |$)|no [A-Z][0-9]+( |$)|\? bad command$")
 
@@ -97,9 +98,9 @@ class Variable(NamedTuple):
 
 class Frame(NamedTuple):
     function: str
-    variables: Tuple[Variable, ...]
+    variables: tuple[Variable, ...]
 
-    def values_of(self, name: str) -> Tuple[str, ...]:
+    def values_of(self, name: str) -> tuple[str, ...]:
         """The values of the variables of a name, each once. There may be several in blocks of their own."""
         return tuple(dict.fromkeys(it.value for it in self.variables if it.name == name))
 
@@ -116,7 +117,7 @@ class Goroutine(NamedTuple):
     state: State
     steps: int
     line: int
-    frames: Tuple[Frame, ...]
+    frames: tuple[Frame, ...]
 
     @property
     def last_step(self) -> str:
@@ -137,9 +138,9 @@ class Channel(NamedTuple):
     name: str
     capacity: int
     is_open: bool
-    items: Tuple[str, ...]
-    senders: Tuple[Waiter, ...]
-    receivers: Tuple[Waiter, ...]
+    items: tuple[str, ...]
+    senders: tuple[Waiter, ...]
+    receivers: tuple[Waiter, ...]
 
 
 def is_reply(reply: Sequence[str]) -> bool:
@@ -157,7 +158,7 @@ def code_of(reply: Sequence[str]) -> str:
     return words[1] if words[0] == "no" else ""
 
 
-def lines_within(reply: Sequence[str]) -> List[str]:
+def lines_within(reply: Sequence[str]) -> list[str]:
     """The lines before the last, without what marks them."""
     return [line[2:] for line in reply[:-1]]
 
@@ -196,7 +197,7 @@ def undone(reply: Sequence[str]) -> str:
     return reply[-1].split(" ")[1]
 
 
-def steps(reply: Sequence[str]) -> List[str]:
+def steps(reply: Sequence[str]) -> list[str]:
     """`ok K IDS` of `back`, `redo`, `deps` and `causes`; also the IDS of `no B6 K IDS`."""
     words = reply[-1].split(" ")
     named = words[2:] if words[0] == "ok" else words[3:]
@@ -205,7 +206,7 @@ def steps(reply: Sequence[str]) -> List[str]:
     return named
 
 
-def log(reply: Sequence[str]) -> List[Entry]:
+def log(reply: Sequence[str]) -> list[Entry]:
     """The lines of `log`. Of a million entries none can be garbage, which would be looked for again and again."""
     collects = gc.isenabled()
     gc.disable()

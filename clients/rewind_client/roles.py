@@ -6,8 +6,9 @@ can never come, and what is found may still come. ANY stands for a channel that 
 """
 from __future__ import annotations
 
+from collections.abc import Iterator, Sequence
 from dataclasses import dataclass, field
-from typing import Dict, FrozenSet, Iterator, List, Optional, Sequence, Set, Tuple
+from typing import Optional
 
 from .flows import Calling, Expression, Form, Giving, Use
 from .names import is_channel
@@ -19,7 +20,7 @@ from .walk import Function
 
 ANY = "any channel"
 BEHIND = 0.5
-NONE: FrozenSet[int] = frozenset()
+NONE: frozenset[int] = frozenset()
 
 
 @dataclass
@@ -33,8 +34,8 @@ class Life:
     root: str
     function: Function
     begin: float = 0
-    held: FrozenSet[int] = NONE
-    variables: Dict[str, Set[str]] = field(default_factory=dict)
+    held: frozenset[int] = NONE
+    variables: dict[str, set[str]] = field(default_factory=dict)
     waits_at: str = ""
 
     def is_ahead(self, at: float) -> bool:
@@ -52,11 +53,11 @@ class Roles:
         """`places` are those of the frames of each goroutine, the innermost first."""
         self.program = program
         self.carries = program.carries
-        self.contents: Dict[str, Set[str]] = {it.name: sent_over(it) for it in channels}
-        self.returned: Dict[Tuple[str, str], Set[str]] = {}
-        self.calls: Dict[Tuple[str, str], Life] = {}
+        self.contents: dict[str, set[str]] = {it.name: sent_over(it) for it in channels}
+        self.returned: dict[tuple[str, str], set[str]] = {}
+        self.calls: dict[tuple[str, str], Life] = {}
         queued = waiting_at(channels)
-        self.lives: List[Life] = []
+        self.lives: list[Life] = []
         for goroutine, of_frames in zip(goroutines, places):
             self.lives += frames_of(program, goroutine, of_frames, queued.get(goroutine.name, {}), self.carries)
         self.is_new = True
@@ -64,11 +65,11 @@ class Roles:
             self.is_new = False
             for life in list(self.lives):
                 self.flow(life)
-        self.may: Dict[str, Set[Tuple[Verb, str]]] = {}
+        self.may: dict[str, set[tuple[Verb, str]]] = {}
         for life in self.lives:
             self.may.setdefault(life.root, set()).update(self.uses(life))
 
-    def verbs(self, goroutine: str, channel: str) -> FrozenSet[Verb]:
+    def verbs(self, goroutine: str, channel: str) -> frozenset[Verb]:
         """What a goroutine, or one that it starts, may still do with a channel."""
         found = self.may.get(goroutine, set())
         return frozenset(verb for verb in Verb if (verb, channel) in found or (verb, ANY) in found)
@@ -105,12 +106,12 @@ class Roles:
         for parameter, argument in zip(called.function.parameters, calling.arguments):
             self.add(called.variables.setdefault(parameter, set()), self.value(life, argument))
 
-    def add(self, kept: Set[str], more: Set[str]) -> None:
+    def add(self, kept: set[str], more: set[str]) -> None:
         if not more <= kept:
             kept |= more
             self.is_new = True
 
-    def value(self, life: Life, expression: Optional[Expression]) -> Set[str]:
+    def value(self, life: Life, expression: Optional[Expression]) -> set[str]:
         """The channels that an expression may have as its value."""
         if expression is None:
             return set()
@@ -125,7 +126,7 @@ class Roles:
             held |= self.contents.get(channel, set())
         return held | self.contents.get(ANY, set()) if self.carries else set()
 
-    def uses(self, life: Life) -> Iterator[Tuple[Verb, str]]:
+    def uses(self, life: Life) -> Iterator[tuple[Verb, str]]:
         """The uses of channels that are ahead of a frame."""
         for use in life.function.flows.uses:
             if life.is_ahead(use.at):
@@ -135,15 +136,15 @@ class Roles:
                     yield use.verb, life.waits_at or ANY
 
 
-def sent_over(channel: Channel) -> Set[str]:
+def sent_over(channel: Channel) -> set[str]:
     """The channels that are on their way over a channel."""
     values = [*channel.items, *(it.value for it in channel.senders)]
     return {value for value in values if is_channel(value)}
 
 
-def waiting_at(channels: Sequence[Channel]) -> Dict[str, Dict[str, Verb]]:
+def waiting_at(channels: Sequence[Channel]) -> dict[str, dict[str, Verb]]:
     """The channels at which each goroutine waits, with what it waits to do."""
-    found: Dict[str, Dict[str, Verb]] = {}
+    found: dict[str, dict[str, Verb]] = {}
     for channel in channels:
         for verb, queue in ((Verb.SEND, channel.senders), (Verb.RECEIVE, channel.receivers)):
             for one in queue:
@@ -152,7 +153,7 @@ def waiting_at(channels: Sequence[Channel]) -> Dict[str, Dict[str, Verb]]:
 
 
 def frames_of(
-    program: Program, goroutine: Goroutine, places: Sequence[Place], wishes: Dict[str, Verb], carries: bool
+    program: Program, goroutine: Goroutine, places: Sequence[Place], wishes: dict[str, Verb], carries: bool
 ) -> Iterator[Life]:
     """The frames of a goroutine as lives."""
     called = ""
@@ -172,13 +173,13 @@ def frames_of(
         yield life
 
 
-def standing(life: Life, line: int, called: str, state: State, wishes: Dict[str, Verb]) -> Tuple[float, float]:
+def standing(life: Life, line: int, called: str, state: State, wishes: dict[str, Verb]) -> tuple[float, float]:
     """The first and the last place at which a frame may stand: behind a call, at the use of a channel, or on its line."""
     function, flows = life.function, life.function.flows
     on_line = [it for it in function.parts if it.line == line]
     if not on_line:
         return 0, max(it.end for it in function.parts)
-    at: List[float] = []
+    at: list[float] = []
     if called:
         at = [it.at + BEHIND for it in flows.callings if it.line == line and it.function == called]
     elif state is State.WAITING and not any(it.case for it in on_line):
@@ -188,7 +189,7 @@ def standing(life: Life, line: int, called: str, state: State, wishes: Dict[str,
     return min(it.begin for it in on_line), max(it.end for it in on_line)
 
 
-def may_wait(life: Life, use: Use, wishes: Dict[str, Verb]) -> bool:
+def may_wait(life: Life, use: Use, wishes: dict[str, Verb]) -> bool:
     """Whether a goroutine may wait at a use of a channel."""
     if use.channel is None or use.channel.form is not Form.NAME:
         return use.verb in wishes.values()

@@ -4,12 +4,12 @@ from __future__ import annotations
 import os
 import signal
 import sys
-from typing import Callable, List
+from collections.abc import Callable
 
 INTERRUPTED = 130
 
 
-def run(name: str, main: Callable[[List[str]], int], failed: int, reads: bool = False) -> int:
+def run(name: str, main: Callable[[list[str]], int], failed: int, reads: bool = False) -> int:
     """The exit status of a program; `failed` where a stream is closed or cannot be written. `reads` tells that it wants standard input."""
     signal.signal(signal.SIGINT, signal.default_int_handler)
     try:

@@ -4,8 +4,9 @@ The user's session is asked nothing, and gets few commands when the place is fou
 """
 from __future__ import annotations
 
+from collections.abc import Callable, Generator, Sequence
 from contextlib import closing
-from typing import AbstractSet, Callable, Generator, List, Optional, Sequence, Tuple
+from typing import AbstractSet, Optional
 
 from . import replies
 from .core import Core, step_command
@@ -40,7 +41,7 @@ class Scout:
             self.core.process.end()
         self.core = None
 
-    def come_by(self, commands: Sequence[str], told: Callable[[], List[str]]) -> None:
+    def come_by(self, commands: Sequence[str], told: Callable[[], list[str]]) -> None:
         """Comes to the end of the log by the commands that made it, where these are few and lead there."""
         if len(commands) * STEPS_FOR_A_COMMAND > len(self.log):
             return
@@ -61,7 +62,7 @@ class Scout:
                 raise ProcessError(f"a second session went another way: {found[-1][-1][:80]}")
         return self.core
 
-    def lines_before(self, count: int) -> List[int]:
+    def lines_before(self, count: int) -> list[int]:
         """Goes back some steps: the line at which the goroutine of each stood before it, the last step first."""
         core, behind = self.stand(), self.log[self.at - count : self.at]
         commands = [command for entry in reversed(behind) for command in ("undo", "show " + step_owner(entry.step))]
@@ -89,7 +90,7 @@ def last_step_at(session: Session, lines: AbstractSet[int]) -> Generator[int, No
     return -1
 
 
-def lines_back(session: Session) -> Generator[Tuple[int, int], None, None]:
+def lines_back(session: Session) -> Generator[tuple[int, int], None, None]:
     """The places of the log from the last one on, each with the line at which the goroutine of the step stood before it."""
     log, notes = session.log(), session.follower.notes
     if are_noted(session):

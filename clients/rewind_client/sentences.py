@@ -1,7 +1,7 @@
 """Explanations in sentences."""
 from __future__ import annotations
 
-from typing import Iterator, List, Sequence
+from collections.abc import Iterator, Sequence
 
 from .explanations import Explanation, Fault, Standing, Starved
 from .meanings import DEADLOCK, FAULTS
@@ -26,7 +26,7 @@ class Sentences:
     def __init__(self, session: Session) -> None:
         self.session = session
 
-    def all(self, explanation: Explanation) -> List[str]:
+    def all(self, explanation: Explanation) -> list[str]:
         """An explanation, a sentence for each line; a line that says more of the one before it is indented."""
         says = {
             Standing.DEADLOCK: self.deadlock,

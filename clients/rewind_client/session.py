@@ -5,7 +5,8 @@ one that follows it for the rest.
 """
 from __future__ import annotations
 
-from typing import Callable, Dict, List, Optional, Sequence, TypeVar
+from collections.abc import Callable, Sequence
+from typing import Optional, TypeVar
 
 from . import replies
 from .callers import callers_taken_again
@@ -37,15 +38,15 @@ class Session:
         self.begin = begin
         self.source = source
         self.follower = Follower(begin, program)
-        self.kept_log: Optional[List[Entry]] = []
+        self.kept_log: Optional[list[Entry]] = []
         self.is_end_known = True
         self.version = 0
         self.followed = -1
         self.unchanged = 0
         self.kept_ledger: Optional[Ledger] = Ledger()
-        self.taken_back: Dict[str, Entry] = {}
-        self.shown: Dict[str, Optional[Goroutine]] = {}
-        self.channels_shown: Dict[str, Optional[Channel]] = {}
+        self.taken_back: dict[str, Entry] = {}
+        self.shown: dict[str, Optional[Goroutine]] = {}
+        self.channels_shown: dict[str, Optional[Channel]] = {}
 
     def end(self) -> None:
         """Ends both sessions."""
@@ -54,7 +55,7 @@ class Session:
 
     # Commands.
 
-    def ask(self, command: str) -> List[str]:
+    def ask(self, command: str) -> list[str]:
         """The reply to any command, with what it changes taken account of."""
         changes = self.core.changes
         try:
@@ -153,10 +154,10 @@ class Session:
     def undo(self) -> str:
         return self.moved("undo", replies.undone)
 
-    def back(self, target: str) -> List[str]:
+    def back(self, target: str) -> list[str]:
         return self.moved("back " + target, replies.steps)
 
-    def redo(self) -> List[str]:
+    def redo(self) -> list[str]:
         return self.moved("redo", replies.steps)
 
     def cut(self, length: int) -> None:
@@ -164,7 +165,7 @@ class Session:
         while len(self.log()) > length:
             self.back(self.log()[length].step)
 
-    def preview(self, target: str) -> List[str]:
+    def preview(self, target: str) -> list[str]:
         """The steps that `back` would take back, as the second session does and takes again; Refused where it would be."""
         core = self.follow().session()
         reply = core.ask("back " + target)
@@ -178,14 +179,14 @@ class Session:
 
     # The log.
 
-    def log(self) -> List[Entry]:
+    def log(self) -> list[Entry]:
         """The kept steps in their order."""
         if self.kept_log is None:
             self.keep_log(self.core.log())
         assert self.kept_log is not None
         return self.kept_log
 
-    def keep_log(self, log: List[Entry]) -> None:
+    def keep_log(self, log: list[Entry]) -> None:
         self.kept_log = log
         self.core.kept = len(log)
         if not self.is_end_known:
@@ -207,7 +208,7 @@ class Session:
             self.followed, self.unchanged = self.version, len(log)
         return self.follower
 
-    def notes(self) -> List[Note]:
+    def notes(self) -> list[Note]:
         """Notes of the kept steps in their order; those far back in a long log have none."""
         notes = self.follow().notes
         return [notes[it.step] for it in self.log() if it.step in notes]
@@ -221,11 +222,11 @@ class Session:
             self.kept_ledger = Ledger(log)
         return self.kept_ledger
 
-    def goroutine_names(self) -> List[str]:
+    def goroutine_names(self) -> list[str]:
         """The goroutines in the order of their names, as the log tells them."""
         return [name for _, name in self.ledger().goroutines[:MAX_GOROUTINES]]
 
-    def channel_names(self) -> List[str]:
+    def channel_names(self) -> list[str]:
         """The channels by the goroutines that made them."""
         return [name for _, name in self.ledger().channels[:MAX_CHANNELS]]
 
@@ -234,7 +235,7 @@ class Session:
             self.shown[name] = self.core.show(name)
         return self.shown[name]
 
-    def goroutines(self, some: Optional[Sequence[str]] = None) -> List[Goroutine]:
+    def goroutines(self, some: Optional[Sequence[str]] = None) -> list[Goroutine]:
         """The goroutines as they stand, in the order of their names; or some of them."""
         names = self.goroutine_names() if some is None else some
         wanted = [name for name in names if name not in self.shown]
@@ -248,7 +249,7 @@ class Session:
             self.channels_shown[name] = self.core.channel(name)
         return self.channels_shown[name]
 
-    def channels(self) -> List[Channel]:
+    def channels(self) -> list[Channel]:
         """The channels as they stand, by the goroutines that made them."""
         names = self.channel_names()
         wanted = [name for name in names if name not in self.channels_shown]
@@ -257,11 +258,11 @@ class Session:
         found = (self.channels_shown[name] for name in names)
         return [it for it in found if it is not None]
 
-    def ready(self) -> List[Goroutine]:
+    def ready(self) -> list[Goroutine]:
         """The goroutines of which one could take the next step."""
         return [] if self.stopped_by() else [it for it in self.goroutines() if it.state is State.READY]
 
-    def ready_clauses(self, goroutine: str, count: int) -> List[int]:
+    def ready_clauses(self, goroutine: str, count: int) -> list[int]:
         """Which of the cases of a select, at which a goroutine stands, could be taken now."""
         core, found = self.follow().session(), []
         with self.follower.whole():
@@ -293,11 +294,11 @@ class Session:
                         return variable.name
         return ""
 
-    def channels_named(self, variable: str) -> List[str]:
+    def channels_named(self, variable: str) -> list[str]:
         """The channels that a variable of this name held first."""
         return [name for name in self.channel_names() if self.variable_of(name) == variable]
 
-    def places(self, goroutine: Goroutine) -> List[Place]:
+    def places(self, goroutine: Goroutine) -> list[Place]:
         """The place of each frame of a goroutine, the innermost first; the line is 0 where it can't be told."""
         functions = [frame.function for frame in goroutine.frames]
         if not functions:

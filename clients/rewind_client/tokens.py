@@ -5,7 +5,8 @@ It is meant for sources that `rewind` has accepted, and tells no faults.
 from __future__ import annotations
 
 import re
-from typing import Iterator, List, NamedTuple
+from collections.abc import Iterator
+from typing import NamedTuple
 
 TOKEN = re.compile(
     rb"""(?P<space>[ \t\r]+)
@@ -62,5 +63,5 @@ def tokens(source: bytes) -> Iterator[Token]:
         line += text.count("\n")
 
 
-def all_tokens(source: bytes) -> List[Token]:
+def all_tokens(source: bytes) -> list[Token]:
     return list(tokens(source))

@@ -4,7 +4,8 @@ A send or a receive that waited counts by the step in which it began to wait.
 """
 from __future__ import annotations
 
-from typing import Dict, List, NamedTuple, Optional, Sequence, Tuple
+from collections.abc import Sequence
+from typing import NamedTuple, Optional
 
 from .core import Core
 from .names import step_owner
@@ -32,16 +33,16 @@ class Transfers:
         self.session = session
         self.channels = list(channels)
         # The steps of the senders and of the receivers, in the order of the messages, and those that put a value into the buffer.
-        self.sent: Dict[str, List[str]] = {name: [] for name in channels}
-        self.taken: Dict[str, List[str]] = {name: [] for name in channels}
-        self.put: Dict[str, List[str]] = {name: [] for name in channels}
+        self.sent: dict[str, list[str]] = {name: [] for name in channels}
+        self.taken: dict[str, list[str]] = {name: [] for name in channels}
+        self.put: dict[str, list[str]] = {name: [] for name in channels}
         if channels:
             self.read(session.notes())
 
     def read(self, notes: Sequence[Note]) -> None:
         """Goes through the steps. What does not name its channel is asked of the second session."""
         found = self.asked([it for it in notes if is_unknown(it)])
-        last: Dict[str, str] = {}
+        last: dict[str, str] = {}
         for note in notes:
             if note.channel in self.sent and (note.sends() or note.receives()):
                 self.keep(note.channel, note.step, note.kind, note.verb or Verb.SEND, note.woke[0] if note.woke else "")
@@ -71,14 +72,14 @@ class Transfers:
         """Of what came before nothing is told, where a step may have used this channel or another one."""
         self.sent[channel], self.taken[channel], self.put[channel] = [], [], []
 
-    def asked(self, unknown: Sequence[Note]) -> Dict[str, List[Tuple[str, Change]]]:
+    def asked(self, unknown: Sequence[Note]) -> dict[str, list[tuple[str, Change]]]:
         """What steps did to the channels, whose text does not tell which of them they used."""
         if not unknown or len(unknown) > MOST_ASKED:
             return {}
         follower = self.session.follow()
         wanted = {it.step: self.verb(it) for it in unknown}
         first = next(at for at, it in enumerate(follower.entries) if it.step in wanted)
-        found: Dict[str, List[Tuple[str, Change]]] = {}
+        found: dict[str, list[tuple[str, Change]]] = {}
         with follower.whole():
             core = follower.session()
             core.ask_all(["undo"] * (len(follower.entries) - first))
@@ -98,7 +99,7 @@ class Transfers:
         used = self.session.program.operations(note.place.function, note.line)
         return Verb.SEND if any(it.verb is Verb.SEND and it.clause == note.kind.clause for it in used) else Verb.RECEIVE
 
-    def states(self, core: Core) -> List[Channel]:
+    def states(self, core: Core) -> list[Channel]:
         found = (core.channel(name) for name in self.channels)
         return [it for it in found if it is not None]
 

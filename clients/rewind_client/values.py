@@ -6,7 +6,8 @@ where that holds no call and no receive.
 from __future__ import annotations
 
 import re
-from typing import Callable, Dict, Generic, NamedTuple, Sequence, TypeVar, Union
+from collections.abc import Callable, Sequence
+from typing import Generic, NamedTuple, TypeVar, Union
 
 # A number, a truth value, or a channel by its name.
 Value = Union[int, bool, str]
@@ -41,21 +42,21 @@ def shifted(left: int, count: int) -> int:
     return left << count if count >= 0 else left >> -count
 
 
-LOGICAL: Dict[str, Callable[[bool, bool], bool]] = {
+LOGICAL: dict[str, Callable[[bool, bool], bool]] = {
     "||": lambda left, right: left or right,
     "&&": lambda left, right: left and right,
 }
-EQUAL: Dict[str, Callable[[Value, Value], bool]] = {
+EQUAL: dict[str, Callable[[Value, Value], bool]] = {
     "==": lambda left, right: left == right,
     "!=": lambda left, right: left != right,
 }
-COMPARED: Dict[str, Callable[[int, int], bool]] = {
+COMPARED: dict[str, Callable[[int, int], bool]] = {
     "<": lambda left, right: left < right,
     "<=": lambda left, right: left <= right,
     ">": lambda left, right: left > right,
     ">=": lambda left, right: left >= right,
 }
-NUMERIC: Dict[str, Callable[[int, int], int]] = {
+NUMERIC: dict[str, Callable[[int, int], int]] = {
     "+": lambda left, right: left + right,
     "-": lambda left, right: left - right,
     "|": lambda left, right: left | right,

@@ -1,9 +1,10 @@
 """Who waits for whom: what each goroutine waits for, who may still serve it, and the cycle where there is one."""
 from __future__ import annotations
 
+from collections.abc import Sequence
 from dataclasses import dataclass, field, replace
 from enum import Enum
-from typing import Dict, FrozenSet, List, NamedTuple, Optional, Sequence, Set, Tuple
+from typing import NamedTuple, Optional
 
 from .names import step_owner
 from .notes import Place
@@ -22,7 +23,7 @@ class Server(NamedTuple):
     """A goroutine that may still do the other half, and by what."""
 
     goroutine: str
-    verbs: FrozenSet[Verb]
+    verbs: frozenset[Verb]
 
 
 class Stand(Enum):
@@ -40,7 +41,7 @@ class Hold:
 
     step: str
     place: Place
-    callers: Tuple[Place, ...]
+    callers: tuple[Place, ...]
     stand: Stand
     value: str = ""
 
@@ -64,23 +65,23 @@ class Wish:
     variable: str = ""
     capacity: int = 0
     is_range: bool = False
-    servers: Tuple[Server, ...] = ()
+    servers: tuple[Server, ...] = ()
     # Goroutines that would serve it only behind the same wish of their own.
-    behind: Tuple[str, ...] = ()
+    behind: tuple[str, ...] = ()
     # Whether all goroutines and channels were looked at.
     is_whole: bool = True
-    items: Tuple[Hold, ...] = ()
+    items: tuple[Hold, ...] = ()
     taken: Optional[Hold] = None
     last: Optional[Hold] = None
 
     @property
-    def owners(self) -> Tuple[str, ...]:
+    def owners(self) -> tuple[str, ...]:
         """Those that hold a lock and may still give it back."""
         held = self.items or ((self.taken,) if self.taken and self.capacity == 1 else ())
         return tuple(dict.fromkeys(it.goroutine for it in held if it.stand is Stand.MAY))
 
     @property
-    def waits_for(self) -> Tuple[str, ...]:
+    def waits_for(self) -> tuple[str, ...]:
         return self.owners or tuple(it.goroutine for it in self.servers)
 
 
@@ -89,17 +90,17 @@ class Wait:
     """A goroutine that waits, the places of its frames, and the step that began the wait. A select without cases has no wish."""
 
     goroutine: str
-    places: Tuple[Place, ...]
+    places: tuple[Place, ...]
     since: str
-    wishes: Tuple[Wish, ...]
+    wishes: tuple[Wish, ...]
 
     @property
-    def waits_for(self) -> Tuple[str, ...]:
+    def waits_for(self) -> tuple[str, ...]:
         """The goroutines for which it waits: those that hold a lock, else all that may serve it."""
         return tuple(dict.fromkeys(name for wish in self.wishes for name in wish.waits_for))
 
     @property
-    def helpers(self) -> Tuple[str, ...]:
+    def helpers(self) -> tuple[str, ...]:
         """All goroutines that may serve it, also beside those that hold a lock."""
         return tuple(dict.fromkeys(server.goroutine for wish in self.wishes for server in wish.servers))
 
@@ -109,19 +110,19 @@ class Waits:
     """Finds the waits of a session as it stands."""
 
     session: Session
-    goroutines: List[Goroutine] = field(init=False)
-    channels: Dict[str, Channel] = field(init=False)
+    goroutines: list[Goroutine] = field(init=False)
+    channels: dict[str, Channel] = field(init=False)
 
     def __post_init__(self) -> None:
         self.goroutines = [it for it in self.session.goroutines() if it.state is not State.DONE]
         self.channels = {it.name: it for it in self.session.channels()}
         self.names = {it.name for it in self.goroutines}
-        self.able: Dict[Tuple[Verb, str], Tuple[Server, ...]] = {}
-        self.same: Dict[Tuple[Verb, str], Set[str]] = {}
+        self.able: dict[tuple[Verb, str], tuple[Server, ...]] = {}
+        self.same: dict[tuple[Verb, str], set[str]] = {}
         known = self.session.ledger()
         self.is_whole = max(len(known.goroutines) - MAX_GOROUTINES, len(known.channels) - MAX_CHANNELS) <= 0
 
-    def all(self) -> List[Wait]:
+    def all(self) -> list[Wait]:
         """The waits of all goroutines, in the order of their names."""
         waiting = [it for it in self.goroutines if it.state is State.WAITING]
         if not waiting:
@@ -141,9 +142,9 @@ class Waits:
 
     # What is wished.
 
-    def queued(self) -> Dict[str, List[Wish]]:
+    def queued(self) -> dict[str, list[Wish]]:
         """What each goroutine waits for, by the queues of the channels."""
-        found: Dict[str, List[Wish]] = {}
+        found: dict[str, list[Wish]] = {}
         for channel in self.channels.values():
             for verb, queue in ((Verb.SEND, channel.senders), (Verb.RECEIVE, channel.receivers)):
                 for it in queue:
@@ -151,7 +152,7 @@ class Waits:
                     found.setdefault(it.goroutine, []).append(wish)
         return found
 
-    def wishes_of(self, one: Goroutine, queued: Sequence[Wish]) -> List[Wish]:
+    def wishes_of(self, one: Goroutine, queued: Sequence[Wish]) -> list[Wish]:
         """What a goroutine waits for. One that is in no queue waits at a nil channel, or at a select without cases."""
         found = [self.named(one, wish) for wish in queued]
         return sorted(found, key=lambda wish: wish.clause) or self.nil_wishes(one)
@@ -164,13 +165,13 @@ class Waits:
         is_range = any(ranges and name in ("", *holding) for _, name, ranges in used)
         return replace(wish, variable=(written or holding or [""])[0], is_range=is_range and not wish.clause)
 
-    def uses_at(self, one: Goroutine) -> List[Tuple[Verb, str, bool]]:
+    def uses_at(self, one: Goroutine) -> list[tuple[Verb, str, bool]]:
         """The uses of channels on the line of a goroutine: what is done, the variable, and whether it is a range."""
         function = self.session.program.functions.get(one.frames[0].function) if one.frames else None
         uses = [it for it in function.flows.uses if it.line == one.line] if function else []
         return [(it.verb, it.channel.name if it.channel else "", it.is_range) for it in uses]
 
-    def nil_wishes(self, one: Goroutine) -> List[Wish]:
+    def nil_wishes(self, one: Goroutine) -> list[Wish]:
         """The wishes of a goroutine in no queue: at nil channels, or none at a select without cases."""
         uses = self.uses_at(one)
         return [Wish(verb, NIL) for verb in dict.fromkeys(verb for verb, _, _ in uses if verb in SERVED_BY)]
@@ -190,10 +191,10 @@ class Waits:
         last = None if servers or behind or wish.capacity else self.last(waiting, wish)
         return replace(wish, servers=servers, behind=behind, items=items, taken=taken, last=last)
 
-    def verbs(self, name: str, wish: Wish) -> FrozenSet[Verb]:
+    def verbs(self, name: str, wish: Wish) -> frozenset[Verb]:
         return self.roles.verbs(name, wish.channel) & SERVED_BY[wish.verb]
 
-    def able_to(self, wish: Wish) -> Tuple[Server, ...]:
+    def able_to(self, wish: Wish) -> tuple[Server, ...]:
         """All goroutines that may do the other half of a wish, as the text ahead of them tells it."""
         key = (wish.verb, wish.channel)
         if key not in self.able:
@@ -201,7 +202,7 @@ class Waits:
             self.able[key] = tuple(it for it in found if it.verbs)
         return self.able[key]
 
-    def items(self, waiting: str, wish: Wish) -> Tuple[Hold, ...]:
+    def items(self, waiting: str, wish: Wish) -> tuple[Hold, ...]:
         """The steps that put the items into a full buffer: the last ones that put any, since the first item goes out first."""
         items = self.channels[wish.channel].items
         if wish.verb is not Verb.SEND or not items or len(items) > MOST_ITEMS:
@@ -234,14 +235,14 @@ class Waits:
         return Stand.MAY if self.verbs(name, wish) else Stand.NEVER
 
 
-def cycle_among(waits: Sequence[Wait]) -> List[str]:
+def cycle_among(waits: Sequence[Wait]) -> list[str]:
     """The fewest goroutines of which each waits for the next one, and the last one for the first; none where there is no cycle.
 
     A cycle from which a way leads to a goroutine that does not wait may still come loose, and is none.
     """
     edges = {wait.goroutine: wait.waits_for for wait in waits}
     helpers = {wait.goroutine: wait.helpers for wait in waits}
-    best: List[str] = []
+    best: list[str] = []
     for start in edges:
         path = path_back(start, edges) if not comes_loose(start, helpers) else []
         if path and (not best or len(path) < len(best)):
@@ -249,7 +250,7 @@ def cycle_among(waits: Sequence[Wait]) -> List[str]:
     return best
 
 
-def comes_loose(start: str, helpers: Dict[str, Tuple[str, ...]]) -> bool:
+def comes_loose(start: str, helpers: dict[str, tuple[str, ...]]) -> bool:
     """Whether one that waits may be served by way of a goroutine that does not wait."""
     reached, ahead = {start}, [start]
     while ahead:
@@ -261,7 +262,7 @@ def comes_loose(start: str, helpers: Dict[str, Tuple[str, ...]]) -> bool:
     return False
 
 
-def path_back(start: str, edges: Dict[str, Tuple[str, ...]]) -> List[str]:
+def path_back(start: str, edges: dict[str, tuple[str, ...]]) -> list[str]:
     """The shortest way from a goroutine over those it waits for back to itself."""
     ways = [[start]]
     seen = {start}

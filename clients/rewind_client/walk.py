@@ -1,8 +1,9 @@
 """One walk over the tokens of a source, which notes its functions, statements, loops, calls and uses of channels."""
 from __future__ import annotations
 
+from collections.abc import Sequence
 from dataclasses import dataclass, field
-from typing import Dict, List, NamedTuple, Sequence, Set, Tuple
+from typing import NamedTuple
 
 from .flows import Flows, Part, flows_of
 from .operations import Call, Operation, calls_of, operations_of, parameters_of
@@ -18,13 +19,13 @@ class Function:
     name: str
     line: int
     last_line: int = 0
-    parameters: List[str] = field(default_factory=list)
-    names: Set[str] = field(default_factory=set)
-    operations: List[Operation] = field(default_factory=list)
-    calls: List[Call] = field(default_factory=list)
-    parts: List[Part] = field(default_factory=list)
+    parameters: list[str] = field(default_factory=list)
+    names: set[str] = field(default_factory=set)
+    operations: list[Operation] = field(default_factory=list)
+    calls: list[Call] = field(default_factory=list)
+    parts: list[Part] = field(default_factory=list)
     # The places of the tokens of each loop that come again with each turn.
-    loops: List[Tuple[int, int]] = field(default_factory=list)
+    loops: list[tuple[int, int]] = field(default_factory=list)
     flows: Flows = Flows([], [], [])
 
 
@@ -44,10 +45,10 @@ class Walk:
     def __init__(self, file_tokens: Sequence[Token]) -> None:
         self.tokens = file_tokens
         self.at = 0
-        self.lines: Set[int] = set()
-        self.widths: Dict[int, int] = {}
-        self.selects: Dict[int, List[Clause]] = {}
-        self.functions: Dict[str, Function] = {}
+        self.lines: set[int] = set()
+        self.widths: dict[int, int] = {}
+        self.selects: dict[int, list[Clause]] = {}
+        self.functions: dict[str, Function] = {}
         self.function = Function("", 0)
         self.file()
 
@@ -97,7 +98,7 @@ class Walk:
         self.statements(("}",))
         return self.take().line
 
-    def statements(self, ends: Tuple[str, ...]) -> None:
+    def statements(self, ends: tuple[str, ...]) -> None:
         """Statements up to one of the words given, which is not taken."""
         while self.peek() is not END and self.peek().text not in ends:
             if self.peek().text == ";":
@@ -171,7 +172,7 @@ class Walk:
             self.statements(("case", "default", "}"))
         self.take()
 
-    def part(self, ends: Tuple[str, ...]) -> Tuple[int, int]:
+    def part(self, ends: tuple[str, ...]) -> tuple[int, int]:
         """Goes over the tokens of one statement up to one of the words given, outside parentheses: where they begin and end."""
         begin, depth = self.at, 0
         while self.peek() is not END and (depth > 0 or self.peek().text not in ends):

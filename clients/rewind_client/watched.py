@@ -1,8 +1,9 @@
 """What one can watch: a variable that is given a value, and a channel over which something goes."""
 from __future__ import annotations
 
+from collections.abc import Callable
 from enum import Enum
-from typing import Callable, NamedTuple, Union
+from typing import NamedTuple, Union
 
 
 class Watch(NamedTuple):

@@ -5,8 +5,9 @@ session of its own is asked, and takes the same steps.
 """
 from __future__ import annotations
 
+from collections.abc import Callable, Sequence
 from itertools import count
-from typing import Callable, Dict, List, NamedTuple, Optional, Sequence
+from typing import NamedTuple, Optional
 
 from . import replies
 from .core import Core, step_command
@@ -39,7 +40,7 @@ class Watcher:
         self.core: Optional[Core] = None
         self.at = 0
         # How often something went over each channel, when that was last asked.
-        self.numbers: Dict[ChannelWatch, int] = {}
+        self.numbers: dict[ChannelWatch, int] = {}
 
     def end(self) -> None:
         if self.core is not None:
@@ -56,7 +57,7 @@ class Watcher:
         self.at += len(ahead)
         return self.core
 
-    def given_since(self, log: Sequence[Entry], since: int, watches: Sequence[Watched]) -> List[Given]:
+    def given_since(self, log: Sequence[Entry], since: int, watches: Sequence[Watched]) -> list[Given]:
         """For each thing that was done since a place, the first and the last step that did it."""
         core, found = self.follow(log), []
         places = {entry.step: at for at, entry in enumerate(log[since:], since)}
@@ -97,9 +98,9 @@ class Watcher:
             core.redo()
         return found
 
-    def of_one(self, core: Core, watch: Watched, places: Dict[str, int]) -> List[Given]:
+    def of_one(self, core: Core, watch: Watched, places: dict[str, int]) -> list[Given]:
         """The steps that did one thing, among some; what goes back for another one comes again."""
-        found: List[Given] = []
+        found: list[Given] = []
         for number in count(self.number(core, watch), -1):
             reply = core.ask("back " + watch.target(number)) if number > 0 or isinstance(watch, Watch) else ["no"]
             if not replies.is_ok(reply):

@@ -2,7 +2,8 @@
 from __future__ import annotations
 
 import time
-from typing import AbstractSet, Any, Callable, Dict, List, Optional, cast
+from collections.abc import Callable
+from typing import AbstractSet, Any, Optional, cast
 
 from rewind_client.core import Refused
 from rewind_client.errors import Cancelled, ProcessError, RewindError
@@ -19,7 +20,7 @@ from .stops import Motion, Stop, exit_code, not_taken, with_filters
 from .telling import tell_output, tell_threads, warn_of_change
 from .transport import Closed, Malformed, Transport
 
-Body = Dict[str, Any]
+Body = dict[str, Any]
 Handler = Callable[[Arguments], Optional[Body]]
 
 SECONDS_BETWEEN_OUTPUTS = 1.0
@@ -41,8 +42,8 @@ class Adapter:
         self.filters: AbstractSet[Filter] = DEFAULT
         self.debuggee: Optional[Debuggee] = None
         self.motion: Optional[Motion] = None
-        self.later: List[Callable[[], None]] = []
-        self.handlers: Dict[str, Handler] = {
+        self.later: list[Callable[[], None]] = []
+        self.handlers: dict[str, Handler] = {
             "initialize": self.initialize,
             "pause": self.pause,
             **Lives(self).handlers(),

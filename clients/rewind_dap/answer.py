@@ -2,7 +2,6 @@
 from __future__ import annotations
 
 import io
-from typing import List
 
 from rewind_client.finding import explained
 from rewind_client.program import Program
@@ -47,7 +46,7 @@ class Answer:
     def breakpoints(self) -> Stops:
         return self.debuggee.breakpoints
 
-    def explained(self, code: str) -> List[str]:
+    def explained(self, code: str) -> list[str]:
         return explained(self.debuggee.launch.rewind, code)
 
     def tell_chosen(self) -> None:

@@ -1,7 +1,7 @@
 """The arguments of a request, each taken with its type."""
 from __future__ import annotations
 
-from typing import Any, Dict, List, Optional
+from typing import Any, Optional
 
 from rewind_client.errors import RewindError
 
@@ -18,7 +18,7 @@ class Arguments:
             members = {}
         if not isinstance(members, dict):
             raise BadRequest(f"{where} must be an object")
-        self.members: Dict[str, Any] = members
+        self.members: dict[str, Any] = members
         self.where = where
 
     def wrong(self, name: str, kind: str) -> BadRequest:
@@ -66,7 +66,7 @@ class Arguments:
     def object(self, name: str) -> Arguments:
         return Arguments(self.members.get(name), name)
 
-    def objects(self, name: str) -> List[Arguments]:
+    def objects(self, name: str) -> list[Arguments]:
         """A list of objects, empty where it is left out."""
         members = self.members.get(name)
         if members is None:
@@ -75,7 +75,7 @@ class Arguments:
             raise self.wrong(name, "a list")
         return [Arguments(member, name) for member in members]
 
-    def texts(self, name: str) -> List[str]:
+    def texts(self, name: str) -> list[str]:
         """A list of strings, empty where it is left out."""
         members = self.members.get(name)
         if members is None:

@@ -2,7 +2,8 @@
 from __future__ import annotations
 
 import os
-from typing import Any, Callable, Dict, List, NamedTuple, Set
+from collections.abc import Callable
+from typing import Any, NamedTuple
 
 from rewind_client.breakpoints import NoPlace, place_of
 from rewind_client.session import Session
@@ -10,7 +11,7 @@ from rewind_client.session import Session
 from .arguments import Arguments
 from .conditions import Condition, condition_of
 
-Body = Dict[str, Any]
+Body = dict[str, Any]
 
 
 class Wish(NamedTuple):
@@ -35,18 +36,18 @@ class Breakpoints:
         self.first_line = first_line
         self.tell = tell
         self.last_number = 0
-        self.wishes: Dict[int, List[Wish]] = {}
-        self.functions: Dict[int, List[Wish]] = {}
-        self.by_command: Dict[int, int] = {}
+        self.wishes: dict[int, list[Wish]] = {}
+        self.functions: dict[int, list[Wish]] = {}
+        self.by_command: dict[int, int] = {}
 
-    def lines(self) -> Set[int]:
+    def lines(self) -> set[int]:
         return set(self.wishes) | set(self.functions) | set(self.by_command)
 
-    def on(self, line: int) -> List[Wish]:
+    def on(self, line: int) -> list[Wish]:
         """What the editor wants on a line."""
         return self.wishes.get(line, []) + self.functions.get(line, [])
 
-    def conditions(self, line: int) -> List[Condition]:
+    def conditions(self, line: int) -> list[Condition]:
         """When the breakpoints on a line stop; none where only a command has set one."""
         return [wish.condition for wish in self.on(line)]
 
@@ -54,11 +55,11 @@ class Breakpoints:
         """Whether a path is that of the program."""
         return os.path.realpath(path) == os.path.realpath(str(self.described["path"]))
 
-    def numbers(self, line: int) -> List[int]:
+    def numbers(self, line: int) -> list[int]:
         """The numbers of the breakpoints on a line."""
         return [wish.number for wish in self.on(line)] or [self.by_command[line]]
 
-    def replace(self, path: str, wanted: List[Arguments]) -> List[Body]:
+    def replace(self, path: str, wanted: list[Arguments]) -> list[Body]:
         """Sets the breakpoints of a source in place of those before.
 
         One of a command that the editor has come to name is the editor's from then on.
@@ -72,7 +73,7 @@ class Breakpoints:
         self.bring_up_to_date(before)
         return bodies
 
-    def replace_functions(self, wanted: List[Arguments]) -> List[Body]:
+    def replace_functions(self, wanted: list[Arguments]) -> list[Body]:
         """Sets the breakpoints at the first statements of functions in place of those before."""
         before = self.lines()
         self.functions = {}
@@ -80,7 +81,7 @@ class Breakpoints:
         self.bring_up_to_date(before)
         return bodies
 
-    def bring_up_to_date(self, before: Set[int]) -> None:
+    def bring_up_to_date(self, before: set[int]) -> None:
         """Tells Rewind which lines have come and gone."""
         for line in [*self.wishes, *self.functions]:
             self.by_command.pop(line, None)
@@ -131,7 +132,7 @@ class Breakpoints:
 
     # By commands.
 
-    def note_command(self, words: List[str]) -> None:
+    def note_command(self, words: list[str]) -> None:
         """Takes account of a breakpoint that a command of the user has set or removed, and tells the editor."""
         line = int(words[1])
         if words[0] == "break" and line not in self.lines():
@@ -173,7 +174,7 @@ class Breakpoints:
             self.functions.setdefault(place, []).append(wish._replace(line=place))
             self.tell({"reason": "changed", "breakpoint": self.placed(wish.number, place, place)})
 
-    def between(self, path: str, first: int, last: int) -> List[Body]:
+    def between(self, path: str, first: int, last: int) -> list[Body]:
         """The places on some lines where a breakpoint can stand."""
         if not self.is_here(path):
             return []

@@ -2,7 +2,8 @@
 from __future__ import annotations
 
 import re
-from typing import Callable, Optional, Union
+from collections.abc import Callable
+from typing import Optional, Union
 
 from rewind_client.expressions import evaluated, fault_of_condition
 from rewind_client.program import Program

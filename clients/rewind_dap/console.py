@@ -1,7 +1,8 @@
 """The debug console: commands of Rewind, words of the shell, and values."""
 from __future__ import annotations
 
-from typing import TYPE_CHECKING, Any, Callable, Dict, List, Optional
+from collections.abc import Callable
+from typing import TYPE_CHECKING, Any, Optional
 
 from rewind_client.breakpoints import place_of
 from rewind_client.core import MOVING, with_plain_blanks, words_of
@@ -22,7 +23,7 @@ from .workers import work
 if TYPE_CHECKING:
     from .adapter import Adapter
 
-Body = Dict[str, Any]
+Body = dict[str, Any]
 
 
 class Console:
@@ -32,7 +33,7 @@ class Console:
         self.adapter = adapter
         self.words = Words(adapter)
 
-    def handlers(self) -> Dict[str, Callable[[Arguments], Optional[Body]]]:
+    def handlers(self) -> dict[str, Callable[[Arguments], Optional[Body]]]:
         return {"evaluate": self.evaluate, "completions": self.completions}
 
     def evaluate(self, arguments: Arguments) -> Body:
@@ -77,7 +78,7 @@ class Console:
             return said("\n".join(reply))
         return self.word(debuggee, words, frame) or self.not_understood(debuggee, text, words, frame, reply)
 
-    def word(self, debuggee: Debuggee, words: List[str], frame: int) -> Optional[Body]:
+    def word(self, debuggee: Debuggee, words: list[str], frame: int) -> Optional[Body]:
         """The answer to a word of the shell: in full, or by its abbreviation where no variable has that name."""
         meant = meant_words(words)
         name = meant[0]
@@ -88,7 +89,7 @@ class Console:
             return said(answer)
         return self.typed(" ".join(meant), frame) if words[0] != name else None
 
-    def not_understood(self, debuggee: Debuggee, text: str, words: List[str], frame: int, reply: List[str]) -> Body:
+    def not_understood(self, debuggee: Debuggee, text: str, words: list[str], frame: int, reply: list[str]) -> Body:
         """A variable or an expression; else the reply of Rewind, with a hint."""
         if frame and (len(words) == 1 or self.has_value(debuggee, text, frame)):
             return self.value(debuggee, text, frame)
@@ -105,7 +106,7 @@ class Console:
             reply = reply + [f"The breakpoint is on line {found.line}: {debuggee.session.program.line(found.line)}"]
         return said("\n".join(reply))
 
-    def after_command(self, debuggee: Debuggee, words: List[str], last: str) -> None:
+    def after_command(self, debuggee: Debuggee, words: list[str], last: str) -> None:
         """What follows from a command that was done."""
         if words[0] == "quit":
             self.adapter.later.append(self.adapter.gone)

@@ -1,7 +1,8 @@
 """A program that was launched, with all that is kept of it."""
 from __future__ import annotations
 
-from typing import Any, Callable, Dict, List, Optional, Set
+from collections.abc import Callable
+from typing import Any, Optional
 
 from rewind_client.session import Session
 from rewind_client.watched import Watched
@@ -19,13 +20,13 @@ class Debuggee:
     """
 
     def __init__(
-        self, launch: Launch, session: Session, first_line: int, first_column: int, tell: Callable[[Dict[str, Any]], None]
+        self, launch: Launch, session: Session, first_line: int, first_column: int, tell: Callable[[dict[str, Any]], None]
     ) -> None:
         """The two numbers are those that the editor gives the first line and the first column; `tell` is told of breakpoints."""
         self.launch = launch
         self.first_line, self.first_column = first_line, first_column
         self.breakpoints = Breakpoints(session, described(launch.path), first_line, tell)
-        self.watches: Dict[Watched, int] = {}
+        self.watches: dict[Watched, int] = {}
         self.begin(session, 0)
 
     def begin(self, session: Session, last_number: int) -> None:
@@ -34,12 +35,12 @@ class Debuggee:
         self.view = View(session, described(self.launch.path), (self.first_line, self.first_column), last_number)
         self.focus = "g0"
         self.fault: Optional[Stop] = None
-        self.printed: List[str] = []
+        self.printed: list[str] = []
         self.printed_at = 0
         self.told = 0.0
-        self.alive: Set[str] = set()
+        self.alive: set[str] = set()
         self.granted = 0
-        self.targets: Dict[int, str] = {}
+        self.targets: dict[int, str] = {}
         self.has_warned = False
 
     def begin_anew(self, launch: Launch, session: Session) -> None:
@@ -48,7 +49,7 @@ class Debuggee:
         self.begin(session, self.view.last_number)
         self.breakpoints.begin_anew(session)
 
-    def watched(self) -> List[Watched]:
+    def watched(self) -> list[Watched]:
         return list(self.watches)
 
     def rest(self) -> None:

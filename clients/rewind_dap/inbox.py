@@ -3,7 +3,7 @@ from __future__ import annotations
 
 from collections import deque
 from threading import Condition
-from typing import Deque, Generic, Optional, Tuple, TypeVar
+from typing import Generic, Optional, TypeVar
 
 MOST_MESSAGES = 64
 MOST_BYTES = 32 * 1024 * 1024
@@ -15,7 +15,7 @@ class Inbox(Generic[Item]):
     """A queue between the thread that reads and the one that answers."""
 
     def __init__(self) -> None:
-        self.items: Deque[Tuple[Item, int]] = deque()
+        self.items: deque[tuple[Item, int]] = deque()
         self.bytes = 0
         self.changed = Condition()
 

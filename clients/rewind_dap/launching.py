@@ -2,7 +2,8 @@
 from __future__ import annotations
 
 import os
-from typing import Any, Callable, Dict, List, NamedTuple, Optional
+from collections.abc import Callable
+from typing import Any, NamedTuple, Optional
 
 from rewind_client import finding
 from rewind_client.opening import open_session
@@ -40,10 +41,10 @@ def launch_of(arguments: Arguments, chosen: Optional[str]) -> Launch:
 
 def start(launch: Launch, cancelled: Callable[[], bool], journal: Callable[[str], None]) -> Session:
     """A session on the program; the second session that it may begin has no workers."""
-    options: List[str] = ["--workers", str(launch.workers)] if launch.workers else []
+    options: list[str] = ["--workers", str(launch.workers)] if launch.workers else []
     return open_session(launch.rewind, launch.path, launch.timeout, cancelled, journal, options)
 
 
-def described(path: str) -> Dict[str, Any]:
+def described(path: str) -> dict[str, Any]:
     """A source as the protocol describes it."""
     return {"name": os.path.basename(path), "path": path}

@@ -1,7 +1,8 @@
 """Requests that begin a program, begin it anew, and end it."""
 from __future__ import annotations
 
-from typing import TYPE_CHECKING, Any, Callable, Dict, Optional
+from collections.abc import Callable
+from typing import TYPE_CHECKING, Any, Optional
 
 from rewind_client.errors import RewindError, SourceRefused
 from rewind_client.program import read_program
@@ -17,7 +18,7 @@ from .stops import Stop
 if TYPE_CHECKING:
     from .adapter import Adapter
 
-Body = Dict[str, Any]
+Body = dict[str, Any]
 
 
 class Lives:
@@ -26,7 +27,7 @@ class Lives:
     def __init__(self, adapter: Adapter) -> None:
         self.adapter = adapter
 
-    def handlers(self) -> Dict[str, Callable[[Arguments], Optional[Body]]]:
+    def handlers(self) -> dict[str, Callable[[Arguments], Optional[Body]]]:
         return {
             "launch": self.launch,
             "attach": self.attach,

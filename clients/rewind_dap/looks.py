@@ -2,7 +2,8 @@
 from __future__ import annotations
 
 import re
-from typing import TYPE_CHECKING, Any, Callable, Dict, List, Optional, TypeVar
+from collections.abc import Callable
+from typing import TYPE_CHECKING, Any, Optional, TypeVar
 
 from rewind_client.explanations import explain
 from rewind_client.names import is_channel, is_goroutine
@@ -16,7 +17,7 @@ from .debuggee import Debuggee
 if TYPE_CHECKING:
     from .adapter import Adapter
 
-Body = Dict[str, Any]
+Body = dict[str, Any]
 Part = TypeVar("Part")
 
 MAX_COMMAND = 1_048_576
@@ -29,7 +30,7 @@ class Looks:
     def __init__(self, adapter: Adapter) -> None:
         self.adapter = adapter
 
-    def handlers(self) -> Dict[str, Callable[[Arguments], Optional[Body]]]:
+    def handlers(self) -> dict[str, Callable[[Arguments], Optional[Body]]]:
         return {
             "setBreakpoints": self.set_breakpoints,
             "setFunctionBreakpoints": self.set_function_breakpoints,
@@ -129,7 +130,7 @@ class Looks:
         return {"steps": portion(bodies, arguments, "start", "count"), "total": len(entries)}
 
 
-def watched(data: str, access: str) -> List[Watched]:
+def watched(data: str, access: str) -> list[Watched]:
     """What a data breakpoint is about, by the name that `dataBreakpointInfo` gave it; nothing where it is no such name."""
     words = data.split(" ")
     if len(words) == 2 and is_goroutine(words[0]) and words[1].isidentifier():
@@ -138,7 +139,7 @@ def watched(data: str, access: str) -> List[Watched]:
     return [ChannelWatch(data, way) for way in ways.get(access, [])] if is_channel(data) else []
 
 
-def portion(members: List[Part], arguments: Arguments, start: str, count: str) -> List[Part]:
+def portion(members: list[Part], arguments: Arguments, start: str, count: str) -> list[Part]:
     """The part of a list that a request wants: all where the count is 0 or left out."""
     first = arguments.number(start, 0)
     number = arguments.number(count, 0)

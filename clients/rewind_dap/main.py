@@ -4,7 +4,6 @@ from __future__ import annotations
 import argparse
 import os
 import sys
-from typing import List
 
 from rewind_client.errors import RewindError
 from rewind_client.finding import find_rewind
@@ -16,7 +15,7 @@ from .transport import standard_streams
 FAILED = 1
 
 
-def arguments(words: List[str]) -> argparse.Namespace:
+def arguments(words: list[str]) -> argparse.Namespace:
     parser = argparse.ArgumentParser(
         prog="rewind-dap", description="A Debug Adapter Protocol server for Rewind, on standard input and output."
     )
@@ -28,7 +27,7 @@ def arguments(words: List[str]) -> argparse.Namespace:
     return parser.parse_args(words)
 
 
-def main(words: List[str]) -> int:
+def main(words: list[str]) -> int:
     given = arguments(words)
     try:
         if given.version:

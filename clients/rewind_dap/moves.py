@@ -1,7 +1,8 @@
 """Requests that move the program, forward or back."""
 from __future__ import annotations
 
-from typing import TYPE_CHECKING, Any, Callable, Dict, List, Optional
+from collections.abc import Callable
+from typing import TYPE_CHECKING, Any, Optional
 
 from rewind_client import motion
 from rewind_client.frames import first_step_of_frame
@@ -18,7 +19,7 @@ from .stops import Stop, end, step_back, taken
 if TYPE_CHECKING:
     from .adapter import Adapter
 
-Body = Dict[str, Any]
+Body = dict[str, Any]
 INSTRUCTION = "instruction"
 
 
@@ -28,7 +29,7 @@ class Moves:
     def __init__(self, adapter: Adapter) -> None:
         self.adapter = adapter
 
-    def handlers(self) -> Dict[str, Callable[[Arguments], Optional[Body]]]:
+    def handlers(self) -> dict[str, Callable[[Arguments], Optional[Body]]]:
         return {
             "continue": self.go_on,
             "next": lambda arguments: self.along(self.goroutine(arguments), motion.next_line, leaves=True),
@@ -99,7 +100,7 @@ class Moves:
             raise BadRequest(f"there is no target {arguments.number('targetId')}")
         self.take_back(debuggee, "goto", step_owner(step), step)
 
-    def take_back(self, debuggee: Debuggee, reason: str, goroutine: str, target: str) -> List[str]:
+    def take_back(self, debuggee: Debuggee, reason: str, goroutine: str, target: str) -> list[str]:
         """Takes a step back with its consequences, and shows a goroutine."""
         names = debuggee.session.back(target)
         self.adapter.stop_at(taken("Took back", names, goroutine)._replace(reason=reason))
@@ -118,7 +119,7 @@ class Moves:
         debuggee = self.adapter.stopped_debuggee()
         return self.answer(debuggee, "Took again", debuggee.session.redo(), -1)
 
-    def answer(self, debuggee: Debuggee, did: str, names: List[str], shown: int) -> Body:
+    def answer(self, debuggee: Debuggee, did: str, names: list[str], shown: int) -> Body:
         """Answers with the steps that went or came; the editor is shown the goroutine of one of them."""
         stop = taken(did, names, step_owner(names[shown]) if names else debuggee.focus)
         self.adapter.stop_at(end(debuggee.session) if debuggee.session.stopped_by() else stop)

@@ -2,7 +2,8 @@
 from __future__ import annotations
 
 import re
-from typing import TYPE_CHECKING, Any, Callable, Dict, List, Optional
+from collections.abc import Callable
+from typing import TYPE_CHECKING, Any, Optional
 
 from rewind_client.motion import last_at_line
 from rewind_client.names import CHANNEL, is_channel, step_owner
@@ -14,7 +15,7 @@ from .debuggee import Debuggee
 if TYPE_CHECKING:
     from .adapter import Adapter
 
-Body = Dict[str, Any]
+Body = dict[str, Any]
 
 MAX_OFFERS = 50
 # A channel as lists and the console name it: `jobs (g0/c1)`, or `g0/c1`.
@@ -29,7 +30,7 @@ class Offers:
     def __init__(self, adapter: Adapter) -> None:
         self.adapter = adapter
 
-    def handlers(self) -> Dict[str, Callable[[Arguments], Optional[Body]]]:
+    def handlers(self) -> dict[str, Callable[[Arguments], Optional[Body]]]:
         return {
             "stepInTargets": self.step_in_targets,
             "gotoTargets": self.goto_targets,
@@ -41,10 +42,10 @@ class Offers:
         debuggee = self.adapter.stopped_debuggee()
         goroutine = debuggee.view.place(arguments.number("frameId")).goroutine
         clauses = debuggee.session.program.selects.get(goroutine.line, [])
-        ready: List[int] = []
+        ready: list[int] = []
         if clauses and goroutine.state is State.READY and not debuggee.session.stopped_by():
             ready = debuggee.session.ready_clauses(goroutine.name, len(clauses))
-        targets: List[Body] = [{"id": ONE_STEP, "label": "one step"}]
+        targets: list[Body] = [{"id": ONE_STEP, "label": "one step"}]
         for number in ready:
             clause = clauses[number - 1]
             label = f"case {number}: {clause.text.replace('case ', '', 1)}"

@@ -1,7 +1,8 @@
 """Runs to a breakpoint that is hit, or to where a variable is given a value."""
 from __future__ import annotations
 
-from typing import TYPE_CHECKING, Callable
+from collections.abc import Callable
+from typing import TYPE_CHECKING
 
 from rewind_client import motion
 from rewind_client.motion import StopReason

@@ -1,7 +1,8 @@
 """Why a program stopped, in the words of the protocol and for the user."""
 from __future__ import annotations
 
-from typing import AbstractSet, Generator, List, NamedTuple, Optional
+from collections.abc import Generator
+from typing import AbstractSet, NamedTuple, Optional
 
 from rewind_client import motion
 from rewind_client.endings import Ending, fates_of
@@ -127,7 +128,7 @@ def step_back(session: Session, goroutine: Goroutine, whole: bool) -> Motion:
     return taken("Took back", session.back(step), goroutine.name)
 
 
-def taken(did: str, names: List[str], goroutine: str) -> Stop:
+def taken(did: str, names: list[str], goroutine: str) -> Stop:
     """Steps were taken back or again, in words: all of them where they are few, else how many more there are."""
     number = f"{did} {len(names)} {'step' if len(names) == 1 else 'steps'}"
     listed = " ".join(names[:LISTED]) + (" .." if len(names) > LISTED else "")

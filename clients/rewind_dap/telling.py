@@ -2,7 +2,7 @@
 from __future__ import annotations
 
 import time
-from typing import TYPE_CHECKING, Any, Dict, List
+from typing import TYPE_CHECKING, Any
 
 from rewind_client.core import Refused
 from rewind_client.errors import RewindError
@@ -40,17 +40,17 @@ def tell_output(adapter: Adapter, debuggee: Debuggee) -> None:
             adapter.say(category, text)
 
 
-def tell_printed(adapter: Adapter, debuggee: Debuggee, lines: List[str]) -> None:
+def tell_printed(adapter: Adapter, debuggee: Debuggee, lines: list[str]) -> None:
     """Tells printed lines, each with the place of its statement where that is known."""
     places = statements_of(debuggee)[-len(lines) :] or [0] * len(lines)
     for piece in pieces(lines, places):
-        body: Dict[str, Any] = {"category": "stdout", "output": piece.text}
+        body: dict[str, Any] = {"category": "stdout", "output": piece.text}
         if piece.line:
             body.update({"source": described(debuggee.launch.path), "line": piece.line + debuggee.first_line - 1})
         adapter.event("output", body)
 
 
-def statements_of(debuggee: Debuggee) -> List[int]:
+def statements_of(debuggee: Debuggee) -> list[int]:
     """The line of the statement of each printed line; none where they are not all known."""
     try:
         is_noted = len(debuggee.session.log()) <= NOTED

@@ -1,7 +1,8 @@
 """What the console of an editor is told of the lines that a program printed."""
 from __future__ import annotations
 
-from typing import Iterator, List, NamedTuple, Sequence, Tuple
+from collections.abc import Iterator, Sequence
+from typing import NamedTuple
 
 from rewind_client.printed import change
 
@@ -17,7 +18,7 @@ class Piece(NamedTuple):
     line: int
 
 
-def changes_in_words(before: List[str], now: List[str]) -> Iterator[Tuple[str, str]]:
+def changes_in_words(before: list[str], now: list[str]) -> Iterator[tuple[str, str]]:
     """What to write in the console of an editor, which can't take lines back: categories of the protocol, with text."""
     found = change(before, now)
     if found.added:
@@ -28,7 +29,7 @@ def changes_in_words(before: List[str], now: List[str]) -> Iterator[Tuple[str, s
         yield "console", "\n".join(["The printed lines stand in another order now:"] + first_lines(now))
 
 
-def first_lines(lines: List[str]) -> List[str]:
+def first_lines(lines: list[str]) -> list[str]:
     """No more than MAX_LINES of some lines, with a word for the others."""
     left_out = len(lines) - MAX_LINES
     return lines[:MAX_LINES] + [f"(and {left_out} lines more)"] if left_out > 0 else lines

@@ -9,7 +9,7 @@ import json
 import os
 import re
 import threading
-from typing import Any, BinaryIO, Dict, NamedTuple, Optional, Union
+from typing import Any, BinaryIO, NamedTuple, Optional, Union
 
 from .inbox import Inbox
 
@@ -23,7 +23,7 @@ FIELD = re.compile(rb"[A-Za-z-]+:[^\r\n]*\r?\n\Z")
 LENGTH_NAME = re.compile(rb"content-length:", re.IGNORECASE)
 LENGTH = re.compile(rb"content-length:[ \t]*([0-9]{1,18})[ \t]*\r?\n\Z", re.IGNORECASE)
 
-Message = Dict[str, Any]
+Message = dict[str, Any]
 
 
 class Malformed(NamedTuple):

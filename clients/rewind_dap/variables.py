@@ -1,7 +1,8 @@
 """Variables, goroutines and channels as lists that an editor opens, by the numbers that the protocol wants."""
 from __future__ import annotations
 
-from typing import Any, Callable, Dict, List, Sequence, Tuple, TypeVar
+from collections.abc import Callable, Sequence
+from typing import Any, TypeVar
 
 from rewind_client.names import is_channel
 from rewind_client.replies import Channel, Goroutine, Variable, Waiter
@@ -9,7 +10,7 @@ from rewind_client.session import Session
 
 from .arguments import BadRequest
 
-Body = Dict[str, Any]
+Body = dict[str, Any]
 Member = TypeVar("Member")
 
 MAX_SHOWN = 1000
@@ -21,21 +22,21 @@ class Variables:
     def __init__(self, session: Session, next_number: Callable[[], int]) -> None:
         self.session = session
         self.next_number = next_number
-        self.children: Dict[int, Callable[[], List[Body]]] = {}
+        self.children: dict[int, Callable[[], list[Body]]] = {}
         # Lists of which an editor asks for a part: how many members, and one of them.
-        self.indexed: Dict[int, Tuple[int, Callable[[int], Body]]] = {}
+        self.indexed: dict[int, tuple[int, Callable[[int], Body]]] = {}
 
-    def reference(self, children: Callable[[], List[Body]]) -> int:
+    def reference(self, children: Callable[[], list[Body]]) -> int:
         number = self.next_number()
         self.children[number] = children
         return number
 
-    def children_of(self, number: int) -> List[Body]:
+    def children_of(self, number: int) -> list[Body]:
         if number not in self.children:
             raise BadRequest(f"there are no variables {number} in the present state")
         return self.children[number]()
 
-    def part_of(self, number: int, wanted: str, start: int, count: int) -> List[Body]:
+    def part_of(self, number: int, wanted: str, start: int, count: int) -> list[Body]:
         """The members of a list that are wanted: the `indexed` ones, the `named` ones, or all; from a place on, 0 is all of them."""
         if number in self.indexed:
             length, show = self.indexed[number]
@@ -49,15 +50,15 @@ class Variables:
         bodies = self.children_of(number)
         return bodies[start : start + count] if count else bodies[start:]
 
-    def scope(self, name: str, expensive: bool, children: Callable[[], List[Body]], hint: str = "") -> Body:
+    def scope(self, name: str, expensive: bool, children: Callable[[], list[Body]], hint: str = "") -> Body:
         body = {"name": name, "variablesReference": self.reference(children), "expensive": expensive}
         return {**body, "presentationHint": hint} if hint else body
 
     # What a scope holds.
 
-    def of_frame(self, variables: Sequence[Variable]) -> List[Body]:
+    def of_frame(self, variables: Sequence[Variable]) -> list[Body]:
         """The variables of a frame; one whose name is there before is told with a count."""
-        told: Dict[str, int] = {}
+        told: dict[str, int] = {}
         bodies = []
         for variable in variables:
             told[variable.name] = count = told.get(variable.name, 0) + 1
@@ -65,13 +66,13 @@ class Variables:
             bodies.append(self.variable(name, variable.value))
         return bodies
 
-    def of_goroutine(self, goroutine: Goroutine) -> List[Body]:
+    def of_goroutine(self, goroutine: Goroutine) -> list[Body]:
         last = goroutine.last_step if goroutine.steps else "none"
         state, steps = goroutine.state.value, str(goroutine.steps)
         pairs = (("name", goroutine.name), ("state", state), ("steps", steps), ("last step", last))
         return [plain(name, value) for name, value in pairs]
 
-    def of_channels(self) -> List[Body]:
+    def of_channels(self) -> list[Body]:
         """All channels, each by the name that the source has for it."""
         return [self.variable(self.session.name_of(it.name), it.name) for it in self.session.channels()[:MAX_SHOWN]]
 
@@ -86,7 +87,7 @@ class Variables:
     def opened(self, channel: Channel) -> Body:
         return {"value": channel_in_words(channel), "variablesReference": self.reference(lambda: self.of_channel(channel))}
 
-    def of_channel(self, channel: Channel) -> List[Body]:
+    def of_channel(self, channel: Channel) -> list[Body]:
         return [
             {**plain("capacity", str(channel.capacity)), "type": "int"},
             plain("state", state_of(channel)),
@@ -110,7 +111,7 @@ class Variables:
             body["variablesReference"] = self.reference(lambda: self.of_list(members, show))
         return body
 
-    def of_list(self, members: Sequence[Member], show: Callable[[int, Member], Body]) -> List[Body]:
+    def of_list(self, members: Sequence[Member], show: Callable[[int, Member], Body]) -> list[Body]:
         bodies = [show(place, member) for place, member in enumerate(members[:MAX_SHOWN])]
         left_out = len(members) - MAX_SHOWN
         return bodies + [plain("..", f"{left_out} more")] if left_out > 0 else bodies

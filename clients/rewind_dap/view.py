@@ -4,7 +4,7 @@ Everything is asked of Rewind when an editor wants it, and kept until a step is 
 """
 from __future__ import annotations
 
-from typing import Any, Dict, List, NamedTuple, Optional, Tuple
+from typing import Any, NamedTuple, Optional
 
 from rewind_client.core import Refused
 from rewind_client.errors import ProcessError
@@ -14,7 +14,7 @@ from rewind_client.session import Session
 from .arguments import BadRequest
 from .variables import Variables
 
-Body = Dict[str, Any]
+Body = dict[str, Any]
 
 MAX_THREADS = 1000
 
@@ -27,7 +27,7 @@ class FramePlace(NamedTuple):
 class View:
     """Threads, frames and variables, by the numbers that the protocol wants."""
 
-    def __init__(self, session: Session, described: Body, first: Tuple[int, int], last_number: int) -> None:
+    def __init__(self, session: Session, described: Body, first: tuple[int, int], last_number: int) -> None:
         """`described` is the source as the protocol describes it, `first` how the editor counts lines and columns.
 
         The numbers up to `last_number` were given before.
@@ -35,8 +35,8 @@ class View:
         self.session = session
         self.described = described
         self.first_line, self.first_column = first
-        self.names: List[str] = []
-        self.numbers: Dict[str, int] = {}
+        self.names: list[str] = []
+        self.numbers: dict[str, int] = {}
         self.last_number = last_number
         self.seen = -1
         self.forget()
@@ -44,10 +44,10 @@ class View:
     def forget(self) -> None:
         """Drops the numbers that were given before the last step."""
         self.seen = self.session.version
-        self.lines: Dict[str, List[int]] = {}
-        self.frames: Dict[int, FramePlace] = {}
+        self.lines: dict[str, list[int]] = {}
+        self.frames: dict[int, FramePlace] = {}
         # The goroutine of each list of variables of a frame.
-        self.owners: Dict[int, str] = {}
+        self.owners: dict[int, str] = {}
         self.values = Variables(self.session, self.next_number)
 
     def renew(self) -> None:
@@ -73,14 +73,14 @@ class View:
                     self.numbers[name] = len(self.names)
         return self.numbers[goroutine]
 
-    def names_now(self) -> List[str]:
+    def names_now(self) -> list[str]:
         """The names of the goroutines that are listed; none where Rewind refuses to tell them."""
         try:
             return self.listed("g0")
         except Refused:
             return []
 
-    def listed(self, focus: str) -> List[str]:
+    def listed(self, focus: str) -> list[str]:
         """The goroutines that are told: the first MAX_THREADS, and the one that is looked at, if it is there."""
         names = self.session.goroutine_names()
         first = names[:MAX_THREADS]
@@ -94,17 +94,17 @@ class View:
             raise BadRequest(f"there is no thread {thread}")
         return goroutine
 
-    def threads(self, focus: str) -> List[Body]:
+    def threads(self, focus: str) -> list[Body]:
         goroutines = self.session.goroutines(self.listed(focus))
         return [{"id": self.thread_number(one.name), "name": thread_name(one)} for one in goroutines]
 
     # Frames.
 
-    def places(self, goroutine: Goroutine) -> List[FramePlace]:
+    def places(self, goroutine: Goroutine) -> list[FramePlace]:
         """The frames of a goroutine, the innermost first; one that is done has one that says so."""
         return [FramePlace(goroutine, depth) for depth in range(max(1, len(goroutine.frames)))]
 
-    def stack(self, places: List[FramePlace]) -> List[Body]:
+    def stack(self, places: list[FramePlace]) -> list[Body]:
         """Some frames of a goroutine, as the protocol tells them."""
         self.renew()
         return [self.outer_frame(place) if place.depth else self.inner_frame(place) for place in places]
@@ -125,7 +125,7 @@ class View:
             return self.frame(place, function, line, "normal")
         return self.frame(place, function + " (line not known)", self.session.program.heading(function), "subtle")
 
-    def lines_of(self, goroutine: Goroutine) -> List[int]:
+    def lines_of(self, goroutine: Goroutine) -> list[int]:
         """The line of each frame, the innermost first; 0 where it can't be told."""
         try:
             return [place.line for place in self.session.places(goroutine)]
@@ -158,13 +158,13 @@ class View:
         place = self.place(number)
         return place.goroutine.frames[place.depth] if place.goroutine.frames else None
 
-    def variables_of(self, place: FramePlace) -> Tuple[Variable, ...]:
+    def variables_of(self, place: FramePlace) -> tuple[Variable, ...]:
         frames = place.goroutine.frames
         return frames[place.depth].variables if frames else ()
 
     # Scopes and variables.
 
-    def scopes(self, number: int) -> List[Body]:
+    def scopes(self, number: int) -> list[Body]:
         place = self.place(number)
         values = self.values
         variables = values.scope("Variables", False, lambda: values.of_frame(self.variables_of(place)), "locals")
@@ -180,7 +180,7 @@ class View:
         self.renew()
         return self.values
 
-    def of_frame(self, number: int) -> List[Body]:
+    def of_frame(self, number: int) -> list[Body]:
         """The variables of the frame of a number."""
         return self.values.of_frame(self.variables_of(self.place(number)))
 

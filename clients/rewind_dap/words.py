@@ -1,7 +1,8 @@
 """Words of the shell in the console of an editor: they look, or move the program."""
 from __future__ import annotations
 
-from typing import TYPE_CHECKING, Callable, Dict, List, Optional
+from collections.abc import Callable
+from typing import TYPE_CHECKING, Optional
 
 from rewind_client import motion
 from rewind_client.breakpoints import place_of
@@ -26,7 +27,7 @@ if TYPE_CHECKING:
 MAX_STEPS = 1_000_000
 
 # A movement of a goroutine of the program, with the words that came behind its name.
-Moving = Callable[[Debuggee, Goroutine, List[str]], None]
+Moving = Callable[[Debuggee, Goroutine, list[str]], None]
 
 
 class Words:
@@ -34,7 +35,7 @@ class Words:
 
     def __init__(self, adapter: Adapter) -> None:
         self.adapter = adapter
-        self.movements: Dict[str, Moving] = {
+        self.movements: dict[str, Moving] = {
             "step": self.steps,
             "next": lambda debuggee, one, words: self.along(debuggee, one, motion.next_line, leaves=True),
             "finish": lambda debuggee, one, words: self.along(debuggee, one, motion.out_of_frame),
@@ -47,7 +48,7 @@ class Words:
             "restart": lambda debuggee, one, words: self.restart(),
         }
 
-    def obey(self, name: str, words: List[str], chosen: str) -> Optional[str]:
+    def obey(self, name: str, words: list[str], chosen: str) -> Optional[str]:
         """What a word answers, about the chosen goroutine; None where it is no such word."""
         why = too_many(name, words)
         if why:
@@ -75,13 +76,13 @@ class Words:
     def restart(self) -> None:
         self.adapter.handlers["restart"](Arguments({}))
 
-    def steps(self, debuggee: Debuggee, goroutine: Goroutine, words: List[str]) -> None:
+    def steps(self, debuggee: Debuggee, goroutine: Goroutine, words: list[str]) -> None:
         wanted = words[0] if words else "1"
         if len(words) > 1 or not wanted.isdigit() or not 0 < int(wanted) <= MAX_STEPS:
             raise BadRequest(HINTS["step"])
         self.along(debuggee, goroutine, lambda session, one, lines, hit: motion.some_steps(session, one.name, int(wanted)))
 
-    def until(self, debuggee: Debuggee, goroutine: Goroutine, words: List[str]) -> None:
+    def until(self, debuggee: Debuggee, goroutine: Goroutine, words: list[str]) -> None:
         if len(words) != 1 or not words[0].isdigit():
             raise BadRequest("until wants a line: until 12")
         wanted = place_of(debuggee.session.program, words[0]).line
@@ -90,12 +91,12 @@ class Words:
     def along(self, debuggee: Debuggee, goroutine: Goroutine, how: How, leaves: bool = False) -> None:
         self.adapter.begin(along(debuggee, goroutine, self.adapter.say, how, leaves))
 
-    def back(self, debuggee: Debuggee, goroutine: Goroutine, words: List[str]) -> None:
+    def back(self, debuggee: Debuggee, goroutine: Goroutine, words: list[str]) -> None:
         """`back LINE` and `back var X`; the other forms are commands of Rewind."""
         names = debuggee.session.back(target_of(debuggee, goroutine.name, words))
         self.adapter.stop_at(taken("Took back", names, goroutine.name))
 
-    def load(self, debuggee: Debuggee, goroutine: Goroutine, words: List[str]) -> None:
+    def load(self, debuggee: Debuggee, goroutine: Goroutine, words: list[str]) -> None:
         """Takes the commands of a script."""
         if not words:
             raise BadRequest("load wants a file: load session.script")
@@ -115,19 +116,19 @@ class Words:
 
     # Looks.
 
-    def looking(self, desk: Answer) -> Dict[str, Callable[[List[str]], None]]:
+    def looking(self, desk: Answer) -> dict[str, Callable[[list[str]], None]]:
         own = {"preview": lambda words: preview(desk, words), "save": lambda words: save(desk, words)}
         return {**Looking(desk).handlers(), **own}
 
 
-def preview(desk: Answer, words: List[str]) -> None:
+def preview(desk: Answer, words: list[str]) -> None:
     """The steps that `back` would take back."""
     target = target_of(desk.debuggee, desk.chosen, words)
     names = desk.session.preview(target)
     desk.screen.say(f"'back {target}' would take back {len(names)} steps: {' '.join(names)}")
 
 
-def save(desk: Answer, words: List[str]) -> None:
+def save(desk: Answer, words: list[str]) -> None:
     """Writes the commands that changed the session to a file."""
     if not words:
         raise BadRequest("save wants a file: save session.script")
@@ -135,7 +136,7 @@ def save(desk: Answer, words: List[str]) -> None:
     desk.screen.say(f"{len(desk.session.core.given)} commands are in {' '.join(words)}")
 
 
-def target_of(debuggee: Debuggee, name: str, words: List[str]) -> str:
+def target_of(debuggee: Debuggee, name: str, words: list[str]) -> str:
     """What `back` and `preview` are about: a step, a line where the goroutine was last, or a variable of it."""
     if len(words) == 1 and words[0].isdigit():
         step = motion.last_at_line(debuggee.session, name, int(words[0]))

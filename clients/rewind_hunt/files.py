@@ -4,9 +4,10 @@ from __future__ import annotations
 import os
 import stat
 import sys
+from collections.abc import Iterator, Sequence
 from contextlib import contextmanager
 from tempfile import TemporaryDirectory
-from typing import Iterator, NamedTuple, Sequence
+from typing import NamedTuple
 
 from rewind_client.errors import RewindError
 

@@ -3,11 +3,12 @@ from __future__ import annotations
 
 import signal
 import time
+from collections.abc import Callable, Generator
 from concurrent.futures import ProcessPoolExecutor
 from concurrent.futures.process import BrokenProcessPool
 from contextlib import closing
 from dataclasses import dataclass, field
-from typing import Any, Callable, Dict, Generator, List, NamedTuple, Optional, Pattern, Tuple, Union
+from typing import Any, NamedTuple, Optional, Pattern, Union
 
 from rewind_client.core import Core
 from rewind_client.errors import ProcessError, RewindError
@@ -29,7 +30,7 @@ class Found(NamedTuple):
 
     kind: Kind
     fault: str = ""
-    spots: Tuple[Spot, ...] = ()
+    spots: tuple[Spot, ...] = ()
 
 
 class Row(NamedTuple):
@@ -37,9 +38,9 @@ class Row(NamedTuple):
 
     end: End
     fault: str
-    spots: Tuple[Spot, ...]
+    spots: tuple[Spot, ...]
     leaks: bool
-    lines: Tuple[str, ...]
+    lines: tuple[str, ...]
 
 
 @dataclass(frozen=True)
@@ -54,7 +55,7 @@ class Plan:
     jobs: int = 1
     most_steps: int = 5000
     expected: Optional[Pattern[str]] = None
-    ignored: Tuple[Kind, ...] = ()
+    ignored: tuple[Kind, ...] = ()
     stop: bool = False
 
     def begin(self) -> Core:
@@ -70,10 +71,10 @@ class Hunt:
     """The outcomes of the schedules that were taken."""
 
     plan: Plan
-    outcomes: List[Outcome] = field(default_factory=list)
+    outcomes: list[Outcome] = field(default_factory=list)
     seconds: float = 0.0
     # How many goroutines each schedule that ended left at a spot, where that is the same number for all of them.
-    servers: Optional[Dict[Spot, int]] = None
+    servers: Optional[dict[Spot, int]] = None
     # Whether some of the schedules that ended left other goroutines than the rest.
     has_leaks: bool = False
 
@@ -90,7 +91,7 @@ class Hunt:
 
     # What there is against an outcome.
 
-    def leaks(self, outcome: Outcome) -> Tuple[Spot, ...]:
+    def leaks(self, outcome: Outcome) -> tuple[Spot, ...]:
         """Where an outcome leaves goroutines, but for those that every schedule leaves there."""
         servers = self.servers or {}
         return tuple(spot for spot, number in outcome.left.items() if servers.get(spot) != number)
@@ -100,14 +101,14 @@ class Hunt:
         expected = self.plan.expected
         return bool(expected and outcome.end is End.ENDED and not expected.search("\n".join(outcome.console)))
 
-    def against(self, outcome: Outcome) -> List[Found]:
+    def against(self, outcome: Outcome) -> list[Found]:
         """What there is against an outcome."""
         if outcome.end is not End.ENDED:
             return [Found(ENDS[outcome.end], outcome.fault, outcome.places)]
         found = [Found(Kind.LEAK, spots=(spot,)) for spot in self.leaks(outcome)]
         return found + [Found(Kind.OUTPUT)] * self.is_unexpected(outcome)
 
-    def bad(self, outcome: Outcome) -> List[Found]:
+    def bad(self, outcome: Outcome) -> list[Found]:
         """What there is against an outcome, but for what the user ignores."""
         return [found for found in self.against(outcome) if found.kind not in self.plan.ignored]
 
@@ -120,18 +121,18 @@ class Hunt:
 
     # All of them.
 
-    def groups(self) -> Dict[Found, List[Outcome]]:
+    def groups(self) -> dict[Found, list[Outcome]]:
         """The bad outcomes by what there is against them, the worst kinds and then the most frequent ones first."""
-        groups: Dict[Found, List[Outcome]] = {}
+        groups: dict[Found, list[Outcome]] = {}
         for outcome in self.outcomes:
             for found in self.bad(outcome):
                 groups.setdefault(found, []).append(outcome)
         order = list(Kind)
         return dict(sorted(groups.items(), key=lambda item: (order.index(item[0].kind), -len(item[1]))))
 
-    def rows(self) -> Dict[Row, List[Outcome]]:
+    def rows(self) -> dict[Row, list[Outcome]]:
         """The outcomes by how they ended and what they printed, whatever the order of the lines; the most frequent ones first."""
-        rows: Dict[Row, List[Outcome]] = {}
+        rows: dict[Row, list[Outcome]] = {}
         for outcome in self.outcomes:
             rows.setdefault(self.row(outcome), []).append(outcome)
         return dict(sorted(rows.items(), key=lambda item: -len(item[1])))
@@ -142,9 +143,9 @@ class Hunt:
             return Row(End.ENDED, "", (), bool(self.leaks(outcome)), tuple(sorted(outcome.console)))
         return Row(outcome.end, outcome.fault, outcome.places, False, ())
 
-    def outputs(self) -> Dict[Tuple[str, ...], List[Outcome]]:
+    def outputs(self) -> dict[tuple[str, ...], list[Outcome]]:
         """The outcomes that ended by the lines that they printed, whatever their order; the most frequent ones first."""
-        found: Dict[Tuple[str, ...], List[Outcome]] = {}
+        found: dict[tuple[str, ...], list[Outcome]] = {}
         for outcome in self.outcomes:
             if outcome.end is End.ENDED:
                 found.setdefault(tuple(sorted(outcome.console)), []).append(outcome)

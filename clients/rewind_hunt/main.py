@@ -2,7 +2,8 @@
 from __future__ import annotations
 
 import sys
-from typing import Iterable, List, Optional, TextIO
+from collections.abc import Iterable
+from typing import Optional, TextIO
 
 from rewind_client.errors import RewindError, SourceRefused
 from rewind_client.program import read_program
@@ -28,7 +29,7 @@ BAR = 30
 TOLD = 3
 
 
-def main(words: List[str]) -> int:
+def main(words: list[str]) -> int:
     try:
         given = wanted(words)
         if given.version:
@@ -82,7 +83,7 @@ class Teller:
         say(["", CHANCE])
         return SOMETHING if bad else OPEN if found.is_open() else NOTHING
 
-    def tell_scripts(self, found: Hunt, report: Report, bad: List[Found]) -> None:
+    def tell_scripts(self, found: Hunt, report: Report, bad: list[Found]) -> None:
         """The commands to what is bad, and where the user wants that to each different output."""
         groups = found.groups()
         told = bad if self.given.full else bad[:TOLD]
@@ -103,7 +104,7 @@ class Teller:
         finally:
             reducer.end()
 
-    def behind(self, reducer: Reducer, report: Report, found: Found, short: Optional[Short], most: int) -> List[str]:
+    def behind(self, reducer: Reducer, report: Report, found: Found, short: Optional[Short], most: int) -> list[str]:
         """The commands to what was found, where to go back, and why the program stands as it does behind them."""
         lines = list(report.in_short(short))
         if short is None:

@@ -4,7 +4,8 @@ from __future__ import annotations
 import argparse
 import os
 import re
-from typing import Callable, List, NamedTuple, NoReturn, Optional, Pattern, Sequence, Tuple
+from collections.abc import Callable, Sequence
+from typing import NamedTuple, NoReturn, Optional, Pattern
 
 from rewind_client.errors import RewindError
 from rewind_client.finding import find_rewind
@@ -39,7 +40,7 @@ class Wanted(NamedTuple):
     jobs: int
     most_steps: int
     expected: Optional[Pattern[str]]
-    ignored: Tuple[Kind, ...]
+    ignored: tuple[Kind, ...]
     stop: bool
     each: bool
     full: bool
@@ -99,7 +100,7 @@ def wanted(words: Sequence[str]) -> Wanted:
     )  # fmt: skip
 
 
-def check_files(files: List[str], script: Optional[str]) -> None:
+def check_files(files: list[str], script: Optional[str]) -> None:
     if not files:
         raise RewindError("name a FILE, or - for standard input; 'rewind-hunt --help' tells how it is used")
     check_names(files)
@@ -116,7 +117,7 @@ def pattern(text: Optional[str]) -> Optional[Pattern[str]]:
         raise RewindError(f"--expect has a pattern that means nothing: {fault}") from None
 
 
-def kinds(text: str) -> Tuple[Kind, ...]:
+def kinds(text: str) -> tuple[Kind, ...]:
     ignored = [word for word in text.split(",") if word]
     unknown = [word for word in ignored if word not in KINDS]
     if unknown:

@@ -2,9 +2,10 @@
 from __future__ import annotations
 
 from collections import Counter
+from collections.abc import Iterable, Sequence
 from dataclasses import dataclass
 from enum import Enum
-from typing import Iterable, List, NamedTuple, Sequence, Tuple
+from typing import NamedTuple
 
 from rewind_client import replies
 from rewind_client.core import step_words
@@ -27,7 +28,7 @@ class Kind(Enum):
 class Spot(NamedTuple):
     """Where a goroutine stands: the function and line of its frames, the innermost first; only the innermost has a line."""
 
-    functions: Tuple[str, ...]
+    functions: tuple[str, ...]
     line: int
     state: State
 
@@ -43,8 +44,8 @@ class Outcome:
     end: End
     steps: int
     fault: str = ""
-    spots: Tuple[Spot, ...] = ()
-    console: Tuple[str, ...] = ()
+    spots: tuple[Spot, ...] = ()
+    console: tuple[str, ...] = ()
 
     @property
     def left(self) -> "Counter[Spot]":
@@ -52,7 +53,7 @@ class Outcome:
         return Counter(self.spots if self.end is End.ENDED else ())
 
     @property
-    def places(self) -> Tuple[Spot, ...]:
+    def places(self) -> tuple[Spot, ...]:
         """The spots, each once."""
         return tuple(dict.fromkeys(self.spots))
 
@@ -82,11 +83,11 @@ class Judge:
             shown = []
         return Outcome(number, schedule.end, len(schedule.entries), fault, spots(shown), console)
 
-    def shown(self, names: Sequence[str]) -> List[Goroutine]:
+    def shown(self, names: Sequence[str]) -> list[Goroutine]:
         found = self.scheduler.core.process.ask_all(["show " + name for name in names])
         return [replies.goroutine(reply) for reply in found if replies.is_ok(reply)]
 
-    def drained(self, schedule: Schedule) -> List[Goroutine]:
+    def drained(self, schedule: Schedule) -> list[Goroutine]:
         """The goroutines that would be blocked for ever, or would go on for ever, if `main` waited for them.
 
         The exit is taken back, the others go as far as they can, and the exit is taken again.
@@ -117,7 +118,7 @@ def stopped_at_last(one: Goroutine) -> Goroutine:
     return one if one.state is State.WAITING else one._replace(line=0, frames=one.frames[-1:])
 
 
-def spots(goroutines: Iterable[Goroutine]) -> Tuple[Spot, ...]:
+def spots(goroutines: Iterable[Goroutine]) -> tuple[Spot, ...]:
     """Where goroutines stand, in an order that does not hang on their names."""
     found = [Spot(tuple(frame.function for frame in one.frames), one.line, one.state) for one in goroutines]
     return tuple(sorted(found, key=lambda spot: (spot.line, spot.functions, spot.state.value)))

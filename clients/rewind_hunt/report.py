@@ -3,8 +3,9 @@ from __future__ import annotations
 
 import re
 import shlex
+from collections.abc import Iterator, Sequence
 from itertools import groupby
-from typing import Iterator, List, Optional, Sequence, Tuple
+from typing import Optional
 
 from rewind_client.explanations import explain
 from rewind_client.meanings import FAULTS
@@ -143,13 +144,13 @@ class Report:
 
     # A script.
 
-    def in_short(self, short: Optional[Short]) -> List[str]:
+    def in_short(self, short: Optional[Short]) -> list[str]:
         """The commands that a person types."""
         if short is None:
             return ["    No commands are shown for a schedule of so many steps: fewer --steps make that possible"]
         return [f"    In short, {counted(len(short.commands), 'command')}: {in_line(short.commands)}"]
 
-    def step_by_step(self, script: Script, told: Sequence[Told]) -> List[str]:
+    def step_by_step(self, script: Script, told: Sequence[Told]) -> list[str]:
         """A script with what each step does."""
         kept, of_steps = len(script.entries), counted(script.of_steps, "step")
         rest = "the others do not matter" if kept < script.of_steps else "each of them matters"
@@ -191,7 +192,7 @@ class Report:
         left = MOST_LINES - len(list(self.summary())) - len(["", CHANCE])
         return max(LEAST_WHY, left // max(1, told) - OWN_LINES)
 
-    def why(self, reducer: Reducer, commands: Sequence[str], found: Found, most: int) -> List[str]:
+    def why(self, reducer: Reducer, commands: Sequence[str], found: Found, most: int) -> list[str]:
         """Why the program stands as it does behind the commands; of a leak what its goroutines wait for when all have gone on."""
         if found.kind is Kind.OUTPUT:
             return []
@@ -212,7 +213,7 @@ class Report:
         return ["    " + line for line in lines]
 
 
-def expecting(console: Tuple[str, ...], others: Sequence[Tuple[str, ...]]) -> str:
+def expecting(console: tuple[str, ...], others: Sequence[tuple[str, ...]]) -> str:
     """The pattern, as a shell takes it, that an output matches and no other one: a line of it where that is enough."""
     texts = ["\n".join(other) for other in others]
     plain = [SPECIAL.sub(r"\\\g<0>", line) for line in dict.fromkeys(console)]
@@ -222,7 +223,7 @@ def expecting(console: Tuple[str, ...], others: Sequence[Tuple[str, ...]]) -> st
     return shlex.quote(next(fitting, whole))
 
 
-def printed(console: Tuple[str, ...]) -> str:
+def printed(console: tuple[str, ...]) -> str:
     """The lines that were printed, in one line."""
     text = " / ".join(console) or "nothing"
     return text if len(text) <= PRINTED else text[: PRINTED - 2] + ".."
@@ -241,7 +242,7 @@ def in_line(commands: Sequence[str]) -> str:
     return "; ".join(told if len(told) <= MOST_COMMANDS else [*told[:MOST_COMMANDS], ".. (--script FILE keeps all)"])
 
 
-def cut(lines: List[str]) -> List[str]:
+def cut(lines: list[str]) -> list[str]:
     """Not too many lines."""
     if len(lines) <= MOST_TOLD:
         return lines

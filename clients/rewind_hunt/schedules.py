@@ -5,10 +5,10 @@ those that are taken are the schedule. A schedule is told by the seed of the hun
 """
 from __future__ import annotations
 
+from collections.abc import Callable, Iterable, Sequence
 from dataclasses import dataclass, field
 from enum import Enum
 from random import Random
-from typing import Callable, Dict, Iterable, List, Sequence, Set
 
 from rewind_client import replies
 from rewind_client.core import Core, step_command, step_words
@@ -52,12 +52,12 @@ class End(Enum):
 class Schedule:
     """The steps that were taken, in their order, and how they ended."""
 
-    entries: List[Entry] = field(default_factory=list)
+    entries: list[Entry] = field(default_factory=list)
     end: End = End.UNENDED
     # The goroutines in the order of their starts, and how many each has started.
-    goroutines: List[str] = field(default_factory=lambda: ["g0"])
-    started: Dict[str, int] = field(default_factory=dict)
-    done: Set[str] = field(default_factory=set)
+    goroutines: list[str] = field(default_factory=lambda: ["g0"])
+    started: dict[str, int] = field(default_factory=dict)
+    done: set[str] = field(default_factory=set)
     # The command that took the last step: where that is a fault in a select, its kind does not tell the case.
     last_command: str = ""
 
@@ -71,7 +71,7 @@ class Schedule:
         elif entry.kind.stops:
             self.end = End.FAULT if entry.kind.word is KindWord.FAULT else End.ENDED
 
-    def commands(self) -> List[str]:
+    def commands(self) -> list[str]:
         """The commands that take these steps."""
         found = [step_command(entry) for entry in self.entries]
         if self.end is End.FAULT and self.last_command:
@@ -83,10 +83,10 @@ class Schedule:
         return self.end is not End.UNENDED
 
     @property
-    def live(self) -> List[str]:
+    def live(self) -> list[str]:
         return [name for name in self.goroutines if name not in self.done]
 
-    def next_children(self) -> List[str]:
+    def next_children(self) -> list[str]:
         """The goroutines that may be started next: a command for one is refused until it is there."""
         return [child_of(name, self.started.get(name, 0) + 1) for name in self.live]
 
@@ -134,12 +134,12 @@ class Scheduler:
 
     # Commands.
 
-    def ask(self, commands: Sequence[str]) -> List[str]:
+    def ask(self, commands: Sequence[str]) -> list[str]:
         """The last lines of the replies to some commands."""
         self.commands += len(commands)
         return [reply[-1] for reply in self.core.process.ask_all(commands)]
 
-    def try_steps(self, commands: Sequence[str]) -> List[Entry]:
+    def try_steps(self, commands: Sequence[str]) -> list[Entry]:
         """Sends steps, some of which may be refused; those that are taken."""
         taken = []
         for command, last in zip(commands, self.ask(commands)):
@@ -197,7 +197,7 @@ class Scheduler:
         while self.goes_on():
             names = self.schedule.live + self.schedule.next_children()
             size = FIRST_PORTION if len(self.schedule.entries) < FIRST_PORTION else PORTION
-            commands: List[str] = []
+            commands: list[str] = []
             while len(commands) < size:
                 commands += chosen(names)
             if not self.try_steps(commands) and self.ends_stuck():
@@ -205,10 +205,10 @@ class Scheduler:
 
     def by_ranks(self) -> None:
         """Each goroutine has a rank, and the first one that is ready goes; now and then the first one becomes the last."""
-        ranks: Dict[str, float] = {}
+        ranks: dict[str, float] = {}
         with_clauses = self.random.random() < 0.5
         changes = {self.random.randrange(1, FIRST_CHANGES) for _ in range(self.random.choice((0, 0, 1, 3)))}
-        blocked: Set[str] = set()
+        blocked: set[str] = set()
         while self.goes_on():
             for name in self.schedule.goroutines:
                 ranks.setdefault(name, self.random.random())
@@ -223,7 +223,7 @@ class Scheduler:
             if any(before < change <= len(self.schedule.entries) for change in changes):
                 ranks[ready[0]] = 1 + len(self.schedule.entries)
 
-    def first_goes(self, name: str, blocked: Set[str], with_clauses: bool) -> None:
+    def first_goes(self, name: str, blocked: set[str], with_clauses: bool) -> None:
         """Steps of the goroutine of the first rank: one where another one of a better rank may become ready, else some."""
         count = 1 if blocked else BURST
         clauses = [self.step(name) for _ in range(count)] if with_clauses else []

@@ -1,8 +1,9 @@
 """The script of a schedule: only the steps that what was found depends on, in an order with few changes of goroutine."""
 from __future__ import annotations
 
+from collections.abc import Iterator, Sequence
 from dataclasses import dataclass
-from typing import Dict, FrozenSet, Iterator, List, Optional, Sequence, Set, Tuple
+from typing import Optional
 
 from rewind_client.core import step_command
 from rewind_client.explanations import explain
@@ -26,8 +27,8 @@ class Script:
 
     outcome: Outcome
     found: Found
-    commands: Tuple[str, ...]
-    entries: Tuple[Entry, ...]
+    commands: tuple[str, ...]
+    entries: tuple[Entry, ...]
     of_steps: int
 
 
@@ -67,7 +68,7 @@ class Reducer:
 
     # What is to be kept.
 
-    def targets(self, outcome: Outcome, found: Found, entries: Sequence[Entry]) -> Iterator[List[str]]:
+    def targets(self, outcome: Outcome, found: Found, entries: Sequence[Entry]) -> Iterator[list[str]]:
         """The steps that what was found depends on; more of them where the first ones are not enough.
 
         A fault and an exit stop the program, so that all steps come before them. What they need of these is the step before of their
@@ -89,7 +90,7 @@ class Reducer:
             yield own + self.left(entries)
         yield [it.step for it in entries if not it.kind.stops]
 
-    def waits(self, cycle_alone: bool) -> List[str]:
+    def waits(self, cycle_alone: bool) -> list[str]:
         """The steps with which the goroutines of a deadlock began to wait: those of the cycle, if there is one."""
         session = self.session()
         explanation = explain(session)
@@ -103,36 +104,36 @@ class Reducer:
         session.forget()
         return session
 
-    def left(self, entries: Sequence[Entry], at: Sequence[Spot] = ()) -> List[str]:
+    def left(self, entries: Sequence[Entry], at: Sequence[Spot] = ()) -> list[str]:
         """The last steps of the goroutines that are not done, but for `main`; or of those that stand at some spots."""
-        last: Dict[str, str] = {step_owner(it.step): it.step for it in entries}
+        last: dict[str, str] = {step_owner(it.step): it.step for it in entries}
         shown = [one for one in self.judge.shown(list(last)) if one.name != "g0" and one.frames]
         return [last[one.name] for one in shown if not at or spots([stopped_at_last(one)])[0] in at]
 
-    def prints(self, entries: Sequence[Entry]) -> List[str]:
+    def prints(self, entries: Sequence[Entry]) -> list[str]:
         """The steps that printed, in their order."""
         return printing(self.scheduler, entries)
 
-    def causes(self, entries: Sequence[Entry], targets: Sequence[str]) -> List[Entry]:
+    def causes(self, entries: Sequence[Entry], targets: Sequence[str]) -> list[Entry]:
         """The entries of steps that some steps depend on."""
-        kept: Set[str] = set()
+        kept: set[str] = set()
         for reply in self.scheduler.ask(["causes " + step for step in targets]):
             kept.update(reply.split(" ")[2:])
         return [it for it in entries if it.step in kept and not it.kind.stops]
 
     # Their order.
 
-    def ordered(self, kept: Sequence[Entry], prints: Sequence[str]) -> List[Entry]:
+    def ordered(self, kept: Sequence[Entry], prints: Sequence[str]) -> list[Entry]:
         """The steps in an order that respects dependence, with few changes of goroutine; those that print stay in their order."""
         if len(kept) > MOST_ORDERED:
             return list(kept)
         needs = self.needs(kept, prints)
-        rest: Dict[str, List[Entry]] = {}
+        rest: dict[str, list[Entry]] = {}
         for entry in kept:
             rest.setdefault(step_owner(entry.step), []).append(entry)
         places = {entry.step: place for place, entry in enumerate(kept)}
-        done: Set[str] = set()
-        found: List[Entry] = []
+        done: set[str] = set()
+        found: list[Entry] = []
         while rest:
             ready = [name for name, entries in rest.items() if needs[entries[0].step] <= done]
             name = min(ready, key=lambda each: places[rest[each][0].step])
@@ -144,7 +145,7 @@ class Reducer:
                     del rest[name]
         return found
 
-    def needs(self, kept: Sequence[Entry], prints: Sequence[str]) -> Dict[str, FrozenSet[str]]:
+    def needs(self, kept: Sequence[Entry], prints: Sequence[str]) -> dict[str, frozenset[str]]:
         """The steps that must come before each."""
         replies = self.scheduler.ask(["causes " + entry.step for entry in kept])
         needs = {entry.step: frozenset(reply.split(" ")[2:]) - {entry.step} for entry, reply in zip(kept, replies)}
@@ -172,14 +173,14 @@ class Reducer:
         taken = self.taken_by_turns(len(entries))
         return next((count for count, entry in enumerate(taken) if entry not in wanted or entry.kind.stops), len(taken))
 
-    def taken_by_turns(self, count: int) -> List[Entry]:
+    def taken_by_turns(self, count: int) -> list[Entry]:
         """The first steps that `run` takes."""
         if count == 0:
             return []
         self.from_start([f"run {count}"])
         return self.scheduler.core.log()
 
-    def from_start(self, commands: Sequence[str]) -> List[str]:
+    def from_start(self, commands: Sequence[str]) -> list[str]:
         self.scheduler.go_to_start()
         return self.scheduler.ask(commands)
 
@@ -208,11 +209,11 @@ class Reducer:
         return schedule
 
 
-def printing(scheduler: Scheduler, entries: Sequence[Entry]) -> List[str]:
+def printing(scheduler: Scheduler, entries: Sequence[Entry]) -> list[str]:
     """The steps that print, found by taking the steps again from the start; the process stands at their end then."""
     scheduler.go_to_start()
     counts = []
-    commands: List[str] = []
+    commands: list[str] = []
     for entry in entries:
         commands += [step_command(entry), "console"]
     scheduler.commands += len(commands)

@@ -2,9 +2,10 @@
 from __future__ import annotations
 
 import time
+from collections.abc import Iterator, Sequence
 from dataclasses import dataclass
 from random import Random
-from typing import Iterator, List, Optional, Sequence, Tuple
+from typing import Optional
 
 from rewind_client.core import step_words
 from rewind_client.names import step_owner
@@ -32,7 +33,7 @@ class Short:
     """A script, and the commands that a person types to come to the same; the last one is a `run`, or ends the program."""
 
     script: Script
-    commands: Tuple[str, ...]
+    commands: tuple[str, ...]
 
 
 class Shortener:
@@ -46,7 +47,7 @@ class Shortener:
         self.run = f"run {reducer.most_steps}"
         self.left = TRIES
         self.until = time.monotonic() + SECONDS
-        self.best: List[str] = []
+        self.best: list[str] = []
 
     def short(self) -> Optional[Short]:
         """The best script of some schedules, with the fewest commands that were found; none where no script is made."""
@@ -59,7 +60,7 @@ class Shortener:
                 self.best = self.with_fewer(script.outcome, commands)
         return Short(script, tuple(self.best or self.whole(script)))
 
-    def scripts(self) -> List[Script]:
+    def scripts(self) -> list[Script]:
         """Scripts of the schedules with the fewest steps that printed the same, if that is what was found."""
         first = self.fewest[0]
         alike = [outcome for outcome in self.fewest if self.reducer.hunted.has_come_to(first, self.found, outcome)]
@@ -67,7 +68,7 @@ class Shortener:
         found = (self.reducer.script(outcome, self.found) for outcome in alike[:tried])
         return [script for script in found if script]
 
-    def whole(self, script: Script) -> List[str]:
+    def whole(self, script: Script) -> list[str]:
         """The commands of a script, to its end; those of its schedule where the others of a deadlock then stand elsewhere."""
         if script.outcome.end is not End.DEADLOCK:
             return list(script.commands)
@@ -78,7 +79,7 @@ class Shortener:
 
     # What is tried.
 
-    def candidates(self, scripts: Sequence[Script]) -> Iterator[List[str]]:
+    def candidates(self, scripts: Sequence[Script]) -> Iterator[list[str]]:
         """Beginnings of the scripts and a run to the end; then round robin with one detour, and with two."""
         for script in scripts:
             for count in range(len(script.commands)):
@@ -95,7 +96,7 @@ class Shortener:
                     yield [*self.before(place), *[step_words(name)] * count, self.run]
         yield from self.two_detours(goroutines, steps)
 
-    def two_detours(self, goroutines: Sequence[str], steps: int) -> Iterator[List[str]]:
+    def two_detours(self, goroutines: Sequence[str], steps: int) -> Iterator[list[str]]:
         """Round robin in which goroutines take some steps out of their turn at two places, drawn at random."""
         random = Random(steps)
         for _ in range(TRIES):
@@ -105,18 +106,18 @@ class Shortener:
             detours = [[step_words(name)] * number for name, number in zip((first, second), counts)]
             yield [*self.before(place), *detours[0], *self.before(between), *detours[1], self.run]
 
-    def before(self, place: int) -> List[str]:
+    def before(self, place: int) -> list[str]:
         """The run up to a place."""
         return [f"run {place}"] if place else []
 
-    def with_fewer(self, outcome: Outcome, commands: List[str]) -> List[str]:
+    def with_fewer(self, outcome: Outcome, commands: list[str]) -> list[str]:
         """The commands without parts that are not needed, and with runs for parts that are; the half first and single ones last."""
         size = len(commands) // 2
         while size:
             at = 0
             while at < len(commands) - 1 and self.is_left():
                 rest = commands[min(at + size, len(commands) - 1) :]
-                instead: List[List[str]] = [[], [f"run {size}"]] if size > 1 else [[]]
+                instead: list[list[str]] = [[], [f"run {size}"]] if size > 1 else [[]]
                 fewer = next((found for part in instead if self.comes_to(outcome, found := [*commands[:at], *part, *rest])), None)
                 if fewer:
                     commands = fewer

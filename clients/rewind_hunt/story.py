@@ -1,7 +1,8 @@
 """A script told step by step: the command, what the step does, and its line."""
 from __future__ import annotations
 
-from typing import Callable, Dict, List, NamedTuple, Optional, Sequence, Tuple
+from collections.abc import Callable, Sequence
+from typing import NamedTuple, Optional
 
 from rewind_client.core import Core, step_command
 from rewind_client.meanings import FAULTS
@@ -35,7 +36,7 @@ class Story:
         self.begin = begin
         self.program = program
 
-    def told(self, script: Script) -> List[Told]:
+    def told(self, script: Script) -> list[Told]:
         """What each step does."""
         session = Session(self.begin(), self.program, self.begin)
         try:
@@ -46,14 +47,14 @@ class Story:
         finally:
             session.end()
 
-    def one_by_one(self, session: Session, script: Script, notes: Sequence[Note]) -> List[Told]:
+    def one_by_one(self, session: Session, script: Script, notes: Sequence[Note]) -> list[Told]:
         by_turns = len(notes) - (len(script.commands) - 1) if script.commands[0].startswith("run ") else 0
         commands = [script.commands[0]] * by_turns + list(script.commands[1 if by_turns else 0 :])
         sentences = Sentences(session, notes, prints(self.begin, script.entries))
         return [Told(command, 1, sentences.of(note), note.line, note.step) for command, note in zip(commands, notes)]
 
 
-def prints(begin: Callable[[], Core], entries: Sequence[Entry]) -> Dict[str, str]:
+def prints(begin: Callable[[], Core], entries: Sequence[Entry]) -> dict[str, str]:
     """What the steps print: the console grows by a line with each that does."""
     core = begin()
     try:
@@ -61,7 +62,7 @@ def prints(begin: Callable[[], Core], entries: Sequence[Entry]) -> Dict[str, str
         consoles = core.ask_all(asked)[1::2]
     finally:
         core.process.end()
-    found: Dict[str, str] = {}
+    found: dict[str, str] = {}
     count = 0
     for entry, reply in zip(entries, consoles):
         lines = lines_within(reply)
@@ -74,13 +75,13 @@ def prints(begin: Callable[[], Core], entries: Sequence[Entry]) -> Dict[str, str
 class Sentences:
     """A sentence for each step."""
 
-    def __init__(self, session: Session, notes: Sequence[Note], printed: Dict[str, str]) -> None:
+    def __init__(self, session: Session, notes: Sequence[Note], printed: dict[str, str]) -> None:
         self.session = session
         self.printed = printed
-        self.after: Dict[str, Note] = {}
-        self.numbers: Dict[str, int] = {}
-        counts: Dict[Tuple[str, KindWord], int] = {}
-        last: Dict[str, Note] = {}
+        self.after: dict[str, Note] = {}
+        self.numbers: dict[str, int] = {}
+        counts: dict[tuple[str, KindWord], int] = {}
+        last: dict[str, Note] = {}
         for note in notes:
             owner = step_owner(note.step)
             counts[owner, note.kind.word] = counts.get((owner, note.kind.word), 0) + 1
@@ -92,7 +93,7 @@ class Sentences:
     def of(self, note: Note) -> str:
         """What a step does, with its goroutine as the subject."""
         owner = step_owner(note.step)
-        tells: Dict[KindWord, Callable[[Note], str]] = {
+        tells: dict[KindWord, Callable[[Note], str]] = {
             KindWord.PURE: self.pure, KindWord.CALL: self.call, KindWord.RETURN: lambda it: "returns from " + it.place.function,
             KindWord.EXIT: lambda _: "returns from main, which ends the program", KindWord.GO: self.go, KindWord.MAKE: self.make,
             KindWord.LENGTH: lambda it: "takes the length of " + self.channel(it), KindWord.HAND: self.hand,
@@ -148,9 +149,9 @@ class Sentences:
         return f"stops with {why} ({note.kind.fault}){' at ' + self.channel(note) if note.channel else ''}"
 
 
-def grouped(told: Sequence[Told]) -> List[Told]:
+def grouped(told: Sequence[Told]) -> list[Told]:
     """The same with plain steps of one goroutine after each other told together."""
-    found: List[Told] = []
+    found: list[Told] = []
     for one in told:
         before: Optional[Told] = found[-1] if found else None
         if before and before.command == one.command and before.sentence == one.sentence and one.sentence.endswith(" goes on"):

@@ -2,8 +2,9 @@
 from __future__ import annotations
 
 import time
+from collections.abc import Iterator, Sequence
 from dataclasses import dataclass
-from typing import Iterator, List, Optional, Sequence, Tuple
+from typing import Optional
 
 from rewind_client.core import step_words
 from rewind_client.names import step_owner
@@ -24,7 +25,7 @@ class WayBack:
 
     step: str
     taken_back: int
-    commands: Tuple[str, ...]
+    commands: tuple[str, ...]
     outcome: Outcome
 
 
@@ -62,7 +63,7 @@ class Ways:
                 second = second or way
         return Search(second, len(steps), len(steps))
 
-    def firsts(self, entries: Sequence[Entry], entry: Entry) -> Iterator[List[str]]:
+    def firsts(self, entries: Sequence[Entry], entry: Entry) -> Iterator[list[str]]:
         """What is done after the step is taken back, before the run: nothing, or a step of another goroutine."""
         yield []
         own = step_owner(entry.step)

@@ -4,7 +4,7 @@ from __future__ import annotations
 import glob
 import os
 import re
-from typing import Callable, Dict, List
+from collections.abc import Callable
 
 from rewind_client.errors import RewindError
 
@@ -22,7 +22,7 @@ class Completing:
     def __init__(self, shell: Desk) -> None:
         self.shell = shell
         goroutine, channel, step, line = self.goroutines, self.channels, self.steps, self.lines
-        self.by_word: Dict[str, List[Callable[[], List[str]]]] = {
+        self.by_word: dict[str, list[Callable[[], list[str]]]] = {
             **dict.fromkeys(("step", "show", "text", "bt", "goroutine"), [goroutine]),
             **dict.fromkeys(("deps", "causes", "direct", "order"), [step]),
             **dict.fromkeys(("break", "until", "list", "clear"), [line, self.functions]),
@@ -34,7 +34,7 @@ class Completing:
             "help": [self.words],
         }
 
-    def of(self, before: str) -> List[str]:
+    def of(self, before: str) -> list[str]:
         """What the last word of a line may become; the line ends where the cursor stands."""
         words = before.split(" ")
         first = [word for word in words if word][:1]
@@ -52,7 +52,7 @@ class Completing:
             return []
         return [text for text in dict.fromkeys(found) if text.startswith(last)]
 
-    def within(self, last: str) -> List[str]:
+    def within(self, last: str) -> list[str]:
         """What a word may become that is an expression: the name at its end is completed."""
         begun = NAME_AT_END.search(last)
         before = last[: begun.start()] if begun else last
@@ -62,29 +62,29 @@ class Completing:
             return []
         return [before + text for text in dict.fromkeys(names) if text.startswith(last[len(before) :])]
 
-    def words(self) -> List[str]:
+    def words(self) -> list[str]:
         return sorted(word.name for word in WORDS)
 
-    def goroutines(self) -> List[str]:
+    def goroutines(self) -> list[str]:
         return self.shell.session.goroutine_names()
 
-    def channels(self) -> List[str]:
+    def channels(self) -> list[str]:
         return self.shell.session.channel_names()
 
-    def steps(self) -> List[str]:
+    def steps(self) -> list[str]:
         return [entry.step for entry in reversed(self.shell.session.log()[-SHOWN_STEPS:])]
 
-    def lines(self) -> List[str]:
+    def lines(self) -> list[str]:
         return [str(line) for line in self.shell.program.statements]
 
-    def functions(self) -> List[str]:
+    def functions(self) -> list[str]:
         return sorted(self.shell.program.functions)
 
-    def channel_variables(self) -> List[str]:
+    def channel_variables(self) -> list[str]:
         """The names that replies have for channels."""
         names = self.shell.session.channel_names()[:SHOWN_STEPS]
         return [name for name in map(self.shell.session.variable_of, names) if name]
 
-    def variables(self) -> List[str]:
+    def variables(self) -> list[str]:
         goroutine = self.shell.session.goroutine(self.shell.chosen)
         return [it.name for frame in (goroutine.frames if goroutine else ()) for it in frame.variables]

@@ -1,7 +1,7 @@
 """What the words that only look want of whoever obeys them: the shell, or the console of an editor."""
 from __future__ import annotations
 
-from typing import AbstractSet, List, Protocol
+from typing import AbstractSet, Protocol
 
 from rewind_client.program import Program
 from rewind_client.session import Session
@@ -56,7 +56,7 @@ class Desk(Protocol):
     def interrupts(self) -> Pending:
         ...
 
-    def explained(self, code: str) -> List[str]:
+    def explained(self, code: str) -> list[str]:
         """What Rewind tells of a code; nothing where it is none."""
 
     def tell_chosen(self) -> None:

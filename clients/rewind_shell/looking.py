@@ -1,7 +1,8 @@
 """The words that only look: who is where, and why."""
 from __future__ import annotations
 
-from typing import Callable, Dict, List, Optional
+from collections.abc import Callable
+from typing import Optional
 
 from rewind_client.direct import DirectCauses
 from rewind_client.explanations import explain
@@ -31,7 +32,7 @@ class Looking:
         self.shell = shell
         self.screen = shell.screen
 
-    def handlers(self) -> Dict[str, Callable[[List[str]], None]]:
+    def handlers(self) -> dict[str, Callable[[list[str]], None]]:
         return {
             "help": self.help,
             "goroutines": self.goroutines,
@@ -39,7 +40,7 @@ class Looking:
             "channels": self.channels,
             "why": self.why,
             "bt": self.frames,
-            "list": self.list,
+            "list": self.source,
             "print": self.print,
             "history": self.history,
             "direct": self.direct,
@@ -47,7 +48,7 @@ class Looking:
 
     # Help.
 
-    def help(self, words: List[str]) -> None:
+    def help(self, words: list[str]) -> None:
         if not words:
             for title, group in GROUPS.items():
                 self.screen.say(title, "strong")
@@ -82,7 +83,7 @@ class Looking:
 
     # Who is where.
 
-    def goroutines(self, _words: List[str]) -> None:
+    def goroutines(self, _words: list[str]) -> None:
         stories, session = Stories(self.shell.session), self.shell.session
         found = session.goroutines()
         for one in found[:MAX_ROWS]:
@@ -94,7 +95,7 @@ class Looking:
         if number > 0:
             self.screen.say(f"and {number} {what} more")
 
-    def choose(self, words: List[str]) -> None:
+    def choose(self, words: list[str]) -> None:
         if words:
             found = self.known(words[0])
             if found is None:
@@ -109,7 +110,7 @@ class Looking:
             self.screen.say(f"there is no goroutine {name[:40]}; 'goroutines' lists them", "error")
         return found
 
-    def channels(self, _words: List[str]) -> None:
+    def channels(self, _words: list[str]) -> None:
         stories = Stories(self.shell.session)
         found = self.shell.session.channels()
         for one in found[:MAX_ROWS]:
@@ -118,7 +119,7 @@ class Looking:
         if not found:
             self.screen.say("no channel is made yet")
 
-    def why(self, _words: List[str]) -> None:
+    def why(self, _words: list[str]) -> None:
         session = self.shell.session
         self.tell_reading()
         for line in Sentences(session).all(explain(session)):
@@ -141,7 +142,7 @@ class Looking:
 
     # Frames and the source.
 
-    def frames(self, words: List[str]) -> None:
+    def frames(self, words: list[str]) -> None:
         goroutine = self.known(words[0] if words else self.shell.chosen)
         if goroutine is None:
             return
@@ -154,7 +155,7 @@ class Looking:
             if values:
                 self.screen.say("   " + " ".join(values), "faint")
 
-    def list(self, words: List[str]) -> None:
+    def source(self, words: list[str]) -> None:
         program, goroutine = self.shell.program, self.shell.session.goroutine(self.shell.chosen)
         here = goroutine.line if goroutine else 0
         if words and not words[0].isdigit():
@@ -164,7 +165,7 @@ class Looking:
                 return
         else:
             line = int(words[0]) if words else here or 1
-        standing: Dict[int, List[str]] = {}
+        standing: dict[int, list[str]] = {}
         for one in self.shell.session.goroutines():
             standing.setdefault(one.line, []).append(one.name)
         stops = self.shell.breakpoints.lines()
@@ -175,7 +176,7 @@ class Looking:
             text = program.lines[number - 1].rstrip().replace("\t", "    ")
             self.screen.row(f"{mark} {number:4}  {text}{names}", "source" if number == here else "")
 
-    def print(self, words: List[str]) -> None:
+    def print(self, words: list[str]) -> None:
         text = " ".join(words)
         if not words:
             self.screen.say("print wants a variable, a channel or an expression: print x, print g0/c1, print len(c)", "error")
@@ -229,7 +230,7 @@ class Looking:
 
     # Steps.
 
-    def history(self, words: List[str]) -> None:
+    def history(self, words: list[str]) -> None:
         self.tell_reading()
         notes = self.shell.session.notes()
         wanted = words[0] if words else str(SHOWN_STEPS)
@@ -250,7 +251,7 @@ class Looking:
         if not wanted.isdigit() or int(wanted) > len(chosen):
             self.tell_limit()
 
-    def selected(self, notes: List[Note], wanted: str) -> Optional[List[Note]]:
+    def selected(self, notes: list[Note], wanted: str) -> Optional[list[Note]]:
         """The steps that a word of `history` is about; none where it is no such word."""
         if wanted.isdigit():
             return notes[-int(wanted) :] if int(wanted) else []
@@ -261,7 +262,7 @@ class Looking:
         channels = [wanted] if is_channel(wanted) else self.shell.session.channels_named(wanted)
         return [it for it in notes if it.channel in channels] if channels else None
 
-    def direct(self, words: List[str]) -> None:
+    def direct(self, words: list[str]) -> None:
         if len(words) != 1 or not is_step(words[0]):
             self.screen.say("direct wants a step: direct g0.1#3; 'log' and 'history' list them", "error")
             return
@@ -284,7 +285,7 @@ class Looking:
         if any(name not in notes for name in [step, *(edge.source for edge in edges)]) or not edges:
             self.tell_limit()
 
-    def about(self, stories: Stories, step: str, notes: Dict[str, Note], related: str) -> None:
+    def about(self, stories: Stories, step: str, notes: dict[str, Note], related: str) -> None:
         """A step, and what it was to another one."""
         note = notes.get(step)
         told = row(stories, self.shell.program.line(note.line), note) if note else step

@@ -5,7 +5,8 @@ import argparse
 import importlib.util
 import os
 import sys
-from typing import Callable, List, NoReturn, Optional
+from collections.abc import Callable
+from typing import NoReturn, Optional
 
 from rewind_client.errors import NotFound, RewindError, SourceRefused
 from rewind_client.finding import find_rewind
@@ -33,7 +34,7 @@ class Parser(argparse.ArgumentParser):
         sys.exit(USAGE)
 
 
-def arguments(words: List[str]) -> argparse.Namespace:
+def arguments(words: list[str]) -> argparse.Namespace:
     parser = Parser(prog="rewind-shell", description="A shell on rewind: debugs the Go program in FILE.")
     parser.add_argument(
         "--rewind", metavar="PATH", help="the rewind to take; else $REWIND, that of the repository, or that on the path"
@@ -57,7 +58,7 @@ def take_better_python() -> None:
         os.execv(better, [better, *sys.argv])
 
 
-def main(words: List[str]) -> int:
+def main(words: list[str]) -> int:
     given = arguments(words)
     try:
         if given.version:

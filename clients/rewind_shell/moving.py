@@ -1,7 +1,8 @@
 """The words that move the program, forward and back."""
 from __future__ import annotations
 
-from typing import TYPE_CHECKING, Callable, Dict, List, Optional
+from collections.abc import Callable
+from typing import TYPE_CHECKING, Optional
 
 from rewind_client import motion
 from rewind_client.follower import NOTED
@@ -26,7 +27,7 @@ class Moving:
         self.shell = shell
         self.screen = shell.screen
 
-    def handlers(self) -> Dict[str, Callable[[List[str]], None]]:
+    def handlers(self) -> dict[str, Callable[[list[str]], None]]:
         return {
             "step": self.step,
             "next": lambda words: self.along(motion.next_line),
@@ -61,7 +62,7 @@ class Moving:
         self.screen.say(f"{found.name} {state}; {others}", "error")
         return None
 
-    def step(self, words: List[str]) -> None:
+    def step(self, words: list[str]) -> None:
         goroutine = self.chosen()
         times = int(words[0]) if words else 1
         if goroutine and 0 < times <= MAX_RUN:
@@ -74,7 +75,7 @@ class Moving:
         if goroutine:
             self.drive(how(self.shell.session, goroutine, self.shell.breakpoints.lines))
 
-    def until(self, words: List[str]) -> None:
+    def until(self, words: list[str]) -> None:
         if len(words) != 1 or not words[0].isdigit():
             self.screen.say("until wants a line: until 12", "error")
             return
@@ -85,10 +86,10 @@ class Moving:
         elif goroutine:
             self.drive(motion.until_line(self.shell.session, goroutine, self.shell.breakpoints.lines, line))
 
-    def go_on(self, _words: List[str]) -> None:
+    def go_on(self, _words: list[str]) -> None:
         self.drive(motion.forward(self.shell.session, self.shell.breakpoints.lines, self.shell.chosen))
 
-    def run(self, words: List[str]) -> None:
+    def run(self, words: list[str]) -> None:
         """A run of Rewind, in portions, with its reply."""
         if len(words) != 1 or not words[0].isdigit() or words[0].startswith("0") or int(words[0]) > MAX_RUN:
             self.shell.passed("run " + " ".join(words) if words else "run")
@@ -150,7 +151,7 @@ class Moving:
 
     # Back.
 
-    def reverse_next(self, _words: List[str]) -> None:
+    def reverse_next(self, _words: list[str]) -> None:
         goroutine = self.shell.session.goroutine(self.shell.chosen)
         step = motion.line_before(self.shell.session, goroutine) if goroutine else ""
         if not step:
@@ -160,10 +161,10 @@ class Moving:
             return
         self.take_back(step, asks=False)
 
-    def reverse(self, _words: List[str]) -> None:
+    def reverse(self, _words: list[str]) -> None:
         self.drive(motion.backward(self.shell.session, self.shell.breakpoints.lines))
 
-    def back(self, words: List[str]) -> None:
+    def back(self, words: list[str]) -> None:
         """`back LINE` and `back var X` of the chosen goroutine; other forms go to Rewind."""
         if len(words) == 1 and words[0].isdigit():
             step = motion.last_at_line(self.shell.session, self.shell.chosen, int(words[0]))
@@ -198,7 +199,7 @@ class Moving:
         self.shell.tell_printed()
         self.shell.tell_chosen()
 
-    def preview(self, words: List[str]) -> None:
+    def preview(self, words: list[str]) -> None:
         target = " ".join(words)
         if len(words) == 1 and words[0].isdigit():
             target = motion.last_at_line(self.shell.session, self.shell.chosen, int(words[0]))
@@ -210,9 +211,9 @@ class Moving:
             return
         self.tell_steps(f"'back {target}' would take back", self.shell.session.preview(target))
 
-    def tell_steps(self, did: str, names: List[str]) -> None:
+    def tell_steps(self, did: str, names: list[str]) -> None:
         """Steps that go, and of which goroutines they are."""
-        of: Dict[str, int] = {}
+        of: dict[str, int] = {}
         for name in names:
             of[step_owner(name)] = of.get(step_owner(name), 0) + 1
         counts = ", ".join(f"{number} of {name}" for name, number in list(of.items())[:LISTED])
@@ -221,7 +222,7 @@ class Moving:
 
     # Breakpoints.
 
-    def set_breakpoint(self, words: List[str]) -> None:
+    def set_breakpoint(self, words: list[str]) -> None:
         breakpoints = self.shell.breakpoints
         if not words:
             for one in breakpoints.all():
@@ -239,7 +240,7 @@ class Moving:
             why = "moved to" if found.is_moved else "set on"
             self.screen.say(f"The breakpoint is {why} line {found.line}: {self.shell.program.line(found.line)}", "note")
 
-    def clear(self, words: List[str]) -> None:
+    def clear(self, words: list[str]) -> None:
         if len(words) != 1 or not words[0].isdigit() or not int(words[0]):
             self.shell.passed(" ".join(["clear", *words]))
             return
@@ -266,5 +267,5 @@ def never_there(session: Session, chosen: str, line: str) -> str:
     return f"{chosen} has taken no step on line {line}"
 
 
-def listed(names: List[str]) -> str:
+def listed(names: list[str]) -> str:
     return " ".join(names[:LISTED]) + (f" .. {names[-1]}" if len(names) > LISTED else "")

@@ -5,7 +5,8 @@ import hashlib
 import os
 import re
 import time
-from typing import IO, List, NamedTuple, Optional, Sequence
+from collections.abc import Sequence
+from typing import IO, NamedTuple, Optional
 
 from rewind_client.core import CHANGING, first_word
 from rewind_client.errors import RewindError
@@ -35,7 +36,7 @@ class Script:
 
     def __init__(self, source: str) -> None:
         self.source = source
-        self.lines: List[str] = []
+        self.lines: list[str] = []
         self.file: Optional[IO[str]] = None
         self.path = ""
         self.fault = ""
@@ -125,7 +126,7 @@ def source_part(text: bytes) -> bytes:
 class Saved(NamedTuple):
     """The commands of a script, and the SHA-256 of the source of which they are, where it tells that."""
 
-    commands: List[str]
+    commands: list[str]
     source: str = ""
 
     def is_of(self, program: Program) -> bool:
@@ -144,7 +145,7 @@ def saved_in(text: bytes) -> Saved:
     return Saved(commands, found.group(1) if found else "")
 
 
-def lines_of(text: bytes) -> List[str]:
+def lines_of(text: bytes) -> list[str]:
     return [line.rstrip("\r") for line in text.decode("utf-8", "backslashreplace").split("\n")]
 
 

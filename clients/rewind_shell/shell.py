@@ -1,7 +1,8 @@
 """The shell itself: it obeys lines, one after the other."""
 from __future__ import annotations
 
-from typing import Callable, Dict, List, Optional, Sequence
+from collections.abc import Callable, Sequence
+from typing import Optional
 
 from rewind_client.breakpoints import Breakpoints, NoPlace
 from rewind_client.core import MOVING as MOVING_WORDS
@@ -51,7 +52,7 @@ class Shell:
         self.begin()
         self.breakpoints: Breakpoints = Breakpoints(self.session)
         looking, moving = Looking(self), Moving(self)
-        own: Dict[str, Callable[[List[str]], None]] = {"save": self.save, "load": self.load, "restart": self.restart}
+        own: dict[str, Callable[[list[str]], None]] = {"save": self.save, "load": self.load, "restart": self.restart}
         self.handlers = {**looking.handlers(), **moving.handlers(), **own}
 
     def begin(self) -> None:
@@ -59,7 +60,7 @@ class Shell:
         path, gives_up = self.path, self.interrupts.gives_up
         self.session = open_session(self.rewind, path, cancelled=gives_up, journal=self.script.note)
         self.chosen = "g0"
-        self.printed: Optional[List[str]] = []
+        self.printed: Optional[list[str]] = []
 
     @property
     def takes_values(self) -> bool:
@@ -232,11 +233,11 @@ class Shell:
         except (EOFError, KeyboardInterrupt):
             return False
 
-    def explained(self, code: str) -> List[str]:
+    def explained(self, code: str) -> list[str]:
         """What Rewind tells of a code; nothing where it is none."""
         return explained(self.rewind, code)
 
-    def save(self, words: List[str]) -> None:
+    def save(self, words: list[str]) -> None:
         if not words:
             self.screen.say("save wants a file: save session.script", "error")
             return
@@ -244,7 +245,7 @@ class Shell:
         self.script.save(path, self.program)
         self.screen.say(f"{counted(len(self.script.lines), 'command is', 'commands are')} in {path}")
 
-    def load(self, words: List[str]) -> None:
+    def load(self, words: list[str]) -> None:
         if not words:
             self.screen.say("load wants a file: load session.script", "error")
             return
@@ -282,7 +283,7 @@ class Shell:
         if sentence:
             self.screen.say(sentence, "note")
 
-    def restart(self, _words: List[str]) -> None:
+    def restart(self, _words: list[str]) -> None:
         """Begins the program anew, with the breakpoints as they are. Where its file is refused now, the session goes on."""
         before, old, kept = self.breakpoints.all(), self.session, self.script.lines
         self.begin()

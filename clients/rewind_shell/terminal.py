@@ -6,7 +6,8 @@ import re
 import shutil
 import sys
 import textwrap
-from typing import Callable, Iterable, TextIO
+from collections.abc import Callable, Iterable
+from typing import TextIO
 
 LEAST_WIDTH = 20
 LINES_AT_ONCE = 500

@@ -3,7 +3,8 @@ from __future__ import annotations
 
 import difflib
 import re
-from typing import Dict, List, NamedTuple, Optional, Sequence
+from collections.abc import Sequence
+from typing import NamedTuple, Optional
 
 from rewind_client.core import words_of
 from rewind_client.names import is_goroutine
@@ -118,9 +119,9 @@ TERMS = {
     "round-robin": "round robin is how 'run' and 'continue' choose: each goroutine that is ready takes a step in its turn",
 }
 GROUPS = {"Look": LOOKING, "Move": MOVING, "The commands of Rewind": CORE, "The shell": SHELL}
-WORDS: List[Word] = [word for group in GROUPS.values() for word in group]
-BY_NAME: Dict[str, Word] = {word.name: word for word in WORDS}
-ALIASES: Dict[str, str] = {
+WORDS: list[Word] = [word for group in GROUPS.values() for word in group]
+BY_NAME: dict[str, Word] = {word.name: word for word in WORDS}
+ALIASES: dict[str, str] = {
     **{word.short: word.name for word in WORDS if word.short},
     "?": "help",
     "exit": "quit",
@@ -168,7 +169,7 @@ NAMES = "there is no goroutine %s: main is g0, the first that it starts is g0.1,
 TARGETS = frozenset(("go", "send", "recv", "var"))
 
 
-def meant_words(words: Sequence[str]) -> List[str]:
+def meant_words(words: Sequence[str]) -> list[str]:
     """The words of a line with the first one in full, where it is a word; `b` before what `back` takes is `back`."""
     if words[0] == "b" and len(words) > 1 and ("#" in words[1] or words[1] in TARGETS):
         return ["back", *words[1:]]

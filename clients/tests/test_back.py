@@ -2,7 +2,8 @@
 from __future__ import annotations
 
 import random
-from typing import Callable, Generator, List, Optional, Set, TypeVar
+from collections.abc import Callable, Generator
+from typing import Optional, TypeVar
 
 import pytest
 
@@ -33,7 +34,7 @@ def driven(movement: Generator[int, None, Found]) -> Found:
             return found
 
 
-def place_by_undo(one: Session, lines: Set[int]) -> int:
+def place_by_undo(one: Session, lines: set[int]) -> int:
     """The place of the last step at one of some lines, by undo and show alone; the steps stay undone."""
     while one.log():
         owner = step_owner(one.undo())
@@ -120,7 +121,7 @@ def value(one: Session, watch: Watch) -> str:
 
 def test_values_that_are_given_forward_and_back(session: Open) -> None:
     one, watch = session(VALUES), Watch("g0.1", "sum")
-    seen: List[str] = []
+    seen: list[str] = []
     stop: Optional[motion.Stop] = None
     while stop is None or stop.reason is StopReason.VALUE:
         stop = driven(forward_to_value(one, set, lambda: [watch], "g0"))
@@ -147,14 +148,14 @@ def test_a_channel_is_watched_forward_and_back(session: Open) -> None:
     """Each send is stopped at once, and each of them again on the way back; so are the receives."""
     for way in Way:
         one, watch = session(VALUES), ChannelWatch("g0/c1", way)
-        steps: List[str] = []
+        steps: list[str] = []
         stop = driven(forward_to_value(one, set, lambda: [watch], "g0"))
         while stop.reason is StopReason.VALUE:
             assert stop.entry and one.log()[-1] == stop.entry and stop.watch == watch
             steps.append(stop.entry.step)
             stop = driven(forward_to_value(one, set, lambda: [watch], "g0"))
         assert len(steps) == len(set(steps)) >= 4
-        back: List[str] = []
+        back: list[str] = []
         stop = driven(backward_to_value(one, set, lambda: [watch]))
         while stop.reason is StopReason.VALUE_TAKEN_BACK:
             assert stop.entry and stop.entry not in one.log()

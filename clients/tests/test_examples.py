@@ -8,7 +8,6 @@ import re
 import subprocess
 import sys
 from pathlib import Path
-from typing import List
 
 import pytest
 
@@ -19,7 +18,7 @@ STORIES = sorted(EXAMPLES.glob("*.transcript"))
 MOST_COMMANDS = 3
 
 
-def parts(text: str) -> "tuple[List[str], List[str]]":
+def parts(text: str) -> "tuple[list[str], list[str]]":
     """The remarks of a story, and its commands."""
     lines = text.splitlines()
     return [it for it in lines if it.startswith("# ")], [it[2:] for it in lines if it.startswith("> ")]

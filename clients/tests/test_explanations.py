@@ -1,7 +1,6 @@
 """Explanations and direct causes, on the examples."""
 from __future__ import annotations
 
-from typing import Dict, List
 
 from rewind_client.direct import DirectCauses, EdgeKind
 from rewind_client.endings import Ending
@@ -18,7 +17,7 @@ def explained(one: Session, steps: int = 1000) -> Explanation:
     return explain(one)
 
 
-def said(one: Session) -> List[str]:
+def said(one: Session) -> list[str]:
     return Sentences(one).all(explain(one))
 
 
@@ -100,7 +99,7 @@ def test_direct_causes(session: Open) -> None:
     one = session("double_close")
     one.run(1000)
     finder = DirectCauses(one)
-    edges: Dict[str, List[str]] = {
+    edges: dict[str, list[str]] = {
         entry.step: [f"{edge.source} {edge.kind.name}" for edge in finder.of(entry.step)] for entry in one.log()
     }
     assert edges["g0#9"] == ["g0.1#9 CLOSE"]

@@ -8,8 +8,9 @@ import signal
 import subprocess
 import sys
 import time
+from collections.abc import Callable, Iterator
 from pathlib import Path
-from typing import Callable, Dict, Iterator, List, Optional, Tuple
+from typing import Optional
 
 import pytest
 
@@ -188,7 +189,7 @@ func main() {
 def plan_of(rewind: str, path: Path, **given: object) -> Plan:
     expected = EXPECTED.get(path.stem)
     pattern = re.compile(expected) if expected else None
-    values: Dict[str, object] = {"runs": RUNS, "expected": pattern, **given}
+    values: dict[str, object] = {"runs": RUNS, "expected": pattern, **given}
     return Plan(rewind, str(path), str(path), **values)  # type: ignore[arg-type]
 
 
@@ -205,7 +206,7 @@ def hunted(plan: Plan, wanted: Optional[Kind] = None) -> Hunt:
     return found
 
 
-def first_of(found: Hunt, kind: Kind) -> Tuple[Found, Outcome]:
+def first_of(found: Hunt, kind: Kind) -> tuple[Found, Outcome]:
     """What was found of a kind, and the first schedule that has it against it."""
     return next((about, outcomes[0]) for about, outcomes in found.groups().items() if about.kind is kind)
 
@@ -229,7 +230,7 @@ def source(tmp_path: Path) -> Callable[[str], Path]:
 
 @pytest.fixture
 def reducers() -> Iterator[Callable[[Hunt], Reducer]]:
-    made: List[Reducer] = []
+    made: list[Reducer] = []
 
     def make(found: Hunt) -> Reducer:
         made.append(Reducer(found, found.plan.program()))
@@ -240,14 +241,14 @@ def reducers() -> Iterator[Callable[[Hunt], Reducer]]:
         one.end()
 
 
-def standing(plan: Plan, commands: List[str]) -> Core:
+def standing(plan: Plan, commands: list[str]) -> Core:
     """A session of its own behind some commands, none of which is refused."""
     core = start(plan.rewind, plan.path)
     assert all(reply[-1].startswith("ok") for reply in core.ask_all(commands)), commands
     return core
 
 
-def reason_behind(plan: Plan, commands: List[str]) -> str:
+def reason_behind(plan: Plan, commands: list[str]) -> str:
     """How a run by turns goes on behind some commands, or why it cannot."""
     core = standing(plan, commands)
     try:
@@ -348,7 +349,7 @@ def test_a_search_for_a_way_back_that_the_clock_ends(
     assert f"not found. Only the last 0 steps of {search.steps} were tried" in told
 
 
-def outcome_commands(reducer: Reducer, outcome: Outcome) -> List[str]:
+def outcome_commands(reducer: Reducer, outcome: Outcome) -> list[str]:
     return reducer.scheduler.take(outcome.number).commands()
 
 
@@ -502,7 +503,7 @@ def test_the_version_is_that_of_the_program(rewind: str) -> None:
     (("a", "b"), [("a",), ("b",)], "'\\Aa\\nb\\Z'"),
     (("(x)",), [()], "'\\(x\\)'"),
 ])  # fmt: skip
-def test_a_pattern_for_one_output(console: Tuple[str, ...], others: List[Tuple[str, ...]], pattern: str) -> None:
+def test_a_pattern_for_one_output(console: tuple[str, ...], others: list[tuple[str, ...]], pattern: str) -> None:
     assert expecting(console, others) == pattern
 
 
@@ -579,7 +580,7 @@ def test_a_hunt_that_stops(rewind: str) -> None:
         (["--rewind", "/no/such/program", "x.go"], "there is no program /no/such/program, which --rewind names"),
     ],
 )
-def test_a_command_line_at_fault(words: List[str], said: str, rewind: str) -> None:
+def test_a_command_line_at_fault(words: list[str], said: str, rewind: str) -> None:
     done = run(rewind, *words)
     assert done.returncode == 2 and done.stdout == ""
     assert done.stderr.startswith("rewind-hunt: " + said) and done.stderr.count("\n") == 1

@@ -2,8 +2,8 @@
 from __future__ import annotations
 
 import random
+from collections.abc import Sequence
 from pathlib import Path
-from typing import List, Sequence
 
 import pytest
 
@@ -101,7 +101,7 @@ func main() {
 
 def test_values_that_the_text_does_not_tell(session: Open) -> None:
     """Two variables have one name, and a value is that of a call; whoever comes first, the values are told."""
-    orders: List[List[str]] = [["g0"], ["g0.1", "g0"], []]
+    orders: list[list[str]] = [["g0"], ["g0.1", "g0"], []]
     for order in orders:
         one = session(SHADOWED)
         while one.stopped_by() is None:
@@ -224,7 +224,7 @@ def test_a_long_log_costs_nothing_at_each_step(session: Open, monkeypatch: pytes
     one = session("starved_select")
     one.run(100_000)
     names, made = one.goroutine_names(), dict(one.ledger().made)
-    added: List[str] = []
+    added: list[str] = []
     add = Ledger.add
 
     def counted(self: Ledger, entry: Entry) -> None:
@@ -233,7 +233,7 @@ def test_a_long_log_costs_nothing_at_each_step(session: Open, monkeypatch: pytes
 
     monkeypatch.setattr(Ledger, "add", counted)
     monkeypatch.setattr("rewind_client.follower.NOTED", 100)
-    compared: List[int] = []
+    compared: list[int] = []
     common_with = Follower.common_with
 
     def compares(self: Follower, log: Sequence[Entry], unchanged: int) -> int:

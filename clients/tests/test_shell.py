@@ -8,9 +8,9 @@ import re
 import stat
 import subprocess
 import sys
+from collections.abc import Callable
 from functools import partial
 from pathlib import Path
-from typing import Callable, List
 
 import pytest
 
@@ -49,7 +49,7 @@ def example(name: str) -> str:
     return str(EXAMPLES / (name + ".go"))
 
 
-def answers(text: str) -> List[List[str]]:
+def answers(text: str) -> list[list[str]]:
     """The lines behind each echoed command."""
     return [part.splitlines()[1:] for part in text.split("\n> ")] if text else []
 
@@ -326,7 +326,7 @@ def test_a_file_with_blanks_in_its_name(talk: Talk, tmp_path: Path) -> None:
     assert "1 command of my own session was taken" in talk(example("lock_order"), "load my own session").stdout
 
 
-def steps_in(text: str) -> List[str]:
+def steps_in(text: str) -> list[str]:
     return [line for line in text.splitlines() if line.startswith("| ") and "#" in line]
 
 
@@ -475,7 +475,7 @@ def test_a_core_that_answers_nothing(
         (["IMPORT"], "IMPORT:2:1: ", 1),
     ],
 )
-def test_a_command_line_that_is_refused(tmp_path: Path, words: List[str], sentence: str, status: int) -> None:
+def test_a_command_line_that_is_refused(tmp_path: Path, words: list[str], sentence: str, status: int) -> None:
     (tmp_path / "SOURCE").write_text("package main\nfunc main() {}\n")
     (tmp_path / "IMPORT").write_text('package main\nimport "fmt"\nfunc main() {}\n')
     done = subprocess.run([sys.executable, str(SHELL), *words], input="", capture_output=True, text=True, cwd=tmp_path)

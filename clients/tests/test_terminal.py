@@ -12,8 +12,9 @@ import subprocess
 import sys
 import termios
 import time
+from collections.abc import Callable, Iterator
 from pathlib import Path
-from typing import Callable, Dict, Iterator, List, Optional
+from typing import Optional
 
 import pytest
 
@@ -28,7 +29,7 @@ ENDLESS = "package main\nfunc main() {\n\tfor i := 0; ; i++ {\n\t}\n}\n"
 class Terminal:
     """A shell at a terminal of some columns."""
 
-    def __init__(self, words: List[str], environment: Dict[str, str], columns: int) -> None:
+    def __init__(self, words: list[str], environment: dict[str, str], columns: int) -> None:
         self.handle, other = pty.openpty()
         fcntl.ioctl(other, termios.TIOCSWINSZ, struct.pack("HHHH", 40, columns, 0, 0))
         self.process: "subprocess.Popen[bytes]" = subprocess.Popen(
@@ -95,7 +96,7 @@ Begin = Callable[..., Terminal]
 
 @pytest.fixture
 def begin(rewind: str, tmp_path: Path) -> Iterator[Begin]:
-    begun: List[Terminal] = []
+    begun: list[Terminal] = []
 
     def one(source: str = "lock_order", columns: int = 100, rewind_path: str = rewind, **more: Optional[str]) -> Terminal:
         path = EXAMPLES / (source + ".go")
@@ -224,7 +225,7 @@ def test_a_question_before_steps_go_back(begin: Begin) -> None:
 
 
 @pytest.mark.parametrize("more", [{"NO_COLOR": "1"}, {"TERM": "dumb"}])
-def test_no_colours(begin: Begin, more: Dict[str, str]) -> None:
+def test_no_colours(begin: Begin, more: dict[str, str]) -> None:
     terminal = begin(**more)
     terminal.say("run 1000", "Deadlock")
     terminal.say("why", "A cycle")

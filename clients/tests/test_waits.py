@@ -1,7 +1,6 @@
 """Who waits for whom, on programs in which a lock is taken by sending, channels go over channels, and goroutines end early."""
 from __future__ import annotations
 
-from typing import Dict, List
 
 import pytest
 
@@ -19,14 +18,14 @@ from opened import Open
 HEAD = "package main\n"
 
 
-def why(one: Session, *steps: str) -> List[str]:
+def why(one: Session, *steps: str) -> list[str]:
     """What is said where the program stands, behind some commands and a run."""
     for command in (*steps, "run 1000"):
         one.ask(command)
     return Sentences(one).all(explain(one))
 
 
-def edges(one: Session) -> Dict[str, "tuple[str, ...]"]:
+def edges(one: Session) -> dict[str, "tuple[str, ...]"]:
     return {wait.goroutine: wait.waits_for for wait in explain(one).waits}
 
 
@@ -235,7 +234,7 @@ def test_a_range_over_a_channel_that_nobody_closes(session: Open) -> None:
         ("var c chan int; <-c", ["g0 waits to receive from a nil channel at line 3: var c chan int; <-c", "    a nil channel blocks for ever"]),
     ],
 )
-def test_what_waits_for_ever(session: Open, statement: str, told: List[str]) -> None:
+def test_what_waits_for_ever(session: Open, statement: str, told: list[str]) -> None:
     assert why(session(HEAD + f"func main() {{\n\t{statement}\n}}\n"))[1:] == told
 
 

@@ -1,18 +1,28 @@
 """Runs the code blocks of the documents. The kind of a block is seen by what is in it; a block of no known kind is
 a failure, so that none stands untested. A comment `<!-- not run: REASON -->` before a block says why it is not run."""
+from __future__ import annotations
+
+from collections.abc import Callable
+from typing import Optional
 
 from . import contracts, diagrams, editors, fragments, shell, stories
+from .checks import Checks
+from .markdown import Block, Page
+from .program import Scratch
+
+# How blocks of a kind are checked.
+Check = Callable[[Checks, Scratch, Block], None]
 
 
-def first_line(block):
+def first_line(block: Block) -> str:
     return next((line for line in block.lines if line.strip()), "")
 
 
-def begins(block, start):
+def begins(block: Block, start: str) -> bool:
     return any(line.startswith(start) for line in block.lines)
 
 
-def kind_of(block):
+def kind_of(block: Block) -> Optional[Check]:
     """The function that checks blocks of this kind, if one does."""
     if contracts.is_quote(block):
         return contracts.check_quote
@@ -35,7 +45,7 @@ def kind_of(block):
     return fragments.check_fragment if block.info == "go" else None
 
 
-def check_block(checks, program, block):
+def check_block(checks: Checks, program: Scratch, block: Block) -> None:
     if block.reason:
         checks.skip(block.place(), block.reason)
         return
@@ -46,6 +56,6 @@ def check_block(checks, program, block):
         check(checks, program, block)
 
 
-def check(checks, program, document):
+def check(checks: Checks, program: Scratch, document: Page) -> None:
     for block in document.blocks:
         check_block(checks, program, block)

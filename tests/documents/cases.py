@@ -1,7 +1,14 @@
 """What is typed for each command, kind, fault, refusal, end of a run and exit status that the page of commands
 tells of."""
+from __future__ import annotations
+
+from typing import Optional
 
 from .examples import file_of
+
+# A source, what is typed before, and the command.
+Case = tuple[str, list[str], str]
+
 
 # A channel, a goroutine that receives from it and prints, and a send: six steps of `g0` and five of `g0.1`.
 TALK = (
@@ -16,7 +23,7 @@ LOOP = file_of("for {\n\t}")
 TWO = file_of("x := 1\n\ty := 2")
 DONE = "package main\nfunc f() {\n}\nfunc main() {\n\tgo f()\n\tfor {\n\t}\n}\n"
 # Of each form of a command: a source, what is typed before, and the command.
-FORMS = {
+FORMS: dict[str, Case] = {
     "step G": (TALK, ["step g0"], "step g0"),
     "step G CASE": (SELECT, ["run 4"], "step g0 1"),
     "run N": (TALK, [], "run 3"),
@@ -41,7 +48,7 @@ FORMS = {
     "quit": (TALK, [], "quit"),
 }
 # Of each refusal: a source, what is typed before, and the command.
-REFUSALS = {
+REFUSALS: dict[str, Case] = {
     "N1": (TWO, ["run 10"], "step g0"),
     "N2": (TWO, [], "text g0.1"),
     "N3": (file_of("c := make(chan int)\n\t<-c"), ["run 9"], "step g0"),
@@ -66,7 +73,7 @@ FAULTS = {
     "CallDepth": file_of("f()", "func f() { f() }\n"),
     "NameDepth": file_of("f()\n\tselect {\n\t}", "func f() { go f() }\n"),
 }
-ENDS = {
+ENDS: dict[str, Case] = {
     "ended": (TWO, [], "run 100"),
     "fault": (FAULTS["DivideByZero"], [], "run 100"),
     "count": (TWO, [], "run 2"),
@@ -87,7 +94,7 @@ MEETING = (
 # Runs that have a step of each kind together.
 KINDS = [TALK, SELECT, DONE, CLOSED, BUFFERED, WAITING, MEETING, FAULTS["BadSize"]]
 # Of each status: lines for a shell, and what stands on standard error where the page says it word by word.
-STATUSES = {
+STATUSES: dict[str, list[tuple[str, Optional[str]]]] = {
     "0": [
         ("printf 'step g0\\nquit\\nstep g0\\n' | rewind two.go 2>&1 >/dev/null", ""),
         ("rewind two.go </dev/null", ""),

@@ -1,11 +1,14 @@
 """The page of commands: each command, kind, fault, refusal, end of a run and exit status that it tells comes as it
 says."""
+from __future__ import annotations
 
 import re
 
 from .cases import ENDS, FAULTS, FORMS, KINDS, LINES, REFUSALS, STATUSES, TWO, WITHOUT_RUN
+from .checks import Checks
 from .examples import check_meaning, file_of
-from .markdown import page, spans
+from .markdown import Row, page, spans
+from .program import Scratch
 
 PAGE = "docs/COMMANDS.md"
 NAME = r"g0(?:\.\d+)*"
@@ -24,25 +27,25 @@ STANDS_FOR = {
 }
 
 
-def last_reply(program, source, before, command):
+def last_reply(program: Scratch, source: str, before: list[str], command: str) -> str:
     """The last line of the reply to a command."""
     replies = program.replies(source, [*before, command])
     return replies[len(before)][-1] if len(replies) > len(before) else ""
 
 
-def pattern_of(reply):
+def pattern_of(reply: str) -> str:
     """What a line looks like that the page writes with capitals in place of its parts."""
     words = [STANDS_FOR.get(word, re.escape(word)) for word in reply.split(" ")]
     return " ".join(words)
 
 
-def reply_told(rows, cell):
+def reply_told(rows: dict[str, Row], cell: str) -> str:
     """The reply that a row tells, or the row that it names: `as step G`."""
     same = re.match(r"as `([^`]*)`", cell)
     return reply_told(rows, rows[same[1]].cells[2]) if same else spans(cell)[0]
 
 
-def check_forms(checks, program):
+def check_forms(checks: Checks, program: Scratch) -> None:
     """Each command that the table has gets the reply that it tells."""
     document = page(PAGE)
     rows = {form: row for row in document.rows_of("Command", "What it does", "Reply") for form in spans(row.cells[0])}
@@ -60,7 +63,7 @@ def check_forms(checks, program):
         checks.holds(rows[form].place, refusals <= codes, f"{form}: not all of {sorted(refusals)} are in the table of codes")
 
 
-def check_refusals(checks, program):
+def check_refusals(checks: Checks, program: Scratch) -> None:
     """Each refusal comes for its example, which names the command first in code font, and may name the reply behind it."""
     document = page(PAGE)
     for row in document.rows_of("Code", "Meaning", "Example"):
@@ -77,13 +80,13 @@ def check_refusals(checks, program):
         checks.same(row.place, f"the reply to {command!r}", wanted, last_reply(program, source, before, command))
 
 
-def kinds_in(program, source):
+def kinds_in(program: Scratch, source: str) -> list[str]:
     """The kinds of the steps of a run."""
     lines = program.replies(source, ["run 3000", "log"])[1]
     return [line.split(" ", 2)[2] for line in lines if line.startswith("| ")]
 
 
-def check_kinds(checks, program):
+def check_kinds(checks: Checks, program: Scratch) -> None:
     document = page(PAGE)
     seen = {re.sub(r" .*", "", kind) for source in KINDS for kind in kinds_in(program, source)}
     told = [spans(row.cells[0])[0].split()[0] for row in document.rows_of("Kind", "What the step did")]
@@ -95,7 +98,7 @@ def check_kinds(checks, program):
         checks.same(row.place, "the faults", faults if listed else [], listed)
 
 
-def check_faults(checks, program):
+def check_faults(checks: Checks, program: Scratch) -> None:
     document = page(PAGE)
     for row in document.rows_of("Fault", "Meaning", "Example"):
         fault = spans(row.cells[0])[0]
@@ -106,7 +109,7 @@ def check_faults(checks, program):
             checks.holds(row.place, example in FAULTS[fault], f"the example of {fault} in the tests has no {example!r}")
 
 
-def check_ends(checks, program):
+def check_ends(checks: Checks, program: Scratch) -> None:
     """Each end of a run that the reply of `run` tells."""
     document = page(PAGE)
     row = next(it for it in document.rows_of("Command") if "`run N`" in it.cells[0])
@@ -118,7 +121,7 @@ def check_ends(checks, program):
         checks.holds(row.place, re.fullmatch(wanted, got), f"{end}: got {got!r}")
 
 
-def check_statuses(checks, program):
+def check_statuses(checks: Checks, program: Scratch) -> None:
     document = page(PAGE)
     program.write("two.go", TWO)
     program.write("refused.go", file_of("println(1 / 0)"))
@@ -135,7 +138,7 @@ def check_statuses(checks, program):
             checks.holds(rows[status].place, as_told, f"{line}: the page does not tell of {told!r}")
 
 
-def check_lines(checks, program):
+def check_lines(checks: Checks, program: Scratch) -> None:
     document = page(PAGE)
     for claim, lines in LINES.items():
         checks.holds(PAGE, document.has(claim), f"it no longer says {claim!r} (tests/documents/cases.py)")
@@ -144,11 +147,11 @@ def check_lines(checks, program):
             checks.same(f"{PAGE}:{document.line_of(claim)}", f"the reply to {line[:40]!r}", wanted, got)
     blank = "A line without a word has no answer."
     checks.holds(PAGE, document.has(blank), f"it no longer says {blank!r} (tests/documents/cases.py)")
-    got = program.replies(TWO, ["", " \t", "step g0"])
-    checks.same(f"{PAGE}:{document.line_of(blank)}", "blank lines", [["ok g0#1 pure"]], got)
+    replies = program.replies(TWO, ["", " \t", "step g0"])
+    checks.same(f"{PAGE}:{document.line_of(blank)}", "blank lines", [["ok g0#1 pure"]], replies)
 
 
-def check_codes(checks, program):
+def check_codes(checks: Checks, program: Scratch) -> None:
     """Each code that the program says it knows has a page."""
     told = program.run(["--explain", "?"]).err
     listed = re.sub(r"\n    ", " ", told.partition("It knows these:")[2].partition("\n\n")[0])

@@ -1,21 +1,23 @@
 """Figures: the tables of `bench` have a row for each bench and each crate of their commit, and COMPARED says of a step what they say."""
+from __future__ import annotations
 
 import math
 import re
 
 from . import repository
+from .checks import Checks
 
 BENCHES = ("steps", "core", "rollback", "workers", "channels", "front")
 RESULTS, GATE, COMPARED = "bench/RESULTS.md", "bench/GATE.md", "docs/COMPARED.md"
 
 
-def rows(name):
+def rows(name: str) -> list[list[str]]:
     """The rows of the tables of a document, each as its cells."""
     lines = repository.read(name).splitlines()
     return [[cell.strip() for cell in line.strip("|").split("|")] for line in lines if line.startswith("|")]
 
 
-def check_gate(checks):
+def check_gate(checks: Checks) -> None:
     """The table of the gate has a row for each crate that there was at its commit."""
     commit = rows(GATE)[2][1]
     told = repository.at(commit, "crates.txt")
@@ -27,7 +29,7 @@ def check_gate(checks):
     checks.same_sets(GATE, "crates", crates, [name for name in after if name not in ("Crate", "others", "together")])
 
 
-def check_step(checks):
+def check_step(checks: Checks) -> None:
     """What a step takes, from the least to the most of the programs that are measured."""
     steps = [re.match(r"(\d+) ns a step, .*?([\d.]+) bytes a step", row[2]) for row in rows(RESULTS) if row[0] == "core"]
     times, sizes = zip(*((int(step[1]) / 1000, float(step[2])) for step in steps if step))
@@ -36,7 +38,7 @@ def check_step(checks):
     checks.holds(COMPARED, wanted in repository.read(COMPARED), f"of a step it does not say '{wanted}', as {RESULTS} does")
 
 
-def check_benches(checks):
+def check_benches(checks: Checks) -> None:
     """The table of results has a row for each bench."""
     found = [row[0] for row in rows(RESULTS)]
     checks.same_sets(RESULTS, "benches", BENCHES, {name for name in found if name in BENCHES})

@@ -1,11 +1,14 @@
 """Links, pictures and paths: what a document points at is there."""
+from __future__ import annotations
 
 import os
 import re
 import xml.etree.ElementTree
 
 from . import repository, shell
-from .markdown import SPAN, page, spans
+from .checks import Checks
+from .markdown import SPAN, Page, page, spans
+from .program import Scratch
 
 ENDINGS = "antt c css go html js json md mjs py rt script expect sh svg toml txt".split()
 ELSEWHERE = re.compile(r"(https?|mailto|ftp):")
@@ -15,14 +18,14 @@ UNFINISHED = re.compile(r"\b(?:TODO|FIXME|TBD|XXX|[A-Z]{3,}(?:_[A-Z]+)+)\b")
 PLACEHOLDER = re.compile(r"\b[A-Z]{1,}\b|[*~$<>@{}]|\.\.\.")
 
 
-def target_of(document, link):
+def target_of(document: Page, link: str) -> tuple[str, str]:
     """(path in the repository, anchor) of a link of a document."""
     path, _, anchor = link.partition("#")
     folder = os.path.dirname(document.name)
     return (os.path.normpath(os.path.join(folder, path)) if path else document.name), anchor
 
 
-def check_link(checks, document, line, link, is_picture):
+def check_link(checks: Checks, document: Page, line: int, link: str, is_picture: bool) -> None:
     place = f"{document.name}:{line}"
     if ELSEWHERE.match(link):
         address = re.fullmatch(r"(https?|ftp)://[\w.-]+\.\w+(:\d+)?(/\S*)?|mailto:\S+@\S+", link)
@@ -38,7 +41,7 @@ def check_link(checks, document, line, link, is_picture):
         checks.holds(place, anchor in page(path).anchors, f"a link to {link}: no heading has this anchor")
 
 
-def check_picture(checks, place, path):
+def check_picture(checks: Checks, place: str, path: str) -> None:
     """A picture is a file that its form says it is."""
     if not path.endswith(".svg"):
         with open(repository.path_of(path), "rb") as file:
@@ -53,9 +56,9 @@ def check_picture(checks, place, path):
     checks.holds(place, root.endswith("svg"), f"{path} is no picture: {root}")
 
 
-def check_unused(checks):
+def check_unused(checks: Checks) -> None:
     """Each picture of the documents is shown by one of them."""
-    shown = set()
+    shown = set[str]()
     for name in repository.documents():
         document = page(name)
         shown.update(target_of(document, link)[0] for _, link, _ in document.links())
@@ -64,7 +67,7 @@ def check_unused(checks):
             checks.holds(name, name in shown, "no document shows this picture")
 
 
-def is_path(text):
+def is_path(text: str) -> bool:
     """Whether a part in code font looks like a path."""
     ending = text.rpartition(".")[2]
     parts = text.split("/")
@@ -72,7 +75,7 @@ def is_path(text):
     return bool(named) and (len(parts) > 1 and all(parts[:1]) or ("." in text[1:] and ending in ENDINGS))
 
 
-def is_there(document, text):
+def is_there(document: Page, text: str) -> bool:
     """Whether a path is one of the repository: as it is, below `crates` or the document's folder, or as the end of one."""
     bare = text.rstrip("/")
     known = set(repository.files()) | repository.folders()
@@ -80,7 +83,7 @@ def is_there(document, text):
     return any(it in known for it in near) or any(it.endswith("/" + bare) for it in known)
 
 
-def is_promised(text):
+def is_promised(text: str) -> bool:
     """Whether a path that is made is one that the Makefile or a script of it makes."""
     top = text.split("/")[0]
     if top not in ("bin", "out") and not text.startswith("page/out"):
@@ -89,12 +92,12 @@ def is_promised(text):
     return any(os.path.basename(text.rstrip("/")) in repository.read(it) for it in scripts)
 
 
-def is_own(document, text):
+def is_own(document: Page, text: str) -> bool:
     tops = {it.split("/")[0] for it in repository.folders()}
     return document.name in MAPS or text.split("/")[0] in tops
 
 
-def check_words(checks, program, document):
+def check_words(checks: Checks, program: Scratch, document: Page) -> None:
     """Commands in code font: targets of `make`, options of the program, and the codes in lines of refusals."""
     options = set(re.findall(r"--[a-z]+", program.run(["--help"]).out))
     codes = set(re.findall(r"\b[SPC]\d+\b", program.run(["--explain", "?"]).err))
@@ -112,7 +115,7 @@ def check_words(checks, program, document):
             checks.fail(f"{document.name}:{number + 1}", f"the word {word} stands for something that is missing")
 
 
-def check_paths(checks, document):
+def check_paths(checks: Checks, document: Page) -> None:
     for number, line in enumerate(document.prose):
         for text in spans(line):
             word = text.split()[0] if text.split() else ""
@@ -121,6 +124,6 @@ def check_paths(checks, document):
                 checks.holds(f"{document.name}:{number + 1}", known, f"there is no {word}")
 
 
-def check_links(checks, document):
+def check_links(checks: Checks, document: Page) -> None:
     for line, link, is_picture in document.links():
         check_link(checks, document, line, link, is_picture)

@@ -1,47 +1,51 @@
 """The language page: each form that it says is there is accepted, and each that it says is left out is refused.
 Each code comes at its place, and the limits are where they are said to be. The sources are in `language.txt`."""
+from __future__ import annotations
 
 import re
+from collections.abc import Callable
 
-from .examples import check_meaning, entries_of, file_of
+from .checks import Checks
+from .examples import Example, check_meaning, entries_of, file_of
 from .markdown import page, spans
+from .program import Scratch
 
 PAGE = "docs/LANGUAGE.md"
 # Codes that come where memory is short.
 WITHOUT_SOURCE = {"S8", "P4", "C11"}
 
 
-def padded(size):
+def padded(size: int) -> str:
     """A source of so many bytes."""
     text = "package main\nfunc main() {\n}\n//"
     return text + "x" * (size - len(text))
 
 
-def nested(levels):
+def nested(levels: int) -> str:
     return file_of(f"println({'(' * levels}1{')' * levels})")
 
 
-def calls(frames):
+def calls(frames: int) -> str:
     """A program whose `main` and functions have so many frames."""
     return f"package main\nfunc f(n int) {{\n\tif n > 1 {{\n\t\tf(n - 1)\n\t}}\n}}\nfunc main() {{\n\tf({frames - 1})\n}}\n"
 
 
-def generations(count):
+def generations(count: int) -> str:
     """A program with so many generations of goroutines below `main`."""
     started = "func f(n int) {\n\tif n > 1 {\n\t\tgo f(n - 1)\n\t}\n\tselect {\n\t}\n}\n"
     return f"package main\n{started}func main() {{\n\tgo f({count})\n\tselect {{\n\t}}\n}}\n"
 
 
-def buffer(size):
+def buffer(size: int) -> str:
     return file_of(f"n := {size}\nc := make(chan int, n)\nprintln(cap(c))")
 
 
-def source_of(code, example):
+def source_of(code: str, example: str) -> str:
     """The source of an example in the table of codes."""
     if code == "S7":
         return padded(int(re.sub(r"\D", "", example)))
     if code == "P3":
-        return nested(int(re.search(r"in (\d+) pairs", example)[1]))
+        return nested(int(re.sub(r".*in (\d+) pairs.*", r"\1", example)))
     text = spans(example)[0]
     if "as line 1" in example:
         return text + "\nfunc main() {\n}\n"
@@ -50,7 +54,7 @@ def source_of(code, example):
     return file_of(text)
 
 
-def check_codes(checks, program):
+def check_codes(checks: Checks, program: Scratch) -> None:
     """Each code comes for its example, at the place that is told; and `--explain` has the meaning that the table has."""
     document = page(PAGE)
     for row in document.rows_of("Code", "Meaning", "Example", "Refused at"):
@@ -66,7 +70,7 @@ def check_codes(checks, program):
         checks.same(row.place, f"status of {code}", 1, program.run(["--check", "checked.go"]).status)
 
 
-def check_example(checks, program, place, example):
+def check_example(checks: Checks, program: Scratch, place: str, example: Example) -> None:
     """An example of `language.txt`: accepted, refused with a code, or run with what it prints."""
     told = program.check(example.source)
     if example.mark == "-":
@@ -77,7 +81,7 @@ def check_example(checks, program, place, example):
         checks.same(place, f"what {example.text} prints", example.result, shown)
 
 
-def check_forms(checks, program):
+def check_forms(checks: Checks, program: Scratch) -> None:
     """Each row of the tables of forms has examples, and each example is as the row says."""
     document, examples = page(PAGE), entries_of("language.txt")
     rows = document.rows_of("Form", "What is there", "Left out")
@@ -89,7 +93,7 @@ def check_forms(checks, program):
             check_example(checks, program, keys[key].place, example)
 
 
-def check_claims(checks, program):
+def check_claims(checks: Checks, program: Scratch) -> None:
     """Each claim that has examples is still made, and holds."""
     document, examples = page(PAGE), entries_of("language.txt")
     for claim in examples:
@@ -100,7 +104,7 @@ def check_claims(checks, program):
                 check_example(checks, program, place, example)
 
 
-def end_of(program, source):
+def end_of(program: Scratch, source: str) -> str:
     """What a program comes to: the code of its refusal, the fault that stops it, or '' where there is neither."""
     refused = program.check(source).split(" ")[0]
     if refused:
@@ -110,13 +114,13 @@ def end_of(program, source):
     return last.rpartition(" fault ")[2] if " fault " in last else ""
 
 
-def constant(number):
+def constant(number: str) -> str:
     """A program in which a constant of any size is a part."""
     return file_of(f"println({number} < 0)")
 
 
 # Of each limit: a source that goes up to a number, and one that goes past it.
-LIMITS = {
+LIMITS: dict[str, Callable[[int], tuple[str, str]]] = {
     "source text": lambda n: (padded(n), padded(n + 1)),
     "levels of a tree": lambda n: (nested(n - 3), nested(n - 2)),
     "frames of a goroutine": lambda n: (calls(n), calls(n + 1)),
@@ -127,7 +131,7 @@ LIMITS = {
 WITHOUT_RUN = ("goroutines that one goroutine starts",)
 
 
-def check_limits(checks, program):
+def check_limits(checks: Checks, program: Scratch) -> None:
     document = page(PAGE)
     for row in document.rows_of("Limit", "Value", "Beyond it"):
         name, value, beyond = row.cells

@@ -1,40 +1,43 @@
 """The manual page and `--help`: their examples and their lists are those of the program."""
+from __future__ import annotations
 
 import re
 
 from . import repository
+from .checks import Checks
 from .markdown import Block
+from .program import Scratch
 from .shell import EXAMPLE, check_transcript
 
 MANUAL = "docs/rewind.1"
 FIRST = "package main\n\nfunc main() {\n\tx := 1\n\tprintln(x)\n}\n"
 
 
-def plain(text):
+def plain(text: str) -> str:
     """A text of the manual page without its marks."""
     text = re.sub(r"\\f[BIRP]", "", text)
     return text.replace("\\&", "").replace("\\-", "-").replace("\\e", "\\")
 
 
-def examples(name, text):
+def examples(name: str, text: str) -> list[Block]:
     """The blocks between `.nf` and `.fi`."""
-    found, first = [], None
+    found, first = [], 0
     lines = text.split("\n")
     for number, line in enumerate(lines):
         if line == ".nf":
             first = number + 1
         elif line == ".fi":
-            found.append(Block(name, first + 1, [plain(it) for it in lines[first:number]], "", "EXAMPLE", None))
+            found.append(Block(name, first + 1, [plain(it) for it in lines[first:number]], "", 0, ""))
     return found
 
 
-def example_of_help(text):
+def example_of_help(text: str) -> Block:
     """The example of `--help`, without its margin."""
     after = text.split("Example:\n")[1].split("\n\n")[0]
-    return Block("--help", 1, [line[2:] for line in after.splitlines()], "", "", None)
+    return Block("--help", 1, [line[2:] for line in after.splitlines()], "", 0, "")
 
 
-def tagged(section, text):
+def tagged(section: str, text: str) -> list[tuple[int, str, str]]:
     """(line, tag, text) of each `.TP` of a section."""
     found, here = [], ""
     lines = text.split("\n")
@@ -45,7 +48,7 @@ def tagged(section, text):
     return found
 
 
-def check_synopsis(checks, program):
+def check_synopsis(checks: Checks, program: Scratch) -> None:
     """Whether the program takes each form of the synopsis, with and without what stands in brackets."""
     text = repository.read(MANUAL)
     forms = re.findall(r"^\.B rewind\n(.+)$", text, re.M)
@@ -57,7 +60,7 @@ def check_synopsis(checks, program):
             checks.same(MANUAL, f"status of rewind {reading}", 0, ran.status)
 
 
-def check_options(checks, program):
+def check_options(checks: Checks, program: Scratch) -> None:
     text = repository.read(MANUAL)
     help_text = program.run(["--help"]).out
     told = set(re.findall(r"--[a-z]+", help_text.split("\nCommands")[0]))
@@ -65,7 +68,7 @@ def check_options(checks, program):
     checks.same_sets(MANUAL, "the options of the manual page", told, options)
 
 
-def check_commands(checks, program):
+def check_commands(checks: Checks, program: Scratch) -> None:
     """Whether the manual page and `--help` have the same commands."""
     text = repository.read(MANUAL)
     listed = program.run(["--help"]).out.split("Commands")[1].split("\n\n")[0]
@@ -74,7 +77,7 @@ def check_commands(checks, program):
     checks.same_sets(MANUAL, "the commands of the manual page", helped, named)
 
 
-def check_meanings(checks, program):
+def check_meanings(checks: Checks, program: Scratch) -> None:
     """Whether each code of the manual page has the meaning there that `--explain` gives."""
     text = repository.read(MANUAL)
     sections = [it for it in re.findall(r"^\.SH (.+)$", text, re.M) if re.match(r"CODES|KINDS|ENDS|FAULTS|FAILURES", it)]
@@ -86,14 +89,14 @@ def check_meanings(checks, program):
             checks.same(f"{MANUAL}:{line}", f"--explain {code}", f"{code}: {meaning}", told)
 
 
-def check_version(checks, program):
+def check_version(checks: Checks, program: Scratch) -> None:
     """The version in the head of the manual page is that of the program."""
     text = repository.read(MANUAL)
     told = re.findall(r'^\.TH .* "Rewind ([^"]*)"', text, re.M)
     checks.same(f"{MANUAL}:2", "the version", [program.run(["--version"]).out.strip()], [f"rewind {it}" for it in told])
 
 
-def check_examples(checks, program):
+def check_examples(checks: Checks, program: Scratch) -> None:
     """The examples of the manual page and of `--help`."""
     program.write("first.go", FIRST)
     for block in examples(MANUAL, repository.read(MANUAL)) + [example_of_help(program.run(["--help"]).out)]:

@@ -4,12 +4,14 @@ A recipe has a table of places. Its first column is a folder, and its second has
 a path. A file of a crate's `src` or `specs` stands there without its ending. A sample is something that was added once:
 the command `text`, the loop `range`, the operation `cap`, the kind of step `length` and the shell's word `direct`.
 """
+from __future__ import annotations
 
 import dataclasses
 import fnmatch
 import re
 
 from . import repository
+from .checks import Checks
 from .markdown import page, spans
 
 MAP = "docs/ARCHITECTURE.md"
@@ -25,7 +27,7 @@ class Sample:
     """What was added by a recipe, and how it looks: a pattern of text in the files of each area."""
 
     recipe: str
-    looks: tuple
+    looks: tuple[tuple[str, str], ...]
 
 
 SAMPLES = (
@@ -60,22 +62,22 @@ SAMPLES = (
 )
 
 
-def found(sample):
+def found(sample: Sample) -> list[str]:
     """The files in which a sample stands."""
-    def stands_in(name):
+    def stands_in(name: str) -> bool:
         return any(re.fullmatch(area, name) and re.search(look, repository.read(name), re.M) for area, look in sample.looks)
 
     return [name for name in repository.files() if stands_in(name)]
 
 
-def place_of(folder, name):
+def place_of(folder: str, name: str) -> str:
     """The path that a cell of the table means."""
     whole = f"crates/{folder}" if folder.split("/")[0] in repository.crates() else folder
     ending = "" if "." in name or "*" in name else ENDINGS.get(folder.rpartition("/")[2], "")
     return f"{whole}/{name}{ending}"
 
 
-def check_recipe(checks, sample):
+def check_recipe(checks: Checks, sample: Sample) -> None:
     rows = [row for row in page(MAP).rows_of("In", "Files") if row.section == sample.recipe]
     named = {place_of(spans(row.cells[0])[0], name): row.place for row in rows for name in spans(row.cells[1])}
     files = found(sample)

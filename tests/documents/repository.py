@@ -1,30 +1,32 @@
 """The files of the repository."""
+from __future__ import annotations
 
 import functools
 import os
 import shutil
 import subprocess
+from typing import Optional
 
 ROOT = os.path.dirname(os.path.dirname(os.path.dirname(os.path.abspath(__file__))))
 SESSIONS = os.path.join("crates", "sessions", "data")
 MADE = ("bin", "out", "page/out", ".git", "__pycache__")
 
 
-def path_of(name):
+def path_of(name: str) -> str:
     return os.path.join(ROOT, name)
 
 
-def exists(name):
+def exists(name: str) -> bool:
     return os.path.exists(path_of(name))
 
 
 @functools.lru_cache(maxsize=None)
-def read(name):
+def read(name: str) -> str:
     with open(path_of(name), encoding="utf-8") as file:
         return file.read()
 
 
-def at(commit, name):
+def at(commit: str, name: str) -> Optional[str]:
     """A file as it was at a commit; None where git does not have that."""
     if not exists(".git") or not shutil.which("git"):
         return None
@@ -32,15 +34,15 @@ def at(commit, name):
     return told.stdout if told.returncode == 0 else None
 
 
-def is_made(name):
+def is_made(name: str) -> bool:
     """Whether a path lies in a folder that `make` fills."""
     parts = name.split("/")
     return any(name == it or name.startswith(it + "/") or it in parts for it in MADE)
 
 
-def walked():
+def walked() -> list[str]:
     """All files but those that are made."""
-    found = []
+    found: list[str] = []
     for folder, below, names in os.walk(ROOT):
         here = os.path.relpath(folder, ROOT)
         below[:] = [it for it in below if not is_made(os.path.normpath(os.path.join(here, it)))]
@@ -49,7 +51,7 @@ def walked():
 
 
 @functools.lru_cache(maxsize=None)
-def files():
+def files() -> list[str]:
     """The files that git knows or would add; where there is no git, all that are not made."""
     words = ["git", "-C", ROOT, "ls-files", "--cached", "--others", "--exclude-standard"]
     if not exists(".git") or not shutil.which("git"):
@@ -59,7 +61,7 @@ def files():
 
 
 @functools.lru_cache(maxsize=None)
-def folders():
+def folders() -> set[str]:
     """Every folder that has a file somewhere below it."""
     found = set()
     for name in files():
@@ -70,25 +72,25 @@ def folders():
 
 
 @functools.lru_cache(maxsize=None)
-def documents():
+def documents() -> list[str]:
     """Every Markdown file."""
     return [name for name in files() if name.endswith(".md")]
 
 
 @functools.lru_cache(maxsize=None)
-def crates():
+def crates() -> list[str]:
     """The names of the crates."""
     return sorted({name.split("/")[1] for name in files() if name.startswith("crates/") and name.count("/") > 1})
 
 
 @functools.lru_cache(maxsize=None)
-def session_names():
+def session_names() -> list[str]:
     """The names of the example sessions."""
     return sorted(os.path.basename(it)[:-3] for it in files() if os.path.dirname(it) == SESSIONS and it.endswith(".go"))
 
 
 @functools.lru_cache(maxsize=None)
-def make_targets():
+def make_targets() -> set[str]:
     """The targets of the Makefile."""
     found = set()
     for line in read("Makefile").splitlines():

@@ -1,12 +1,15 @@
 """Lines for a shell. A call of the program is run, and its output compared where the document prints it. Of `make`
 the targets have to be there, and of other known commands the files of the repository that they name. A command of
 no known name is a failure."""
+from __future__ import annotations
 
 import re
 import shlex
 
 from . import repository
-from .program import PROMPT
+from .checks import Checks
+from .markdown import Block
+from .program import PROMPT, Scratch
 
 PROGRAMS = {"rewind", "bin/rewind", "bin/rewind-quick", "./bin/rewind", "./bin/rewind-quick"}
 # Commands that ask for lines, with the prompt of each.
@@ -31,23 +34,23 @@ ANY_LINES = ("..", "...")
 REMARK = re.compile(r"\s{2,}(<-|←|#) .*$")
 
 
-def without_remark(line):
+def without_remark(line: str) -> str:
     """A command line without what explains it: words behind two blanks or more, or behind `#`."""
     return re.split(r"\s{2,}(?=\S)|\s+#\s", line.strip())[0]
 
 
-def command_of(words):
+def command_of(words: list[str]) -> list[str]:
     """The words of a command without the variables that are set before it."""
     while words and re.match(r"[A-Z_]+=", words[0]):
         words = words[1:]
     return words
 
 
-def parsed(line):
+def parsed(line: str) -> list[list[str]]:
     """The simple commands of a line, as lists of words."""
     lexer = shlex.shlex(line, posix=True, punctuation_chars="|&;<>")
     lexer.whitespace_split = True
-    commands = [[]]
+    commands: list[list[str]] = [[]]
     for word in lexer:
         if word in ("|", "&&", "||", ";", "&"):
             commands.append([])
@@ -56,34 +59,34 @@ def parsed(line):
     return [it for it in map(command_of, commands) if it]
 
 
-def is_file(name):
+def is_file(name: str) -> bool:
     """Whether a path is one of the repository."""
     bare = re.sub(r"^(REPOSITORY/|\./)", "", name)
     return bare in repository.files() or bare.rstrip("/") in repository.folders()
 
 
-def is_of_archive(name):
+def is_of_archive(name: str) -> bool:
     """Whether a path is one of the clients as the archive of a release has them."""
     folder, _, client = name.rpartition("/")
     return folder == "bin" and is_file(f"clients/{client}")
 
 
-def is_known(name):
+def is_known(name: str) -> bool:
     return name in PROGRAMS | RUN | NAMED | {"make"} or ("/" in name and (is_file(name) or is_of_archive(name)))
 
 
-def first_word(line):
+def first_word(line: str) -> str:
     words = command_of(without_remark(line).split())
     return words[0] if words else ""
 
 
-def is_commands(block):
+def is_commands(block: Block) -> bool:
     """Whether the first line that is no remark is a command of a known name."""
     lines = [line for line in block.lines if line.strip() and not line.lstrip().startswith("#")]
     return bool(lines) and is_known(first_word(lines[0]))
 
 
-def check_make(checks, place, words):
+def check_make(checks: Checks, place: str, words: list[str]) -> None:
     """Whether the Makefile has the targets and variables of a call of `make`."""
     text = repository.read("Makefile")
     for word in words[1:]:
@@ -94,7 +97,7 @@ def check_make(checks, place, words):
             checks.holds(place, word in repository.make_targets(), f"the Makefile has no target {word}")
 
 
-def check_files(checks, place, words):
+def check_files(checks: Checks, place: str, words: list[str]) -> None:
     """Whether the paths among the words are there, if they begin with a folder of the repository or with REPOSITORY."""
     tops = {it.split("/")[0] for it in repository.folders()}
     for name in re.findall(r"[\w./-]+", " ".join(words)):
@@ -104,20 +107,20 @@ def check_files(checks, place, words):
             checks.holds(place, is_file(bare), f"there is no {bare}")
 
 
-def alternatives(words):
+def alternatives(words: list[str]) -> list[list[str]]:
     """A command whose words are joined by commas stands for one command each: `rewind --help, --version`."""
     if not any(it.endswith(",") for it in words):
         return [words]
     return [[words[0], it.rstrip(",")] for it in words[1:]]
 
 
-def stood_for(program, word):
+def stood_for(program: Scratch, word: str) -> str:
     """What a word in a form of the command line stands for; a source that is not there stands for an example."""
     absent = word.endswith(".go") and word not in program.shown and not is_file(word)
     return EXAMPLE if absent else STANDING.get(word, word)
 
 
-def check_form(checks, program, place, words):
+def check_form(checks: Checks, program: Scratch, place: str, words: list[str]) -> None:
     """Whether the program takes a command line of this form."""
     for form in alternatives(words):
         given = form[1: form.index("<")] if "<" in form else form[1:]
@@ -125,7 +128,7 @@ def check_form(checks, program, place, words):
         checks.holds(place, ran.status == 0, f"{' '.join(form)}: status {ran.status}: {ran.err.strip()}")
 
 
-def check_options(checks, program, block):
+def check_options(checks: Checks, program: Scratch, block: Block) -> None:
     """Whether a block that lists the forms of the command line, `--help` among them, has each option that `--help` tells."""
     lines = [line for line in block.lines if first_word(line) in PROGRAMS]
     if not any("--help" in line for line in lines):
@@ -135,7 +138,7 @@ def check_options(checks, program, block):
     checks.same_sets(block.place(), "the options of a command line", told, listed)
 
 
-def check_command(checks, program, place, words):
+def check_command(checks: Checks, program: Scratch, place: str, words: list[str]) -> None:
     """One simple command whose output is not compared."""
     if words[0] == "make":
         check_make(checks, place, words)
@@ -146,7 +149,7 @@ def check_command(checks, program, place, words):
     check_files(checks, place, words)
 
 
-def check_commands(checks, program, block):
+def check_commands(checks: Checks, program: Scratch, block: Block) -> None:
     """A block of command lines without output."""
     for number, line in enumerate(block.lines):
         bare = without_remark(line)
@@ -156,9 +159,9 @@ def check_commands(checks, program, block):
     check_options(checks, program, block)
 
 
-def asked(block):
+def asked(block: Block) -> list[tuple[int, str, list[str]]]:
     """(number of its line, command, output) of each command of a transcript."""
-    found = []
+    found: list[tuple[int, str, list[str]]] = []
     for number, line in enumerate(block.lines):
         if line.startswith("$ "):
             found.append((number, REMARK.sub("", line[2:]), []))
@@ -167,7 +170,7 @@ def asked(block):
     return found
 
 
-def filled(printed, got):
+def filled(printed: list[str], got: list[str]) -> list[tuple[int, str]]:
     """(number, line) of each printed line; one of points stands for the lines of the output up to the next one printed."""
     found, at = [], 0
     for number, line in enumerate(printed):
@@ -182,13 +185,13 @@ def filled(printed, got):
     return found
 
 
-def output_of(program, line, printed):
+def output_of(program: Scratch, line: str, printed: list[str]) -> list[str]:
     """The lines that a terminal shows for a line, with what is typed at the prompts that are printed."""
     words = command_of(shlex.split(line))
     if words[0] == ASKING:
         return asked_by_the_shell(program, line, printed)
-    prompt = PROMPTS.get(words[0])
-    typed = [it[len(prompt):] for it in printed if it.startswith(prompt)] if prompt else []
+    prompt = PROMPTS.get(words[0], "")
+    typed = [it[len(prompt) :] for it in printed if it.startswith(prompt)] if prompt else []
     if not typed:
         return program.shell(line).out.splitlines()
     words[0] = "./rewind" if words[0] in PROGRAMS else words[0]
@@ -196,15 +199,16 @@ def output_of(program, line, printed):
     return got[:-1] if got[-1] == prompt else got
 
 
-def asked_by_the_shell(program, line, printed):
+def asked_by_the_shell(program: Scratch, line: str, printed: list[str]) -> list[str]:
     """What the shell of the clients shows at its prompts: it echoes what it reads from a pipe."""
-    prompts = [ASKED.match(it).group() for it in printed if ASKED.match(it)]
-    typed = [ASKED.sub("", it) for it in printed if ASKED.match(it)]
+    asked = [it for it in printed if ASKED.match(it)]
+    typed = [ASKED.sub("", it) for it in asked]
+    prompts = [it[: len(it) - len(text)] for it, text in zip(asked, typed)]
     got = program.shell("printf '%s\\n' " + " ".join(map(shlex.quote, typed)) + " | " + line).out.splitlines()
     return [prompts.pop(0) + it[2:] if it.startswith("> ") and prompts else it for it in got]
 
 
-def compare_output(checks, program, block, number, line, printed):
+def compare_output(checks: Checks, program: Scratch, block: Block, number: int, line: str, printed: list[str]) -> None:
     """Whether a line of a transcript gives the output that is printed below it."""
     got = [TIMING.sub("in N seconds", it) for it in output_of(program, line, printed)]
     wanted = filled([TIMING.sub("in N seconds", it) for it in printed], got)
@@ -212,13 +216,13 @@ def compare_output(checks, program, block, number, line, printed):
     checks.same_lines(lambda n: block.place(number + 1 + numbers[n]), f"output of {line!r}", [it for _, it in wanted], got)
 
 
-def may_run(commands):
+def may_run(commands: list[list[str]]) -> bool:
     """Whether a line is run: it calls the program or what only reads, and writes no file."""
     names = {words[0] for words in commands}
     return names <= PROGRAMS | RUN | set(PROMPTS) and not any(">" in word for words in commands for word in words)
 
 
-def check_line(checks, program, block, number, line, output):
+def check_line(checks: Checks, program: Scratch, block: Block, number: int, line: str, output: list[str]) -> None:
     """A line of a transcript, with its output."""
     commands = parsed(line)
     shows = len(commands) == 1 and commands[0][0] == "cat" and len(commands[0]) == 2
@@ -232,7 +236,7 @@ def check_line(checks, program, block, number, line, output):
         checks.holds(block.place(number), not output, f"the output of {line!r} is not compared")
 
 
-def check_transcript(checks, program, block):
+def check_transcript(checks: Checks, program: Scratch, block: Block) -> None:
     """A block of lines `$ COMMAND`, each with its output."""
     for number, line, output in asked(block):
         while output and not output[-1].strip():

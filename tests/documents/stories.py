@@ -1,62 +1,65 @@
 """Sessions that a document prints: a source, and blocks of commands with their replies. The blocks of a section are
 one session. The source is the one printed in the section, or the example session that is named last before the
 block."""
+from __future__ import annotations
 
 import os
 import re
+from typing import Optional
 
 from . import repository
+from .checks import Checks
 from .fragments import is_go_file
-from .markdown import page, spans
-from .program import PROMPT
+from .markdown import Block, Page, page, spans
+from .program import PROMPT, Scratch
 
 PAGE = "docs/SESSIONS.md"
 
 
-def session_named(text):
-    """The example session that a text in code font names."""
+def session_named(text: str) -> str:
+    """The example session that a text in code font names, if it names one."""
     name = re.sub(r"\.go$", "", os.path.basename(text))
-    return name if name in repository.session_names() else None
+    return name if name in repository.session_names() else ""
 
 
-def source_of(block):
+def source_of(block: Block) -> Optional[str]:
     """The source of the session of a block: the last one that is printed or named before it in its section."""
     document = page(block.page)
     printed = [it for it in document.blocks if it.line < block.line and it.section == block.section and is_go_file(it)]
     if printed:
         return printed[-1].text
     for line in document.words_before(block.line):
-        named = [session_named(it) for it in spans(line)]
-        named = [it for it in named if it]
+        named = [name for name in map(session_named, spans(line)) if name]
         if named:
             return repository.read(f"{repository.SESSIONS}/{named[-1]}.go")
     return None
 
 
-def commands_of(block):
+def commands_of(block: Block) -> list[str]:
     return [line[2:] for line in block.lines if line.startswith("> ")]
 
 
-def printed_replies(block):
+def printed_replies(block: Block) -> list[str]:
     return [line for line in block.lines if not line.startswith("> ")]
 
 
-def session_before(block):
+def session_before(block: Block) -> list[Block]:
     """The blocks of a session up to this one."""
     source = source_of(block)
     same = [it for it in page(block.page).blocks if it.section == block.section and it.line <= block.line]
     return [it for it in same if commands_of(it) and not it.reason and source_of(it) == source]
 
 
-def answered(commands):
+def answered(commands: list[str]) -> list[str]:
     """The commands that have a reply: a blank line has none."""
     return [it for it in commands if it.strip()]
 
 
-def check_session(checks, program, block):
+def check_session(checks: Checks, program: Scratch, block: Block) -> None:
     """Whether the commands of a block, typed after those of the blocks before it, get the replies that it prints."""
     source = source_of(block)
-    if not checks.holds(block.place(), source is not None, "no source is printed or named for this session"):
+    if source is None:
+        checks.fail(block.place(), "no source is printed or named for this session")
         return
     before = [it for it in session_before(block) if it is not block]
     typed = [command for it in before for command in commands_of(it)]
@@ -69,10 +72,11 @@ def check_session(checks, program, block):
     checks.same_lines(block.place, "session", block.lines, got + [line for it in replies for line in it])
 
 
-def check_terminal(checks, program, block):
+def check_terminal(checks: Checks, program: Scratch, block: Block) -> None:
     """A session at a terminal: the banner may be left out of what is printed, since it comes once."""
     source = source_of(block)
-    if not checks.holds(block.place(), source is not None, "no source is printed or named for this session"):
+    if source is None:
+        checks.fail(block.place(), "no source is printed or named for this session")
         return
     typed = [line[len(PROMPT):] for line in block.lines if line.startswith(PROMPT)]
     ran = program.at_terminal(["./rewind", program.write("terminal.go", source)], typed)
@@ -85,7 +89,7 @@ def check_terminal(checks, program, block):
     checks.same_lines(block.place, "session at a terminal", block.lines, got)
 
 
-def stories_of(document):
+def stories_of(document: Page) -> list[tuple[int, list[Block]]]:
     """(section, blocks) of each section that prints a source and a session."""
     found = []
     for section in document.sections:
@@ -95,14 +99,14 @@ def stories_of(document):
     return found
 
 
-def name_of_story(document, section):
+def name_of_story(document: Page, section: int) -> str:
     """The example session of a story: that of its picture."""
     text = "\n".join(line for _, line in document.words_of(section))
-    pictures = re.findall(r"/(\w+)\.svg\)", text)
-    return next((it for it in pictures if it in repository.session_names()), None)
+    pictures: list[str] = re.findall(r"/(\w+)\.svg\)", text)
+    return next((it for it in pictures if it in repository.session_names()), "")
 
 
-def check_story(checks, document, section, blocks):
+def check_story(checks: Checks, document: Page, section: int, blocks: list[Block]) -> None:
     """Whether a story prints the source, the commands and the replies of its example session."""
     place = f"{document.name}:{section + 1}"
     name = name_of_story(document, section)
@@ -122,7 +126,7 @@ def check_story(checks, document, section, blocks):
     checks.same_lines(lambda n: place, f"replies of {name}.expect", expected, replies)
 
 
-def check_table(checks):
+def check_table(checks: Checks) -> None:
     """Whether the table of sessions has each example session once, and no other."""
     document = page(PAGE)
     rows = document.rows_of("Session")
@@ -133,14 +137,14 @@ def check_table(checks):
         checks.fail(place, f"the table of sessions: {name} is there twice")
 
 
-def check_stories(checks):
+def check_stories(checks: Checks) -> None:
     """Each story of the page of sessions is an example session."""
     document = page(PAGE)
     for section, blocks in stories_of(document):
         check_story(checks, document, section, blocks)
 
 
-def check_count(checks):
+def check_count(checks: Checks) -> None:
     """The number of sessions that the gate tells."""
     count = f"{len(repository.session_names())} sessions are as expected"
     checks.same("crates/sessions/stdout:1", "the number of sessions", count, repository.read("crates/sessions/stdout").splitlines()[0])

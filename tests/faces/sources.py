@@ -7,6 +7,7 @@ from __future__ import annotations
 
 import json
 import random
+from collections.abc import Callable
 from pathlib import Path
 
 from support.places import TOP
@@ -29,32 +30,31 @@ def of_repository() -> list[Path]:
 class Source:
     """A random source, decided by its seed."""
 
-    def __init__(self, seed):
+    def __init__(self, seed: int) -> None:
         self.chance = random.Random(seed)
         self.names = 0
-        self.lines = []
         count = self.chance.randint(2, 4)
         self.functions = [self.heading(number) for number in range(count)]
 
-    def heading(self, number):
+    def heading(self, number: int) -> tuple[str, list[str]]:
         """The name of a function and the types of its parameters, after a number."""
         kinds = [NUMBERS, self.chance.choice([NUMBERS, NUMBERS, CARRIERS])] + [NUMBERS] * self.chance.randint(0, 2)
         self.chance.shuffle(kinds)
         return f"f{number}", kinds
 
-    def maybe(self, share):
+    def maybe(self, share: float) -> bool:
         return self.chance.random() < share
 
-    def new(self, start):
+    def new(self, start: str) -> str:
         self.names += 1
         return f"{start}{self.names}"
 
-    def text(self):
+    def text(self) -> str:
         pick = "func pick(n int, a, b chan int) chan int {\n\tif n > 1 {\n\t\treturn a\n\t}\n\treturn b\n}\n"
         parts = ["package main\n", pick] + [self.function(number) for number in range(len(self.functions))] + [self.main()]
         return "".join(parts)
 
-    def function(self, number):
+    def function(self, number: int) -> str:
         name, kinds = self.functions[number]
         scope = {self.new("p"): kind for kind in kinds}
         heading = f"func {name}(n int, {', '.join(f'{it} {kind}' for it, kind in scope.items())}) {{"
@@ -62,7 +62,7 @@ class Source:
             return f"{heading} {self.use(scope)}; {self.use(scope)} }}\n"
         return f"{heading}\n{self.block(scope, number, 2, self.chance.randint(1, 4))}}}\n"
 
-    def main(self):
+    def main(self) -> str:
         scope, made = {}, []
         for kind in [NUMBERS, NUMBERS, NUMBERS, CARRIERS][: self.chance.randint(2, 4)]:
             name = self.new("c")
@@ -80,23 +80,25 @@ class Source:
 
     # Statements.
 
-    def block(self, scope, number, depth, count):
+    def block(self, scope: Scope, number: int, depth: int, count: int) -> str:
         """Some statements; what they declare is known to those behind them."""
         scope = dict(scope)
         return "".join(f"\t{line}\n" for _ in range(count) for line in self.statement(scope, number, depth).split("\n"))
 
-    def statement(self, scope, number, depth):
-        kinds = [self.use] * 6 + [self.locked] * 2 + [self.declared] * 2 + [self.choice] * 2 + [self.loop, self.branch, self.called, self.called]
-        chosen = self.chance.choice(kinds)
-        if chosen in (self.choice, self.loop, self.branch):
-            return chosen(scope, number, depth - 1) if depth else self.use(scope)
-        return chosen(scope, number) if chosen == self.called else chosen(scope)
+    def statement(self, scope: Scope, number: int, depth: int) -> str:
+        def nested(way: Callable[[Scope, int, int], str]) -> Callable[[], str]:
+            return lambda: way(scope, number, depth - 1) if depth else self.use(scope)
 
-    def channel(self, scope, kind=NUMBERS):
+        kinds: list[Callable[[], str]] = [lambda: self.use(scope)] * 6 + [lambda: self.locked(scope)] * 2
+        kinds += [lambda: self.declared(scope)] * 2 + [nested(self.choice)] * 2 + [nested(self.loop), nested(self.branch)]
+        kinds += [lambda: self.called(scope, number)] * 2
+        return self.chance.choice(kinds)()
+
+    def channel(self, scope: Scope, kind: str = NUMBERS) -> str:
         names = [name for name, of in scope.items() if of == kind]
         return self.chance.choice(names) if names else ""
 
-    def use(self, scope):
+    def use(self, scope: Scope) -> str:
         """A send, a receive or a close."""
         c, carrier = self.channel(scope), self.channel(scope, CARRIERS)
         if carrier and self.maybe(0.35):
@@ -106,14 +108,14 @@ class Source:
         odd = [f"println(<-{c}, <-{other})", f"<-pick(n, {c}, {other})", f"pick(n, {c}, {other}) <- 5", f"close({c})", f"{c} <- <-{other}"]
         return self.chance.choice(plain * 2 + odd)
 
-    def locked(self, scope):
+    def locked(self, scope: Scope) -> str:
         """A lock of one kind or the other around a use; now and then it is not given back."""
         lock, inner = self.channel(scope), self.use(scope)
         take, give = self.chance.choice([(f"{lock} <- n", f"<-{lock}"), (f"<-{lock}", f"{lock} <- 1")])
         forgets = "if n > 1 {\n\treturn\n}\n" if self.maybe(0.2) else ""
         return f"{take}\n{inner}\n{forgets}{give}"
 
-    def declared(self, scope):
+    def declared(self, scope: Scope) -> str:
         c, carrier, name = self.channel(scope), self.channel(scope, CARRIERS), self.new("v")
         made = f"make(chan int, {self.chance.randint(0, 1)})"
         value = self.chance.choice([made, c, f"pick(n, {c}, {self.channel(scope)})"] + ([f"<-{carrier}"] * 3 if carrier else []))
@@ -122,7 +124,7 @@ class Source:
             return f"var {name} chan int"
         return f"{name} := {value}"
 
-    def choice(self, scope, number, depth):
+    def choice(self, scope: Scope, number: int, depth: int) -> str:
         """A select."""
         if self.maybe(0.05):
             return "select {}"
@@ -131,25 +133,25 @@ class Source:
             cases.append("default:\n")
         return f"select {{\n{''.join(cases)}}}"
 
-    def case(self, scope, number, depth):
+    def case(self, scope: Scope, number: int, depth: int) -> str:
         return f"case {self.communication(scope)}:\n{self.block(scope, number, depth, self.chance.randint(0, 1))}"
 
-    def communication(self, scope):
+    def communication(self, scope: Scope) -> str:
         c = self.channel(scope)
         return self.chance.choice([f"{c} <- n", f"<-{c}", f"n = <-{c}"])
 
-    def loop(self, scope, number, depth):
+    def loop(self, scope: Scope, number: int, depth: int) -> str:
         if self.maybe(0.3):
             return f"for range {self.channel(scope)} {{\n{self.block(scope, number, depth, 1)}}}"
         i = self.new("i")
         return f"for {i} := 0; {i} < {self.chance.randint(1, 3)}; {i}++ {{\n{self.block(scope, number, depth, self.chance.randint(1, 2))}}}"
 
-    def branch(self, scope, number, depth):
+    def branch(self, scope: Scope, number: int, depth: int) -> str:
         inner = self.block(scope, number, depth, 1)
         other = f" else {{\n{self.block(scope, number, depth, 1)}}}" if self.maybe(0.3) else ""
         return f"if n > {self.chance.randint(0, 3)} {{\n{inner}}}{other}"
 
-    def called(self, scope, number):
+    def called(self, scope: Scope, number: int) -> str:
         """A call of a function further down, so that calls end, or a start of one."""
         below = range(number + 1, len(self.functions))
         if not below:
@@ -157,11 +159,11 @@ class Source:
         call = self.go(self.chance.choice(below), scope)
         return call if self.maybe(0.4) else call[len("go ") :]
 
-    def go(self, number, scope):
+    def go(self, number: int, scope: Scope) -> str:
         name, kinds = self.functions[number]
         given = [self.channel(scope, kind) or "nil" for kind in kinds]
         return f"go {name}({self.chance.choice(['n', '1', '2', '3'])}, {', '.join(given)})"
 
 
-def random_source(seed):
+def random_source(seed: int) -> str:
     return Source(seed).text()

@@ -1,20 +1,26 @@
 """Sources of every depth: forms that nest, and how deep they may (docs/LANGUAGE.md, 'Limits')."""
+from __future__ import annotations
+
+from collections.abc import Callable
+
+# A text of so many levels, and the most levels that it may have.
+Form = tuple[Callable[[int], str], int]
 
 LEVELS = 200
 MIB = 1 << 20
 
 
-def in_main(text):
+def in_main(text: str) -> str:
     return f"package main\nfunc main() {{\n\t{text}\n}}\n"
 
 
-def around(opening, middle, closing, within=0):
+def around(opening: str, middle: str, closing: str, within: int = 0) -> Form:
     """Statements around each other, and how deep they may be, with so many levels within the innermost."""
     return lambda n: in_main(opening * n + middle + closing * n), LEVELS - within
 
 
 # A leaf is one level, and so is the statement that an expression or a type stands in.
-FORMS = {
+FORMS: dict[str, Form] = {
     "blocks": around("{", "", "}"),
     "blocks on lines": around("{\n", "println(1)\n", "}\n", 3),
     "parentheses": (lambda n: in_main("x := " + "(" * n + "1" + ")" * n), LEVELS - 2),
@@ -47,7 +53,7 @@ FORMS = {
 }
 
 
-def depths(form):
+def depths(form: str) -> list[int]:
     """Depths up to the limit, past it, and as far as a text goes."""
     text, most = FORMS[form]
     each = max(1, (len(text(2000)) - len(text(1000))) // 1000)

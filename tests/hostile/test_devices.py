@@ -25,6 +25,8 @@ from support.tally import Tally, cut
 from .examples import examples, sessions
 
 SHORT = ("hand_over",)
+# All that is there, and one byte at a time.
+BY_BYTE: tuple[dict[str, int], ...] = ({}, {"OUT_BYTE": 1})
 NAMES = short_first(SHORT, sessions())
 
 
@@ -46,14 +48,14 @@ class Case:
     def tried(self, what: str, status: int, output: bytes, error: bytes, **devices: int) -> None:
         """Notes whether the session ends so under these devices."""
         settings = {key: str(value) for key, value in devices.items()}
-        ended = self.program.run(self.source, self.script, **settings, **self.preloaded.environment)
+        ended = self.program.run(self.source, self.script, {**settings, **self.preloaded.environment})
         is_so = ended[:3] == (status, output, error)
         seen = f"status {ended.status}, {cut(ended.output, 80)}, {cut(ended.error, 80)}"
         self.tally.note(what, None if is_so else f"{self.name}, {settings}: {seen}")
 
     def goes_on(self, what: str, **devices: int) -> None:
         """Notes whether nothing comes of these devices."""
-        self.tried(what, *self.whole[:3], **devices)
+        self.tried(what, self.whole.status, self.whole.output, self.whole.error, **devices)
 
     def reads(self) -> None:
         """Reads of the commands, of all that is there and of one byte."""
@@ -77,7 +79,7 @@ class Case:
         """Writes of the replies, of all that is there and of one byte."""
         self.goes_on("one byte at a time", OUT_BYTE=1)
         for at in range(len(self.whole.output)):
-            for more in ({}, {"OUT_BYTE": 1}):
+            for more in BY_BYTE:
                 beginning = self.whole.output[:at]
                 self.tried("failing writes", 3, beginning, b"rewind: write\n", OUT_FAIL=at, **more)
                 self.tried("writes of nothing", 3, beginning, b"rewind: write\n", OUT_NONE=at, **more)
@@ -88,7 +90,8 @@ class Case:
         unreadable = b"rewind: cannot read " + self.program.source.encode() + b"\n"
         self.goes_on("one byte at a time", FILE_BYTE=1)
         for at in range(len(self.source) + 1):
-            for more in [{"FILE_BYTE": 1}] + [{}] * (at < 2):
+            wholes: list[dict[str, int]] = [{}] * (at < 2)
+            for more in [{"FILE_BYTE": 1}, *wholes]:
                 self.tried("failing reads of the source", 1, b"", unreadable, FILE_FAIL=at + 1, **more)
                 self.goes_on("interrupted reads of the source", FILE_INTERRUPT=at + 1, **more)
 

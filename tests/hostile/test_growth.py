@@ -21,13 +21,13 @@ its first grant on are left out.
 from __future__ import annotations
 
 import re
-from collections.abc import Callable
+from collections.abc import Callable, Mapping
 from pathlib import Path
 from typing import NamedTuple, Optional
 
 import pytest
 
-from support.program import Ended, Preloaded, Program
+from support.program import NOTHING, Ended, Preloaded, Program
 from support.replies import Step, asked, questions, replies_in, steps_of
 from support.tally import Tally, cut
 
@@ -123,15 +123,15 @@ class Case:
         self.unchanged = replies_in(self.run(self.before + self.probe).output)[at:]
         self.changed = replies_in(self.run(self.before + [self.command] + self.probe).output)[at + 1 :]
 
-    def run(self, commands: list[bytes], **environment: str) -> Ended:
-        return self.program.run(self.source, asked(commands), **environment)
+    def run(self, commands: list[bytes], environment: Mapping[str, str] = NOTHING) -> Ended:
+        return self.program.run(self.source, asked(commands), environment)
 
     def growths(self) -> int:
-        return growths_told(self.run(self.before + [self.command], REFUSE_COUNT="1", **self.place, **self.environment))
+        return growths_told(self.run(self.before + [self.command], {"REFUSE_COUNT": "1", **self.place, **self.environment}))
 
     def refused(self, refused: Refused, after: list[bytes]) -> Ended:
         """The command with a growth refused, and other commands after it."""
-        return self.run(self.before + [self.command] + after, **refused.environment(), **self.place, **self.environment)
+        return self.run(self.before + [self.command] + after, {**refused.environment(), **self.place, **self.environment})
 
     def go_on(self, refused: Refused, command: bytes, after: list[bytes]) -> tuple[bytes, list[list[bytes]]]:
         """The replies where the command is refused, then this one is made with memory, and then others."""
@@ -222,7 +222,7 @@ def is_well_opened(refusing: Refusing, name: str, ended: Ended, refused: dict[st
     opener, source = refusing.program, examples()[name]
     if ended.status == 0:
         commands = asked(script_of(name))
-        again = opener.run(source, commands, **refusing.preloaded.environment, **refused)
+        again = opener.run(source, commands, {**refusing.preloaded.environment, **refused})
         return "as with memory", again[:3] == opener.run(source, commands)[:3]
     if not ended.error:
         # Of a refused source, or under further refusals, there may be no memory for the line either.
@@ -277,9 +277,9 @@ def test_opening(name: str, refusing: Refusing, told: Callable[[str], None]) -> 
     """The growths refused while a source is opened."""
     tally, opener, source = Tally(), refusing.program, examples()[name]
     environment = {"REFUSE_LINE": "0", **refusing.preloaded.environment}
-    for refused in refusals(growths_told(opener.run(source, REFUSE_COUNT="1", **environment))):
+    for refused in refusals(growths_told(opener.run(source, b"", {"REFUSE_COUNT": "1", **environment}))):
         place = {"REFUSE_LINE": "0", **refused.environment()}
-        ended = opener.run(source, **refused.environment(), **environment)
+        ended = opener.run(source, b"", {**refused.environment(), **environment})
         what, is_well = is_well_opened(refusing, name, ended, place)
         tally.note(f"open: {what}", None if is_well and not ended.output else f"opening {name}, {refused}: {ended}")
     told(tally.check())

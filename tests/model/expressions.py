@@ -1,47 +1,53 @@
 """Reads the expressions of an accepted source, with the variables that are in scope."""
+from __future__ import annotations
+
+from typing import Optional
 
 from .constants import constant, folded
-from .tokens import number_of, string_of
+from .tokens import Token, number_of, string_of
 from .trees import Expr
+from .values import Value
 
 LEVELS = [("||",), ("&&",), ("==", "!=", "<", "<=", ">", ">="), ("+", "-", "|", "^"), ("*", "/", "%", "<<", ">>", "&", "&^")]
-ZEROS = {"int": 0, "bool": False, "struct{}": ()}
+ZEROS: dict[str, Value] = {"int": 0, "bool": False, "struct{}": ()}
 
 
 class ExpressionReader:
     """Reads from a list of tokens. It knows the types of the functions' results."""
 
-    def __init__(self, found, results):
+    def __init__(self, found: list[Token], results: dict[str, str]) -> None:
         self.left, self.at, self.results = found, 0, results
-        self.scopes, self.variables, self.types = [], [], []
+        self.scopes: list[dict[str, int]] = []
+        self.variables: list[str] = []
+        self.types: list[str] = []
         self.heading = False
 
     # Tokens
 
     @property
-    def token(self):
+    def token(self) -> Token:
         return self.left[self.at]
 
-    def sees(self, text):
+    def sees(self, text: str) -> bool:
         return self.token.text == text and self.token.kind != "text"
 
-    def next(self):
+    def next(self) -> Token:
         self.at += 1
         return self.left[self.at - 1]
 
-    def skip(self, text):
+    def skip(self, text: str) -> bool:
         if self.sees(text):
             self.at += 1
             return True
         return False
 
-    def take(self, text):
+    def take(self, text: str) -> None:
         if not self.skip(text):
             raise ValueError(f"line {self.token.line}: {self.token.text} in place of {text}")
 
     # Variables
 
-    def declare(self, name, its_type):
+    def declare(self, name: str, its_type: str) -> Optional[int]:
         """The number of a new variable; a blank one has none."""
         if name == "_":
             return None
@@ -50,16 +56,16 @@ class ExpressionReader:
         self.scopes[-1][name] = len(self.variables) - 1
         return self.scopes[-1][name]
 
-    def find(self, name):
+    def find(self, name: str) -> Optional[int]:
         for scope in reversed(self.scopes):
             if name in scope:
                 return scope[name]
         return None
 
-    def type_of(self, expr):
+    def type_of(self, expr: Expr) -> str:
         """The type of an expression, as far as the zero value of a receive wants it."""
         if expr.form == "variable":
-            return self.types[expr.value]
+            return self.types[int(expr.value)]
         if expr.form in ("make", "receive", "constant", "call"):
             return expr.kind
         if expr.form == "unary":
@@ -70,7 +76,7 @@ class ExpressionReader:
 
     # Types
 
-    def type(self):
+    def type(self) -> str:
         """A type, as a text; a channel's is `chan ` and its element's."""
         if self.skip("("):
             found = self.type()
@@ -90,7 +96,7 @@ class ExpressionReader:
 
     # Expressions
 
-    def exprs(self):
+    def exprs(self) -> list[Expr]:
         found = [self.expr()]
         while self.skip(","):
             if self.sees(")"):
@@ -98,7 +104,7 @@ class ExpressionReader:
             found.append(self.expr())
         return found
 
-    def expr(self, level=0):
+    def expr(self, level: int = 0) -> Expr:
         if level == len(LEVELS):
             return self.unary()
         left = self.expr(level + 1)
@@ -107,20 +113,20 @@ class ExpressionReader:
             left = folded(Expr("binary", operator, [left, self.expr(level + 1)]))
         return left
 
-    def unary(self):
+    def unary(self) -> Expr:
         if self.skip("<-"):
             return self.receive(self.unary())
         if self.token.kind == "mark" and self.token.text in "+-!^":
             return folded(Expr("unary", self.next().text, [self.unary()]))
         return self.operand()
 
-    def receive(self, channel):
+    def receive(self, channel: Expr) -> Expr:
         found = Expr("receive", None, [channel])
         found.kind = self.type_of(channel)[len("chan "):]
         found.zero = ZEROS.get(found.kind)
         return found
 
-    def operand(self):
+    def operand(self) -> Expr:
         token = self.next()
         if token.kind == "number":
             return constant(number_of(token.text), "int")
@@ -143,7 +149,7 @@ class ExpressionReader:
             return Expr("variable", number)
         return constant({"true": True, "false": False, "nil": None}[token.text], "bool")
 
-    def call(self, name):
+    def call(self, name: str) -> Expr:
         self.take("(")
         if name == "make":
             made = Expr("make")

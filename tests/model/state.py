@@ -1,7 +1,11 @@
 """What a running program has: goroutines, channels, and the steps that were taken."""
+from __future__ import annotations
 
 from dataclasses import dataclass, field
-from typing import Any, List, Optional, Set, Tuple
+from typing import Any, Optional
+
+# What steps read and write: each place is a kind with names and numbers.
+Places = set[tuple[object, ...]]
 
 
 @dataclass(eq=False)
@@ -13,14 +17,14 @@ class Goroutine:
     steps: int = 0
     children: int = 0
     made: int = 0
-    lines: List[str] = field(default_factory=list)
-    frames: List[Any] = field(default_factory=list)
+    lines: list[str] = field(default_factory=list)
+    frames: list[Any] = field(default_factory=list)
     # The channels that it waits for.
-    waits: List[str] = field(default_factory=list)
+    waits: list[str] = field(default_factory=list)
     run: Any = None
     ask: Any = None
 
-    def go_on(self, value):
+    def go_on(self, value: Any) -> None:
         """Goes on with what came of what it asked for."""
         self.status, self.waits = "ready", []
         try:
@@ -45,28 +49,28 @@ class Channel:
     name: str
     capacity: int
     closed: bool = False
-    items: List[Any] = field(default_factory=list)
+    items: list[Any] = field(default_factory=list)
     head: int = 0
-    senders: List[Waiter] = field(default_factory=list)
-    receivers: List[Waiter] = field(default_factory=list)
+    senders: list[Waiter] = field(default_factory=list)
+    receivers: list[Waiter] = field(default_factory=list)
 
-    def slot(self, number):
+    def slot(self, number: int) -> Places:
         return {("slot", self.name, number % self.capacity)} if self.capacity else set()
 
     @property
-    def tail(self):
+    def tail(self) -> int:
         return self.head + len(self.items)
 
-    def reads_of_send(self):
+    def reads_of_send(self) -> Places:
         return {("gate", self.name), ("tail", self.name)} | self.slot(self.tail)
 
-    def reads_of_receive(self):
+    def reads_of_receive(self) -> Places:
         return {("gate", self.name), ("head", self.name)} | self.slot(self.head)
 
-    def can_send(self):
+    def can_send(self) -> bool:
         return self.closed or bool(self.receivers) or len(self.items) < self.capacity
 
-    def can_receive(self):
+    def can_receive(self) -> bool:
         return self.closed or bool(self.senders) or bool(self.items)
 
 
@@ -78,17 +82,17 @@ class Step:
     number: int
     choice: Any
     kind: str = ""
-    reads: Set[Tuple] = field(default_factory=set)
-    writes: Set[Tuple] = field(default_factory=set)
+    reads: Places = field(default_factory=set)
+    writes: Places = field(default_factory=set)
     printed: Optional[str] = None
     # What it did with a channel (`send` or `receive`), and which.
-    operation: Optional[Tuple[str, str]] = None
-    gives: List[str] = field(default_factory=list)
+    operation: Optional[tuple[str, str]] = None
+    gives: list[str] = field(default_factory=list)
     started: Optional[str] = None
 
     @property
-    def name(self):
+    def name(self) -> str:
         return f"{self.go}#{self.number}"
 
-    def conflicts(self, other):
+    def conflicts(self, other: Step) -> bool:
         return bool(self.writes & (other.reads | other.writes) or other.writes & self.reads)

@@ -1,6 +1,8 @@
 """The tokens of an accepted source, each with its line."""
+from __future__ import annotations
 
 import re
+from collections.abc import Iterator
 from typing import NamedTuple
 
 KEYWORDS = set(
@@ -24,27 +26,27 @@ class Token(NamedTuple):
     line: int
 
 
-def ends_a_line(token):
+def ends_a_line(token: Token) -> bool:
     return token.kind in ("name", "number", "text") or token.text in ENDS
 
 
-def pieces(source):
+def pieces(source: bytes) -> Iterator[tuple[str, bytes, int]]:
     """The pieces of a source with the line at which each begins."""
     at, line = 3 if source.startswith(b"\xef\xbb\xbf") else 0, 1
     while at < len(source):
         found = TOKEN.match(source, at)
         if not found:
             raise ValueError(f"no token in line {line}")
-        yield found.lastgroup, found[0], line
+        yield str(found.lastgroup), found[0], line
         line += found[0].count(b"\n")
         at = found.end()
 
 
-def tokens(source):
+def tokens(source: bytes) -> list[Token]:
     """All tokens, with the semicolons that the ends of lines bring."""
-    found = []
+    found: list[Token] = []
 
-    def end_line(line):
+    def end_line(line: int) -> None:
         if found and ends_a_line(found[-1]):
             found.append(Token("mark", ";", line))
 
@@ -61,7 +63,7 @@ def tokens(source):
     return [*found, Token("end", "", last)]
 
 
-def number_of(text):
+def number_of(text: str) -> int:
     """The value of a number in any base."""
     digits = text.replace("_", "")
     if re.fullmatch(r"0[0-7]+", digits):
@@ -69,6 +71,6 @@ def number_of(text):
     return int(digits, 0)
 
 
-def string_of(text):
+def string_of(text: str) -> str:
     """What a string spells, as a text of bytes."""
     return re.sub(r"\\(.)", lambda found: {"t": "\t"}.get(found[1], found[1]), text[1:-1])

@@ -1,16 +1,22 @@
 """The trees of an accepted source. Each variable has a number in its function, in the order of declaration."""
+from __future__ import annotations
 
 from dataclasses import dataclass, field
-from typing import Any, List, Optional
+from typing import Any, Optional
 
 
 @dataclass(eq=False)
 class Expr:
-    """An expression: its form, a name, number or operator, and its parts."""
+    """An expression: its form, a name, number or operator, its parts, and its type.
+
+    A receive has the zero value of its channel's items.
+    """
 
     form: str
     value: Any = None
-    parts: List["Expr"] = field(default_factory=list)
+    parts: list[Expr] = field(default_factory=list)
+    kind: str = ""
+    zero: Any = None
 
 
 @dataclass(eq=False)
@@ -19,12 +25,12 @@ class Stmt:
 
     form: str
     line: int
-    names: List[Optional[int]] = field(default_factory=list)
-    exprs: List[Expr] = field(default_factory=list)
-    body: List["Stmt"] = field(default_factory=list)
-    other: List["Stmt"] = field(default_factory=list)
-    init: Optional["Stmt"] = None
-    post: Optional["Stmt"] = None
+    names: list[Optional[int]] = field(default_factory=list)
+    exprs: list[Expr] = field(default_factory=list)
+    body: list[Stmt] = field(default_factory=list)
+    other: list[Stmt] = field(default_factory=list)
+    init: Optional[Stmt] = None
+    post: Optional[Stmt] = None
     label: Optional[str] = None
     value: Any = None
 
@@ -34,7 +40,7 @@ class Function:
     """A function: the names of its variables, the first of which are its parameters, with the types of all."""
 
     name: str
-    variables: List[str]
+    variables: list[str]
     count: int
-    body: List[Stmt]
+    body: list[Stmt]
     end: int

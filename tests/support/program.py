@@ -8,14 +8,16 @@ import os
 import signal
 import subprocess
 import tempfile
-from collections.abc import Sequence
+from collections.abc import Mapping, Sequence
 from pathlib import Path
-from typing import NamedTuple
+from types import MappingProxyType
+from typing import NamedTuple, Union
 
 from .places import TOP
 
 # Files that are written thousands of times are best kept in memory.
 MEMORY = "/dev/shm"
+NOTHING: Mapping[str, str] = MappingProxyType({})
 
 
 class Ended(NamedTuple):
@@ -43,12 +45,12 @@ class Program:
         self.source = os.path.join(self.folder.name, "program.go")
         self.commands = os.path.join(self.folder.name, "commands")
 
-    def run(self, source: bytes, commands: bytes = b"", **environment: str) -> Ended:
-        """The run to its end on a source."""
+    def run(self, source: bytes, commands: bytes = b"", environment: Mapping[str, str] = NOTHING) -> Ended:
+        """The run to its end on a source, with more variables in its environment."""
         Path(self.source).write_bytes(source)
-        return self.run_words([self.source], commands, **environment)
+        return self.run_words([self.source], commands, environment)
 
-    def run_words(self, words: Sequence[str | bytes], commands: bytes = b"", **environment: str) -> Ended:
+    def run_words(self, words: Sequence[Union[str, bytes]], commands: bytes = b"", environment: Mapping[str, str] = NOTHING) -> Ended:
         """The run to its end of a command line. Standard error is read last: it gets a line at most."""
         Path(self.commands).write_bytes(commands)
         output, error = os.pipe(), os.pipe()

@@ -6,8 +6,8 @@ The program writes a reply as lines, of which the last alone does not begin with
 from __future__ import annotations
 
 from collections import Counter
-from collections.abc import Iterable, Iterator
-from typing import AnyStr, NamedTuple
+from collections.abc import Iterable, Iterator, Sequence
+from typing import AnyStr, NamedTuple, Union
 
 # A command with its reply.
 Asked = tuple[str, list[str]]
@@ -34,9 +34,9 @@ def replies_in(output: AnyStr) -> list[list[AnyStr]]:
     newline, within = ("\n", "|") if isinstance(output, str) else (b"\n", b"|")
     found: list[list[AnyStr]] = []
     lines: list[AnyStr] = []
-    for line in output.split(newline)[:-1]:  # type: ignore[arg-type]
+    for line in output.split(newline)[:-1]:
         lines.append(line)
-        if not line.startswith(within):  # type: ignore[arg-type]
+        if not line.startswith(within):
             found.append(lines)
             lines = []
     return found
@@ -60,7 +60,7 @@ def asked(commands: Iterable[bytes]) -> bytes:
     return b"".join(line + b"\n" for line in commands)
 
 
-def steps_of(reply: Iterable[AnyStr]) -> list[Step]:
+def steps_of(reply: Sequence[Union[str, bytes]]) -> list[Step]:
     """The steps in the reply to `log`."""
     lines = [line if isinstance(line, str) else line.decode() for line in reply]
     return [Step(*line[2:].split(" ", 1)) for line in lines[:-1]]

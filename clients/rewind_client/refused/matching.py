@@ -2,10 +2,11 @@
 from __future__ import annotations
 
 import re
+from collections.abc import Mapping
 from dataclasses import dataclass
 from functools import lru_cache
 from itertools import accumulate
-from typing import Any, Mapping, Optional
+from typing import Any, Optional
 
 from .fields import around, computed
 from .tokens import Token, byte_length, open_brackets, text_of, tokens_of

@@ -2,8 +2,9 @@
 from __future__ import annotations
 
 import difflib
+from collections.abc import Mapping
 from dataclasses import dataclass, field
-from typing import Mapping, NamedTuple, Optional
+from typing import NamedTuple, Optional
 
 from .tokens import Token, text_of
 from .values import LOGICAL, PREDECLARED, TYPES, Value, channel_of, is_channel

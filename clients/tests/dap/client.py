@@ -10,7 +10,7 @@ import select
 import subprocess
 import sys
 import time
-from typing import Any, Dict, List, Optional
+from typing import Any, Optional
 
 from support.places import CLIENTS, SESSIONS, TOP
 
@@ -21,7 +21,7 @@ REPOSITORY, DATA, ADAPTER = str(TOP), str(SESSIONS), str(CLIENTS / "rewind-dap")
 REWIND = os.environ["REWIND"]
 LIMIT = 120.0  # Seconds without a byte, on a machine that has much else to do.
 
-Message = Dict[str, Any]
+Message = dict[str, Any]
 SCHEMA = published()
 
 
@@ -41,8 +41,8 @@ class Client:
         self.process = subprocess.Popen(words, stdin=subprocess.PIPE, stdout=subprocess.PIPE, stderr=subprocess.PIPE)
         self.unread = b""
         self.seq = 0
-        self.events: List[Message] = []
-        self.passed: List[Message] = []
+        self.events: list[Message] = []
+        self.passed: list[Message] = []
 
     def write(self, data: bytes) -> None:
         self.process.stdin.write(data)
@@ -117,7 +117,7 @@ class Client:
         """What the next `stopped` event says."""
         return self.event("stopped")["body"]
 
-    def launch(self, program: str, breakpoints: Optional[List[int]] = None, **arguments: Any) -> None:
+    def launch(self, program: str, breakpoints: Optional[list[int]] = None, **arguments: Any) -> None:
         """Launches a program of the example sessions, or any other by its path, and waits until it stops."""
         path = os.path.join(DATA, program)
         self.body("initialize", {"adapterID": "rewind"})

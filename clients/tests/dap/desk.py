@@ -3,7 +3,7 @@ import os
 import tempfile
 import textwrap
 import unittest
-from typing import Any, Dict, List, Tuple
+from typing import Any
 
 from .client import Client
 
@@ -33,7 +33,7 @@ class Desk(unittest.TestCase):
         """A movement: what the `stopped` event after it says; the events before that are in `client.passed`."""
         return self.client.move(command, {"threadId": thread, **more})
 
-    def frames(self, thread: int = 1) -> List[Tuple[str, int]]:
+    def frames(self, thread: int = 1) -> list[tuple[str, int]]:
         body = self.client.body("stackTrace", {"threadId": thread})
         return [(frame["name"], frame["line"]) for frame in body["stackFrames"]]
 
@@ -49,18 +49,18 @@ class Desk(unittest.TestCase):
         self.typed(text, **more)
         return self.client.stop()
 
-    def threads(self) -> Dict[int, str]:
+    def threads(self) -> dict[int, str]:
         return {one["id"]: one["name"] for one in self.client.body("threads")["threads"]}
 
-    def given(self) -> List[str]:
+    def given(self) -> list[str]:
         """The commands that Rewind was given so far."""
         with open(self.commands, encoding="utf-8") as file:
             return file.read().splitlines()
 
-    def set_breakpoints(self, path: str, *wishes: Any) -> List[Any]:
+    def set_breakpoints(self, path: str, *wishes: Any) -> list[Any]:
         arguments = {"source": {"path": path}, "breakpoints": list(wishes)}
         return self.client.body("setBreakpoints", arguments)["breakpoints"]
 
-    def told(self, name: str) -> List[Any]:
+    def told(self, name: str) -> list[Any]:
         """The bodies of the events of a name that came in and were not waited for."""
         return [event["body"] for event in self.client.passed + self.client.events if event["event"] == name]

@@ -4,7 +4,8 @@ They are those of Debian's node-vscode-debugprotocol, in TypeScript. Where that 
 """
 import os
 import re
-from typing import Any, Dict, Iterator, List, NamedTuple, Optional, Tuple
+from collections.abc import Iterator
+from typing import Any, NamedTuple, Optional
 
 PATH = "/usr/share/nodejs/@vscode/debugprotocol/lib/debugProtocol.d.ts"
 COMMENT = re.compile(r"/\*.*?\*/|//[^\n]*", re.S)
@@ -26,8 +27,8 @@ class Reader:
     def __init__(self, text: str) -> None:
         self.tokens = TOKEN.findall(COMMENT.sub("", text))
         self.at = 0
-        self.types: Dict[str, Any] = {}
-        self.parents: Dict[str, str] = {}
+        self.types: dict[str, Any] = {}
+        self.parents: dict[str, str] = {}
         while self.at < len(self.tokens):
             word = self.take()
             if word == "interface":
@@ -54,7 +55,7 @@ class Reader:
         self.take()
         self.types[name] = self.members()
 
-    def members(self) -> Tuple[str, Dict[str, Field]]:
+    def members(self) -> tuple[str, dict[str, Field]]:
         """The members of an object behind its brace; the member [] stands for all others."""
         found = {}
         while not self.passes("}"):
@@ -95,7 +96,7 @@ class Schema:
         reader = Reader(text)
         self.types, self.parents = reader.types, reader.parents
 
-    def fields(self, name: str) -> Dict[str, Field]:
+    def fields(self, name: str) -> dict[str, Field]:
         """The members of an interface, with those of the ones that it extends."""
         above = self.fields(self.parents[name]) if name in self.parents else {}
         return {**above, **self.types[name][1]}
@@ -117,7 +118,7 @@ class Schema:
         else:
             yield from self.faults(value, self.types[kind], where)
 
-    def faults_of_part(self, value: Any, kind: Tuple[str, Any], where: str) -> Iterator[str]:
+    def faults_of_part(self, value: Any, kind: tuple[str, Any], where: str) -> Iterator[str]:
         if kind[0] == "or":
             wrong = [list(self.faults(value, one, where)) for one in kind[1]]
             yield from [] if [] in wrong else wrong[0]
@@ -129,7 +130,7 @@ class Schema:
             for number, one in enumerate(value):
                 yield from self.faults(one, kind[1], f"{where}[{number}]")
 
-    def faults_of_object(self, value: Any, fields: Dict[str, Field], where: str) -> Iterator[str]:
+    def faults_of_object(self, value: Any, fields: dict[str, Field], where: str) -> Iterator[str]:
         if not isinstance(value, dict):
             yield f"{where} is no object: {value!r}"
             return
@@ -141,7 +142,7 @@ class Schema:
         if "[]" not in fields:
             yield from (f"{where}.{name} is not in the protocol" for name in value if name not in fields)
 
-    def faults_of_message(self, message: Dict[str, Any]) -> List[str]:
+    def faults_of_message(self, message: dict[str, Any]) -> list[str]:
         """What is wrong with an event or a response; the requests of Rewind itself have no definition."""
         name = message.get("event") or message.get("command") or "?"
         kind = name[0].upper() + name[1:] + message["type"].capitalize()

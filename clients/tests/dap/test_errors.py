@@ -6,7 +6,7 @@ import sys
 import tempfile
 import time
 import unittest
-from typing import Any, Dict
+from typing import Any
 
 from .client import ADAPTER, DATA, REPOSITORY, REWIND, Client, framed
 
@@ -159,7 +159,7 @@ class Failures(unittest.TestCase):
         os.chmod(path, 0o755)
         return path
 
-    def launch(self, rewind: str, **more: Any) -> Dict[str, Any]:
+    def launch(self, rewind: str, **more: Any) -> dict[str, Any]:
         self.client.body("initialize")
         return self.client.ask("launch", {"program": os.path.join(DATA, "deadlock.go"), "rewind": rewind, **more})
 

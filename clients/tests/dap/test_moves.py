@@ -4,7 +4,7 @@ import sys
 import tempfile
 import textwrap
 import unittest
-from typing import Any, List, Tuple
+from typing import Any
 
 from .client import DATA, REWIND, Client
 
@@ -76,7 +76,7 @@ class Moves(unittest.TestCase):
         self.client.launch(program, list(lines), **arguments)
         self.assertEqual(self.client.stop()["reason"], "entry")
 
-    def frames(self, thread: int = 1) -> List[Tuple[str, int]]:
+    def frames(self, thread: int = 1) -> list[tuple[str, int]]:
         body = self.client.body("stackTrace", {"threadId": thread})
         return [(frame["name"], frame["line"]) for frame in body["stackFrames"]]
 
@@ -214,7 +214,7 @@ class Breakpoints(unittest.TestCase):
         self.client.stop()
         self.path = os.path.join(DATA, "race_in_select.go")
 
-    def set(self, *wishes: Any, path: str = "") -> List[Any]:
+    def set(self, *wishes: Any, path: str = "") -> list[Any]:
         source = {"path": path or self.path}
         return self.client.body("setBreakpoints", {"source": source, "breakpoints": list(wishes)})["breakpoints"]
 

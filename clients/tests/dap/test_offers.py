@@ -1,7 +1,7 @@
 """What an editor offers beside steps: clauses, lines to go back to, watched variables, conditions, words of the console."""
 import os
 import signal
-from typing import Any, Dict, List
+from typing import Any
 
 from .client import DATA, framed
 from .desk import Desk
@@ -178,7 +178,7 @@ class Offers(Desk):
                 self.moved("step " + (name if int(name[-1]) + 1 in self.threads() else "g0"))
         while self.frames() != [("main", 11)]:
             self.move("stepIn")
-        targets: List[Any] = []
+        targets: list[Any] = []
         while len(targets) < 3:
             targets = self.client.body("stepInTargets", {"frameId": self.frame()})["targets"]
             if len(targets) < 3:
@@ -232,7 +232,7 @@ class Offers(Desk):
 
 
 class Watches(Desk):
-    def watch(self, thread: int, name: str) -> Dict[str, Any]:
+    def watch(self, thread: int, name: str) -> dict[str, Any]:
         scopes = self.client.body("scopes", {"frameId": self.frame(thread)})["scopes"]
         asked = {"variablesReference": scopes[0]["variablesReference"], "name": name}
         info = self.client.body("dataBreakpointInfo", asked)
@@ -360,7 +360,7 @@ class Words(Desk):
 
 
 class Functions(Desk):
-    def functions(self, *wishes: Any) -> List[Any]:
+    def functions(self, *wishes: Any) -> list[Any]:
         return self.client.body("setFunctionBreakpoints", {"breakpoints": list(wishes)})["breakpoints"]
 
     def test_a_breakpoint_at_a_function(self) -> None:
@@ -465,7 +465,7 @@ class WatchedChannels(Desk):
         self.assertEqual(self.variables(many, filter="indexed"), [])
         self.assertEqual(len(self.variables(many, filter="named")), 5)
 
-    def variables(self, of: Any, **more: Any) -> List[Dict[str, Any]]:
+    def variables(self, of: Any, **more: Any) -> list[dict[str, Any]]:
         return self.client.body("variables", {"variablesReference": of["variablesReference"], **more})["variables"]
 
 

@@ -6,7 +6,6 @@ import subprocess
 import tempfile
 import threading
 import unittest
-from typing import List
 from unittest import mock
 
 from .client import DATA, REPOSITORY, REWIND
@@ -91,7 +90,7 @@ class Lines(unittest.TestCase):
         Program(bytes(range(256)) * 4)
 
 
-def stands(path: str) -> List[int]:
+def stands(path: str) -> list[int]:
     """The lines on which goroutines stand in the first steps of a program; none where it is refused."""
     names = ["g0", "g0.1", "g0.2", "g0.1.1"]
     commands = "".join("run 1\n" + "".join(f"show {name}\n" for name in names) for _ in range(120))
@@ -116,7 +115,7 @@ class Printed(unittest.TestCase):
 
 
 class Meanings(unittest.TestCase):
-    def codes(self, page: str, pattern: str) -> List[str]:
+    def codes(self, page: str, pattern: str) -> list[str]:
         with open(os.path.join(REPOSITORY, "docs", page), encoding="utf-8") as file:
             return re.findall(pattern, file.read(), re.M)
 

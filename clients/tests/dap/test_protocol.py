@@ -3,7 +3,7 @@
 Here it is checked that this would find what is wrong.
 """
 import unittest
-from typing import Any, List
+from typing import Any
 
 from .schema import Schema, published
 
@@ -12,7 +12,7 @@ SCHEMA = published()
 
 @unittest.skipUnless(SCHEMA, "node-vscode-debugprotocol is not installed")
 class Definitions(unittest.TestCase):
-    def faults(self, **message: Any) -> List[str]:
+    def faults(self, **message: Any) -> list[str]:
         assert isinstance(SCHEMA, Schema)
         return SCHEMA.faults_of_message({"seq": 1, **message})
 

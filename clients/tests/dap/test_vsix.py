@@ -8,7 +8,7 @@ import sys
 import tempfile
 import unittest
 import zipfile
-from typing import Any, Dict, List
+from typing import Any
 from xml.etree import ElementTree
 
 from .client import ADAPTER, DATA, HERE, REPOSITORY, REWIND, Client
@@ -78,7 +78,7 @@ class Package(unittest.TestCase):
 
 @unittest.skipUnless(NODE, "it wants nodejs")
 class Commands(unittest.TestCase):
-    def run_commands(self, *commands: str) -> List[Dict[str, Any]]:
+    def run_commands(self, *commands: str) -> list[dict[str, Any]]:
         words = [NODE, os.path.join(HERE, "extension.js"), EXTENSION, ADAPTER, os.path.join(DATA, "lost_update.go"), *commands]
         done = subprocess.run(words, stdout=subprocess.PIPE, timeout=60, check=True, env={**os.environ, "REWIND": REWIND})
         return [json.loads(line) for line in done.stdout.decode().splitlines()]
