@@ -36,23 +36,35 @@ def framed(text: bytes) -> bytes:
 class Client:
     """An adapter as an editor starts it."""
 
-    def __init__(self, rewind: str = REWIND, commands: str = os.devnull) -> None:
-        words = [sys.executable, ADAPTER, "--rewind", rewind, "--commands", commands]
-        self.process = subprocess.Popen(words, stdin=subprocess.PIPE, stdout=subprocess.PIPE, stderr=subprocess.PIPE)
+    def __init__(self, commands: str = os.devnull) -> None:
+        self.begin([sys.executable, ADAPTER, "--rewind", REWIND, "--commands", commands])
+
+    @classmethod
+    def of(cls, words: list[str], environment: dict[str, str]) -> Client:
+        """The client of an adapter that a command starts, outside the repository."""
+        client = cls.__new__(cls)
+        client.begin(words, cwd="/", env=environment)
+        return client
+
+    def begin(self, words: list[str], **how: Any) -> None:
+        pipe = subprocess.PIPE
+        self.process: subprocess.Popen[bytes] = subprocess.Popen(words, stdin=pipe, stdout=pipe, stderr=pipe, **how)
+        assert self.process.stdin and self.process.stdout and self.process.stderr
+        self.input, self.answers, self.error = self.process.stdin, self.process.stdout, self.process.stderr
         self.unread = b""
         self.seq = 0
         self.events: list[Message] = []
         self.passed: list[Message] = []
 
     def write(self, data: bytes) -> None:
-        self.process.stdin.write(data)
-        self.process.stdin.flush()
+        self.input.write(data)
+        self.input.flush()
 
     def more(self) -> bool:
         """Reads some bytes more; False at the end."""
-        if not select.select([self.process.stdout], [], [], LIMIT)[0]:
+        if not select.select([self.answers], [], [], LIMIT)[0]:
             raise Hang(f"nothing in {LIMIT:g} seconds")
-        part = os.read(self.process.stdout.fileno(), 1 << 16)
+        part = os.read(self.answers.fileno(), 1 << 16)
         self.unread += part
         return bool(part)
 
@@ -70,7 +82,7 @@ class Client:
             if not self.more():
                 raise EOFError(self.unread)
         header, _, self.unread = self.unread.partition(b"\r\n\r\n")
-        message = json.loads(self.take(int(header.split(b":")[1])))
+        message: Message = json.loads(self.take(int(header.split(b":")[1])))
         faults = SCHEMA.faults_of_message(message) if SCHEMA else []
         assert not faults, (faults, message)
         return message
@@ -115,7 +127,8 @@ class Client:
 
     def stop(self) -> Message:
         """What the next `stopped` event says."""
-        return self.event("stopped")["body"]
+        body: Message = self.event("stopped")["body"]
+        return body
 
     def launch(self, program: str, breakpoints: Optional[list[int]] = None, **arguments: Any) -> None:
         """Launches a program of the example sessions, or any other by its path, and waits until it stops."""
@@ -138,20 +151,20 @@ class Client:
 
     def close(self) -> str:
         """Closes the client's end; what the adapter wrote on standard error. It may be called again."""
-        if self.process.stdout.closed:
+        if self.answers.closed:
             return ""
         until = time.monotonic() + LIMIT
         try:
-            self.process.stdin.close()
+            self.input.close()
         except OSError:
             pass
         while self.process.poll() is None:
             if time.monotonic() > until:
                 self.process.kill()
-                self.process.stdout.close()
+                self.answers.close()
                 raise Hang("the adapter did not end")
             time.sleep(0.01)
-        said = self.process.stderr.read().decode()
-        self.process.stdout.close()
-        self.process.stderr.close()
+        said = self.error.read().decode()
+        self.answers.close()
+        self.error.close()
         return said

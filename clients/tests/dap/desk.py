@@ -1,23 +1,34 @@
 """What the tests of a user's view share: a program is written, launched, moved and looked at."""
+from __future__ import annotations
+
 import os
-import tempfile
 import textwrap
-import unittest
+from collections.abc import Iterator
+from pathlib import Path
 from typing import Any
+
+import pytest
 
 from .client import Client
 
 
-class Desk(unittest.TestCase):
-    """A client with a folder for programs, and the commands that Rewind was given."""
+class Desk:
+    """A client with a folder for programs, and the commands that Rewind was given. Test classes inherit it."""
 
-    def setUp(self) -> None:
-        folder = tempfile.TemporaryDirectory()
-        self.addCleanup(folder.cleanup)
-        self.folder = folder.name
-        self.commands = os.path.join(folder.name, "commands")
+    @pytest.fixture(autouse=True)
+    def desk(self, tmp_path: Path) -> Iterator[None]:
+        self.folder = str(tmp_path)
+        self.commands = os.path.join(self.folder, "commands")
         self.client = Client(commands=self.commands)
-        self.addCleanup(self.client.close)
+        self.others: list[Client] = []
+        yield
+        for client in (self.client, *self.others):
+            client.close()
+
+    def another(self) -> Client:
+        """One more client, which is closed behind the test."""
+        self.others.append(Client())
+        return self.others[-1]
 
     def file(self, name: str, text: str) -> str:
         path = os.path.join(self.folder, name)
@@ -27,7 +38,7 @@ class Desk(unittest.TestCase):
 
     def start(self, program: str, *lines: int, **arguments: Any) -> None:
         self.client.launch(program, list(lines), **arguments)
-        self.assertEqual(self.client.stop()["reason"], "entry")
+        assert self.client.stop()["reason"] == "entry"
 
     def move(self, command: str, thread: int = 1, **more: Any) -> Any:
         """A movement: what the `stopped` event after it says; the events before that are in `client.passed`."""
@@ -38,11 +49,13 @@ class Desk(unittest.TestCase):
         return [(frame["name"], frame["line"]) for frame in body["stackFrames"]]
 
     def frame(self, thread: int = 1) -> int:
-        return self.client.body("stackTrace", {"threadId": thread})["stackFrames"][0]["id"]
+        found: int = self.client.body("stackTrace", {"threadId": thread})["stackFrames"][0]["id"]
+        return found
 
     def typed(self, text: str, **more: Any) -> str:
         """What the console answers."""
-        return self.client.body("evaluate", {"expression": text, "context": "repl", **more})["result"]
+        answer: str = self.client.body("evaluate", {"expression": text, "context": "repl", **more})["result"]
+        return answer
 
     def moved(self, text: str, **more: Any) -> Any:
         """A word of the console that moves the program: what the `stopped` event after it says."""
@@ -59,7 +72,8 @@ class Desk(unittest.TestCase):
 
     def set_breakpoints(self, path: str, *wishes: Any) -> list[Any]:
         arguments = {"source": {"path": path}, "breakpoints": list(wishes)}
-        return self.client.body("setBreakpoints", arguments)["breakpoints"]
+        found: list[Any] = self.client.body("setBreakpoints", arguments)["breakpoints"]
+        return found
 
     def told(self, name: str) -> list[Any]:
         """The bodies of the events of a name that came in and were not waited for."""

@@ -10,7 +10,7 @@ from typing import Any, NamedTuple, Optional
 PATH = "/usr/share/nodejs/@vscode/debugprotocol/lib/debugProtocol.d.ts"
 COMMENT = re.compile(r"/\*.*?\*/|//[^\n]*", re.S)
 TOKEN = re.compile(r"'[^']*'|[A-Za-z_]\w*|\S")
-BASIC = {"string": str, "number": (int, float), "boolean": bool, "null": type(None)}
+BASIC: dict[str, Any] = {"string": str, "number": (int, float), "boolean": bool, "null": type(None)}
 FREE = ("any", "object")
 
 
@@ -25,7 +25,7 @@ class Reader:
     """Reads interfaces and types. A type is a name, `'text'`, ("list", T), ("or", [T..]) or ("object", {name: Field})."""
 
     def __init__(self, text: str) -> None:
-        self.tokens = TOKEN.findall(COMMENT.sub("", text))
+        self.tokens: list[str] = TOKEN.findall(COMMENT.sub("", text))
         self.at = 0
         self.types: dict[str, Any] = {}
         self.parents: dict[str, str] = {}
@@ -106,7 +106,7 @@ class Schema:
         if kind in FREE:
             return
         if isinstance(kind, tuple):
-            yield from self.faults_of_part(value, kind, where)
+            yield from self.faults_of_part(value, (str(kind[0]), kind[1]), where)
         elif kind in BASIC:
             if not isinstance(value, BASIC[kind]) or (kind == "number" and isinstance(value, bool)):
                 yield f"{where} is no {kind}: {value!r}"

@@ -5,12 +5,13 @@ import re
 import shutil
 import subprocess
 import tempfile
-import unittest
+
+import pytest
 
 from .client import DATA, HERE, REPOSITORY, REWIND
 
-NEOVIM = shutil.which("nvim")
-EMACS = shutil.which("emacs")
+NEOVIM = shutil.which("nvim") or ""
+EMACS = shutil.which("emacs") or ""
 DAP_MODE = glob.glob("/usr/share/emacs/site-lisp/elpa-src/dap-mode-*")
 PROGRAM = os.path.join(DATA, "deadlock.go")
 
@@ -24,7 +25,7 @@ def set_up(heading: str) -> str:
     return re.sub("^    ", "", block[1], flags=re.M).replace("REPOSITORY", REPOSITORY)
 
 
-class Editors(unittest.TestCase):
+class TestEditors:
     def run_editor(self, heading: str, *words: str) -> str:
         """What an editor says, that runs a script beside this file with the set-up."""
         with tempfile.TemporaryDirectory() as folder:
@@ -32,20 +33,19 @@ class Editors(unittest.TestCase):
             with open(path, "w", encoding="utf-8") as file:
                 file.write(set_up(heading))
             environment = {**os.environ, "SETUP": path, "PROGRAM": PROGRAM, "REWIND": REWIND, "HOME": folder}
-            how = {"stdin": subprocess.DEVNULL, "stdout": subprocess.PIPE, "stderr": subprocess.PIPE, "timeout": 90}
-            done = subprocess.run(words, env=environment, **how)
-        self.assertEqual(done.returncode, 0, done.stderr.decode())
-        return done.stdout.decode()
+            done = subprocess.run(words, env=environment, stdin=subprocess.DEVNULL, capture_output=True, text=True, timeout=90, check=False)
+        assert done.returncode == 0, done.stderr
+        return done.stdout
 
-    @unittest.skipUnless(NEOVIM, "Neovim is not installed")
+    @pytest.mark.skipif(not NEOVIM, reason="Neovim is not installed")
     def test_neovim(self) -> None:
         script = os.path.join(HERE, "neovim.lua")
         told = self.run_editor("Neovim", NEOVIM, "--headless", "-u", "NONE", "-c", "luafile " + script, "-c", "qa!")
         wanted = ["entry main 12", "step main 13", "step main 12", "deadlock main 18", "entry main 12"]
-        self.assertEqual(told.split("\n")[:-1], wanted)
+        assert told.split("\n")[:-1] == wanted
 
-    @unittest.skipUnless(EMACS and DAP_MODE, "Emacs or dap-mode is not installed")
+    @pytest.mark.skipif(not (EMACS and DAP_MODE), reason="Emacs or dap-mode is not installed")
     def test_emacs(self) -> None:
         told = self.run_editor("Emacs", EMACS, "-batch", "-l", os.path.join(HERE, "emacs.el"))
-        self.assertIn("start: main 12\nnext: main 13\nreverse-next: main 12\n", told)
-        self.assertIn("A cycle: g0.1 waits for g0.2, g0.2 waits for g0.1.", told)
+        assert "start: main 12\nnext: main 13\nreverse-next: main 12\n" in told
+        assert "A cycle: g0.1 waits for g0.2, g0.2 waits for g0.1." in told

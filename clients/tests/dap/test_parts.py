@@ -1,14 +1,14 @@
 """Parts that need no editor: where statements begin, what became of printed lines, and the meanings of codes."""
+from __future__ import annotations
+
 import glob
 import os
 import re
 import subprocess
-import tempfile
 import threading
-import unittest
-from unittest import mock
+from pathlib import Path
 
-from .client import DATA, REPOSITORY, REWIND
+import pytest
 
 from rewind_client import finding
 from rewind_client.errors import NotFound
@@ -17,6 +17,8 @@ from rewind_client.printed import Change, change
 from rewind_client.program import Program
 from rewind_dap.inbox import MOST_BYTES, Inbox
 from rewind_dap.told import changes_in_words
+
+from .client import DATA, REPOSITORY, REWIND
 
 FORMS = b"""\xef\xbb\xbfpackage main
 
@@ -57,20 +59,18 @@ outer:
 """
 
 
-class Lines(unittest.TestCase):
-    def test_where_statements_begin(self) -> None:
+class TestLines:
+    def test_where_statements_begin(self, tmp_path: Path) -> None:
         source = Program(FORMS)
-        self.assertEqual(source.statements, [6, 8, 9, 12, 15, 16, 18, 19, 20, 21, 22, 25, 27, 30, 32, 34, 36])
-        self.assertEqual(source.calling_lines("main", "f"), [18, 22])
-        self.assertEqual(source.calling_lines("main", "g"), [32])
-        self.assertEqual([source.heading(name) for name in ("f", "g", "main", "h")], [3, 11, 14, 0])
-        with tempfile.TemporaryDirectory() as folder:
-            path = os.path.join(folder, "forms.go")
-            with open(path, "wb") as file:
-                file.write(FORMS)
-            self.assertGreater(len(stands(path)), 10)
-            self.assertLessEqual(set(stands(path)), set(source.statements))
-        self.assertEqual([source.statement_at(line) for line in (1, 17, 18, 23, 37)], [6, 18, 18, 25, None])
+        assert source.statements == [6, 8, 9, 12, 15, 16, 18, 19, 20, 21, 22, 25, 27, 30, 32, 34, 36]
+        assert source.calling_lines("main", "f") == [18, 22]
+        assert source.calling_lines("main", "g") == [32]
+        assert [source.heading(name) for name in ("f", "g", "main", "h")] == [3, 11, 14, 0]
+        path = tmp_path / "forms.go"
+        path.write_bytes(FORMS)
+        assert len(stands(str(path))) > 10
+        assert set(stands(str(path))) <= set(source.statements)
+        assert [source.statement_at(line) for line in (1, 17, 18, 23, 37)] == [6, 18, 18, 25, None]
 
     def test_each_step_stands_where_a_statement_begins(self) -> None:
         programs = glob.glob(os.path.join(DATA, "*.go")) + glob.glob(os.path.join(REPOSITORY, "bench", "programs", "*.go"))
@@ -79,9 +79,9 @@ class Lines(unittest.TestCase):
             with open(path, "rb") as file:
                 lines = set(Program(file.read()).statements)
             stood = set(stands(path))
-            self.assertLessEqual(stood, lines, path)
+            assert stood <= lines, path
             seen += len(stood)
-        self.assertGreater(seen, 150)
+        assert seen > 150
 
     def test_any_bytes_are_walked_to_their_end(self) -> None:
         for end in range(len(FORMS)):
@@ -98,58 +98,63 @@ def stands(path: str) -> list[int]:
     return [int(line) for line in re.findall(r"^\| g0[.0-9]* \w+ \d+ line (\d+)$", done.stdout.decode(), re.M)]
 
 
-class Printed(unittest.TestCase):
+class TestPrinted:
     def test_what_became_of_printed_lines(self) -> None:
-        self.assertEqual(change([], ["a"]), Change(["a"], [], False))
-        self.assertEqual(change(["a"], ["a", "a", "b"]), Change(["a", "b"], [], False))
-        self.assertEqual(change(["a", "b", "c"], ["b"]), Change([], ["a", "c"], False))
-        self.assertEqual(change(["a", "b", "a"], []), Change([], ["a", "b", "a"], False))
-        self.assertEqual(change(["a", "b"], ["b", "a"]), Change([], [], True))
+        assert change([], ["a"]) == Change(["a"], [], False)
+        assert change(["a"], ["a", "a", "b"]) == Change(["a", "b"], [], False)
+        assert change(["a", "b", "c"], ["b"]) == Change([], ["a", "c"], False)
+        assert change(["a", "b", "a"], []) == Change([], ["a", "b", "a"], False)
+        assert change(["a", "b"], ["b", "a"]) == Change([], [], True)
 
     def test_it_in_words(self) -> None:
-        self.assertEqual(list(changes_in_words([], ["a", "b"])), [("stdout", "a\nb")])
+        assert list(changes_in_words([], ["a", "b"])) == [("stdout", "a\nb")]
         many = [str(number) for number in range(103)]
         ((category, text),) = changes_in_words(many, [])
-        self.assertEqual((category, text.split("\n")[-1]), ("console", "No longer printed: (and 3 lines more)"))
-        self.assertIn("another order", list(changes_in_words(["a", "b"], ["b", "a"]))[0][1])
+        assert (category, text.split("\n")[-1]) == ("console", "No longer printed: (and 3 lines more)")
+        assert "another order" in list(changes_in_words(["a", "b"], ["b", "a"]))[0][1]
 
 
-class Meanings(unittest.TestCase):
+class TestMeanings:
     def codes(self, page: str, pattern: str) -> list[str]:
         with open(os.path.join(REPOSITORY, "docs", page), encoding="utf-8") as file:
             return re.findall(pattern, file.read(), re.M)
 
     def test_each_code_of_the_documents_has_a_meaning(self) -> None:
-        self.assertEqual(self.codes("LANGUAGE.md", r"^\| ([SPC]\d+) \|"), list(REFUSED_SOURCES))
-        self.assertEqual(self.codes("COMMANDS.md", r"^\| ([NBQ]\d) \|"), list(REFUSED_COMMANDS))
+        assert self.codes("LANGUAGE.md", r"^\| ([SPC]\d+) \|") == list(REFUSED_SOURCES)
+        assert self.codes("COMMANDS.md", r"^\| ([NBQ]\d) \|") == list(REFUSED_COMMANDS)
         (faults,) = self.codes("COMMANDS.md", r"^\| `fault F` \| .*: F is (.*) \|$")
-        self.assertEqual(re.findall(r"\w+(?=`)", faults), list(FAULTS))
+        assert re.findall(r"\w+(?=`)", faults) == list(FAULTS)
 
 
-class Waiting(unittest.TestCase):
+class TestWaiting:
     def test_messages_that_wait_are_bounded_in_bytes(self) -> None:
         inbox: Inbox[int] = Inbox()
-        putting = threading.Thread(target=lambda: [inbox.put(number, MOST_BYTES // 2) for number in range(4)], daemon=True)
+
+        def put_all() -> None:
+            for number in range(4):
+                inbox.put(number, MOST_BYTES // 2)
+
+        putting = threading.Thread(target=put_all, daemon=True)
         putting.start()
         seen = []
         for _ in range(4):
             putting.join(0.05)
-            self.assertLessEqual(inbox.bytes, MOST_BYTES)
+            assert inbox.bytes <= MOST_BYTES
             seen.append(inbox.get(True))
-        self.assertEqual((seen, inbox.get(False)), ([0, 1, 2, 3], None))
+        assert (seen, inbox.get(False)) == ([0, 1, 2, 3], None)
         inbox.put(5, 10 * MOST_BYTES)
-        self.assertEqual(inbox.get(False), 5)
+        assert inbox.get(False) == 5
 
 
-class WhichRewind(unittest.TestCase):
-    def test_the_order_in_which_it_is_looked_for(self) -> None:
-        with tempfile.TemporaryDirectory() as folder, mock.patch.object(finding, "REPOSITORY", folder):
-            with mock.patch.dict(os.environ, {"REWIND": REWIND, "PATH": folder}):
-                self.assertEqual(finding.find_rewind(), REWIND)
-            with mock.patch.dict(os.environ, {"REWIND": "", "PATH": folder}):
-                self.assertRaises(NotFound, finding.find_rewind)
-                for path in (os.path.join(folder, "rewind"), os.path.join(folder, "bin", "rewind")):
-                    os.makedirs(os.path.dirname(path), exist_ok=True)
-                    with open(path, "w", encoding="utf-8"):
-                        os.chmod(path, 0o755)
-                    self.assertEqual(finding.find_rewind(), path)
+class TestWhichRewind:
+    def test_the_order_in_which_it_is_looked_for(self, tmp_path: Path, monkeypatch: pytest.MonkeyPatch) -> None:
+        monkeypatch.setattr(finding, "REPOSITORY", str(tmp_path))
+        monkeypatch.setenv("PATH", str(tmp_path))
+        assert finding.find_rewind() == REWIND
+        monkeypatch.setenv("REWIND", "")
+        with pytest.raises(NotFound):
+            finding.find_rewind()
+        for path in (tmp_path / "rewind", tmp_path / "bin" / "rewind"):
+            path.parent.mkdir(exist_ok=True)
+            path.touch(0o755)
+            assert finding.find_rewind() == str(path)

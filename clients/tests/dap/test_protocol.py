@@ -2,28 +2,29 @@
 
 Here it is checked that this would find what is wrong.
 """
-import unittest
 from typing import Any
+
+import pytest
 
 from .schema import Schema, published
 
 SCHEMA = published()
 
 
-@unittest.skipUnless(SCHEMA, "node-vscode-debugprotocol is not installed")
-class Definitions(unittest.TestCase):
+@pytest.mark.skipif(SCHEMA is None, reason="node-vscode-debugprotocol is not installed")
+class TestDefinitions:
     def faults(self, **message: Any) -> list[str]:
         assert isinstance(SCHEMA, Schema)
         return SCHEMA.faults_of_message({"seq": 1, **message})
 
     def test_what_is_right(self) -> None:
-        self.assertEqual(self.faults(type="event", event="stopped", body={"reason": "goto", "threadId": 1}), [])
+        assert self.faults(type="event", event="stopped", body={"reason": "goto", "threadId": 1}) == []
         answer = {"type": "response", "request_seq": 1, "success": True}
-        self.assertEqual(self.faults(**answer, command="threads", body={"threads": [{"id": 1, "name": "g0"}]}), [])
-        self.assertEqual(self.faults(**answer, command="rewind/log", body={}), [])
+        assert self.faults(**answer, command="threads", body={"threads": [{"id": 1, "name": "g0"}]}) == []
+        assert self.faults(**answer, command="rewind/log", body={}) == []
 
     def test_what_is_wrong(self) -> None:
-        wrong = [
+        wrong: list[tuple[dict[str, Any], str]] = [
             ({"event": "stopped", "body": {"threadId": 1}}, "StoppedEvent.body.reason is missing"),
             ({"event": "stopped", "body": {"reason": 1}}, "StoppedEvent.body.reason is not 'step': 1"),
             ({"event": "thread", "body": {"reason": "started", "threadId": "1"}}, "ThreadEvent.body.threadId is no number: '1'"),
@@ -31,4 +32,4 @@ class Definitions(unittest.TestCase):
             ({"event": "flown"}, "there is no FlownEvent"),
         ]
         for message, fault in wrong:
-            self.assertIn(fault, self.faults(type="event", **message)[0])
+            assert fault in self.faults(type="event", **message)[0]

@@ -13,7 +13,6 @@ from typing import Any
 
 import pytest
 from hypothesis import HealthCheck, Phase, given, settings, strategies
-
 from support.forms import short_first
 
 from .client import DATA, REWIND, Client, Message
@@ -25,19 +24,19 @@ REQUESTS, SESSIONS, FULL, SMALL, EXAMPLES = 50, 20, 200, 12, 8
 
 MOVES = ("next", "stepIn", "stepIn", "stepOut", "stepBack", "stepBack", "continue", "reverseContinue", "pause")
 LOOKS = ("threads", "stackTrace", "scopes", "variables", "exceptionInfo", "rewind/log", "rewind/causes", "rewind/dependents")
-COMMANDS = ("step g0", "step g0.1", "step g0.2 2", "run 3", "run 1000", "undo", "redo", "back g0#2", "back g0.1#1", "back go g0.1")
+COMMANDS: tuple[str, ...] = ("step g0", "step g0.1", "step g0.2 2", "run 3", "run 1000", "undo", "redo", "back g0#2", "back g0.1#1", "back go g0.1")
 COMMANDS += ("back send g0/c1 1", "break 6", "clear 6", "log", "console", "order g0#1", "deps g0#1", "nonsense", "show g0", "\t")
 # Words of the shell: those that only look, and those that move.
-WORDS = ("why", "bt", "channels", "goroutines", "history all", "list", "direct g0#1", "preview g0#2", "print x", "help")
+WORDS: tuple[str, ...] = ("why", "bt", "channels", "goroutines", "history all", "list", "direct g0#1", "preview g0#2", "print x", "help")
 WORDS += ("goroutine g0", "goroutine g0.1")
-GOING = ("next", "step", "step 3", "finish", "until 9", "continue", "reverse-next", "reverse-continue", "back 12", "c", "n")
+GOING: tuple[str, ...] = ("next", "step", "step 3", "finish", "until 9", "continue", "reverse-next", "reverse-continue", "back 12", "c", "n")
 GOING += ("back var x",)
 VARIABLES = ("balance", "x", "v", "i", "ch", "a", "done", "n")
 # Of these and of variables conditions are made that mostly mean nothing.
-PARTS = ("(", ")", "&&", "||", "==", "=", "<", "/ 0", "%", "!", "-", "1", "0x", "true", "len(", "cap(ch)")
+PARTS: tuple[str, ...] = ("(", ")", "&&", "||", "==", "=", "<", "/ 0", "%", "!", "-", "1", "0x", "true", "len(", "cap(ch)")
 PARTS += ("\u00a0", "\x00", '"', "<-", "{", ";")
 FUNCTIONS = ("main", "deposit", "nobody", "12", "", "worker")
-ODD = (None, -1, 0, 3.5, True, "g0", "g0#1", [], {}, 2**70, "\x00", "x" * 5000)
+ODD: tuple[object, ...] = (None, -1, 0, 3.5, True, "g0", "g0#1", [], {}, 2**70, "\x00", "x" * 5000)
 
 
 class Wanderer:
@@ -99,7 +98,8 @@ class Wanderer:
         holds = {"condition": f"{self.chance.choice(VARIABLES)} > 1"}
         parts = self.chance.choices((*VARIABLES, *PARTS), k=self.chance.randint(1, 5))
         malformed = {"condition": self.chance.choice(("", " ")).join(parts)}
-        return self.chance.choice(({}, holds, malformed, malformed, {"hitCondition": "2"}, {"logMessage": "{x} {balance} {x +}"}))
+        more: list[dict[str, Any]] = [{}, holds, malformed, malformed, {"hitCondition": "2"}, {"logMessage": "{x} {balance} {x +}"}]
+        return self.chance.choice(more)
 
     def offered(self, thread: int) -> tuple[str, dict[str, Any]]:
         """A request for what an editor offers: variables to watch, lines and frames to go back to, clauses."""
@@ -161,7 +161,9 @@ class Wanderer:
         return " ".join(["|", frame["name"]] + [f"{name}={value}" for name, value in pairs])
 
     def variables(self, scope: dict[str, Any]) -> list[dict[str, Any]]:
-        return self.client.body("variables", {"variablesReference": scope["variablesReference"]})["variables"]
+        asked = {"variablesReference": scope["variablesReference"]}
+        found: list[dict[str, Any]] = self.client.body("variables", asked)["variables"]
+        return found
 
     # What a fresh session tells.
 

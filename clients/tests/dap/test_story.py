@@ -39,7 +39,7 @@ def record() -> None:
 
 def answers(client: Client) -> list[str]:
     """What the adapter says until it is silent."""
-    while select.select([client.process.stdout], [], [], SILENCE)[0] and client.more():
+    while select.select([client.answers], [], [], SILENCE)[0] and client.more():
         pass
     bodies = []
     while client.unread:
