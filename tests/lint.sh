@@ -18,7 +18,8 @@ lint() {
   case $1 in
     flake8) files py python3 | xargs "$python" -m flake8 ;;
     mypy) "$python" -m mypy ;;
-    shellcheck) files sh '\(ba\)\?sh' | xargs shellcheck ;;
+    # What sed or another shell is to read stands in single quotes (SC2016).
+    shellcheck) files sh '\(ba\)\?sh' | xargs shellcheck --exclude=SC2016 ;;
     page)
       page/needs.sh nodejs node-typescript eslint
       tsc -p page
