@@ -1,21 +1,17 @@
 """The shell at a pseudo-terminal: the prompt, Ctrl-C, Ctrl-D, history, completion, colours and width."""
 from __future__ import annotations
 
-import fcntl
 import os
-import pty
 import re
-import select
 import signal
-import struct
 import subprocess
 import sys
-import termios
 import time
 from collections.abc import Callable, Iterator
 from pathlib import Path
 from typing import Optional
 
+import pexpect
 import pytest
 
 from support.places import CLIENTS, EXAMPLES
@@ -27,37 +23,28 @@ ENDLESS = "package main\nfunc main() {\n\tfor i := 0; ; i++ {\n\t}\n}\n"
 
 
 class Terminal:
-    """A shell at a terminal of some columns."""
+    """A shell at a terminal of some columns, with all that it wrote there, and what a person sees of it."""
 
     def __init__(self, words: list[str], environment: dict[str, str], columns: int) -> None:
-        self.handle, other = pty.openpty()
-        fcntl.ioctl(other, termios.TIOCSWINSZ, struct.pack("HHHH", 40, columns, 0, 0))
-        self.process: "subprocess.Popen[bytes]" = subprocess.Popen(
-            words, stdin=other, stdout=other, stderr=other, env=environment, start_new_session=True, preexec_fn=self.take_terminal
-        )
-        os.close(other)
+        size = (40, columns)
+        self.child = pexpect.spawn(words[0], words[1:], env=environment, dimensions=size, encoding="utf-8", codec_errors="replace")
+        self.child.delaybeforesend = None
         self.raw = ""
         self.at = 0
 
-    @staticmethod
-    def take_terminal() -> None:
-        fcntl.ioctl(0, termios.TIOCSCTTY, 0)
-
     def write(self, text: str) -> None:
-        os.write(self.handle, text.encode())
+        self.child.send(text)
 
     def read(self, seconds: float) -> bool:
-        """Reads what comes; False where nothing does, or the end has come."""
-        if not select.select([self.handle], [], [], seconds)[0]:
-            return False
+        """Reads what comes; False where nothing does, or the end has come. A question for the cursor's place is answered."""
         try:
-            part = os.read(self.handle, 1 << 16)
-        except OSError:
+            part = self.child.read_nonblocking(1 << 16, seconds)
+        except (pexpect.TIMEOUT, pexpect.EOF):
             return False
-        self.raw += part.decode("utf-8", "replace")
-        if "\x1b[6n" in part.decode("utf-8", "replace"):
+        self.raw += part
+        if "\x1b[6n" in part:
             self.write("\x1b[1;1R")
-        return bool(part)
+        return True
 
     @property
     def text(self) -> str:
@@ -67,7 +54,7 @@ class Terminal:
         """Reads until some text has come behind what was expected before: the text up to its end."""
         until = time.monotonic() + LIMIT
         while self.text.find(wanted, self.at) < 0:
-            if time.monotonic() > until or (not self.read(0.5) and self.process.poll() is not None):
+            if time.monotonic() > until or (not self.read(0.5) and not self.child.isalive()):
                 raise AssertionError(f"no {wanted!r} in {self.text[self.at :][-2000:]!r}")
         end = self.text.find(wanted, self.at) + len(wanted)
         found, self.at = self.text[self.at : end], end
@@ -82,13 +69,11 @@ class Terminal:
         """The exit status, when the shell leaves."""
         while self.read(LIMIT):
             pass
-        return self.process.wait(LIMIT)
+        self.child.close()
+        return int(self.child.exitstatus)
 
     def close(self) -> None:
-        if self.process.poll() is None:
-            self.process.kill()
-        self.process.wait()
-        os.close(self.handle)
+        self.child.close(force=True)
 
 
 Begin = Callable[..., Terminal]
@@ -164,7 +149,7 @@ def test_a_core_that_is_killed(begin: Begin) -> None:
     terminal.say("step g0", "ok g0#1")
     path = re.search(r"saved as it goes: (\S+\.script)", terminal.text.replace("\n  ", " "))
     assert path
-    children = subprocess.run(["ps", "-o", "pid=", "--ppid", str(terminal.process.pid)], stdout=subprocess.PIPE, text=True).stdout
+    children = subprocess.run(["ps", "-o", "pid=", "--ppid", str(terminal.child.pid)], stdout=subprocess.PIPE, text=True).stdout
     for number in children.split():
         os.kill(int(number), signal.SIGKILL)
     terminal.say("step g0", "signal 9 ended it")
@@ -181,8 +166,8 @@ def test_a_ctrl_c_at_any_moment_of_the_start(rewind: str, tmp_path: Path) -> Non
         terminal = Terminal(words, environment, 100)
         terminal.read(0.05 * twentieths)
         time.sleep(0.05)
-        os.kill(terminal.process.pid, signal.SIGINT)
-        while terminal.process.poll() is None and "(rewind g0)" not in terminal.text:
+        os.kill(terminal.child.pid, signal.SIGINT)
+        while terminal.child.isalive() and "(rewind g0)" not in terminal.text:
             terminal.read(0.1)
         terminal.close()
         assert "rewind_" not in terminal.raw and "Error" not in terminal.raw, (twentieths, terminal.raw)
