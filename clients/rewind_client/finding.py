@@ -6,6 +6,7 @@ import re
 import shutil
 import subprocess
 from collections.abc import Callable
+from dataclasses import dataclass
 from typing import Optional
 
 from .core import Core, unnoted
@@ -37,24 +38,30 @@ def find_rewind(named: Optional[str] = None) -> str:
     return found
 
 
-def start(
-    rewind: str,
-    path: str,
-    timeout: float = TIMEOUT,
-    cancelled: Callable[[], bool] = never,
-    journal: Callable[[str], None] = unnoted,
-    options: Optional[list[str]] = None,
-) -> Core:
+@dataclass(frozen=True)
+class Settings:
+    """How a session runs: how long an answer is awaited, when the wait is cancelled, what is told of commands, and options of Rewind."""
+
+    timeout: float = TIMEOUT
+    cancelled: Callable[[], bool] = never
+    journal: Callable[[str], None] = unnoted
+    options: tuple[str, ...] = ()
+
+
+USUAL = Settings()
+
+
+def start(rewind: str, path: str, settings: Settings = USUAL) -> Core:
     """A session on a source; SourceRefused where Rewind refuses it.
 
     Rewind says nothing of a source that it accepts, so it is asked for `g0`.
     """
-    process = Process([rewind, *(options or []), path], timeout, cancelled)
+    process = Process([rewind, *settings.options, path], settings.timeout, settings.cancelled)
     try:
         Core(process).show("g0")
     except ProcessError as fault:
         raise refusal_of(path, str(fault)) from None
-    return Core(process, journal)
+    return Core(process, settings.journal)
 
 
 def explained(rewind: str, code: str) -> list[str]:

@@ -12,6 +12,7 @@ from .arguments import Arguments, BadRequest
 from .capabilities import CAPABILITIES, DEFAULT, Filter
 from .console import Console
 from .debuggee import Debuggee
+from .handlers import Body, Handler
 from .lives import Lives
 from .looks import Looks
 from .moves import Moves
@@ -20,8 +21,6 @@ from .stops import Motion, Stop, exit_code, not_taken, with_filters
 from .telling import tell_output, tell_threads, warn_of_change
 from .transport import Closed, Malformed, Transport
 
-Body = dict[str, Any]
-Handler = Callable[[Arguments], Optional[Body]]
 
 SECONDS_BETWEEN_OUTPUTS = 1.0
 TROUBLE = frozenset(("exception", "deadlock"))

@@ -3,15 +3,14 @@ from __future__ import annotations
 
 import os
 from collections.abc import Callable
-from typing import Any, NamedTuple
+from typing import NamedTuple
 
 from rewind_client.breakpoints import NoPlace, place_of
 from rewind_client.session import Session
 
 from .arguments import Arguments
 from .conditions import Condition, condition_of
-
-Body = dict[str, Any]
+from .handlers import Body
 
 
 class Wish(NamedTuple):

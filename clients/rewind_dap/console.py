@@ -1,8 +1,7 @@
 """The debug console: commands of Rewind, words of the shell, and values."""
 from __future__ import annotations
 
-from collections.abc import Callable
-from typing import TYPE_CHECKING, Any, Optional
+from typing import TYPE_CHECKING, Optional
 
 from rewind_client.breakpoints import place_of
 from rewind_client.core import MOVING, with_plain_blanks, words_of
@@ -15,6 +14,7 @@ from .answer import Answer
 from .arguments import Arguments, BadRequest
 from .conditions import in_frame
 from .debuggee import Debuggee
+from .handlers import Body, Handler, Handlers
 from .looks import one_line
 from .stops import Stop, end
 from .words import Words
@@ -23,17 +23,15 @@ from .workers import work
 if TYPE_CHECKING:
     from .adapter import Adapter
 
-Body = dict[str, Any]
 
-
-class Console:
+class Console(Handlers):
     """What a user types into an editor."""
 
     def __init__(self, adapter: Adapter) -> None:
-        self.adapter = adapter
+        super().__init__(adapter)
         self.words = Words(adapter)
 
-    def handlers(self) -> dict[str, Callable[[Arguments], Optional[Body]]]:
+    def handlers(self) -> dict[str, Handler]:
         return {"evaluate": self.evaluate, "completions": self.completions}
 
     def evaluate(self, arguments: Arguments) -> Body:

@@ -1,8 +1,6 @@
 """Requests that begin a program, begin it anew, and end it."""
 from __future__ import annotations
 
-from collections.abc import Callable
-from typing import TYPE_CHECKING, Any, Optional
 
 from rewind_client.errors import RewindError, SourceRefused
 from rewind_client.program import read_program
@@ -11,23 +9,16 @@ from rewind_client.session import Session
 
 from .arguments import Arguments, BadRequest
 from .debuggee import Debuggee
+from .handlers import Handler, Handlers
 from .launching import Launch, described, launch_of, start
 from .runs import forward
 from .stops import Stop
 
-if TYPE_CHECKING:
-    from .adapter import Adapter
 
-Body = dict[str, Any]
-
-
-class Lives:
+class Lives(Handlers):
     """The life of a program under the debugger."""
 
-    def __init__(self, adapter: Adapter) -> None:
-        self.adapter = adapter
-
-    def handlers(self) -> dict[str, Callable[[Arguments], Optional[Body]]]:
+    def handlers(self) -> dict[str, Handler]:
         return {
             "launch": self.launch,
             "attach": self.attach,

@@ -2,8 +2,7 @@
 from __future__ import annotations
 
 import re
-from collections.abc import Callable
-from typing import TYPE_CHECKING, Any, Optional, TypeVar
+from typing import TypeVar
 
 from rewind_client.explanations import explain
 from rewind_client.names import is_channel, is_goroutine
@@ -13,24 +12,18 @@ from rewind_client.watched import ChannelWatch, Watch, Watched, Way
 from .arguments import Arguments, BadRequest
 from .capabilities import Filter
 from .debuggee import Debuggee
+from .handlers import Body, Handler, Handlers
 
-if TYPE_CHECKING:
-    from .adapter import Adapter
-
-Body = dict[str, Any]
 Part = TypeVar("Part")
 
 MAX_COMMAND = 1_048_576
 CONTROL = re.compile("[\x00-\x08\x0a-\x1f]")
 
 
-class Looks:
+class Looks(Handlers):
     """What an editor asks of a program that stands still, and its breakpoints."""
 
-    def __init__(self, adapter: Adapter) -> None:
-        self.adapter = adapter
-
-    def handlers(self) -> dict[str, Callable[[Arguments], Optional[Body]]]:
+    def handlers(self) -> dict[str, Handler]:
         return {
             "setBreakpoints": self.set_breakpoints,
             "setFunctionBreakpoints": self.set_function_breakpoints,

@@ -1,8 +1,6 @@
 """Requests that move the program, forward or back."""
 from __future__ import annotations
 
-from collections.abc import Callable
-from typing import TYPE_CHECKING, Any, Optional
 
 from rewind_client import motion
 from rewind_client.frames import first_step_of_frame
@@ -11,25 +9,19 @@ from rewind_client.replies import Goroutine
 
 from .arguments import Arguments, BadRequest
 from .debuggee import Debuggee
+from .handlers import Body, Handler, Handlers
 from .looks import one_line, step_name
 from .offers import ONE_STEP
 from .runs import How, along, backward, forward
 from .stops import Stop, end, step_back, taken
 
-if TYPE_CHECKING:
-    from .adapter import Adapter
-
-Body = dict[str, Any]
 INSTRUCTION = "instruction"
 
 
-class Moves:
+class Moves(Handlers):
     """Steps and runs in both directions."""
 
-    def __init__(self, adapter: Adapter) -> None:
-        self.adapter = adapter
-
-    def handlers(self) -> dict[str, Callable[[Arguments], Optional[Body]]]:
+    def handlers(self) -> dict[str, Handler]:
         return {
             "continue": self.go_on,
             "next": lambda arguments: self.along(self.goroutine(arguments), motion.next_line, leaves=True),

@@ -2,8 +2,6 @@
 from __future__ import annotations
 
 import re
-from collections.abc import Callable
-from typing import TYPE_CHECKING, Any, Optional
 
 from rewind_client.motion import last_at_line
 from rewind_client.names import CHANNEL, is_channel, step_owner
@@ -11,11 +9,8 @@ from rewind_client.replies import State
 
 from .arguments import Arguments
 from .debuggee import Debuggee
+from .handlers import Body, Handler, Handlers
 
-if TYPE_CHECKING:
-    from .adapter import Adapter
-
-Body = dict[str, Any]
 
 MAX_OFFERS = 50
 # A channel as lists and the console name it: `jobs (g0/c1)`, or `g0/c1`.
@@ -24,13 +19,10 @@ CHANNEL_NAME = re.compile(rf"(?:^|\()({CHANNEL.pattern})\)?$")
 ONE_STEP = 0
 
 
-class Offers:
+class Offers(Handlers):
     """What an editor shows in menus."""
 
-    def __init__(self, adapter: Adapter) -> None:
-        self.adapter = adapter
-
-    def handlers(self) -> dict[str, Callable[[Arguments], Optional[Body]]]:
+    def handlers(self) -> dict[str, Handler]:
         return {
             "stepInTargets": self.step_in_targets,
             "gotoTargets": self.goto_targets,

@@ -9,7 +9,7 @@ from rewind_client.core import MOVING as MOVING_WORDS
 from rewind_client.core import Refused, with_plain_blanks, words_of
 from rewind_client.errors import Cancelled, ProcessError, RewindError, SourceRefused
 from rewind_client.explanations import Standing, standing_of
-from rewind_client.finding import explained
+from rewind_client.finding import Settings, explained
 from rewind_client.meanings import FAULTS, REFUSED_COMMANDS
 from rewind_client.names import is_step, step_owner
 from rewind_client.opening import open_session
@@ -57,8 +57,8 @@ class Shell:
 
     def begin(self) -> None:
         """Begins the program, with nothing taken."""
-        path, gives_up = self.path, self.interrupts.gives_up
-        self.session = open_session(self.rewind, path, cancelled=gives_up, journal=self.script.note)
+        settings = Settings(cancelled=self.interrupts.gives_up, journal=self.script.note)
+        self.session = open_session(self.rewind, self.path, settings)
         self.chosen = "g0"
         self.printed: Optional[list[str]] = []
 
