@@ -10,8 +10,9 @@ import re
 from pathlib import Path
 from typing import NamedTuple
 
-import make
 import pytest
+
+from words import make
 
 from support.places import SESSIONS
 from support.program import Program
@@ -65,7 +66,7 @@ def test_version(flag: str, program: Program) -> None:
 
 
 @pytest.mark.parametrize("section, entry", make.explanations(), ids=lambda it: str(getattr(it, "name", "")))
-def test_an_explanation(section: "make.Section", entry: "make.Entry", program: Program) -> None:
+def test_an_explanation(section: str, entry: make.Entry, program: Program) -> None:
     assert piped(program, ["--explain", entry.name]) == Ran(0, make.page(section, entry).encode(), b"")
 
 

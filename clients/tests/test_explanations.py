@@ -117,11 +117,16 @@ def test_the_direct_cause_of_a_wait(session: Open) -> None:
     assert len(one.core.causes("g0.1#3")) > 10
 
 
-SENDS = "package main\nfunc put(c chan int) {\n\t%s\n}\nfunc main() {\n\tc := make(chan int, 2)\n\tgo put(c)\n\t%s\n\tprintln(0)\n}\n"
 SELECT = "select {\n\tcase c <- 1:\n\t}"
 
 
-def kinds_into(one: Session, word: KindWord) -> List[EdgeKind]:
+def sends(first: str, second: str) -> str:
+    """A program whose goroutine and whose `main` each use a channel."""
+    put = f"func put(c chan int) {{\n\t{first}\n}}\n"
+    return f"package main\n{put}func main() {{\n\tc := make(chan int, 2)\n\tgo put(c)\n\t{second}\n\tprintln(0)\n}}\n"
+
+
+def kinds_into(one: Session, word: KindWord) -> list[EdgeKind]:
     """What the steps of `put` were to the first step of main of this kind."""
     for word_of_go, steps in (("g0", 3), ("g0.1", 2), ("g0", 1)):
         for _ in range(steps):
@@ -130,9 +135,9 @@ def kinds_into(one: Session, word: KindWord) -> List[EdgeKind]:
     return [edge.kind for edge in DirectCauses(one).of(step)]
 
 
-def test_a_select_that_sends_takes_nothing_out(session: Open) -> None:  # noqa: F811
-    assert kinds_into(session(SENDS % ("c <- 1", SELECT)), KindWord.PICK) == [EdgeKind.ORDER]
+def test_a_select_that_sends_takes_nothing_out(session: Open) -> None:
+    assert kinds_into(session(sends("c <- 1", SELECT)), KindWord.PICK) == [EdgeKind.ORDER]
 
 
-def test_what_a_select_sent_into_a_buffer_is_a_message(session: Open) -> None:  # noqa: F811
-    assert kinds_into(session(SENDS % (SELECT, "<-c")), KindWord.TAKE) == [EdgeKind.MESSAGE]
+def test_what_a_select_sent_into_a_buffer_is_a_message(session: Open) -> None:
+    assert kinds_into(session(sends(SELECT, "<-c")), KindWord.TAKE) == [EdgeKind.MESSAGE]
