@@ -32,7 +32,7 @@ FEW_BELOW = 20
 STANDS_BACK = 10
 # What stands beside the longest chain is done long before its end.
 MOST_ROOMS = 3
-RT = f"{kit.ROOT}/tools/rt_once.py"
+RT = f"{kit.ROOT}/tools/build/rt_once.py"
 # The minutes of a crate that tools/build/minutes.json does not have. There are those of each crate's proof, by the last
 # `make gate-times`.
 UNTOLD = 0.1
@@ -64,7 +64,7 @@ def order(crate: Crate, found: list[Crate]) -> list[Crate]:
 
 def times() -> dict[str, float]:
     """The processor minutes of each crate's proof."""
-    with open(f"{kit.ROOT}/bench/minutes.json", encoding="utf-8") as file:
+    with open(f"{kit.ROOT}/tools/build/minutes.json", encoding="utf-8") as file:
         told: dict[str, float] = json.load(file)
     return told
 

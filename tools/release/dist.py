@@ -127,8 +127,8 @@ def quietly(*words: str, **more: str) -> None:
 
 def staged(program: str, folder: str, told: dict[str, str]) -> None:
     """Leaves the files of the archive in `folder`."""
-    quietly(f"{kit.ROOT}/tools/install.sh", folder, "/", REWIND_PROGRAM=program)
-    quietly(f"{kit.ROOT}/tools/vsix.py", "--stored", program, f"{folder}/rewind.vsix")
+    quietly(f"{kit.ROOT}/tools/release/install.sh", folder, "/", REWIND_PROGRAM=program)
+    quietly(f"{kit.ROOT}/tools/release/vsix.py", "--stored", program, f"{folder}/rewind.vsix")
     shutil.copy(f"{kit.ROOT}/LICENSE", folder)
     write(f"{folder}/NOTICES", notices.of_program(kit.folder()).encode())
     for name in ("README.md", "VERIFY.md"):
@@ -170,7 +170,7 @@ def made(module: str, page: str, told: dict[str, str], is_trial: bool) -> dict[s
     time = int(said_by("git", "log", "-1", "--format=%ct"))
     with tempfile.TemporaryDirectory(prefix="rewind-dist-") as work:
         program = f"{work}/rewind"
-        subprocess.run([f"{kit.ROOT}/tools/quick_program.py", "--static", module, program], check=True)
+        subprocess.run([f"{kit.ROOT}/tools/build/quick_program.py", "--static", module, program], check=True)
         check_program(program, is_trial)
         os.mkdir(f"{work}/{top}")
         staged(program, f"{work}/{top}", told)
