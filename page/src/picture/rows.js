@@ -13,7 +13,7 @@ export class Rows {
    */
   constructor(log, { isFolded = false, hidden = new Set(), isKept = () => false, isShown = null } = {}) {
     this.log = log;
-    this.hidden = hidden;
+    this.hidden = new Set(hidden); // as it is now: these rows stay as they are where it changes
     this.isShown = isShown;
     /** @type {number[] | null} */
     this.starts = null; // of each row of the picture, the first step of the log in it

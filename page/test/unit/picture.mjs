@@ -59,6 +59,16 @@ test("folds and hidden goroutines", () => {
   assert.deepEqual([filtered.length, filtered.at(0)], [1, 3], "a goroutine that is hidden has no rows");
 });
 
+test("rows stay as they are where a goroutine is hidden later", () => {
+  const log = logOf(["g0", "go"], ["g0.1", "pure"]);
+  /** @type {Set<string>} */
+  const hidden = new Set();
+  const rows = new Rows(log, { hidden });
+  hidden.add("g0.1");
+  const { width, names } = layOut({ log, rows, functions: new Map(), notes: () => undefined, labels: "statement" }, { rowHeight: 22 });
+  assert.deepEqual([Number.isFinite(width), names], [true, ["g0", "g0.1"]]);
+});
+
 // A goroutine that has made two channels and sends on the first: of a select all clauses count, of a pick the one that was picked.
 test("the operations of a channel", () => {
   const variables = [{ name: "a", value: "g0/c1" }, { name: "b", value: "g0/c2" }, { name: "n", value: "7" }];
