@@ -6,6 +6,9 @@ REWIND ?= bin/rewind
 # Checks side by side: one for each processor, as far as the memory goes. None was seen to take more than 5.5 GB.
 RT_JOBS ?= $(shell awk -v n=$$(nproc) '/^MemTotal/ { m = int($$2 / 5500000); print m < 1 ? 1 : m < n ? m : n }' /proc/meminfo)
 
+# Where the scripts find one another's modules.
+export PYTHONPATH := $(CURDIR)$(if $(PYTHONPATH),:$(PYTHONPATH))
+
 HAS_RT := $(shell command -v rt)
 RT = $(if $(HAS_RT),rt,$(error rewind: 'rt' is not on the path: install the Rattle toolchain first (README.md, 'How to build it')))
 NEEDS_RT = @: $(RT)

@@ -1,11 +1,13 @@
 #!/usr/bin/env python3
 """Makes one file of the page, its styles and scripts, the editor, the program and what it shows.
 
-    page/inline.py MODULE.wasm OUT.html [--unproved]
+    python3 -m page.inline MODULE.wasm OUT.html [--unproved]
 
 With --unproved the page says that its program is not proved. The meanings of codes, kinds and commands and the texts of the
 stories come from words.json, which `make words` makes, and the refusals of sources from clients/, so that nothing is said twice.
 """
+from __future__ import annotations
+
 import argparse
 import base64
 import json
@@ -16,11 +18,11 @@ import sys
 import zlib
 from typing import Any
 
+from tools import kit
+from tools.release import notices
+
 HERE = os.path.dirname(os.path.realpath(__file__))
 ROOT = os.path.dirname(HERE)
-sys.path.insert(0, ROOT)
-from tools import kit  # noqa: E402
-from tools.release import notices  # noqa: E402
 
 MIRROR = "/usr/share/javascript/codemirror"
 LICENCE = "/usr/share/doc/libjs-codemirror/copyright"

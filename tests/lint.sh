@@ -22,8 +22,7 @@ lint() {
     shellcheck) files sh '\(ba\)\?sh' | xargs shellcheck --exclude=SC2016 ;;
     page)
       page/needs.sh nodejs node-typescript eslint
-      tsc -p page
-      eslint -f compact --ext .js,.mjs page/src page/test
+      page/lint.sh
       ;;
     *)
       echo "rewind: lint has the parts flake8, mypy, shellcheck and page" >&2

@@ -9,4 +9,5 @@ set -eu
 top=$(cd "$(dirname "$0")/.." && pwd)
 python=$("$top/tests/python.sh")
 cd "$top"
+export PYTHONPATH="$top${PYTHONPATH:+:$PYTHONPATH}"
 exec "$python" -m pytest -qq -n "${JOBS:-auto}" "$@"

@@ -12,7 +12,7 @@ from typing import NamedTuple
 
 import pytest
 
-from words import make
+from words import make, texts
 
 from support.places import SESSIONS
 from support.program import Program
@@ -62,11 +62,11 @@ def test_help(flag: str, program: Program) -> None:
 def test_version(flag: str, program: Program) -> None:
     ran = piped(program, [flag])
     assert (ran.status, ran.err) == (0, b"")
-    assert re.fullmatch(version_line(make.TEXTS["version"]), ran.out)
+    assert re.fullmatch(version_line(texts.TEXTS["version"]), ran.out)
 
 
 @pytest.mark.parametrize("section, entry", make.explanations(), ids=lambda it: str(getattr(it, "name", "")))
-def test_an_explanation(section: str, entry: make.Entry, program: Program) -> None:
+def test_an_explanation(section: str, entry: texts.Entry, program: Program) -> None:
     assert piped(program, ["--explain", entry.name]) == Ran(0, make.page(section, entry).encode(), b"")
 
 

@@ -1,7 +1,7 @@
 #!/usr/bin/env python3
 """Shows a deadlock, the step behind it, and the same program without it: the source, and each command with its reply.
 
-    tools/demo.py [--check] PROGRAM      (--check only says whether the program replies as tools/demo.txt has it)
+    python3 -m tools.demo [--check] PROGRAM      (--check only says whether the program replies as tools/demo.txt has it)
 """
 import argparse
 import os
@@ -9,8 +9,7 @@ import subprocess
 import sys
 from collections.abc import Iterator
 
-sys.path.insert(0, os.path.dirname(os.path.dirname(os.path.realpath(__file__))))
-from tools import kit  # noqa: E402
+from tools import kit
 
 STORY = f"{kit.ROOT}/tools/demo.txt"
 SOURCE = f"{kit.ROOT}/crates/sessions/data/deadlock.go"

@@ -1,8 +1,8 @@
 #!/usr/bin/env python3
 """Writes what is said of commands, codes and exit statuses from the texts beside this file.
 
-    words/make.py           writes them
-    words/make.py --check   fails where one does not stand as made, or where a code of the definitions has no text
+    python3 -m words.make           writes them
+    python3 -m words.make --check   fails where one does not stand as made, or where a code of the definitions has no text
 
 These are the program's constants (crates/gr_console/src/words.rt, meanings), the list of the codes (its specs/Codes.antt), the
 manual page (docs/rewind.1), the marked tables of docs/COMMANDS.md and docs/LANGUAGE.md, the sessions and stories of
@@ -16,10 +16,10 @@ import sys
 import textwrap
 from collections.abc import Sequence
 
+from words import stories
+from words.texts import CODES, COMMANDS, EXAMPLE, PROGRAM, SESSIONS, TEXTS, TITLES, Entry, bare, filled, plain
+
 ROOT = os.path.dirname(os.path.dirname(os.path.realpath(__file__)))
-sys.path.insert(0, ROOT)
-from words import stories  # noqa: E402
-from words.texts import CODES, COMMANDS, EXAMPLE, PROGRAM, SESSIONS, TEXTS, TITLES, Entry, bare, filled, plain  # noqa: E402
 
 WORDS = "crates/gr_console/src/words.rt"
 MEANINGS = "crates/gr_console/src/meanings"

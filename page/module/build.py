@@ -1,18 +1,19 @@
 #!/usr/bin/env python3
 """Compiles a module of the program `rewind` to WebAssembly, and links it with the C files of this folder.
 
-    page/module/build.py [--quick] MODULE.bc OUT.wasm      (--quick: less is inlined, in half the time)
+    python3 -m page.module.build [--quick] MODULE.bc OUT.wasm      (--quick: less is inlined, in half the time)
 """
+from __future__ import annotations
+
 import argparse
 import os
 import subprocess
-import sys
 import tempfile
 
+from page.module.retarget import NeedsX86, always_inlined, retarget
+from tools import kit
+
 HERE = os.path.dirname(os.path.realpath(__file__))
-sys.path.insert(0, os.path.dirname(os.path.dirname(HERE)))
-from page.module.retarget import NeedsX86, always_inlined, retarget  # noqa: E402
-from tools import kit  # noqa: E402
 
 STACK = "8388608"
 TARGET = ["--no-default-config", "--target=wasm64-unknown-unknown", "-mcpu=lime1"]

@@ -1,7 +1,7 @@
 #!/usr/bin/env python3
 """Changes a linked module for wasm64 to one whose memory and tables have 32-bit addresses, which every browser knows.
 
-    page/module/lower.py WIDE.wasm OUT.wasm
+    python3 -m page.module.lower WIDE.wasm OUT.wasm
 
 The program keeps its 64-bit pointers: an address is narrowed where an instruction takes it, and a size widened where one gives
 it. What the module imports and exports stays as it is. Its memory must end below 4 GiB, which heap.c sees to. An access past
@@ -9,12 +9,10 @@ it. What the module imports and exports stays as it is. Its memory must end belo
 """
 import argparse
 import os
-import sys
 from collections.abc import Callable
 from typing import TypeVar
 
-sys.path.insert(0, os.path.dirname(os.path.dirname(os.path.dirname(os.path.realpath(__file__)))))
-from tools import kit  # noqa: E402
+from tools import kit
 
 I32, I64, F32, F64 = 0x7F, 0x7E, 0x7D, 0x7C
 # An operand that is an address or a size of memory, or a place in a table.

@@ -1,7 +1,7 @@
 #!/usr/bin/env python3
 """Leaves the LLVM module of the proved program `rewind`.
 
-    page/module/proved_module.py OUT.bc
+    python3 -m page.module.proved_module OUT.bc
 
 The crate rewind_cli and those below it are built already (`make` does that). `rattle build` proves the program again over what it
 kept, and hands its module to tools/build/keep_module. What it says is left in OUT.bc.log.
@@ -11,12 +11,9 @@ import filecmp
 import os
 import shutil
 import subprocess
-import sys
 import tempfile
 
-HERE = os.path.dirname(os.path.realpath(__file__))
-sys.path.insert(0, os.path.dirname(os.path.dirname(HERE)))
-from tools import kit  # noqa: E402
+from tools import kit
 
 CRATE = f"{kit.ROOT}/crates/rewind_cli"
 

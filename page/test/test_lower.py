@@ -1,11 +1,7 @@
 """How a module with 64-bit addresses becomes one with 32-bit addresses, and what is refused."""
-import os
-import sys
 import unittest
 
-sys.dont_write_bytecode = True
-sys.path.insert(0, os.path.dirname(os.path.dirname(os.path.dirname(os.path.realpath(__file__)))))
-from page.module.lower import F64, I32, I64, NotLowered, lowered, sized  # noqa: E402
+from page.module.lower import F64, I32, I64, NotLowered, lowered, sized
 
 HEAD = b"\0asm\1\0\0\0"
 # A function of two parameters of 64 bits, with a local of 32 bits. Own locals of its narrow form are the fourth and those after.

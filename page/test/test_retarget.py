@@ -1,11 +1,7 @@
 """How a module for x86-64 becomes one for wasm64, and what is refused."""
-import os
-import sys
 import unittest
 
-sys.dont_write_bytecode = True
-sys.path.insert(0, os.path.dirname(os.path.dirname(os.path.dirname(os.path.realpath(__file__)))))
-from page.module.retarget import LARGE, NeedsX86, always_inlined, retarget  # noqa: E402
+from page.module.retarget import LARGE, NeedsX86, always_inlined, retarget
 
 
 def of(*lines: str) -> list[str]:

@@ -1,4 +1,4 @@
-// What other tools say of the page: its types and style, and the tests of what changes the program's module.
+// What other tools say of the page: its types and style.
 
 import assert from "node:assert/strict";
 import { spawnSync } from "node:child_process";
@@ -13,4 +13,3 @@ function succeeds(...words) {
 }
 
 test("types and style", () => succeeds("./lint.sh"));
-test("how the program's module becomes one for WebAssembly, and that one with 32-bit addresses", () => succeeds("python3", "-m", "unittest", "discover", "-s", "test"));

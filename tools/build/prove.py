@@ -1,7 +1,7 @@
 #!/usr/bin/env python3
 """Proves a program and the crates that it stands on, and says how far it is.
 
-    tools/build/prove.py CRATE PROGRAM [WORD..]      (runs it once, with these words)
+    python3 -m tools.build.prove CRATE PROGRAM [WORD..]      (runs it once, with these words)
 
 Each crate is proved once those below it are, beside others where there are processors for that (RT_JOBS says how many).
 Leaves the program as PROGRAM, and what the toolchain says in make.log beside it. What is proved already stays proved.
@@ -16,13 +16,11 @@ import json
 import os
 import shutil
 import subprocess
-import sys
 import tempfile
 import time
 from typing import Any, Protocol, TextIO
 
-sys.path.insert(0, os.path.dirname(os.path.dirname(os.path.dirname(os.path.realpath(__file__)))))
-from tools import kit  # noqa: E402
+from tools import kit
 
 # The jobs of the check on which most depends; each other check has one. Each job reads the libraries below for itself, and a
 # check begins new jobs several times. So only a crate that stands on few others has two.

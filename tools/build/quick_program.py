@@ -1,18 +1,16 @@
 #!/usr/bin/env python3
 """Compiles an LLVM module of the program, and links it with the toolchain's C library.
 
-    tools/build/quick_program.py [--static] MODULE.bc PROGRAM      (--static: with the system's C library in it, and no symbols)
+    python3 -m tools.build.quick_program [--static] MODULE.bc PROGRAM      (--static: with the system's C library in it, and no symbols)
 """
 import argparse
 import os
 import shlex
 import shutil
 import subprocess
-import sys
 import tempfile
 
-sys.path.insert(0, os.path.dirname(os.path.dirname(os.path.dirname(os.path.realpath(__file__)))))
-from tools import kit  # noqa: E402
+from tools import kit
 
 TARGET = ["--target=x86_64-unknown-linux-gnu", "-march=x86-64", "--no-default-config", "-no-canonical-prefixes",
           "-fintegrated-cc1"]

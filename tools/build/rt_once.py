@@ -1,17 +1,15 @@
 #!/usr/bin/env python3
 """The toolchain's command `rt`, with the stamp of each crate made once.
 
-    tools/build/rt_once.py WORD..      (as `rt WORD..`, in a crate's folder)
+    python3 -m tools.build.rt_once WORD..      (as `rt WORD..`, in a crate's folder)
 
 The stamp of a crate holds those of the crates below it. `rt` makes it anew for each path through crates.txt, several times, which
 takes minutes for the crates at the top. So no file of a crate may change while this runs.
 """
 import functools
-import os
 import sys
 
-sys.path.insert(0, os.path.dirname(os.path.dirname(os.path.dirname(os.path.realpath(__file__)))))
-from tools import kit  # noqa: E402
+from tools import kit
 
 
 def main() -> None:

@@ -10,6 +10,8 @@ A definition in `crates/NAME/specs` is needed where one of these names it:
 So what serves proofs, private functions or functions that THEOREMS does not name is left out. The files are read as
 text: a word of a clause or of a definition means what the lines with `use` in its file say.
 """
+from __future__ import annotations
+
 import functools
 import glob
 import os

@@ -1,22 +1,24 @@
 #!/usr/bin/env python3
 """Counts the lines of the definitions that docs/THEOREMS.md and docs/CLAIM.md list, and finds those that THEOREMS lacks.
 
-    tools/docs/reading.py [--check]
+    python3 -m tools.docs.reading [--check]
 
 Writes the last column of their tables 'To believe' anew: the lines of the named modules without imports, comments and
 empty lines. With --check it changes nothing, and tells each number that is not right. It tells, and changes nothing, where a row
 has another form or names a module that is not there. It always tells which modules the table of THEOREMS lacks of those that
 the promises above it need (tools/docs/cited.py has the rule), and which of its modules no promise needs.
 """
+from __future__ import annotations
+
 import argparse
 import os
 import re
 import sys
 from collections.abc import Iterator
 
+from tools.docs import cited
+
 TOP = os.path.dirname(os.path.dirname(os.path.dirname(os.path.realpath(__file__))))
-sys.path.insert(0, TOP)
-from tools.docs import cited  # noqa: E402
 
 WHOLE = "docs/THEOREMS.md"
 PAGES = (WHOLE, "docs/CLAIM.md")

@@ -1,8 +1,8 @@
 #!/usr/bin/env python3
 """How long the sentences of the documents are.
 
-    tools/docs/sentences.py [--longest N] [DOCUMENT..]      (20 longest of each; all documents)
-    tools/docs/sentences.py --check [DOCUMENT..]
+    python3 -m tools.docs.sentences [--longest N] [DOCUMENT..]      (20 longest of each; all documents)
+    python3 -m tools.docs.sentences --check [DOCUMENT..]
 
 Prints for each document how many sentences it has, their median of words, and how many have over 35, and then the longest.
 Code blocks and headings are left out; a cell of a table and an entry of a list are sentences. With --check it prints only

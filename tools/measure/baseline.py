@@ -1,7 +1,7 @@
 #!/usr/bin/env python3
 """Streams of commands, answered by a program and by a baseline by turns.
 
-    tools/measure/baseline.py [--rounds N] BASELINE [PROGRAM]      (9 rounds, bin/rewind)
+    python3 -m tools.measure.baseline [--rounds N] BASELINE [PROGRAM]      (9 rounds, bin/rewind)
 
 BASELINE takes the same commands and answers the same bytes: a plain program, say, that is not proved and has no threads. Prints
 for each stream the processor time of a step or line in both, best of the rounds, with what comes before it taken off; the bytes
@@ -10,11 +10,9 @@ that each step keeps; and how many times as long as BASELINE the program takes, 
 import argparse
 import os
 import re
-import sys
 from collections.abc import Iterator
 
-sys.path.insert(0, os.path.dirname(os.path.dirname(os.path.dirname(os.path.realpath(__file__)))))
-from tools.measure.core import FIRST, PROGRAMS, RUN, once, peak  # noqa: E402
+from tools.measure.core import FIRST, PROGRAMS, RUN, once, peak
 
 # The programs that are run, and how many times as long as BASELINE each may take.
 RUNS = {"loop": 1.6, "loop_in_a_child": 1.6, "hand_to_hand": 2.0, "through_a_buffer": 2.0, "in_a_select": 2.0,

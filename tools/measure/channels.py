@@ -1,7 +1,7 @@
 #!/usr/bin/env python3
 """The time of a step over a channel and its undoing, with few items in its buffer and with many.
 
-    tools/measure/channels.py [PROGRAM]      (bin/rewind)
+    python3 -m tools.measure.channels [PROGRAM]      (bin/rewind)
 
 A goroutine sends to a buffer of 1,000,000 places and receives from it by turns, once with no other item in the buffer, and
 once with 100,000. Prints the processor time of such a step with its undoing by `back`, and the ratio, which is to be at
@@ -12,8 +12,7 @@ import os
 import sys
 import tempfile
 
-sys.path.insert(0, os.path.dirname(os.path.dirname(os.path.dirname(os.path.realpath(__file__)))))
-from tools.measure.core import least  # noqa: E402
+from tools.measure.core import least
 
 ITEMS = 100_000
 # What a first loop does as often: nothing, or it fills the buffer.

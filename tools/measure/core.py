@@ -1,7 +1,7 @@
 #!/usr/bin/env python3
 """The time and memory of a step, forward and back, of the programs in bench/programs.
 
-    tools/measure/core.py [PROGRAM]      (bin/rewind)
+    python3 -m tools.measure.core [PROGRAM]      (bin/rewind)
 
 Each row is one run of up to 1,000,000 steps, in a process of its own: the processor time of a step, with what opening
 costs taken off, and the bytes that the process grew by for each step that it keeps. With `undo` all steps are taken

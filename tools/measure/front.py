@@ -1,7 +1,7 @@
 #!/usr/bin/env python3
 """The time of checking sources of 128 KiB and of 1 MiB.
 
-    tools/measure/front.py [PROGRAM]      (bin/rewind)
+    python3 -m tools.measure.front [PROGRAM]      (bin/rewind)
 
 Three kinds of source: wide (thousands of functions, and of variables in one scope), deep (blocks and parentheses, 90
 levels of each) and mixed (all forms of statements). Prints for each the MiB a second of `--check`, and the ratio of the
@@ -14,8 +14,7 @@ import sys
 import tempfile
 from collections.abc import Callable
 
-sys.path.insert(0, os.path.dirname(os.path.dirname(os.path.dirname(os.path.realpath(__file__)))))
-from tools.measure.core import once  # noqa: E402
+from tools.measure.core import once
 
 SIZES = (128 * 1024, 1024 * 1024)
 REPEATS = 15

@@ -1,7 +1,7 @@
 #!/usr/bin/env python3
 """Where the time of the gate goes, crate by crate.
 
-    tools/measure/gate.py [--here FOLDER] [--table FILE] [--log FILE]
+    python3 -m tools.measure.gate [--here FOLDER] [--table FILE] [--log FILE]
 
 Runs `make gate` in a fresh clone of this repository at HEAD, or in the clone FOLDER, and watches its processes: each check
 names its crate in its arguments, works for tests where it has `--test`, and for a must-fail edit where it runs in a
@@ -13,6 +13,8 @@ A process is looked at every fifth of a second until it ends, so of each the las
 system's own and exact; the row `others` has what no crate was seen to take. A program is compiled as part of its proof.
 Ctrl-C ends the gate.
 """
+from __future__ import annotations
+
 import argparse
 import json
 import os
@@ -24,8 +26,7 @@ import sys
 import tempfile
 import time
 
-sys.path.insert(0, os.path.dirname(os.path.dirname(os.path.dirname(os.path.realpath(__file__)))))
-from tools.measure.figures import TOP, origin  # noqa: E402
+from tools.measure.figures import TOP, origin
 
 PHASES = ("proof", "tests", "edits")
 # The parent and the processor seconds of each process.

@@ -1,7 +1,7 @@
 #!/usr/bin/env python3
 """Where the instructions of a step go: how many a step takes, and the part of each crate in it.
 
-    tools/measure/instructions.py [PROGRAM]      (bin/rewind)
+    python3 -m tools.measure.instructions [PROGRAM]      (bin/rewind)
 
 Counts with valgrind, so the figures do not depend on what else the machine does. A crate's part holds what the compiler copied
 into its functions of others. What takes less than a twentieth stands together at the end. The last row is of opening a source.
@@ -15,8 +15,7 @@ import subprocess
 import sys
 import tempfile
 
-sys.path.insert(0, os.path.dirname(os.path.dirname(os.path.dirname(os.path.realpath(__file__)))))
-from tools.measure.core import FIRST, PROGRAMS, large_source  # noqa: E402
+from tools.measure.core import FIRST, PROGRAMS, large_source
 
 NAMES = ("loop", "hand_to_hand", "through_a_buffer", "in_a_select", "recursion")
 STEPS = 100_000

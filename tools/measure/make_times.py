@@ -1,12 +1,14 @@
 #!/usr/bin/env python3
 """How long `make` takes from nothing, and on which functions and proof files.
 
-    tools/measure/make_times.py [--here FOLDER] [--table FILE]
+    python3 -m tools.measure.make_times [--here FOLDER] [--table FILE]
 
 Runs `make` in a fresh clone of this repository at HEAD, or in the clone FOLDER. Prints, and writes as Markdown where --table
 names a file, the minutes by the clock, the processor minutes, and what tools/measure/slowest.py tells of the crates. The
 toolchain goes on from checks that other clones keep, so none may be on the machine.
 """
+from __future__ import annotations
+
 import argparse
 import glob
 import os
@@ -16,8 +18,7 @@ import sys
 import tempfile
 import time
 
-sys.path.insert(0, os.path.dirname(os.path.dirname(os.path.dirname(os.path.realpath(__file__)))))
-from tools.measure.figures import TOP, origin  # noqa: E402
+from tools.measure.figures import TOP, origin
 
 
 def timed(folder: str) -> tuple[float, float, int]:

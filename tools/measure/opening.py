@@ -1,7 +1,7 @@
 #!/usr/bin/env python3
 """The time and the memory of opening a source of 1 MiB, and the time of Go's own parser and type checker on the same text.
 
-    tools/measure/opening.py [PROGRAM]      (bin/rewind)
+    python3 -m tools.measure.opening [PROGRAM]      (bin/rewind)
 
 The program is a whole process each time, `PROGRAM --check`, and Go's front reads the text ten times in one run. Prints the least
 time by the clock of each, and how many times as fast the program is. Takes `go` (golang-go of Debian).
@@ -14,9 +14,8 @@ import sys
 import tempfile
 import time
 
-sys.path.insert(0, os.path.dirname(os.path.dirname(os.path.dirname(os.path.realpath(__file__)))))
-from tools.measure.core import BENCH, SOURCE_LIMIT, large_source, peak  # noqa: E402
-from tools.measure.front import mixed  # noqa: E402
+from tools.measure.core import BENCH, SOURCE_LIMIT, large_source, peak
+from tools.measure.front import mixed
 
 ROUNDS = 10
 # How many times as fast as Go's front it is to be at least.

@@ -1,21 +1,23 @@
 #!/usr/bin/env python3
 """Runs the benches and writes their figures as one table, with the machine, the date and the commit.
 
-    tools/measure/results.py [--out FILE] [--only BENCH] [--baseline PROGRAM]      (bench/RESULTS.md, all benches)
+    python3 -m tools.measure.results [--out FILE] [--only BENCH] [--baseline PROGRAM]      (bench/RESULTS.md, all benches)
 
 Takes bin/rewind. Figures depend on what else the machine does: leave it alone. With `--baseline` it is compared with another
 program that takes the same commands, too.
 """
+from __future__ import annotations
+
 import argparse
 import os
 import re
 import subprocess
 import sys
 
+from tools.measure.figures import origin, told
+
 HERE = os.path.dirname(os.path.realpath(__file__))
 TOP = os.path.dirname(os.path.dirname(HERE))
-sys.path.insert(0, TOP)
-from tools.measure.figures import origin, told  # noqa: E402
 
 BENCHES = ("steps", "core", "instructions", "opening", "rollback", "workers", "channels", "front", "baseline")
 PROGRAM = f"{TOP}/bin/rewind"

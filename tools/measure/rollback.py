@@ -1,7 +1,7 @@
 #!/usr/bin/env python3
 """The time of taking steps back with their consequences, of taking them again, and of what is asked about dependence.
 
-    tools/measure/rollback.py [PROGRAM..]      (bin/rewind)
+    python3 -m tools.measure.rollback [PROGRAM..]      (bin/rewind)
 
 The log has 1,000,000 steps, of two goroutines by turns that do not depend on each other; k of one's steps are taken back from
 between those of the other and taken again. `deps` and `causes` ask for the first and the last step. An order moves the first step
@@ -10,11 +10,9 @@ comes before taken off. The programs take turns, and have to answer the same byt
 """
 import argparse
 import os
-import sys
 from collections.abc import Iterator
 
-sys.path.insert(0, os.path.dirname(os.path.dirname(os.path.dirname(os.path.realpath(__file__)))))
-from tools.measure.core import PROGRAMS, once  # noqa: E402
+from tools.measure.core import PROGRAMS, once
 
 ROUNDS = 3
 STEPS = 1_000_000

@@ -1,13 +1,15 @@
 #!/usr/bin/env python3
 """Which functions and proof files of crates took longest in their last check.
 
-    tools/measure/slowest.py [--most N] CRATE..      (folders of crates, as `make` or `rt check` left them)
+    python3 -m tools.measure.slowest [--most N] CRATE..      (folders of crates, as `make` or `rt check` left them)
 
 The toolchain writes each module of a proof when it has checked it. So a module took the time since the one before it. That
 holds for a check of one job: with more, modules are checked side by side, and take longer than is told here.
 
 Prints, as Markdown, the N functions and the N proof files that took longest (12 of each), in seconds.
 """
+from __future__ import annotations
+
 import argparse
 import collections
 import os

@@ -1,13 +1,15 @@
 #!/usr/bin/env python3
 """Loads of memory that wait for stores: what a program reads at once shortly after it wrote it in parts.
 
-    tools/measure/stalls.py [--steps N] [--most N] PROGRAM SOURCE      (3000 steps, 20 places)
+    python3 -m tools.measure.stalls [--steps N] [--most N] PROGRAM SOURCE      (3000 steps, 20 places)
 
 A processor hands the bytes of a store to a load that follows, unless these bytes come of several stores: then the load
 waits some twelve cycles, until they are in the cache. Structs that are put together in memory and then moved are read so.
 Runs the program with `run N` in valgrind, and prints how many such loads a step makes, and the places of those that come up
 most, each with the stores for which it waits. A place is a function of the program and an offset, where its symbols are there.
 """
+from __future__ import annotations
+
 import argparse
 import bisect
 import collections

@@ -1,7 +1,7 @@
 #!/usr/bin/env python3
 """The time of a step, and of taking it back, in programs of 2,000 and of 20,000 statements.
 
-    tools/measure/steps.py [PROGRAM]      (bin/rewind)
+    python3 -m tools.measure.steps [PROGRAM]      (bin/rewind)
 
 Steps through each program and takes it all back, again and again, until both have served as many commands; prints
 the processor time of a command, and the ratio, which is to be at most 1.5: neither the length of the log nor that

@@ -1,7 +1,7 @@
 #!/usr/bin/env python3
 """Times the targets that need no proofs, on two processors, in fresh clones of what is committed.
 
-    tools/measure/times.py
+    python3 -m tools.measure.times
 
 Prints a table, with the machine, the date and the commit under it.
 """
@@ -12,8 +12,7 @@ import sys
 import tempfile
 import time
 
-sys.path.insert(0, os.path.dirname(os.path.dirname(os.path.dirname(os.path.realpath(__file__)))))
-from tools import kit  # noqa: E402
+from tools import kit
 
 # Each list is timed in a clone of its own.
 TARGETS = [["demo", "test"], ["quick"], ["quick-page"]]

@@ -1,7 +1,7 @@
 #!/usr/bin/env python3
 """The steps a second that workers take, and the time of an answer beside them.
 
-    tools/measure/workers.py [PROGRAM]      (bin/rewind)
+    python3 -m tools.measure.workers [PROGRAM]      (bin/rewind)
 
 Two goroutines, both started, count to 100,000 each, out of a grant for all of their steps, by one worker and by two, five rounds
 by turns: prints the steps a second of each (the median of the rounds) and the ratio, which is to be at least 1, and as an aim

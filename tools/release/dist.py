@@ -1,7 +1,7 @@
 #!/usr/bin/env python3
 """Makes a release of the proved program: files that need no toolchain.
 
-    tools/release/dist.py [--trial] MODULE.bc PAGE.html FOLDER
+    python3 -m tools.release.dist [--trial] MODULE.bc PAGE.html FOLDER
 
 FOLDER gets the page, an archive for Linux, SHA256SUMS and README.md. MODULE.bc is the program's LLVM module, as
 page/module/proved_module.py leaves it. It is compiled and linked statically, so that the program runs on any Linux.
@@ -19,13 +19,11 @@ import os
 import re
 import shutil
 import subprocess
-import sys
 import tarfile
 import tempfile
 
-sys.path.insert(0, os.path.dirname(os.path.dirname(os.path.dirname(os.path.realpath(__file__)))))
-from tools import kit  # noqa: E402
-from tools.release import notices  # noqa: E402
+from tools import kit
+from tools.release import notices
 
 TEXTS = f"{kit.ROOT}/tools/release"
 SESSIONS = f"{kit.ROOT}/crates/sessions/data"

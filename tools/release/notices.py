@@ -1,4 +1,6 @@
 """The licenses of what is linked into the program: the toolchain's crates, and in the archive the system's C library."""
+from __future__ import annotations
+
 import os
 import re
 

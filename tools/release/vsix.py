@@ -1,7 +1,7 @@
 #!/usr/bin/env python3
 """Packs the extension for VS Code, with the adapter, its library and the program, into a file that VS Code installs.
 
-    tools/release/vsix.py [--stored] PROGRAM OUT     (--stored: nothing is compressed, for an archive that is)
+    python3 -m tools.release.vsix [--stored] PROGRAM OUT     (--stored: nothing is compressed, for an archive that is)
 
 The same files give the same bytes: each entry has a fixed time, and they stand in the order of their names.
 """
