@@ -23,7 +23,7 @@ from support.replies import Step, questions_of_state
 from support.session import Session
 
 # Seconds of each part, and how many there are.
-USUAL, PARTS = 12.0, 4
+USUAL, PARTS = 15.0, 4
 EXAMPLES = 100
 
 

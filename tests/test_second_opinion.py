@@ -28,7 +28,7 @@ from support.session import Session
 # More bytes of commands, or steps in a run, are too many for a model that replays.
 LARGE, LONG = 20_000, 2_000
 # Seconds of each part, and how many there are.
-USUAL, PARTS = 12.0, 4
+USUAL, PARTS = 15.0, 4
 EXAMPLES = 60
 
 
