@@ -95,7 +95,7 @@ release-check: ## checks the committed release without the toolchain: it starts,
 	tests/released.sh
 
 release-test: ## starts each file of a release where nothing else is (1 minute; FOLDER=dist)
-	tests/run.sh --rewind $(firstword $(wildcard bin/rewind) bin/rewind-quick) --release $(or $(FOLDER),dist) tests/test_release.py
+	tests/run.sh --rewind=$(firstword $(wildcard bin/rewind) bin/rewind-quick) --release=$(or $(FOLDER),dist) tests/test_release.py
 
 bare-debian: ## the archive of a release on bare Debian, in folders that debootstrap makes (10 minutes; as root, with a network)
 	tests/bare_debian.sh $(or $(ARCHIVE),$(wildcard dist/*.tar.xz))
@@ -109,10 +109,10 @@ uninstall: ## removes what install installed
 ## Test it
 
 # What is given to pytest besides: K='-k sessions' chooses tests by their names, and T='--durations 20' is any other word of it.
-PYTEST = tests/run.sh --rewind $(REWIND) $(K) $(T)
+PYTEST = tests/run.sh --rewind=$(REWIND) $(K) $(T)
 
 test: bin/rewind-quick ## every test, without proofs (10 minutes on two processors; K='-k sessions' chooses)
-	tests/run.sh --rewind bin/rewind-quick $(K) $(T)
+	tests/run.sh --rewind=bin/rewind-quick $(K) $(T)
 
 lint: ## the style and the types of all Python, scripts for the shell, and the page (1 minute)
 	tests/lint.sh

@@ -15,12 +15,12 @@ commit=$(git -C "$top" log --format=%H -1 -- dist/SHA256SUMS)
 git -C "$top" worktree add --quiet --detach "$work/source" "$commit"
 status=0
 echo "the files of the release, started where nothing else is"
-"$top/tests/run.sh" --rewind "$program" --release "$folder" tests/test_release.py || status=1
+"$top/tests/run.sh" --rewind="$program" --release="$folder" tests/test_release.py || status=1
 echo "random sessions, answered by a plain model too"
-"$top/tests/run.sh" --rewind "$program" --seconds 10 tests/test_second_opinion.py || status=1
+"$top/tests/run.sh" --rewind="$program" --seconds 10 tests/test_second_opinion.py || status=1
 echo "what the documents of the release show"
 if [ -e "$work/source/tests/run.sh" ]; then
-  "$work/source/tests/run.sh" --rewind "$program" tests/test_documents.py || status=1
+  "$work/source/tests/run.sh" --rewind="$program" tests/test_documents.py || status=1
 else
   "$work/source/tests/documents.py" "$program" || status=1
 fi

@@ -4,7 +4,7 @@
 #
 #     tests/run.sh -k sessions                    the tests with `sessions` in their names
 #     tests/run.sh tests/hostile --full           all cases of a folder, and not those of the short form alone
-#     tests/run.sh --rewind bin/rewind --lf       the tests that failed last, of another program
+#     tests/run.sh --rewind=bin/rewind --lf       the tests that failed last, of another program
 set -eu
 top=$(cd "$(dirname "$0")/.." && pwd)
 python=$("$top/tests/python.sh")
