@@ -1,1 +1,1 @@
-"""Checks of the documents, by the program and by the files of the repository. `tests/documents.py` runs them."""
+"""Checks of the documents, by the program and by the files of the repository. `tests/test_documents.py` runs them."""
