@@ -9,7 +9,7 @@ import stat
 import subprocess
 import sys
 from collections.abc import Callable
-from functools import partial
+from dataclasses import replace
 from pathlib import Path
 
 import pytest
@@ -448,7 +448,9 @@ def test_a_core_that_answers_nothing(
     """After 30 seconds, which are half a second here, that is told; what was done is saved, and the session begins anew."""
     hangs = fake(tmp_path, "sys.stdin.readline(); time.sleep(60)")
     assert TIMEOUT == 30
-    monkeypatch.setattr("rewind_shell.shell.open_session", partial(open_session, timeout=0.5))
+    monkeypatch.setattr(
+        "rewind_shell.shell.open_session", lambda program, path, settings: open_session(program, path, replace(settings, timeout=0.5))
+    )
     monkeypatch.setenv("XDG_STATE_HOME", str(tmp_path))
     shell = Shell(hangs, str(EXAMPLES / "lock_order.go"), Screen(sys.stdout, lambda: False), Interrupts(), None)
     shell.script.begin(shell.program)
