@@ -16,7 +16,14 @@ use Rattle.gr_serve.specs.declared.debug.DebugFault.TheVariants.{Source, Open, S
 use Rattle.gr_serve.specs.Stream.{of_session}
 use Rattle.gr_serve.specs.Served.{ServedAll}
 use Rattle.gr_lines.specs.Devices.{Change, Fails, NeverFails}
+use Rattle.gr_lines.specs.declared.counted.LineError.{LineError}
+use Rattle.gr_lines.specs.declared.counted.LineError.TheVariants as lines
 use Rattle.gr_serve.specs.Fault.{Left, Blames}
+
+-- what a fault of reading a source is for a session of it
+abbrev pub reading_fault : LineError → DebugFault
+reading_fault lines.Read = Source
+reading_fault lines.Memory = Serve Memory
 
 -- these bytes of a source were read: all, or more than a text may have, and at most a block more
 pub record SourceRead (had has : Option (List ℕ)) (text : List ℕ) : Type 0 where

@@ -4,11 +4,12 @@ ghost use Rattle.gr_program.specs.Views.{program_of};
 ghost use Rattle.gr_lines.specs.Devices.{change, device_of, Fails, NeverFails};
 ghost use Rattle.gr_serve.specs.Debug.{SourceRead, ReadInPart, Opened, Accepted, SourceLeft, Debugged, DebugLeft};
 ghost use Rattle.gr_serve.specs.Debug.{BlamesSource, BlamesDevice};
+ghost use Rattle.gr_serve.specs.Debug as spec;
 
 use crate::stream::{ServeFault, serve};
 use gr_lines::counted::{Counted, LineError};
 use gr_scan::scan::TEXT_LIMIT;
-use gr_session::{OpenError, Session};
+use gr_session::{OpenError, Session, program_of_source};
 use std::alloc::Global;
 use std::io::{BufRead, Read, Write};
 use std::mem;
@@ -59,6 +60,16 @@ fn read_source<S: Read>(source: &mut Counted<S>, text: &mut Vec<u8>) -> Result<(
     Ok(())
 }
 
+/// What a fault of reading is for a session.
+fn reading_fault(error: LineError) -> DebugFault
+    ensures { result ≡ spec.reading_fault error }
+{
+    match error {
+        LineError::Read => DebugFault::Source,
+        LineError::Memory => DebugFault::Serve(ServeFault::Memory),
+    }
+}
+
 /// Reads the source, and opens a session of its program. The faults are those of `debug` where no session was opened: `Source`,
 /// `Open`, and `Serve` where it was out of memory.
 pub fn open_source<S: Read>(alloc: Global, source: &mut Counted<S>) -> Result<Session, DebugFault>
@@ -70,10 +81,8 @@ pub fn open_source<S: Read>(alloc: Global, source: &mut Counted<S>) -> Result<Se
     ensures source { IfErr result (λ fault. BlamesSource fault (change S.remaining source.old source.new)) }
 {
     let mut text = Vec::new(alloc);
-    match read_source(source, &mut text) {
-        Ok(()) => {}
-        Err(LineError::Read) => return Err(DebugFault::Source),
-        Err(LineError::Memory) => return Err(DebugFault::Serve(ServeFault::Memory)),
+    if let Err(error) = read_source(source, &mut text) {
+        return Err(reading_fault(error));
     }
     match Session::open(alloc, text.as_slice()) {
         Ok(session) => Ok(session),
@@ -82,19 +91,24 @@ pub fn open_source<S: Read>(alloc: Global, source: &mut Counted<S>) -> Result<Se
 }
 
 /// Reads the source, and tells whether it is accepted: whether it has a program. A refusal says why it has none, in the sense of
-/// `Session::open`; so does one of `debug`.
+/// `program_of_source`; so does one of `debug`. No session is made, so none is refused for its memory.
 pub fn check<S: Read>(alloc: Global, source: &mut Counted<S>) -> Result<(), DebugFault>
     ensures ok { OnOk result (Accepted (change S.remaining source.old source.new)) }
     ensures err { IfErr result (λ fault. SourceLeft fault (change S.remaining source.old source.new)) }
     ensures same { OnOk result (NeverFails (change S.remaining source.old source.new)) }
     ensures blames { IfErr result (λ fault. BlamesSource fault (change S.remaining source.old source.new)) }
+    ensures no_session { IsErrOf result (DebugFault.Open OpenError.Memory) → ⊥ }
 {
-    match open_source(alloc, source) {
-        Ok(session) => {
-            mem::forget(session);
+    let mut text = Vec::new(alloc);
+    if let Err(error) = read_source(source, &mut text) {
+        return Err(reading_fault(error));
+    }
+    match program_of_source(alloc, text.as_slice()) {
+        Ok(program) => {
+            mem::forget(program);
             Ok(())
         }
-        Err(fault) => Err(fault),
+        Err(error) => Err(DebugFault::Open(error)),
     }
 }
 

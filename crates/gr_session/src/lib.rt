@@ -24,7 +24,7 @@ pub use gr_rollback::Machine;
 pub use gr_scan::position::Position;
 pub use journal::{AskRefused, Asked, DeskId, EnrolRefused, Entry, Memory, Receipt};
 pub use leasing::{Batch, Gate, Lease, Open, run_batch};
-pub use open::OpenError;
+pub use open::{OpenError, program_of_source};
 pub use session::Session;
 
 /// The most entries that a journal keeps.

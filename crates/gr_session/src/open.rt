@@ -79,6 +79,7 @@ fn read_file(alloc: Global, text: &[u8]) -> Result<File, OpenError>
     ensures file { IfOk result (λ file. IsFileOf text.now (file_of file)) }
     ensures none { IfErr result (λ e. SaysWhy e text.now) }
     ensures too_long { IsErrOf result (OpenError.Scan ScanError.TooLong None) ↔ (TEXT_LIMIT < length text.now) }
+    ensures no_session { IsErrOf result OpenError.Memory → ⊥ }
 {
     // brings the law to the prover
     one_list();
@@ -92,11 +93,13 @@ fn read_file(alloc: Global, text: &[u8]) -> Result<File, OpenError>
     }
 }
 
-/// The program of a source.
-fn read_program(alloc: Global, text: &[u8]) -> Result<Program, OpenError>
+/// The program of a source of at most 1,048,576 bytes. The errors are those of `Session::open`, but for `Memory`: no session is
+/// made.
+pub fn program_of_source(alloc: Global, text: &[u8]) -> Result<Program, OpenError>
     ensures program { IfOk result (λ p. IsProgramOf text.now (program_of p)) }
     ensures none { IfErr result (λ e. SaysWhy e text.now) }
     ensures too_long { IsErrOf result (OpenError.Scan ScanError.TooLong None) ↔ (TEXT_LIMIT < length text.now) }
+    ensures no_session { IsErrOf result OpenError.Memory → ⊥ }
 {
     // brings the laws to the prover
     one_list();
@@ -117,7 +120,7 @@ impl Session {
         ensures none { IfErr result (λ e. SaysWhy e text.now) }
         ensures too_long { IsErrOf result (OpenError.Scan ScanError.TooLong None) ↔ (TEXT_LIMIT < length text.now) }
     {
-        let program = read_program(alloc, text)?;
+        let program = program_of_source(alloc, text)?;
         match Session::new(alloc, program) {
             Ok(session) => Ok(session),
             Err(NoMemory) => Err(OpenError::Memory),

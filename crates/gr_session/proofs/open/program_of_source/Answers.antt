@@ -1,5 +1,5 @@
 use Rattle.gr_session.proofs.Sources.{check_refused}
-use Rattle.gr_session.proofs.open.read_program.Goals as goal
+use Rattle.gr_session.proofs.open.program_of_source.Goals as goal
 
 pub returns-in-Err-clause-none : goal.returns-in-Err-clause-none
 returns-in-Err-clause-none c =
