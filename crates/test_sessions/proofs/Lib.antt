@@ -1,2 +1,3 @@
 mod Lent
 mod Running
+mod Starting

@@ -7,6 +7,8 @@ mod batching;
 #[cfg(test)]
 mod callers;
 #[cfg(test)]
+mod doors;
+#[cfg(test)]
 mod lines;
 #[cfg(test)]
 mod looking;
