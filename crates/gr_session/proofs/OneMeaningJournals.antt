@@ -23,12 +23,12 @@ module _ (p : Program) where
   pub one_meaning : (w u v : World p) (asked : Asked) (memory : Memory) (a b : Said) → IsRun p w.log w.state
       → Means p w asked memory u a → Means p w asked memory v b → (u ≡ v) × (a ≡ b)
   one_meaning w u v _ memory a b run (by_command {command} first) (by_command second) = one_next p w u v command memory a b run first second
-  one_meaning w u v _ _ a b run (by_batch {batch} {stood} first) (by_batch second) = one_commit p w (loan_kept batch) u v stood a b first second
+  one_meaning w u v _ memory a b run (by_batch {batch} {stood} first) (by_batch second) = one_commit p w (loan_kept batch) u v stood memory a b first second
 
   -- a run leads to a run, whatever was asked
   pub means_on : (w u : World p) (asked : Asked) (memory : Memory) (a : Said) → IsRun p w.log w.state → Means p w asked memory u a → IsRun p u.log u.state
   means_on w u _ memory a run (by_command {command} leads) = next_of_run p w u command memory a run leads
-  means_on w u _ _ a run (by_batch {batch} {stood} commits) = commit_leads_on p w (loan_kept batch) u stood a run commits
+  means_on w u _ memory a run (by_batch {batch} {stood} commits) = commit_leads_on p w (loan_kept batch) u stood memory a run commits
 
   -- the worlds of a journal are worlds of runs
   pub all_of_runs : (w u : World p) (journal : List Entry) → IsRun p w.log w.state → Lead p w journal u → IsRun p u.log u.state

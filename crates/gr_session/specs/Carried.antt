@@ -1,5 +1,5 @@
 -- What is carried out on a program under the debugger.
-use Rattle.std.specs.Prelude.{◌≡◌, Bool, true, length, Result, Ok, Err}
+use Rattle.std.specs.Prelude.{◌≡◌, Bool, length, Result, Ok, Err}
 use Rattle.gr_base.specs.declared.memory.NoMemory.{NoMemory}
 use Rattle.gr_program.specs.Programs.{Program}
 use Rattle.gr_command.specs.declared.command.Command.{Command}
@@ -41,18 +41,12 @@ abbrev pub Tells : Memory × Reply → BackRefused → Type 0
 Tells answer why = (answer.0, said_of answer.1) ≡ refusal_said why
 
 -- the steps of a loan lead to the world in which the program then stands, with this reply
-pub record CommitsTo (p : Program) (w : World p) (loan : Loan) (stood : Bool) (reply : Said) (d : Debuggee) : Type 0 where
+pub record CommitsTo (p : Program) (w : World p) (loan : Loan) (stood : Bool) (memory : Memory) (reply : Said) (d : Debuggee) : Type 0 where
   pub world : World p
-  pub commits : Commits p w loan stood world reply
+  pub commits : Commits p w loan stood memory world reply
   pub stands : Stands p world d
 
--- the steps of a loan whose goroutine is as it was lent come to a world in which the program then stands, or nothing has
--- changed
-abbrev pub CommitsLent : (p : Program) → World p → Loan → Result Reply NoMemory → Debuggee → Type 0
-CommitsLent p w loan (Ok reply) d = CommitsTo p w loan true (said_of reply) d
-CommitsLent p w loan (Err error) d = Stands p w d
-
--- a batch comes to what the answer tells, with what is kept of it, or nothing has changed
-abbrev pub CommitsBatch : (p : Program) → World p → Loan → Result (LocalRun × Bool × Reply) NoMemory → Debuggee → Type 0
-CommitsBatch p w loan (Ok answer) d = (loan_kept answer.0 ≡ loan) × CommitsTo p w loan answer.1 (said_of answer.2) d
-CommitsBatch p w loan (Err error) d = Stands p w d
+-- a batch comes to what the answer tells, with what is kept of it
+abbrev pub CommitsBatch : (p : Program) → World p → Loan → LocalRun × Bool × Memory × Reply → Debuggee → Type 0
+CommitsBatch p w loan answer d =
+    (loan_kept answer.0 ≡ loan) × CommitsTo p w loan answer.1 answer.2 (said_of answer.3) d

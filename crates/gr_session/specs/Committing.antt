@@ -1,8 +1,7 @@
 -- What a session makes of a batch, by what its store contains.
-use Rattle.std.specs.Prelude.{◌≡◌, ℕ, ◌+◌, ◌<◌, ◌≤◌, ◌↔◌, ◌⊎◌, ◌∷◌, [], ◌++◌, Bool, false, length, IsTrue}
+use Rattle.std.specs.Prelude.{◌≡◌, ℕ, ◌<◌, ◌↔◌, ◌⊎◌, ◌∷◌, [], ◌++◌, Bool, false, nat_eq, if◌then◌else◌, IsTrue}
 use Rattle.gr_program.specs.Programs.{Program}
 use Rattle.gr_program.specs.Views.{program_of}
-use Rattle.gr_rules.specs.Limits.{most_steps}
 use Rattle.gr_command.specs.Replies.{Said, Committed, Stale}
 use Rattle.gr_rollback.specs.Contents.{Contents}
 use Rattle.gr_rollback.specs.LentCopy.{LentCopy}
@@ -11,7 +10,6 @@ use Rattle.gr_rollback.specs.StepLeasing.{Loan, IsAsLentIn, loan_of}
 use Rattle.gr_rollback.specs.Stores.{contents_at}
 use Rattle.gr_session.specs.declared.journal.Asked.TheVariants as asks
 use Rattle.gr_session.specs.declared.journal.Entry.{Entry}
-use Rattle.gr_session.specs.Journal.{World}
 use Rattle.gr_session.specs.Entries.{InItsWorld}
 use Rattle.gr_session.specs.Keeps.{Seen}
 
@@ -23,16 +21,9 @@ notes_as_lent e = elim e.asked [ asks.Command c ↦ false | asks.Batch batch as_
 abbrev pub MustBeStale : Program → Contents → ℕ → Loan → Type 0
 MustBeStale p s grant b = (¬ IsAsLentIn b p s) ⊎ (grant < b.steps)
 
--- the steps of a loan join the log, if there is memory for them: grant and log have room for them
-pub record MayJoin (p : Program) (w : World p) (s : Contents) (b : Loan) : Type 0 where
-  pub as_lent : IsAsLentIn b p s
-  pub some : 0 < b.steps
-  pub granted : b.steps ≤ w.grant
-  pub room : length w.log + b.steps ≤ most_steps
-
--- what the store contains after this reply to a batch: its goroutine has gone on where the batch was committed
+-- what the store contains after this reply to a batch: its goroutine has gone on where all steps were committed
 abbrev pub contents_after : Said → LentCopy → Contents → Contents
-contents_after (Committed steps) l s = led_on l s
+contents_after (Committed steps) l s = if nat_eq steps (loan_of l).steps then led_on l s else s
 contents_after reply l s = s
 
 -- a session replies to a batch, and it is stale just where it must be

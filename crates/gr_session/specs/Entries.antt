@@ -6,20 +6,18 @@ use Rattle.gr_command.specs.Replies.{Said}
 use Rattle.gr_rollback.specs.LocalRun.{LocalRun}
 use Rattle.gr_rollback.specs.StepLeasing.{Loan, loan_kept}
 use Rattle.gr_session.specs.declared.journal.Memory.{Memory}
-use Rattle.gr_session.specs.declared.journal.Memory.TheVariants.{Enough}
 use Rattle.gr_session.specs.declared.journal.Asked.{Asked}
 use Rattle.gr_session.specs.declared.journal.Asked.TheVariants as asks
 use Rattle.gr_session.specs.declared.journal.Entry.{Entry}
 use Rattle.gr_session.specs.Journal.{World, first_world, Leads}
 use Rattle.gr_session.specs.Batches.{Commits}
 
--- What comes of what was asked in a world: the next world and the reply. A command is carried out as far as memory allowed; a
--- batch wholly, or it has no entry.
+-- What comes of what was asked in a world, as far as memory allowed: the next world and the reply.
 pub data Means (p : Program) (w : World p) : Asked → Memory → World p → Said → Type 0 where
   by_command : {command : Command} {memory : Memory} {u : World p} {reply : Said}
       → Leads p w command memory u reply → Means p w (asks.Command command) memory u reply
-  by_batch : {batch : LocalRun} {stood : Bool} {u : World p} {reply : Said}
-      → Commits p w (loan_kept batch) stood u reply → Means p w (asks.Batch batch stood) Enough u reply
+  by_batch : {batch : LocalRun} {stood : Bool} {memory : Memory} {u : World p} {reply : Said}
+      → Commits p w (loan_kept batch) stood memory u reply → Means p w (asks.Batch batch stood) memory u reply
 
 -- entries lead from one world to another, one after the other
 pub data Lead (p : Program) : World p → List Entry → World p → Type 0 where

@@ -7,7 +7,7 @@ use crate::{JOURNAL_GROWTH, JOURNAL_LIMIT};
 use gr_command::{Command, Reply};
 use gr_rollback::LocalRun;
 
-/// How far memory allowed a command to be carried out.
+/// How far memory allowed what was asked to be carried out.
 #[derive(Clone, Copy, PartialEq, Eq)]
 pub enum Memory {
     /// To its end.
@@ -30,7 +30,7 @@ pub struct Entry {
     /// The number of the asker, from 1.
     pub asker: u32,
     pub asked: Asked,
-    /// How far memory went. For a batch it was enough, since a batch that runs out of memory has no entry.
+    /// How far memory went.
     pub memory: Memory,
 }
 
@@ -64,7 +64,7 @@ pub struct Receipt {
 pub enum AskRefused {
     /// Q1: the journal is full.
     JournalFull,
-    /// Q2: there is no memory for the entry, for the answer to a query, or for the steps of a batch.
+    /// Q2: there is no memory for the entry, or for the answer to a query.
     NoMemory,
 }
 

@@ -14,7 +14,7 @@ ghost use Rattle.gr_rollback.specs.Stores.{contents_at};
 ghost use Rattle.gr_session.specs.Journal.{course_of};
 ghost use Rattle.gr_session.specs.Entries.{EntersCommand, EntersBatch, IsLegal, InItsWorld};
 ghost use Rattle.gr_session.specs.Granting.{IsTurnDue, CanLend, IsLoan};
-ghost use Rattle.gr_session.specs.Committing.{Decides, MayJoin};
+ghost use Rattle.gr_session.specs.Committing.{Decides};
 ghost use Rattle.gr_session.specs.Growing.{Grows, HasRoom};
 ghost use Rattle.gr_session.specs.Wants.{KeepsContents, LeavesStore, MayWantMemory};
 
@@ -22,9 +22,7 @@ use crate::carry::carry_out;
 use crate::committing::{Origin, commit};
 use crate::debuggee::Debuggee;
 use crate::granting::{can_lend, lend, room, turn_due};
-use crate::journal::{
-    AskRefused, Asked, DeskId, EnrolRefused, Entry, Memory, Receipt, keep, make_room,
-};
+use crate::journal::{AskRefused, Asked, DeskId, EnrolRefused, Entry, Receipt, keep, make_room};
 use crate::leasing::{Batch, Lease};
 use crate::naming::with_shared_name;
 use crate::{ASKER_LIMIT, JOURNAL_LIMIT};
@@ -180,8 +178,9 @@ impl Session {
     }
 
     /// Commits a batch, which the journal keeps with its reply. Its steps join the log on three conditions: it is of the same
-    /// program, whose run goes on; its goroutine is as it was lent; and the grant and the log have room for them. The asker is
-    /// one that `enrol` of this session gave.
+    /// program, whose run goes on; its goroutine is as it was lent; and the grant and the log have room for them. Where a
+    /// growth for them is refused, none of them joins, and the reply is `Committed(0)`. The asker is one that `enrol` of this
+    /// session gave.
     pub fn commit(
         &mut self,
         alloc: Global,
@@ -193,9 +192,7 @@ impl Session {
             self.old.journal self.new.journal receipt.number (said_of receipt.reply)) }
         ensures decided { IfOk result (λ receipt. Decides self.old batch (said_of receipt.reply) self.new) }
         ensures full { IsErrOf result AskRefused.JournalFull ↔ (length self.old.journal ≡ JOURNAL_LIMIT) }
-        ensures memory { IsErrOf result AskRefused.NoMemory → Grows (length self.old.journal)
-            ⊎ InItsWorld (program_of self.old.program) self.old.journal
-            (λ w. MayJoin (program_of self.old.program) w (contents_at self.old.store) (loan_of batch)) }
+        ensures memory { IsErrOf result AskRefused.NoMemory → Grows (length self.old.journal) }
         ensures err { OnErr result (self.new ≡ self.old) }
         ensures others { (self.new.program ≡ self.old.program) × (self.new.askers ≡ self.old.askers) }
     {
@@ -215,9 +212,7 @@ impl Session {
             self.old.journal self.new.journal receipt.number (said_of receipt.reply)) }
         ensures decided { IfOk result (λ receipt. Decides self.old batch (said_of receipt.reply) self.new) }
         ensures full { IsErrOf result AskRefused.JournalFull ↔ (length self.old.journal ≡ JOURNAL_LIMIT) }
-        ensures memory { IsErrOf result AskRefused.NoMemory → Grows (length self.old.journal)
-            ⊎ InItsWorld (program_of self.old.program) self.old.journal
-            (λ w. MayJoin (program_of self.old.program) w (contents_at self.old.store) (loan_of batch)) }
+        ensures memory { IsErrOf result AskRefused.NoMemory → Grows (length self.old.journal) }
         ensures err { OnErr result (self.new ≡ self.old) }
         ensures others { (self.new.program ≡ self.old.program) × (self.new.askers ≡ self.old.askers) }
     {
@@ -238,9 +233,7 @@ impl Session {
             self.old.journal self.new.journal receipt.number (said_of receipt.reply)) }
         ensures decided { IfOk result (λ receipt. Decides self.old batch (said_of receipt.reply) self.new) }
         ensures full { IsErrOf result AskRefused.JournalFull ↔ (length self.old.journal ≡ JOURNAL_LIMIT) }
-        ensures memory { IsErrOf result AskRefused.NoMemory → Grows (length self.old.journal)
-            ⊎ InItsWorld (program_of self.old.program) self.old.journal
-            (λ w. MayJoin (program_of self.old.program) w (contents_at self.old.store) (loan_of batch)) }
+        ensures memory { IsErrOf result AskRefused.NoMemory → Grows (length self.old.journal) }
         ensures err { OnErr result (self.new ≡ self.old) }
         ensures others { (self.new.program ≡ self.old.program) × (self.new.askers ≡ self.old.askers) }
     {
@@ -248,13 +241,9 @@ impl Session {
             return Err(why);
         }
         let Batch { copy } = batch;
-        match commit(alloc, &mut self.debuggee, copy, origin) {
-            Err(NoMemory) => Err(AskRefused::NoMemory),
-            Ok((batch, stood, reply)) => {
-                let asked = Asked::Batch(batch, stood);
-                Ok(keep(&mut self.journal, desk, asked, Memory::Enough, reply))
-            }
-        }
+        let (batch, stood, memory, reply) = commit(alloc, &mut self.debuggee, copy, origin);
+        let asked = Asked::Batch(batch, stood);
+        Ok(keep(&mut self.journal, desk, asked, memory, reply))
     }
 
     /// The machine of the program: it stands where the journal means.

@@ -1,13 +1,16 @@
 //! What lies under the lock.
-ghost use Rattle.std.specs.Prelude.{◌≡◌, ◌↔◌, ◌+◌, ◌-◌, ◌^◌, ◌<◌, ◌≤◌, ◌++◌, ◌∷◌, [], true, false, min, length};
+ghost use Rattle.std.specs.Prelude.{◌≡◌, ◌↔◌, ◌⊎◌, ◌+◌, ◌-◌, ◌^◌, ◌<◌, ◌≤◌, ◌++◌, ◌∷◌, [], true, false, min, length};
 ghost use Rattle.std.specs.Prelude.{IfOk, IfSome, OnErr, IsErrOf, IsTrue};
 ghost use mathlib.Core.List.{IsPrefix};
 ghost use Rattle.gr_program.specs.Views.{program_of};
 ghost use Rattle.gr_command.specs.Replies.{said_of};
 ghost use Rattle.gr_session.specs.declared.TheConstants.{ASKER_LIMIT, JOURNAL_LIMIT};
+ghost use Rattle.gr_session.specs.Committing.{Decides};
 ghost use Rattle.gr_session.specs.Copies.{loan_of};
 ghost use Rattle.gr_session.specs.Entries.{InItsWorld};
 ghost use Rattle.gr_session.specs.Granting.{CanLend, IsTurnDue};
+ghost use Rattle.gr_session.specs.Growing.{Grows};
+ghost use Rattle.gr_session.specs.Wants.{MayWantMemory};
 ghost use Rattle.gr_share.specs.Calls.{EntersCall, IsTied};
 ghost use Rattle.gr_share.specs.Ties.{asking, told, numbers_of, AllBelow, FullFor};
 ghost use Rattle.gr_share.specs.Works.{Lends};
@@ -145,6 +148,7 @@ impl<B: Room> Locked<B> {
             self.old.session.journal self.new.session.journal c.receipt.number (said_of c.receipt.reply)) }
         ensures full { IsErrOf result AskRefused.JournalFull → FullFor B.program seat.old.me.0 }
         ensures limit { IsErrOf result AskRefused.JournalFull ↔ (length self.old.session.journal ≡ JOURNAL_LIMIT) }
+        ensures memory { IsErrOf result AskRefused.NoMemory → Grows (length self.old.session.journal) ⊎ MayWantMemory command }
         ensures err { OnErr result ((seat.new.me.0 ≡ seat.old.me.0) × (self.new ≡ self.old)) }
     {
         tie.compare(&mut self.keeper, seat);
@@ -183,6 +187,9 @@ impl<B: Room> Locked<B> {
         ensures rises { IfOk result (λ c. AllBelow c.receipt.number (numbers_of seat.old.me.0.calls)) }
         ensures entry { IfOk result (λ c. EntersCall (program_of self.old.session.program) number c.asked
             self.old.session.journal self.new.session.journal c.receipt.number (said_of c.receipt.reply)) }
+        ensures decided { IfOk result (λ c. Decides self.old.session batch (said_of c.receipt.reply) self.new.session) }
+        ensures limit { IsErrOf result AskRefused.JournalFull ↔ (length self.old.session.journal ≡ JOURNAL_LIMIT) }
+        ensures memory { IsErrOf result AskRefused.NoMemory → Grows (length self.old.session.journal) }
         ensures err { OnErr result ((seat.new.me.0 ≡ seat.old.me.0) × (self.new ≡ self.old)) }
     {
         tie.compare(&mut self.keeper, seat);

@@ -5,9 +5,18 @@ ghost use Rattle.gr_share.specs.Works.{HasWorked};
 use crate::desk::{Work, Worker};
 use crate::shared::Shared;
 use crate::views::Room;
+use gr_command::Reply;
 use gr_session::{Gate, Lease, run_batch};
 use std::alloc::Global;
 use std::sync::Wait;
+
+/// Whether fewer steps joined the log than a batch had, since a growth for them was refused.
+fn is_short(reply: &Reply, steps: usize) -> bool {
+    match reply {
+        Reply::Committed(joined) => (*joined as usize) < steps,
+        _ => false,
+    }
+}
 
 impl<B: Room> Worker<B> {
     ghost use Rattle.std.specs.Prelude.{◌≡◌, List};
@@ -16,7 +25,8 @@ impl<B: Room> Worker<B> {
     ghost use Rattle.gr_share.specs.Works.{Lends};
     ghost use Rattle.gr_share.specs.Finding.{WorksOnce};
 
-    /// Takes steps on the copy, without the lock, and commits them. It tells whether it may go on.
+    /// Takes steps on the copy, without the lock, and commits them. It tells whether it may go on, which it may not when out of
+    /// memory.
     fn take_steps<R: Wait, G: Gate>(
         &mut self,
         rt: &R,
@@ -34,11 +44,13 @@ impl<B: Room> Worker<B> {
         let Ok(batch) = run_batch(alloc, lease, limit, gate) else {
             return false;
         };
+        let steps = batch.len();
         gate.before_commit(self.place);
         match self.seat.commit(rt, alloc, shared, batch) {
             Ok(()) => {
-                gate.after_commit(self.place, self.seat.last());
-                true
+                let receipt = self.seat.last();
+                gate.after_commit(self.place, receipt);
+                !is_short(&receipt.reply, steps)
             }
             Err(_) => false,
         }

@@ -1,4 +1,4 @@
-use Rattle.std.proofs.Common.{length, refl, sym, ◌∙◌, arith}
+use Rattle.std.proofs.Common.{◌≡◌, length, refl, sym, ap, ◌∙◌, arith}
 use Rattle.gr_rollback.specs.Logs.{records_of}
 use Rattle.gr_rollback.specs.declared.TheConstants.{LOG_LIMIT}
 use Rattle.gr_rules.specs.Limits.{most_steps}
@@ -7,7 +7,7 @@ use Rattle.gr_rollback.specs.Stores.{contents_at}
 use Rattle.gr_rollback.proofs.LeasingLemmas.{led_nowhere}
 use Rattle.gr_session.specs.Debuggees.{log_in, store_in}
 use Rattle.gr_session.specs.Journal.{course_of}
-use Rattle.gr_session.proofs.CommitLemmas.{stale_past_grant, full_for_all, some_join, none_joins, fits_all, kept_short, is_stale, full_not_stale, joined_not_stale, may_join, too_many, not_too_many}
+use Rattle.gr_session.proofs.CommitLemmas.{stale_past_grant, full_for_all, some_join, none_joins, fits_all, kept_short, is_stale, full_not_stale, joined_not_stale, none_without_memory, all_committed, not_all_committed, too_many, not_too_many}
 use Rattle.gr_session.proofs.DebuggeeLemmas.{log_length}
 use Rattle.gr_session.proofs.committing.commit_lent.Goals as goal
 
@@ -38,7 +38,10 @@ returns-in-Ok-clause-commits c = λ p w s.
     _ refl s.lines c.if-steps-eq0.false (c.in-Ok.ensures.kept p (course_of p w) s.machine)
 
 pub returns-in-Err-clause-commits : goal.returns-in-Err-clause-commits
-returns-in-Err-clause-commits c = λ p w s. record { machine = c.in-Err.ensures.kept p (course_of p w) s.machine; lines = s.lines; grant = s.grant }
+returns-in-Err-clause-commits c = λ p w s.
+    none_without_memory p w c.args.debuggee.now s (loan_of c.args.lease.now) c.requires.lent c.len-steps.result c.len-steps.ensures (omega arith)
+    c.room.result (c.room.ensures p w s) (omega arith) c.if-steps-eq0.false _
+    (record { machine = c.in-Err.ensures.kept p (course_of p w) s.machine; lines = s.lines; grant = s.grant })
 
 pub returns-then-steps-debuggee-clause-stale : goal.returns-then-steps-debuggee-clause-stale
 returns-then-steps-debuggee-clause-stale c = is_stale (too_many _ _ _ c.len-steps.ensures (omega arith))
@@ -52,11 +55,20 @@ returns-then-steps-eq0-clause-stale c = joined_not_stale 0 (not_too_many _ _ _ c
 pub returns-in-Ok-clause-stale : goal.returns-in-Ok-clause-stale
 returns-in-Ok-clause-stale c = joined_not_stale _ (not_too_many _ _ _ c.len-steps.ensures (omega arith))
 
+pub returns-in-Err-clause-stale : goal.returns-in-Err-clause-stale
+returns-in-Err-clause-stale c = joined_not_stale 0 (not_too_many _ _ _ c.len-steps.ensures (omega arith))
+
 pub returns-then-steps-eq0-clause-contents : goal.returns-then-steps-eq0-clause-contents
 returns-then-steps-eq0-clause-contents c =
-    sym (led_nowhere c.args.lease.now (contents_at (store_in c.args.debuggee.now)) c.requires.lease (sym c.len-steps.ensures ∙ c.if-steps-eq0.true) c.requires.lent.there)
+    let none : (loan_of c.args.lease.now).steps ≡ 0 = sym c.len-steps.ensures ∙ c.if-steps-eq0.true in
+    sym (led_nowhere c.args.lease.now (contents_at (store_in c.args.debuggee.now)) c.requires.lease none c.requires.lent.there)
+    ∙ all_committed 0 c.args.lease.now (contents_at (store_in c.args.debuggee.now)) (sym none)
 
-pub returns-in-Err-clause-wants : goal.returns-in-Err-clause-wants
-returns-in-Err-clause-wants c = λ p w s.
-    may_join p w c.args.debuggee.now s (loan_of c.args.lease.now) c.requires.lent c.len-steps.result c.len-steps.ensures (omega arith)
-    c.room.result (c.room.ensures p w s) (omega arith) c.if-steps-eq0.false
+pub returns-in-Ok-clause-contents : goal.returns-in-Ok-clause-contents
+returns-in-Ok-clause-contents c =
+    c.in-Ok.ensures.contents ∙ all_committed c.len-steps.result c.args.lease.now (contents_at (store_in c.args.debuggee.now)) c.len-steps.ensures
+
+pub returns-in-Err-clause-contents : goal.returns-in-Err-clause-contents
+returns-in-Err-clause-contents c =
+    ap contents_at c.in-Err.ensures.store
+    ∙ not_all_committed 0 c.args.lease.now (contents_at (store_in c.args.debuggee.now)) (λ e. c.if-steps-eq0.false (c.len-steps.ensures ∙ sym e))

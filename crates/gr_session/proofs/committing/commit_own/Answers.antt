@@ -25,4 +25,4 @@ returns-clause-as_lent c =
     subst (λ b. IsTrue b ↔ IsAsLent c.args.lease (store_in c.args.debuggee.now)) c.if-not-has_as_lent.false c.has_as_lent.ensures
 
 pub returns-clause-stale : goal.returns-clause-stale
-returns-clause-stale c = stale_by_grant (c.has_as_lent.ensures.0 c.if-not-has_as_lent.false) c.in_ok-reply.ensures.stale
+returns-clause-stale c = stale_by_grant (c.has_as_lent.ensures.0 c.if-not-has_as_lent.false) c.commit_lent-memory.ensures.stale
