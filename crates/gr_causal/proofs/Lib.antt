@@ -14,13 +14,13 @@ pub mod MailboxLemmas
 pub mod PartLemmas
 pub mod UniqueLemmas
 pub mod PlaceLemmas
-mod TakeLemmas
-mod MoveLemmas
-mod TripLemmas
-mod ConsistencyLemmas
+pub mod TakeLemmas
+pub mod MoveLemmas
+pub mod TripLemmas
+pub mod ConsistencyLemmas
 mod ParabolicLemmas
-mod MachineTripLemmas
-mod ClosureLemmas
-mod BackwardLemmas
+pub mod MachineTripLemmas
+pub mod ClosureLemmas
+pub mod BackwardLemmas
 mod FrontLemmas
 mod EventLemmas

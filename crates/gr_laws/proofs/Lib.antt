@@ -11,6 +11,8 @@ pub mod AttemptTouches
 pub mod TouchedLemmas
 pub mod LocalLemmas
 pub mod FoldingLemmas
+pub mod ClaimLemmas
+pub mod MoveLemmas
 pub mod BufferConflicts
 pub mod MemoryLemmas
 pub mod RuleRefusals

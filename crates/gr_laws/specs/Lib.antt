@@ -3,6 +3,7 @@ pub mod Reached
 pub mod Soundness
 pub mod Consoles
 pub mod Dependence
+pub mod Claim
 pub mod TakingBack
 pub mod Touched
 pub mod Folding

@@ -1,6 +1,7 @@
 //! What holds of the rules of steps: laws, each on a function that does nothing.
 #![tactic(auto)]
 
+pub mod claim;
 pub mod memory_model;
 
 ghost use Rattle.std.specs.Prelude.{◌≡◌, ◌↔◌, ℕ, ℤ, ◌<◌, ◌≤◌, List, [], ◌∷◌, ◌++◌, map, length, Bool, true, false, ◌||◌, ◌⊎◌};
