@@ -18,6 +18,7 @@ pub mod MemoryLemmas
 pub mod RuleRefusals
 pub mod ChoiceLemmas
 pub mod ReasonLemmas
+pub mod UsualLemmas
 pub mod BufferLemmas
 pub mod SoundLemmas
 pub mod SoundCommunications

@@ -1,6 +1,7 @@
 //! What holds of the rules of steps: laws, each on a function that does nothing.
 #![tactic(auto)]
 
+pub mod choices;
 pub mod claim;
 pub mod memory_model;
 
