@@ -8,6 +8,7 @@ use Rattle.gr_rules.specs.States.{State, same_go, start}
 use Rattle.gr_rules.specs.Steps.{machine, count}
 use Rattle.gr_laws.specs.Reached.{Logged, IsRun}
 use Rattle.gr_laws.specs.Consoles.{steps_by}
+use Rattle.gr_laws.proofs.CountLemmas.{GoesOn}
 use Rattle.gr_laws.proofs.RuleCounts.{stepped}
 use Rattle.gr_laws.proofs.RunLemmas.{tally_of_run}
 
@@ -22,6 +23,15 @@ steps_within p t log g l =
     let some : length (steps_by p g log) ≤ length log = filter_within (λ (r : Logged p). same_go g r.event.go) log in
     omega arith
 
+-- an end that goes on does so by one place at most, and never back
+pub by_one : (old new : ℕ) → GoesOn old new → new ≤ old + 1
+by_one old new (inl e) = omega arith
+by_one old new (inr e) = omega arith
+
+pub not_back : (old new : ℕ) → GoesOn old new → old ≤ new
+not_back old new (inl e) = omega arith
+not_back old new (inr e) = omega arith
+
 module _ (p : Program) (c : ChName) where
   -- each step takes an end of the buffer on by one place at most
   ends_along : (rs : List (Logged p)) (s t : State) → Path (machine p) s rs t
@@ -29,8 +39,8 @@ module _ (p : Program) (c : ChName) where
   ends_along [] s t w = subst (λ (t : State). (t.tails c ≤ s.tails c + 0) × (t.heads c ≤ s.heads c + 0)) w (omega arith, omega arith)
   ends_along (r ∷ rs) s t w =
       let here = (stepped p s r.event w.0 r.note w.1.does).raised in
-      let tail : w.0.tails c ≤ s.tails c + 1 = here.tails c in
-      let head : w.0.heads c ≤ s.heads c + 1 = here.heads c in
+      let tail = by_one (s.tails c) (w.0.tails c) (here.tails c) in
+      let head = by_one (s.heads c) (w.0.heads c) (here.heads c) in
       let rest = ends_along rs w.0 t w.2 in
       (omega arith, omega arith)
 

@@ -1,6 +1,6 @@
 -- Each step raises the count of its goroutine by one, notes the new count, and prints to the text of its goroutine; it leaves
--- the counts and the texts of all others. Each end of a buffer goes on by one place at most.
-use Rattle.std.proofs.Common.{fold, ◌≡◌, ℕ, ◌+◌, ◌%◌, ◌==◌, Bool, true, false, if◌then◌else◌, List, [], ◌∷◌, ◌++◌, Option, Some, None, option_map, refl, sym, ◌∙◌, ap, subst, inl, inr, ◌≤◌, arith}
+-- the counts and the texts of all others. Each end of a buffer stays, or goes on by one place.
+use Rattle.std.proofs.Common.{fold, ◌≡◌, ◌⊎◌, ℕ, ◌+◌, ◌%◌, ◌==◌, Bool, true, false, if◌then◌else◌, List, [], ◌∷◌, ◌++◌, Option, Some, None, option_map, refl, sym, ◌∙◌, ap, subst, inl, inr}
 use Rattle.gr_base.specs.declared.names.ChName.{ChName}
 use Rattle.gr_base.specs.declared.values.Value.{Value}
 use Rattle.gr_base.specs.declared.kinds.Fault.{Fault}
@@ -36,15 +36,19 @@ with_line (Some line) text = text ++ line ∷ []
 abbrev pub stepped_on : Option (List ℕ) → Tally → Tally
 stepped_on printed t = (t.0 + 1, with_line printed t.1)
 
+-- the end of a buffer stays, or goes on by one place
+abbrev pub GoesOn : ℕ → ℕ → Type 0
+GoesOn old new = (new ≡ old) ⊎ (new ≡ old + 1)
+
 module _ (s : State) (me : List ℕ) where
-  -- none of these cells is of the goroutine, none changes the tally of another, and ends of buffers go on by one place at most
+  -- none of these cells is of the goroutine, none changes the tally of another, and ends of buffers go on by one place
   abbrev pub Others : List Cell → Type 0
   Others [] = Unit {0}
   Others (go_has n x ∷ cs) = (n ≡ me → ⊥) × (tally x ≡ tally (s.goroutines n)) × Others cs
   Others (run_has r ∷ cs) = Others cs
   Others (gate_has c x ∷ cs) = Others cs
-  Others (tail_has c n ∷ cs) = (n ≤ s.tails c + 1) × Others cs
-  Others (head_has c n ∷ cs) = (n ≤ s.heads c + 1) × Others cs
+  Others (tail_has c n ∷ cs) = (n ≡ s.tails c + 1) × Others cs
+  Others (head_has c n ∷ cs) = (n ≡ s.heads c + 1) × Others cs
   Others (slot_has c i x ∷ cs) = Others cs
 
   -- the attempt, where it is a step, writes its goroutine first, with one step more, which it notes, and what it printed
@@ -64,8 +68,8 @@ module _ (s : State) (me : List ℕ) where
   pub record Raised (printed : Option (List ℕ)) (t : State) : Type 0 where
     pub mine : tally (t.goroutines me) ≡ stepped_on printed (tally (s.goroutines me))
     pub others : (n : List ℕ) → (n ≡ me → ⊥) → tally (t.goroutines n) ≡ tally (s.goroutines n)
-    pub tails : (c : ChName) → t.tails c ≤ s.tails c + 1
-    pub heads : (c : ChName) → t.heads c ≤ s.heads c + 1
+    pub tails : (c : ChName) → GoesOn (s.tails c) (t.tails c)
+    pub heads : (c : ChName) → GoesOn (s.heads c) (t.heads c)
 
   put_other : {line : Option (List ℕ)} (t : State) (n : List ℕ) (x : Option Goroutine) → (n ≡ me → ⊥)
       → tally x ≡ tally (s.goroutines n)
@@ -81,10 +85,10 @@ module _ (s : State) (me : List ℕ) where
   }
 
   -- the place of an end, where that of one channel changes
-  end_within : (f old : ChName → ℕ) (c : ChName) (n : ℕ) → n ≤ old c + 1 → ((d : ChName) → f d ≤ old d + 1)
-      → (d : ChName) → updated same_channel f c n d ≤ old d + 1
-  end_within f old c n le h d = elim (true_or_false (same_channel d c)) [
-    | inl e ↦ rw e (subst (λ m. n ≤ old m + 1) (sym (channel_is d c e)) le)
+  end_goes_on : (f old : ChName → ℕ) (c : ChName) (n : ℕ) → n ≡ old c + 1 → ((d : ChName) → GoesOn (old d) (f d))
+      → (d : ChName) → GoesOn (old d) (updated same_channel f c n d)
+  end_goes_on f old c n is h d = elim (true_or_false (same_channel d c)) [
+    | inl e ↦ rw e (inr (subst (λ m. n ≡ old m + 1) (sym (channel_is d c e)) is))
     | inr e ↦ rw e (h d)
   ]
 
@@ -94,17 +98,17 @@ module _ (s : State) (me : List ℕ) where
   put_beside t u goroutines tails heads r = record {
     mine = ap (λ (g : List ℕ → Option Goroutine). tally (g me)) goroutines ∙ r.mine;
     others = λ o k. ap (λ (g : List ℕ → Option Goroutine). tally (g o)) goroutines ∙ r.others o k;
-    tails = λ c. subst (λ (f : ChName → ℕ). f c ≤ s.tails c + 1) (sym tails) (r.tails c);
-    heads = λ c. subst (λ (f : ChName → ℕ). f c ≤ s.heads c + 1) (sym heads) (r.heads c);
+    tails = λ c. subst (λ (f : ChName → ℕ). GoesOn (s.tails c) (f c)) (sym tails) (r.tails c);
+    heads = λ c. subst (λ (f : ChName → ℕ). GoesOn (s.heads c) (f c)) (sym heads) (r.heads c);
   }
 
-  put_tail : {line : Option (List ℕ)} (t : State) (c : ChName) (n : ℕ) → n ≤ s.tails c + 1 → Raised line t
+  put_tail : {line : Option (List ℕ)} (t : State) (c : ChName) (n : ℕ) → n ≡ s.tails c + 1 → Raised line t
       → Raised line (put t (tail_has c n))
-  put_tail t c n le r = record { mine = r.mine; others = r.others; tails = end_within t.tails s.tails c n le r.tails; heads = r.heads }
+  put_tail t c n is r = record { mine = r.mine; others = r.others; tails = end_goes_on t.tails s.tails c n is r.tails; heads = r.heads }
 
-  put_head : {line : Option (List ℕ)} (t : State) (c : ChName) (n : ℕ) → n ≤ s.heads c + 1 → Raised line t
+  put_head : {line : Option (List ℕ)} (t : State) (c : ChName) (n : ℕ) → n ≡ s.heads c + 1 → Raised line t
       → Raised line (put t (head_has c n))
-  put_head t c n le r = record { mine = r.mine; others = r.others; tails = r.tails; heads = end_within t.heads s.heads c n le r.heads }
+  put_head t c n is r = record { mine = r.mine; others = r.others; tails = r.tails; heads = end_goes_on t.heads s.heads c n is r.heads }
 
   pub put_others : {line : Option (List ℕ)} (t : State) (cs : List Cell) → Others cs → Raised line t → Raised line (fold put t cs)
   put_others t [] o r = r
@@ -120,8 +124,8 @@ module _ (s : State) (me : List ℕ) where
   put_mine x e = record {
     mine = ap tally (updated_here same_go go_self s.goroutines me x) ∙ e;
     others = λ o k. ap tally (updated_else same_go go_is s.goroutines me o x k);
-    tails = λ c. omega arith;
-    heads = λ c. omega arith;
+    tails = λ c. inl refl;
+    heads = λ c. inl refl;
   }
 
 not_both : (ws : List Wait) → ready ≡ waiting ws → ⊥

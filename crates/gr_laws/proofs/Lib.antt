@@ -15,6 +15,8 @@ pub mod ClaimLemmas
 pub mod MoveLemmas
 pub mod BufferConflicts
 pub mod MemoryLemmas
+pub mod EndLemmas
+pub mod CompletedLemmas
 pub mod RuleRefusals
 pub mod ChoiceLemmas
 pub mod ReasonLemmas

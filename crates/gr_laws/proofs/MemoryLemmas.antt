@@ -29,7 +29,7 @@ use Rattle.gr_laws.proofs.TouchedLemmas.{any_in, meets_in}
 use Rattle.gr_laws.proofs.BufferConflicts.{row_is, buffer_clash}
 
 -- conflicts go both ways
-turned : (p : Program) (a b : Logged p) → clash p a b ≡ true → clash p b a ≡ true
+pub turned : (p : Program) (a b : Logged p) → clash p a b ≡ true → clash p b a ≡ true
 turned p a b h = elim (or_true (meets same a.note.writes (b.note.reads ++ b.note.writes)) (meets same b.note.writes (a.note.reads ++ a.note.writes)) h) [
   | inl t ↦ or_right (meets same b.note.writes (a.note.reads ++ a.note.writes)) (meets same a.note.writes (b.note.reads ++ b.note.writes)) t
   | inr t ↦ or_left (meets same b.note.writes (a.note.reads ++ a.note.writes)) (meets same a.note.writes (b.note.reads ++ b.note.writes)) t
@@ -39,7 +39,7 @@ turned p a b h = elim (or_true (meets same a.note.writes (b.note.reads ++ b.note
 own : (p : Program) (s s' : State) (a : Logged p) → (machine p).step s a.event ≡ Some (s', a.note) → In (Go a.event.go) a.note.writes
 own p s s' a h = subst (In (Go a.event.go)) (sym (touched_as p s a.event s' a.note h).written) (inl refl)
 
-by_object : (p : Program) (a b : Logged p) (o : Object) → In o a.note.writes → In o (b.note.reads ++ b.note.writes) → clash p a b ≡ true
+pub by_object : (p : Program) (a b : Logged p) (o : Object) → In o a.note.writes → In o (b.note.reads ++ b.note.writes) → clash p a b ≡ true
 by_object p a b o i j = or_left (meets same a.note.writes (b.note.reads ++ b.note.writes)) (meets same b.note.writes (a.note.reads ++ a.note.writes))
     (meets_in a.note.writes (b.note.reads ++ b.note.writes) o i j)
 
@@ -111,7 +111,7 @@ step_at p front back r s t l k =
     let w = path_of (machine p) m.0 (r ∷ back) t m.2 in
     (w.0, subst (λ x. (machine p).step x r.event ≡ Some (w.0, r.note)) (one_end (machine p) (start p) m.0 s front m.1 k) w.1.does)
 
-before_in : {A : Type 0} (front middle back : List A) (a b : A) → Before (front ++ a ∷ (middle ++ b ∷ back)) a b
+pub before_in : {A : Type 0} (front middle back : List A) (a b : A) → Before (front ++ a ∷ (middle ++ b ∷ back)) a b
 before_in [] middle back a b = inl (refl, In-append_right b middle (b ∷ back) (inl refl))
 before_in (x ∷ front) middle back a b = inr (before_in front middle back a b)
 

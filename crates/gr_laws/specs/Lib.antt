@@ -9,4 +9,5 @@ pub mod Touched
 pub mod Folding
 pub mod OneBuffer
 pub mod MemoryModel
+pub mod Completed
 pub mod Refusals

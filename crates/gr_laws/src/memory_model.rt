@@ -1,6 +1,7 @@
 //! What Go's memory model orders is within dependence.
 
-ghost use Rattle.std.specs.Prelude.{◌≡◌, ℕ, List, true, Some};
+ghost use Rattle.std.specs.Prelude.{◌≡◌, ℕ, ◌+◌, List, true, Some};
+ghost use Rattle.gr_base.specs.declared.names.ChName.{ChName};
 ghost use Rattle.gr_causal.specs.Sequences.{In, IsAt};
 ghost use Rattle.gr_causal.specs.Dependence.{dependents};
 ghost use Rattle.gr_program.specs.Programs.{Program};
@@ -8,6 +9,7 @@ ghost use Rattle.gr_rules.specs.States.{State};
 ghost use Rattle.gr_rules.specs.Steps.{machine};
 ghost use Rattle.gr_laws.specs.Reached.{Logged, IsRun};
 ghost use Rattle.gr_laws.specs.Dependence.{clash};
+ghost use Rattle.gr_laws.specs.Completed.{CompletesReceive, CompletesSend};
 ghost use Rattle.gr_laws.specs.MemoryModel.{Edge, HappensBefore};
 
 /// What happens before by Go's memory model is within dependence. Two steps conflict where the model has the first directly
@@ -24,5 +26,15 @@ pub fn law_of_the_memory_model()
     ensures runs { (p : Program) (t : State) (log : List (Logged p)) (a b : Logged p) (i : ℕ)
         → IsRun p log t → IsAt log i a
         → HappensBefore p log a b
+        → In b (dependents (clash p) log i) }
+{}
+
+/// The k-th receive from a channel of capacity C comes before the k+C-th send on it is complete. So that send goes back with the
+/// receive, or is complete in the same step. Sends and receives are counted as Go counts them: those whose values pass through
+/// the buffer, and those whose values go from hand to hand. Without a buffer, C is 0.
+pub fn law_of_the_kth_receive()
+    ensures { (p : Program) (t : State) (log : List (Logged p)) (c : ChName) (places k i : ℕ) (a b : Logged p)
+        → IsRun p log t → IsAt log i a
+        → CompletesReceive p c places k log a → CompletesSend p c places (k + places) log b
         → In b (dependents (clash p) log i) }
 {}
