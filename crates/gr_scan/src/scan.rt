@@ -16,28 +16,37 @@ use crate::position::newlines;
 use crate::token::{Kind, Mark, Span, Token};
 use crate::{number, quoted};
 use std::alloc::{AllocError, Global};
+use thiserror::Error;
 
 /// The most bytes that a text may have.
 pub const TEXT_LIMIT: usize = 1_048_576;
 
 /// Why a text has no tokens. Each fault that has a number gives the number of bytes before it.
-#[derive(Clone, Copy, Debug, PartialEq, Eq)]
+#[derive(Clone, Copy, Debug, PartialEq, Eq, Error)]
 pub enum ScanError {
     /// S1: a byte that begins no token.
+    #[error("no token begins at byte offset {0}")]
     Strange(usize),
     /// S2: a run of digits and letters that is a number of no base.
+    #[error("malformed number at byte offset {0}")]
     Malformed(usize),
     /// S3: a number over 2^63.
+    #[error("number over 2^63 at byte offset {0}")]
     TooGreat(usize),
     /// S4: a string that is not closed on its line, or has an escape of no kind.
+    #[error("malformed string at byte offset {0}")]
     MalformedText(usize),
     /// S5: a general comment that is not closed.
+    #[error("unclosed comment at byte offset {0}")]
     Unclosed(usize),
     /// S6: a literal or a comment of a kind that is left out.
+    #[error("literal or comment of a kind that is left out at byte offset {0}")]
     LeftOut(usize),
     /// S7: the text is longer than 1,048,576 bytes.
+    #[error("text of more than 1048576 bytes")]
     TooLong,
     /// S8: there was not enough memory, which says nothing about the text.
+    #[error("out of memory")]
     Memory,
 }
 

@@ -22,7 +22,7 @@ pub enum DebugFault {
     #[error("the source cannot be read")]
     Source,
     /// The source has no program, or there was no memory for one.
-    #[error("the source was not opened")]
+    #[error("the source was not opened: {0}")]
     Open(OpenError),
     /// The stream of commands was left, or there was no memory for the source.
     #[error("{0}")]

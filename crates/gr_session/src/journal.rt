@@ -6,6 +6,7 @@ ghost use Rattle.gr_session.specs.Growing.{Grows, HasRoom};
 use crate::{JOURNAL_GROWTH, JOURNAL_LIMIT};
 use gr_command::{Command, Reply};
 use gr_rollback::LocalRun;
+use thiserror::Error;
 
 /// How far memory allowed what was asked to be carried out.
 #[derive(Clone, Copy, PartialEq, Eq)]
@@ -60,20 +61,24 @@ pub struct Receipt {
 }
 
 /// Why a command or a batch got no entry in the journal.
-#[derive(Clone, Copy, Debug, PartialEq, Eq)]
+#[derive(Clone, Copy, Debug, PartialEq, Eq, Error)]
 pub enum AskRefused {
     /// Q1: the journal is full.
+    #[error("the journal is full")]
     JournalFull,
     /// Q2: there is no memory for the entry, or for the answer to a query.
+    #[error("out of memory")]
     NoMemory,
 }
 
 /// Why there is no further asker.
-#[derive(Clone, Copy, Debug, PartialEq, Eq)]
+#[derive(Clone, Copy, Debug, PartialEq, Eq, Error)]
 pub enum EnrolRefused {
     /// E1: there are 1,000 askers.
+    #[error("1000 askers")]
     Full,
     /// E2: a growth was refused. No call answers it, since an asker takes no memory.
+    #[error("out of memory")]
     NoMemory,
 }
 

@@ -18,17 +18,22 @@ use gr_tree::File;
 use gr_types::check::check;
 use gr_types::refusal::CheckError;
 use std::alloc::Global;
+use thiserror::Error;
 
 /// Why a source was not opened. A fault that has a place in the source comes with its position.
-#[derive(Clone, Copy, Debug, PartialEq, Eq)]
+#[derive(Clone, Copy, Debug, PartialEq, Eq, Error)]
 pub enum OpenError {
     /// It has no tokens, or there is no memory for them.
+    #[error("{0}")]
     Scan(ScanError, Option<Position>),
     /// No file has its tokens, or there is no memory for one.
+    #[error("{0}")]
     Parse(ParseError, Option<Position>),
     /// The file breaks a rule of the language, or there is no memory for its program.
+    #[error("{0}")]
     Check(CheckError, Option<Position>),
     /// There is no memory for a session of the program.
+    #[error("out of memory")]
     Memory,
 }
 

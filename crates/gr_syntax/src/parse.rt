@@ -12,19 +12,24 @@ use crate::look::ReadError;
 use gr_scan::token::{Kind, Mark, Token};
 use gr_tree::File;
 use std::alloc::Global;
+use thiserror::Error;
 
 /// Why a list of tokens has no tree. A token is named by its index; the number of tokens stands for the end.
-#[derive(Clone, Copy, Debug, PartialEq, Eq, Drop)]
+#[derive(Clone, Copy, Debug, PartialEq, Eq, Drop, Error)]
 pub enum ParseError {
     /// No file has these tokens (P1). The token is the first at which they stop being the beginning of a file. Tests show
     /// that, and no clause.
+    #[error("token {token} cannot stand here")]
     NoFile { token: usize },
     /// No file has these tokens (P2), and the token begins something of Go that the language leaves out. It is the first at
     /// which they stop being the beginning of a file. Tests show that, and no clause.
+    #[error("token {token} begins a form that is left out")]
     LeftOut { token: usize },
     /// Every tree is higher than `gr_tree::HEIGHT_LIMIT` (P3): a part that begins at this token, or one around it, is too high.
+    #[error("too many levels at token {token}")]
     TooHigh { token: usize },
     /// Memory ran out (P4).
+    #[error("out of memory")]
     Memory,
 }
 

@@ -7,15 +7,18 @@ pub use gr_exprs::refusal::RefusalCode;
 use gr_exprs::refusal::RuleError;
 use gr_scan::token::Place;
 use std::alloc::{AllocError, AllocFailed};
+use thiserror::Error;
 
 /// Why a file has no program.
-#[derive(Clone, Copy, Debug, PartialEq, Eq)]
+#[derive(Clone, Copy, Debug, PartialEq, Eq, Error)]
 pub enum CheckError {
     /// A rule is broken. The number counts the bytes before the statement, heading or package clause that breaks it, or
     /// before the closing brace that may be reached. Faults of the package clause come first, then those of headings, then
     /// those of the earliest statement.
+    #[error("{code} at byte offset {at}")]
     Refused { code: RefusalCode, at: usize },
     /// There was not enough memory, which says nothing about the file.
+    #[error("out of memory")]
     Memory,
 }
 
