@@ -6,21 +6,13 @@ use Rattle.std.proofs.lemmas.Bool.{cases_Bool}
 use Rattle.gr_rules.specs.States.{same_go}
 use Rattle.gr_code.specs.CodeFrames.{CodeFrame}
 use Rattle.gr_code.specs.Goroutines.{CodeGoroutine}
-use Rattle.gr_goros.specs.declared.kept.How.{How}
-use Rattle.gr_goros.specs.declared.kept.How.TheVariants.{Went, Made}
-use Rattle.gr_goros.specs.declared.undo.Former.{Former}
 use Rattle.gr_goros.specs.declared.undo.Spot.{Spot}
 use Rattle.gr_goros.specs.declared.undo.GoUndo.{GoUndo}
 use Rattle.gr_goros.specs.declared.undo.GoUndo.TheVariants as undos
-use Rattle.gr_goros.specs.Keeping.{in_frame}
+use Rattle.gr_goros.specs.Before.{spot_in}
 use Rattle.gr_goros.specs.Undoing.{at_spot, frame_in, on_innermost, undone}
 use Rattle.gr_record.specs.TablesBack.{back_at}
-use Rattle.gr_depend.specs.Given.{spot_in, spot_before}
-
--- a frame that went on or made a channel stood there
-pub kept_in_frame : (how : How) (s : Spot) (before : Former) → Some s ≡ spot_in (in_frame how s before)
-kept_in_frame Went s before = refl
-kept_in_frame Made s before = refl
+use Rattle.gr_depend.specs.Given.{spot_before}
 
 -- a frame stands there
 abbrev pub IsAt : Spot → CodeFrame → Type 0

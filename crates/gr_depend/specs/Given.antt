@@ -17,9 +17,9 @@ use Rattle.gr_code.specs.Code.{Meanings}
 use Rattle.gr_code.specs.CodeFrames.{ProgramCode, CodeFrame, instruction_at}
 use Rattle.gr_code.specs.Instructions.{Action, Assigns, Updates, Instruction, Part, Perform}
 use Rattle.gr_code.specs.Programs.{ProgramFits, Stands, frame_of}
+use Rattle.gr_goros.specs.Before.{spot_in}
 use Rattle.gr_goros.specs.declared.undo.Spot.{Spot}
 use Rattle.gr_goros.specs.declared.undo.GoUndo.{GoUndo}
-use Rattle.gr_goros.specs.declared.undo.GoUndo.TheVariants as undos
 use Rattle.gr_record.specs.declared.record.Record.{Record}
 use Rattle.gr_record.specs.Records.{goroutines_changed}
 use Rattle.gr_depend.specs.Histories.{is_fault}
@@ -48,20 +48,6 @@ GivenByInstruction = (means : ℕ → Meanings) (p : Program) (code : ProgramCod
     → ProgramFits means p code → Stands means code f → instruction_at code f ≡ Some i → is_deepest fs ≡ false
     → deed (frame_of means code f) ≡ gives d
     → given_by p fs (frame_of means code f) (gives d) ≡ given_at p f.function i
-
--- where the innermost frame of a goroutine stood before a change, if that keeps it
-abbrev pub spot_in : GoUndo → Option Spot
-spot_in (undos.Went f u) = Some (record { function = f; number = u.number })
-spot_in (undos.Printed s) = Some s
-spot_in (undos.Entered s) = Some s
-spot_in (undos.Left l) = Some (record { function = l.value.frame.function; number = l.value.frame.number })
-spot_in (undos.Made f u) = Some (record { function = f; number = u.number })
-spot_in (undos.Began s) = Some s
-spot_in (undos.Met m) = Some (record { function = m.value.function; number = m.value.frame.number })
-spot_in (undos.Parked s) = Some s
-spot_in (undos.Finished f) = Some (record { function = f.value.function; number = f.value.number })
-spot_in (undos.Faulted s) = Some s
-spot_in (undos.Retried s) = None
 
 -- where the innermost frame of a goroutine stood before changes of goroutines, by the first of its own that keeps it
 abbrev pub spot_before : List ℕ → List (List ℕ × GoUndo) → Option Spot

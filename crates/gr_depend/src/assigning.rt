@@ -19,53 +19,18 @@ ghost use Rattle.gr_record.specs.Records.{event_of};
 ghost use Rattle.gr_record.specs.Taking.{IsRecord};
 ghost use Rattle.gr_record.specs.Pairs.{id_of};
 ghost use Rattle.gr_depend.specs.Given.{GivenByInstruction, is_called, any_called, parameters_named, assigned_by, given_at};
-ghost use Rattle.gr_depend.specs.Given.{given_there, spot_in, spot_before};
+ghost use Rattle.gr_depend.specs.Given.{given_there, spot_before};
 ghost use Rattle.gr_depend.specs.Given.{stood, gave, last_given};
 
 use crate::history::has_faulted;
 use crate::log::Log;
 use gr_base::{GoName, StepId};
 use gr_code::code::{Action, Ask, Code, FunctionCode, Instruction};
-use gr_goros::kept::Packed;
 use gr_goros::{KeptUndo, Spot};
 use gr_program::program::{Function, Program, Variable};
 use gr_record::Record;
 use gr_record::record::Form;
 use std::slice;
-
-/// Where the innermost frame of a goroutine stood before a change, if that keeps it.
-#[tactic(auto, using(crate::proofs::SpotLemmas::kept_in_frame))]
-fn kept_spot(undo: &KeptUndo) -> Option<Spot>
-    ensures { result ≡ spot_in undo.now }
-{
-    match &undo.packed {
-        Packed::Same(_, spot)
-        | Packed::Nothing(_, spot, _)
-        | Packed::Int(_, spot, _, _)
-        | Packed::Bool(_, _, spot, _)
-        | Packed::Unit(_, spot, _)
-        | Packed::Nil(_, spot, _)
-        | Packed::Channel(_, spot, _, _)
-        | Packed::IntAndBool(_, _, spot, _, _)
-        | Packed::Each(_, spot, _)
-        | Packed::Printed(spot)
-        | Packed::Entered(spot)
-        | Packed::Began(spot)
-        | Packed::Parked(spot)
-        | Packed::Faulted(spot) => Some(*spot),
-        Packed::Left(left) => Some(left.frame.spot()),
-        Packed::Finished(frame) => Some(frame.spot()),
-        Packed::Met(met) => Some(Spot {
-            function: met.function,
-            number: met.frame.number,
-        }),
-        Packed::WasReady
-        | Packed::WasSending(_)
-        | Packed::WasReceiving(_)
-        | Packed::WasWaiting(_)
-        | Packed::WasFinished => None,
-    }
-}
 
 /// Where a goroutine stood before the first of these changes that keeps it, if one does.
 fn first_spot(go: &GoName, changes: &[(GoName, KeptUndo)]) -> Option<Spot>
@@ -76,7 +41,7 @@ fn first_spot(go: &GoName, changes: &[(GoName, KeptUndo)]) -> Option<Spot>
         if go != name {
             continue;
         }
-        if let Some(spot) = kept_spot(undo) {
+        if let Some(spot) = undo.spot() {
             return Some(spot);
         }
     }
@@ -234,17 +199,17 @@ fn stood_at(step: &Record) -> Option<Spot>
     ensures { result ≡ stood step.now }
 {
     match step.change.form() {
-        Form::Alone(_, own) => kept_spot(own),
+        Form::Alone(_, own) => own.spot(),
         Form::WaitsToSend(_, _, spot) | Form::WaitsToReceive(_, _, spot) => Some(*spot),
-        Form::Passes(_, passage) => kept_spot(&passage.own),
+        Form::Passes(_, passage) => passage.own.spot(),
         Form::Exchanges(_, exchange) => {
-            if let Some(spot) = kept_spot(&exchange.passage.own) {
+            if let Some(spot) = exchange.passage.own.spot() {
                 return Some(spot);
             }
             first_spot(&step.id.go, slice::from_ref(&exchange.met))
         }
         Form::Further(_, further) => {
-            if let Some(spot) = kept_spot(&further.own) {
+            if let Some(spot) = further.own.spot() {
                 return Some(spot);
             }
             first_spot(&step.id.go, further.beyond.met.as_slice())

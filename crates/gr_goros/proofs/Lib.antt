@@ -3,6 +3,7 @@ mod AlikeLemmas
 mod CallLemmas
 mod CellLemmas
 mod CodeLemmas
+mod KeptLemmas
 mod NeedLemmas
 mod TaskLemmas
 mod TextLemmas

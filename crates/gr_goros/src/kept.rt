@@ -1,8 +1,12 @@
 //! What a change of a goroutine replaced, as records keep it.
 
 ghost use Rattle.std.specs.Prelude.{◌≡◌};
+ghost use Rattle.gr_rules.specs.Goroutines.{Status as StatusSeen};
 ghost use Rattle.gr_goros.specs.declared.undo.GoUndo.TheVariants as undos;
+ghost use Rattle.gr_goros.specs.declared.wait.Status.TheVariants as statuses;
+ghost use Rattle.gr_goros.specs.Before.{IsPrior, TellsPrior, is_printed, spot_in};
 ghost use Rattle.gr_goros.specs.Keeping.{in_frame, unpacked};
+ghost use Rattle.gr_goros.specs.Views.{status_of};
 
 use crate::frame::Frame;
 use crate::undo::{Former, FrameUndo, GoUndo, Left, Met, Spot};
@@ -10,9 +14,18 @@ use crate::wait::{Status, Wait};
 use gr_base::{ChName, Value};
 use std::marker::Model;
 
+/// Whether a goroutine was ready before a change.
+#[derive(Clone, Copy)]
+pub enum Prior {
+    Ready,
+    Unready,
+    /// It was ready before the change exactly if it is after it.
+    Same,
+}
+
 /// What a step did that wrote to cells.
 #[derive(Clone, Copy)]
-pub enum How {
+pub(crate) enum How {
     /// It went on.
     Went,
     /// It made a channel.
@@ -22,7 +35,7 @@ pub enum How {
 /// The variants of `GoUndo`, `Former` and `Status` in one enum, whose small parts stand beside its tag. One enum inside another
 /// would take eight bytes more.
 #[derive(Drop)]
-pub enum Packed {
+pub(crate) enum Packed {
     /// The frame stood there, and no cell was written to.
     Same(How, Spot),
     Nothing(How, Spot, u32),
@@ -51,7 +64,7 @@ pub enum Packed {
 /// What a change of a goroutine replaced, in 24 bytes.
 #[derive(Drop)]
 pub struct KeptUndo {
-    pub packed: Packed,
+    pub(crate) packed: Packed,
 }
 
 impl Model for KeptUndo {
@@ -111,7 +124,37 @@ fn unpack_frame(how: How, spot: Spot, cells: Former) -> GoUndo
     }
 }
 
+/// Whether a goroutine of this status is ready.
+fn prior_in(status: &Status) -> Prior
+    ensures { (after : StatusSeen) → IsPrior result (status_of status.now) after }
+{
+    match status {
+        Status::Ready => Prior::Ready,
+        Status::Sending(_) | Status::Receiving(_) | Status::Waiting(_) | Status::Finished => {
+            Prior::Unready
+        }
+    }
+}
+
 impl KeptUndo {
+    /// What stands in a record that is made before its step is taken.
+    pub fn none_yet() -> KeptUndo
+        ensures { result ≡ undos.Retried statuses.Ready }
+    {
+        KeptUndo {
+            packed: Packed::WasReady,
+        }
+    }
+
+    /// What a goroutine replaced that stood there and came to wait.
+    pub fn parked(spot: Spot) -> KeptUndo
+        ensures { result ≡ undos.Parked spot }
+    {
+        KeptUndo {
+            packed: Packed::Parked(spot),
+        }
+    }
+
     /// What undoes a change, in fewer bytes.
     #[inline(always)]
     pub fn new(undo: GoUndo) -> KeptUndo
@@ -165,5 +208,75 @@ impl KeptUndo {
             Packed::WasWaiting(waits) => GoUndo::Retried(Status::Waiting(waits)),
             Packed::WasFinished => GoUndo::Retried(Status::Finished),
         }
+    }
+
+    /// Where the innermost frame of the goroutine stood before the change, if that keeps it.
+    #[tactic(auto, using(crate::proofs::KeptLemmas::kept_in_frame))]
+    pub fn spot(&self) -> Option<Spot>
+        ensures { result ≡ spot_in self.now }
+    {
+        match &self.packed {
+            Packed::Same(_, spot)
+            | Packed::Nothing(_, spot, _)
+            | Packed::Int(_, spot, _, _)
+            | Packed::Bool(_, _, spot, _)
+            | Packed::Unit(_, spot, _)
+            | Packed::Nil(_, spot, _)
+            | Packed::Channel(_, spot, _, _)
+            | Packed::IntAndBool(_, _, spot, _, _)
+            | Packed::Each(_, spot, _)
+            | Packed::Printed(spot)
+            | Packed::Entered(spot)
+            | Packed::Began(spot)
+            | Packed::Parked(spot)
+            | Packed::Faulted(spot) => Some(*spot),
+            Packed::Left(left) => Some(left.frame.spot()),
+            Packed::Finished(frame) => Some(frame.spot()),
+            Packed::Met(met) => Some(Spot {
+                function: met.function,
+                number: met.frame.number,
+            }),
+            Packed::WasReady
+            | Packed::WasSending(_)
+            | Packed::WasReceiving(_)
+            | Packed::WasWaiting(_)
+            | Packed::WasFinished => None,
+        }
+    }
+
+    /// Whether the goroutine was ready before the change.
+    #[tactic(auto, using(crate::proofs::KeptLemmas::same_in_frame))]
+    pub fn prior(&self) -> Prior
+        ensures { TellsPrior result self.now }
+    {
+        match &self.packed {
+            Packed::Same(_, _)
+            | Packed::Nothing(_, _, _)
+            | Packed::Int(_, _, _, _)
+            | Packed::Bool(_, _, _, _)
+            | Packed::Unit(_, _, _)
+            | Packed::Nil(_, _, _)
+            | Packed::Channel(_, _, _, _)
+            | Packed::IntAndBool(_, _, _, _, _)
+            | Packed::Each(_, _, _)
+            | Packed::Printed(_)
+            | Packed::Entered(_)
+            | Packed::Left(_)
+            | Packed::Began(_)
+            | Packed::Faulted(_) => Prior::Same,
+            Packed::Parked(_) | Packed::Finished(_) | Packed::WasReady => Prior::Ready,
+            Packed::Met(met) => prior_in(&met.status),
+            Packed::WasSending(_)
+            | Packed::WasReceiving(_)
+            | Packed::WasWaiting(_)
+            | Packed::WasFinished => Prior::Unready,
+        }
+    }
+
+    /// Whether the change printed a line.
+    pub fn has_printed(&self) -> bool
+        ensures { result ≡ is_printed self.now }
+    {
+        matches!(&self.packed, Packed::Printed(_))
     }
 }

@@ -18,7 +18,7 @@ use Rattle.gr_code.specs.Goroutines.{CodeGoroutine}
 use Rattle.gr_refine.specs.Contents.{Contents, goroutine_of}
 use Rattle.gr_step.specs.Record.{Record}
 use Rattle.gr_step.specs.Listings.{frame_in, state_in}
-use Rattle.gr_step.specs.Records.{is_printed}
+use Rattle.gr_step.specs.Before.{is_printed}
 use Rattle.gr_step.specs.Kept.{Kept, none, one_more}
 use Rattle.gr_queries.specs.Consoles.{texts_of, passed, line_of, lines_after, lines_told}
 use Rattle.gr_queries.proofs.Logs.{kept_is_log}

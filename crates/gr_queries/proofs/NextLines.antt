@@ -12,7 +12,7 @@ use Rattle.gr_code.specs.Goroutines.{CodeGoroutine}
 use Rattle.gr_refine.specs.Contents.{Contents}
 use Rattle.gr_step.specs.Views.{lines_of}
 use Rattle.gr_step.specs.Record.{Record}
-use Rattle.gr_step.specs.Records.{is_printed}
+use Rattle.gr_step.specs.Before.{is_printed}
 use Rattle.gr_queries.specs.Consoles as consoles
 use Rattle.gr_queries.specs.Consoles.{texts_of, count_in, untold, passed, lines_after, lines_told}
 use Rattle.gr_queries.proofs.Copying.{some_inj, is_there, map_last}

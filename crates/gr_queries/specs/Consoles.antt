@@ -8,7 +8,7 @@ use Rattle.gr_laws.specs.Reached.{Logged}
 use Rattle.gr_refine.specs.Contents.{Contents}
 use Rattle.gr_step.specs.Record.{Record}
 use Rattle.gr_step.specs.Listings.{state_in}
-use Rattle.gr_step.specs.Records.{is_printed}
+use Rattle.gr_step.specs.Before.{is_printed}
 use Rattle.gr_step.specs.Kept.{Kept}
 
 -- the lines that each goroutine printed

@@ -8,7 +8,8 @@ use Rattle.gr_laws.specs.Reached.{Logged}
 use Rattle.gr_refine.specs.Contents.{Contents}
 use Rattle.gr_record.specs.declared.record.Record.{Record}
 use Rattle.gr_record.specs.Listings.{state_in}
-use Rattle.gr_record.specs.Records.{event_of, is_printed}
+use Rattle.gr_tables.specs.Before.{is_printed}
+use Rattle.gr_record.specs.Records.{event_of}
 use Rattle.gr_record.specs.Taking.{IsRecord}
 
 -- a record is that of a step of the log, from the first contents to the second

@@ -13,7 +13,6 @@ use Rattle.gr_rules.specs.Operators.{same_channel}
 use Rattle.gr_code.specs.Goroutines.{CodeGoroutine}
 use Rattle.gr_tables.specs.Undoing.{undone, Fits, need}
 use Rattle.gr_tables.specs.GoUndo.{GoUndo}
-use Rattle.gr_tables.specs.GoUndo.TheVariants.{Printed}
 use Rattle.gr_tables.specs.Back.{back_at, AllFit}
 use Rattle.gr_tables.specs.NamedChannels.{chan_back, ChansFit}
 use Rattle.gr_tables.specs.NamedGoroutines.{At}
@@ -40,10 +39,6 @@ beyond d f c = option_map_or f c.beyond d
 
 abbrev pub operation_in : Effect → Option rules.Operation
 operation_in c = beyond None (λ b. option_map operation_of b.operation) c
-
--- whether a line was printed
-abbrev pub is_printed : GoUndo → Bool
-is_printed u = elim u [ Printed n ↦ true | _ ↦ false ]
 
 -- whether it ended or stopped the program
 abbrev pub stops : Effect → Bool

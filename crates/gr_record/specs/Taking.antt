@@ -13,7 +13,8 @@ use Rattle.gr_lower.specs.Lowered.{lowered, meaning}
 use Rattle.gr_record.specs.Effects.{Effect}
 use Rattle.gr_record.specs.declared.record.Record.{Record}
 use Rattle.gr_record.specs.Listings.{frame_in, state_in}
-use Rattle.gr_record.specs.Records.{event_of, operation_in, is_printed, writes_of, reads_of, taken_back, CanGoBack}
+use Rattle.gr_tables.specs.Before.{is_printed}
+use Rattle.gr_record.specs.Records.{event_of, operation_in, writes_of, reads_of, taken_back, CanGoBack}
 use Rattle.gr_record.specs.Within.{ChangesWithin}
 
 -- The attempt of an event is the step from the first contents to the second. The change tells what the report does, has

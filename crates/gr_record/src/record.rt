@@ -4,13 +4,14 @@ ghost use Rattle.std.specs.Prelude.{◌≡◌, Some, None, option_copied, IfOk};
 ghost use Rattle.gr_record.specs.Effects.{effect_in, touched_to_receive, touched_to_send};
 ghost use Rattle.gr_tables.specs.Kinds.{kind_of};
 ghost use Rattle.gr_record.specs.Parts.{begun_in, channel_in};
-ghost use Rattle.gr_record.specs.Records.{event_of, is_printed};
+ghost use Rattle.gr_tables.specs.Before.{is_printed};
+ghost use Rattle.gr_record.specs.Records.{event_of};
 
 use crate::few::Few;
 use crate::slot::SlotPlace;
 use gr_base::{ChName, Choice, Event, GoName, Kind, NoMemory, Object, StepId};
 use gr_channels::ChanUndo;
-use gr_tables::{GoUndo, KeptUndo, LocalKind, Packed, Spot};
+use gr_tables::{GoUndo, KeptUndo, LocalKind, Spot};
 use std::alloc::Global;
 use std::marker::Model;
 
@@ -139,13 +140,6 @@ pub struct Further {
     pub beyond: Beyond,
 }
 
-/// What stands for a change of a goroutine before the step is taken. A box is made first, and then filled.
-fn none_yet() -> KeptUndo {
-    KeptUndo {
-        packed: Packed::WasReady,
-    }
-}
-
 impl Passage {
     /// What a step will reach, before it replaces anything.
     pub fn new(alloc: Global, contact: Contact) -> Result<Box<Passage>, NoMemory>
@@ -158,7 +152,7 @@ impl Passage {
         ensures { result.contact ≡ contact }
     {
         Passage {
-            own: none_yet(),
+            own: KeptUndo::none_yet(),
             contact,
             undo: None,
         }
@@ -174,7 +168,7 @@ impl Exchange {
     {
         let exchange = Exchange {
             passage: Passage::of(contact),
-            met: (partner, none_yet()),
+            met: (partner, KeptUndo::none_yet()),
         };
         Ok(Box::new(alloc, exchange)?)
     }
@@ -185,7 +179,7 @@ impl Further {
     pub fn new(alloc: Global, beyond: Beyond) -> Result<Box<Further>, NoMemory>
         ensures { IfOk result (λ further. further.value.beyond ≡ beyond) }
     {
-        let own = none_yet();
+        let own = KeptUndo::none_yet();
         Ok(Box::new(alloc, Further { own, beyond })?)
     }
 }
@@ -324,19 +318,13 @@ impl Change {
         ensures { result ≡ is_printed self.now.own }
     {
         match &self.form {
-            Form::Alone(_, own) => wrote_line(own),
+            Form::Alone(_, own) => own.has_printed(),
             Form::WaitsToSend(_, _, _) | Form::WaitsToReceive(_, _, _) => false,
-            Form::Passes(_, passage) => wrote_line(&passage.own),
-            Form::Exchanges(_, exchange) => wrote_line(&exchange.passage.own),
-            Form::Further(_, further) => wrote_line(&further.own),
+            Form::Passes(_, passage) => passage.own.has_printed(),
+            Form::Exchanges(_, exchange) => exchange.passage.own.has_printed(),
+            Form::Further(_, further) => further.own.has_printed(),
         }
     }
-}
-
-fn wrote_line(own: &KeptUndo) -> bool
-    ensures { result ≡ is_printed own.now }
-{
-    matches!(&own.packed, Packed::Printed(_))
 }
 
 impl Touched {

@@ -1,6 +1,5 @@
 pub mod Basics
 mod PoolLemmas
-mod PriorLemmas
 pub mod KeptLemmas
 mod OwnerLemmas
 mod PoolBackLemmas

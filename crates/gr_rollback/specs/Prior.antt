@@ -1,26 +1,11 @@
 -- Which goroutines were ready before a change, by what the change replaced.
 use Rattle.std.specs.Prelude.{◌≡◌, ℕ, true, false, List, Option}
-use Rattle.gr_code.specs.Goroutines.{CodeGoroutine}
 use Rattle.gr_refine.specs.Contents.{Contents}
-use Rattle.gr_goros.specs.Undoing.{undone}
 use Rattle.gr_goros.specs.declared.undo.GoUndo.{GoUndo}
 use Rattle.gr_pool.specs.Goroutines as pools
 use Rattle.gr_pool.specs.Goroutines.{is_among}
-use Rattle.gr_rules.specs.Goroutines.{Status, ready}
 use Rattle.gr_step.specs.Records.{go_back, is_go, GoesFit}
-use Rattle.gr_rollback.specs.declared.bringing.Prior.{Prior}
-use Rattle.gr_rollback.specs.declared.bringing.Prior.TheVariants as priors
 use Rattle.gr_rollback.specs.Readiness.{HasAllReady}
-
--- what is told of the status before a change, beside the one after it
-abbrev pub IsPrior : Prior → Status → Status → Type 0
-IsPrior priors.Ready before after = before ≡ ready
-IsPrior priors.Unready before after = before ≡ ready → ⊥
-IsPrior priors.Same before after = before ≡ after
-
--- what is told of the status before the change that replaced this, in each goroutine
-abbrev pub TellsPrior : Prior → GoUndo → Type 0
-TellsPrior prior u = (g : CodeGoroutine) → IsPrior prior (undone u g).status g.status
 
 -- the contents with these changes of goroutines taken back, the last first
 abbrev pub changes_back : List (List ℕ × GoUndo) → Contents → Contents

@@ -1,77 +1,24 @@
 //! The pool of ready goroutines brought back before changes, by what these replaced.
 
 ghost use Rattle.std.specs.Prelude.{◌≡◌, ◌∷◌, [], true, option_copied};
-ghost use Rattle.gr_goros.specs.Views.{status_of};
 ghost use Rattle.gr_pool.specs.Goroutines.{is_among};
-ghost use Rattle.gr_rules.specs.Goroutines.{Status as StatusSeen};
 ghost use Rattle.gr_step.specs.Fews.{members};
 ghost use Rattle.gr_step.specs.Parts.{begun_in};
 ghost use Rattle.gr_step.specs.Records.{begun_by, goroutines_changed};
 ghost use Rattle.gr_rollback.specs.Readiness.{AllKnown, names_met, met_by};
-ghost use Rattle.gr_rollback.specs.Prior.{IsPrior, TellsPrior, BringsBack, BringsStepBack, Loses};
+ghost use Rattle.gr_rollback.specs.Prior.{BringsBack, BringsStepBack, Loses};
 
 use gr_base::GoName;
-use gr_goros::kept::Packed;
-use gr_goros::{KeptUndo, Status};
+use gr_goros::{KeptUndo, Prior};
 use gr_pool::Pool;
 use gr_step::{Beyond, Form, Record};
-
-/// Whether a goroutine was ready before a change.
-#[derive(Clone, Copy)]
-pub(crate) enum Prior {
-    Ready,
-    Unready,
-    /// The goroutine was ready before the change exactly if it is after it.
-    Same,
-}
-
-/// Whether a goroutine of this status is ready.
-fn prior_in(status: &Status) -> Prior
-    ensures { (after : StatusSeen) → IsPrior result (status_of status.now) after }
-{
-    match status {
-        Status::Ready => Prior::Ready,
-        Status::Sending(_) | Status::Receiving(_) | Status::Waiting(_) | Status::Finished => {
-            Prior::Unready
-        }
-    }
-}
-
-/// Whether a goroutine was ready before the change that replaced this.
-#[tactic(auto, using(crate::proofs::PriorLemmas::same_in_frame))]
-pub(crate) fn prior_to(undo: &KeptUndo) -> Prior
-    ensures { TellsPrior result undo.now }
-{
-    match &undo.packed {
-        Packed::Same(_, _)
-        | Packed::Nothing(_, _, _)
-        | Packed::Int(_, _, _, _)
-        | Packed::Bool(_, _, _, _)
-        | Packed::Unit(_, _, _)
-        | Packed::Nil(_, _, _)
-        | Packed::Channel(_, _, _, _)
-        | Packed::IntAndBool(_, _, _, _, _)
-        | Packed::Each(_, _, _)
-        | Packed::Printed(_)
-        | Packed::Entered(_)
-        | Packed::Left(_)
-        | Packed::Began(_)
-        | Packed::Faulted(_) => Prior::Same,
-        Packed::Parked(_) | Packed::Finished(_) | Packed::WasReady => Prior::Ready,
-        Packed::Met(met) => prior_in(&met.status),
-        Packed::WasSending(_)
-        | Packed::WasReceiving(_)
-        | Packed::WasWaiting(_)
-        | Packed::WasFinished => Prior::Unready,
-    }
-}
 
 /// Brings the pool back before a change of a goroutine that it knows. It takes no memory.
 fn bring_back(pool: &mut Pool, go: &GoName, undo: &KeptUndo)
     requires { is_among go.now pool.old.known ≡ true }
     ensures { BringsBack ((go.now, undo.now) ∷ []) pool.old pool.new }
 {
-    match prior_to(undo) {
+    match undo.prior() {
         Prior::Ready => pool.insert(go),
         Prior::Unready => pool.remove(go),
         Prior::Same => {}

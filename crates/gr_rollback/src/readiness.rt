@@ -9,9 +9,8 @@ ghost use Rattle.gr_step.specs.Stores.{contents_at};
 ghost use Rattle.gr_rollback.specs.Readiness.{IsReadyIn, KeepsStatus, KnowsReady, KnowsThere, Settles, KnowsMore, AllKnown};
 ghost use Rattle.gr_rollback.specs.Readiness.{names_met, others_of, met_by};
 
-use crate::bringing::{Prior, prior_to};
 use gr_base::{GoName, NoMemory};
-use gr_goros::{KeptUndo, Status};
+use gr_goros::{KeptUndo, Prior, Status};
 use gr_pool::Pool;
 use gr_step::{Change, Exchange, Form, Record, Store};
 
@@ -60,7 +59,7 @@ fn settle_alone(pool: &mut Pool, store: &Store, go: &GoName, own: &KeptUndo)
     requires ready { KeepsStatus own.now → IsReadyIn (contents_at store.now) go.now }
     ensures { Settles (go.now ∷ []) (contents_at store.now) pool.old pool.new }
 {
-    if let Prior::Same = prior_to(own) {
+    if let Prior::Same = own.prior() {
         return;
     }
     settle_own(pool, store, go);

@@ -18,7 +18,7 @@ use Rattle.gr_refine.specs.Partners.{AreChannels}
 use Rattle.gr_refine.specs.Standing.{AllStand, ContentsStand}
 use Rattle.gr_lower.specs.Lowered.{lowered, meaning}
 use Rattle.gr_record.specs.Listings.{frame_in, state_in}
-use Rattle.gr_record.specs.Records.{is_printed}
+use Rattle.gr_goros.specs.Before.{is_printed}
 use Rattle.gr_record.specs.Taking.{Takes}
 use Rattle.gr_step.proofs.OwnTakesLemmas.{own_takes, count_is}
 use Rattle.gr_step.proofs.ReachesLemmas.{alone}

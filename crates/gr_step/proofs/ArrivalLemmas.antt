@@ -14,7 +14,7 @@ use Rattle.gr_lower.specs.Lowered.{lowered, meaning}
 use Rattle.gr_step.specs.declared.objects.Objects.{Objects}
 use Rattle.gr_step.specs.Objects.{contents_in}
 use Rattle.gr_step.specs.Premises.{Acting}
-use Rattle.gr_record.specs.Records.{is_printed}
+use Rattle.gr_goros.specs.Before.{is_printed}
 use Rattle.gr_step.proofs.NeedNoFrameLemmas.{need_none}
 use Rattle.gr_step.proofs.PassLemmas.{same_depth, same_text}
 use Rattle.gr_step.proofs.PlaceLemmas.{Placed, placed_at, was_content, at_number}

@@ -35,7 +35,7 @@ use Rattle.gr_record.specs.Effects.{Effect}
 use Rattle.gr_record.specs.Listings.{frame_in, state_in}
 use Rattle.gr_step.specs.Objects.{contents_in, run_of}
 use Rattle.gr_step.specs.Premises.{Acting}
-use Rattle.gr_record.specs.Records.{is_printed}
+use Rattle.gr_goros.specs.Before.{is_printed}
 use Rattle.gr_step.specs.Room.{HasRoom}
 use Rattle.gr_record.specs.Taking.{Takes}
 use Rattle.gr_step.proofs.AloneStepLemmas.{alone_takes}

@@ -23,7 +23,8 @@ use Rattle.gr_refine.proofs.StandingLemmas.{change_keeps_standing}
 use Rattle.gr_lower.specs.Lowered.{lowered, meaning}
 use Rattle.gr_record.specs.Effects.{Effect}
 use Rattle.gr_record.specs.Listings.{frame_in, state_in}
-use Rattle.gr_record.specs.Records.{operation_in, is_printed, stops, writes_of, reads_of, goroutines_changed, channels_changed, begun_by}
+use Rattle.gr_goros.specs.Before.{is_printed}
+use Rattle.gr_record.specs.Records.{operation_in, stops, writes_of, reads_of, goroutines_changed, channels_changed, begun_by}
 use Rattle.gr_record.specs.Records.{made_by}
 use Rattle.gr_record.specs.Records.{go_back, go_undone, GoesFit, is_go, is_channel, taken_back, FramesStay, CanGoBack}
 use Rattle.gr_record.specs.Within.{EachIsAmong, PartsAreAmong, ChangesWithin}

@@ -8,7 +8,8 @@ use Rattle.gr_refine.proofs.NameLemmas.{go_is, go_self}
 use Rattle.gr_goros.specs.Undoing.{undone, need, on_innermost, frame_before}
 use Rattle.gr_goros.specs.declared.undo.GoUndo.{GoUndo}
 use Rattle.gr_goros.specs.declared.undo.GoUndo.TheVariants as undos
-use Rattle.gr_record.specs.Records.{is_printed, go_undone, go_back, GoFitsAt, GoesFit, NeedNoFrame}
+use Rattle.gr_goros.specs.Before.{is_printed}
+use Rattle.gr_record.specs.Records.{go_undone, go_back, GoFitsAt, GoesFit, NeedNoFrame}
 use Rattle.gr_step.specs.Passing.{ArrivesAt}
 use Rattle.gr_step.proofs.PrintLemmas.{not_printed}
 

@@ -5,7 +5,7 @@ use Rattle.gr_code.specs.Goroutines.{CodeGoroutine}
 use Rattle.gr_goros.specs.Undoing.{undone, front, Fits}
 use Rattle.gr_goros.specs.declared.undo.GoUndo.{GoUndo}
 use Rattle.gr_goros.specs.declared.undo.GoUndo.TheVariants as undos
-use Rattle.gr_record.specs.Records.{is_printed}
+use Rattle.gr_goros.specs.Before.{is_printed}
 
 -- a printed line is one more
 one_more : (xs ys : List (List ℕ)) → front ys ≡ xs → 0 < length ys → length ys ≡ suc (length xs)

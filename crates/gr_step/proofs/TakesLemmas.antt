@@ -21,7 +21,8 @@ use Rattle.gr_lower.specs.Lowered.{lowered, meaning}
 use Rattle.gr_tables.specs.NamedChannels.{chan_back, ChansFit}
 use Rattle.gr_record.specs.Effects.{Effect}
 use Rattle.gr_record.specs.Listings.{frame_in, state_in}
-use Rattle.gr_record.specs.Records.{is_printed, reads_of, is_go, is_channel, go_back, GoesFit, goroutines_changed, channels_changed, taken_back, CanGoBack}
+use Rattle.gr_goros.specs.Before.{is_printed}
+use Rattle.gr_record.specs.Records.{reads_of, is_go, is_channel, go_back, GoesFit, goroutines_changed, channels_changed, taken_back, CanGoBack}
 use Rattle.gr_record.specs.Within.{EachIsAmong, PartsAreAmong, ChangesWithin}
 use Rattle.gr_record.specs.Taking.{Takes}
 use Rattle.gr_step.specs.Passing.{Tells}

@@ -36,3 +36,4 @@ pub use Rattle.gr_record.specs.Records
 pub use Rattle.gr_record.specs.Running
 pub use Rattle.gr_record.specs.Taking
 pub use Rattle.gr_goros.specs.Views
+pub use Rattle.gr_goros.specs.Before

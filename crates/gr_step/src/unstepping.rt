@@ -17,7 +17,6 @@ ghost use Rattle.gr_step.specs.Unstepping.{GoBack, after_back, IsForgotten, IsUn
 use crate::objects::{Objects, Run};
 use gr_base::{ChName, GoName, Kind, NoMemory};
 use gr_channels::ChanUndo;
-use gr_goros::kept::Packed;
 use gr_goros::{KeptUndo, Spot};
 use gr_record::Few;
 use gr_record::record::{Beyond, Change, Exchange, Form, Further, More, Passage};
@@ -236,8 +235,7 @@ impl Objects {
         ensures run { self.new.run ≡ self.old.run }
     {
         self.channels.put_back(channel, undo);
-        let packed = Packed::Parked(spot);
-        undo_at(&mut self.goroutines, go, KeptUndo { packed }).unwrap();
+        undo_at(&mut self.goroutines, go, KeptUndo::parked(spot)).unwrap();
     }
 
     /// Takes back what a step did that reached beyond its goroutine. Refused, nothing has changed.

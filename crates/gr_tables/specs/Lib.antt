@@ -10,4 +10,4 @@ pub use Rattle.gr_goros.specs.declared.undo.GoUndo
 pub use Rattle.gr_goros.specs.declared.undo.Spot
 pub use Rattle.gr_goros.specs.Undoing
 pub use Rattle.gr_goros.specs.Kinds
-pub use Rattle.gr_goros.specs.Keeping
+pub use Rattle.gr_goros.specs.Before

@@ -6,5 +6,4 @@ pub mod channel_laws;
 pub mod channels;
 pub mod goroutines;
 
-pub use gr_goros::kept::Packed;
 pub use gr_goros::{GoUndo, KeptUndo, LocalKind, Spot};
