@@ -1,4 +1,4 @@
-//! Steps of a frame that read and replace whole numbers alone, as most steps do.
+//! Steps of a frame that read and replace whole numbers alone, or test a truth value, as most steps do.
 
 ghost use Rattle.std.specs.Prelude.{◌≡◌, ◌+◌, ◌<◌, ◌^◌, Bool, true, slice_get, IfSome, IfNone};
 ghost use Rattle.gr_base.specs.declared.values.Value.TheVariants.{Int, Bool as Truth};
@@ -26,6 +26,7 @@ use crate::wait::Status;
 use gr_base::Value;
 use gr_code::code::{Action, Code, Instruction, Operand};
 use gr_eval::{Scalar, number_in, number_of, of_numbers, on_ints};
+use gr_program::Literal;
 use gr_tree::BinaryOp;
 use std::mem;
 
@@ -39,16 +40,38 @@ pub(crate) struct IntChange {
     pub(crate) former: i64,
 }
 
-/// The truth value that the operand is, where that stands in a cell.
+/// The truth value in a cell that has one.
+fn truth_in(cells: &[Option<Value>], cell: u32) -> Option<bool>
+    ensures { IfSome result (λ b. held (slice_get cells.now cell) ≡ gives (Truth b)) }
+{
+    match cells.get(cell as usize) {
+        Some(Some(Value::Bool(b))) => Some(*b),
+        _ => None,
+    }
+}
+
+/// The truth value that the operand is, where that stands in a cell or in the code.
 fn truth_of(cells: &[Option<Value>], operand: &Operand) -> Option<bool>
     ensures { IfSome result (λ b. evaluate cells.now (operand_of operand.now) ≡ gives (Truth b)) }
 {
-    let Operand::Variable(cell) = operand else {
-        return None;
-    };
-    match cells.get(*cell as usize) {
-        Some(Some(Value::Bool(b))) => Some(*b),
+    match operand {
+        Operand::Variable(cell) => truth_in(cells, *cell),
+        Operand::Literal(Literal::Truth(b)) => Some(*b),
         _ => None,
+    }
+}
+
+/// The truth value of a condition, where it is one on numbers, or the value stands in a cell or in the code. A `for` without a
+/// condition has it in its code.
+#[inline(always)]
+fn condition(cells: &[Option<Value>], operand: &Operand) -> Option<bool>
+    requires { ¬ (evaluate cells.now (operand_of operand.now) ≡ wrong) }
+    ensures { IfSome result (λ b. evaluate cells.now (operand_of operand.now) ≡ gives (Truth b)) }
+{
+    match of_numbers(cells, operand) {
+        Some(Ok(Scalar::Bool(truth))) => Some(truth),
+        Some(_) => None,
+        None => truth_of(cells, operand),
     }
 }
 
@@ -193,19 +216,18 @@ impl Frame {
         }
     }
 
-    /// Goes on where a condition on numbers holds, or where it does not.
+    /// Goes on where a condition holds, or where it does not, if it is found so soon.
     #[inline(always)]
     fn compare(&mut self, operand: &Operand, holds: u32, fails: u32) -> Option<IntChange>
         requires { ¬ (tested self.old holds fails (also (operand_of operand.now) nothing) ≡ wrong) }
         ensures { ChangesInts result (tested self.old holds fails (also (operand_of operand.now) nothing)) self.old self.new }
     {
-        match of_numbers(self.cells(), operand) {
-            Some(Ok(Scalar::Bool(truth))) => {
-                let on = if truth { holds } else { fails };
-                Some(self.jump_to(on))
-            }
-            _ => None,
-        }
+        let on = if condition(self.cells(), operand)? {
+            holds
+        } else {
+            fails
+        };
+        Some(self.jump_to(on))
     }
 
     /// Assigns with an operator on numbers.
