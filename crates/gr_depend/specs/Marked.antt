@@ -1,9 +1,12 @@
 -- The marks of dependents and causes.
 use Rattle.std.specs.Prelude.{◌≡◌, ◌<◌, ◌≤◌, ◌+◌, ◌-◌, ℕ, zero, suc, Bool, true, false, cond, List, [], ◌∷◌, ◌++◌, length, take, drop, slice_get, slice_index_or}
 use Rattle.std.specs.Option.{option_map_or}
+use Rattle.gr_base.specs.declared.objects.Object.{Object}
 use Rattle.gr_causal.specs.Dependence.{hits, causes}
 use Rattle.gr_record.specs.declared.record.Record.{Record}
-use Rattle.gr_record.specs.Conflicts.{conflict_of}
+use Rattle.gr_record.specs.Conflicts.{written_by, touched_by, conflict_of}
+use Rattle.gr_touches.specs.declared.marks.Wanted.{Wanted}
+use Rattle.gr_touches.specs.declared.marks.Wanted.TheVariants.{All, Writes}
 
 module _ {A : Type 0} (clash : A → A → Bool) where
   -- of these elements, a mark for each that conflicts with one collected before, where ds are collected
@@ -26,6 +29,11 @@ module _ {A : Type 0} (clash : A → A → Bool) where
   -- whether the one at a place conflicts with one of these
   abbrev pub hits_at : List A → List A → ℕ → Bool
   hits_at ds rs p = option_map_or (hits clash ds) (slice_get rs p) false
+
+-- the objects that a step touched in the wanted way
+abbrev pub reached_by : Wanted → Record → List Object
+reached_by All r = touched_by r
+reached_by Writes r = written_by r
 
 -- whether the steps at two places conflict
 abbrev pub conflict_at : List Record → ℕ → ℕ → Bool

@@ -6,11 +6,12 @@ ghost use Rattle.gr_record.specs.Conflicts.{written_by, read_by, touched_by, con
 ghost use Rattle.gr_touches.specs.ObjectRefs.{seen};
 ghost use Rattle.gr_touches.specs.Told.{seen_in};
 ghost use Rattle.gr_touches.specs.Touches.{is_among};
+ghost use Rattle.gr_depend.specs.Marked.{reached_by};
 
 use crate::log::Log;
 use gr_base::Object;
 use gr_record::Record;
-use gr_touches::{ObjectRef, TouchedObjects, reads, writes};
+use gr_touches::{ObjectRef, TouchedObjects, Wanted, reads, writes};
 
 /// Whether the object is one of these.
 fn is_one_of(object: &ObjectRef<'_>, objects: TouchedObjects<'_>) -> bool
@@ -43,56 +44,47 @@ fn has_touched(step: &Record, object: &ObjectRef<'_>) -> bool
     is_one_of(object, reads(step)) || has_written(step, object)
 }
 
-/// Whether a step wrote one of these objects.
-fn any_written(step: &Record, objects: TouchedObjects<'_>) -> bool
-    ensures { result ≡ list_any (λ o. is_among o (written_by step.now)) (seen_in objects.entry) }
+/// Whether a step touched the object in the wanted way.
+fn has_reached(step: &Record, object: &ObjectRef<'_>, wanted: Wanted) -> bool
+    ensures { result ≡ is_among (seen object.now) (reached_by wanted step.now) }
 {
-    let Some((first, rest)) = objects.split_first() else {
-        return any_written_in(step, objects.others);
-    };
-    has_written(step, &first) || any_written(step, rest)
+    match wanted {
+        Wanted::All => has_touched(step, object),
+        Wanted::Writes => has_written(step, object),
+    }
 }
 
-/// Whether a step wrote one of a slice of objects.
-fn any_written_in(step: &Record, objects: &[Object]) -> bool
-    ensures { result ≡ list_any (λ o. is_among o (written_by step.now)) objects.now }
+/// Whether a step touched one of these objects in the wanted way.
+fn reached_any(step: &Record, objects: TouchedObjects<'_>, wanted: Wanted) -> bool
+    ensures { result ≡ list_any (λ o. is_among o (reached_by wanted step.now)) (seen_in objects.entry) }
+{
+    let Some((first, rest)) = objects.split_first() else {
+        return reached_any_in(step, objects.others, wanted);
+    };
+    has_reached(step, &first, wanted) || reached_any(step, rest, wanted)
+}
+
+/// Whether a step touched one of a slice of objects in the wanted way.
+fn reached_any_in(step: &Record, objects: &[Object], wanted: Wanted) -> bool
+    ensures { result ≡ list_any (λ o. is_among o (reached_by wanted step.now)) objects.now }
 {
     objects
         .iter()
-        .any(|object| has_written(step, &ObjectRef::of(object)))
-}
-
-/// Whether a step touched one of these objects.
-fn any_touched(step: &Record, objects: TouchedObjects<'_>) -> bool
-    ensures { result ≡ list_any (λ o. is_among o (touched_by step.now)) (seen_in objects.entry) }
-{
-    let Some((first, rest)) = objects.split_first() else {
-        return any_touched_in(step, objects.others);
-    };
-    has_touched(step, &first) || any_touched(step, rest)
-}
-
-/// Whether a step touched one of a slice of objects.
-fn any_touched_in(step: &Record, objects: &[Object]) -> bool
-    ensures { result ≡ list_any (λ o. is_among o (touched_by step.now)) objects.now }
-{
-    objects
-        .iter()
-        .any(|object| has_touched(step, &ObjectRef::of(object)))
+        .any(|object| has_reached(step, &ObjectRef::of(object), wanted))
 }
 
 /// Whether the second step wrote what the first read and did not write.
 fn overwrites(first: &Record, second: &Record) -> bool
     ensures { result ≡ list_any (λ o. is_among o (written_by second.now)) (read_by first.now) }
 {
-    any_written(second, reads(first))
+    reached_any(second, reads(first), Wanted::Writes)
 }
 
 /// Whether the second step touched what the first wrote.
 fn meets_writes(first: &Record, second: &Record) -> bool
     ensures { result ≡ list_any (λ o. is_among o (touched_by second.now)) (written_by first.now) }
 {
-    any_touched(second, writes(first))
+    reached_any(second, writes(first), Wanted::All)
 }
 
 /// Whether two steps conflict.
