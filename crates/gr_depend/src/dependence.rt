@@ -11,7 +11,7 @@ ghost use Rattle.gr_touches.specs.Walks.{AreWalked, HasMarks};
 
 use crate::log::Log;
 use gr_base::NoMemory;
-use gr_touches::{LogSide, Origin, Wanted};
+use gr_touches::{Origin, Wanted};
 use std::alloc::Global;
 
 /// This many marks, none of them set.
@@ -71,22 +71,12 @@ impl Log {
         ensures { marks.new ≡ dependent_marks conflict_of (records_of self.now) at }
     {
         marks[0] = true;
-        let first = Origin {
-            side: LogSide::Later,
-            place: at,
-            base: at,
-        };
-        self.mark_from(first, read, written, marks);
+        self.mark_from(Origin::later(at, at), read, written, marks);
         for place in at + 1..self.records.len() {
             if !marks[place - at] {
                 continue;
             }
-            let origin = Origin {
-                side: LogSide::Later,
-                place,
-                base: at,
-            };
-            self.mark_from(origin, read, written, marks);
+            self.mark_from(Origin::later(place, at), read, written, marks);
         }
     }
 
@@ -98,24 +88,14 @@ impl Log {
         ensures { marks.new ≡ cause_marks conflict_of (records_of self.now) at }
     {
         marks[at] = true;
-        let first = Origin {
-            side: LogSide::Earlier,
-            place: at,
-            base: 0,
-        };
-        self.mark_from(first, read, written, marks);
+        self.mark_from(Origin::earlier(at), read, written, marks);
         let mut left = at;
         while left > 0 {
             left -= 1;
             if !marks[left] {
                 continue;
             }
-            let origin = Origin {
-                side: LogSide::Earlier,
-                place: left,
-                base: 0,
-            };
-            self.mark_from(origin, read, written, marks);
+            self.mark_from(Origin::earlier(left), read, written, marks);
         }
     }
 

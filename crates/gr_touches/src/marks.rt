@@ -21,6 +21,30 @@ pub struct Origin {
     pub base: usize,
 }
 
+impl Origin {
+    /// The later side of a place, with the first mark at another.
+    pub fn later(place: usize, base: usize) -> Origin
+        ensures { result ≡ record { side = LogSide.Later; place = place; base = base } }
+    {
+        Origin {
+            side: LogSide::Later,
+            place,
+            base,
+        }
+    }
+
+    /// The earlier side of a place, with the first mark at the beginning of the log.
+    pub fn earlier(place: usize) -> Origin
+        ensures { result ≡ record { side = LogSide.Earlier; place = place; base = 0 } }
+    {
+        Origin {
+            side: LogSide::Earlier,
+            place,
+            base: 0,
+        }
+    }
+}
+
 /// Which touches of an object are wanted.
 #[derive(Clone, Copy)]
 pub enum Wanted {

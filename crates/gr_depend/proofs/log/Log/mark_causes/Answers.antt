@@ -10,9 +10,9 @@ loop-left-init c =
     let rs = c.args.self.now.records.items in
     record {
       within = omega arith;
-      traced = traced_init rs c.args.at c.args.marks.now c.mark_from.new.marks c.requires.within c.requires.marks c.mark_from.auto.marks c.mark_from.ensures.marks;
-      read = c.mark_from.ensures.read_walked;
-      written = c.mark_from.ensures.written_walked;
+      traced = traced_init rs c.args.at c.args.marks.now c.mark_from.new.marks c.requires.within c.requires.marks c.mark_from.auto.marks (rw c.earlier.ensures at c.mark_from.ensures.marks);
+      read = rw c.earlier.ensures at c.mark_from.ensures.read_walked;
+      written = rw c.earlier.ensures at c.mark_from.ensures.written_walked;
     }
 
 pub loop-left-preserved-then-not-marks-left : goal.loop-left-preserved-then-not-marks-left
@@ -38,7 +38,7 @@ loop-left-preserved c =
     record {
       within = omega arith;
       traced = traced_take rs c.args.at c.loop-left.left c.loop-left.marks (omega arith) (omega arith) c.requires.within (omega arith) c.loop-left.invariant.traced
-          n.new.marks n.auto.marks c.if-not-marks-left.false n.ensures.marks;
-      read = n.ensures.read_walked;
-      written = n.ensures.written_walked;
+          n.new.marks n.auto.marks c.if-not-marks-left.false (rw c.earlier-in-loop-left.ensures at n.ensures.marks);
+      read = rw c.earlier-in-loop-left.ensures at n.ensures.read_walked;
+      written = rw c.earlier-in-loop-left.ensures at n.ensures.written_walked;
     }

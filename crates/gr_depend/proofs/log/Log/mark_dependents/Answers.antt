@@ -9,9 +9,9 @@ loop-place-init c =
     let rs = c.args.self.now.records.items in
     let lanes = c.args.self.now.lanes in
     record {
-      spread = spread_init rs c.args.at c.args.marks.now c.mark_from.new.marks c.requires.within c.requires.marks c.mark_from.auto.marks c.mark_from.ensures.marks;
-      read = later_walked rs c.args.at lanes which_are.Writes c.mark_from.new.read c.mark_from.new.marks c.args.at _ (omega arith) c.mark_from.ensures.read_walked;
-      written = later_walked rs c.args.at lanes which_are.All c.mark_from.new.written c.mark_from.new.marks c.args.at _ (omega arith) c.mark_from.ensures.written_walked;
+      spread = spread_init rs c.args.at c.args.marks.now c.mark_from.new.marks c.requires.within c.requires.marks c.mark_from.auto.marks (rw c.later.ensures at c.mark_from.ensures.marks);
+      read = later_walked rs c.args.at lanes which_are.Writes c.mark_from.new.read c.mark_from.new.marks c.args.at _ (omega arith) (rw c.later.ensures at c.mark_from.ensures.read_walked);
+      written = later_walked rs c.args.at lanes which_are.All c.mark_from.new.written c.mark_from.new.marks c.args.at _ (omega arith) (rw c.later.ensures at c.mark_from.ensures.written_walked);
     }
 
 pub loop-place-preserved-then-not-marks-place : goal.loop-place-preserved-then-not-marks-place
@@ -38,7 +38,7 @@ loop-place-preserved c =
     let one = length-set c.args.marks.now 0 true in
     record {
       spread = spread_take rs c.args.at c.loop-place.place c.loop-place.marks (omega arith) (omega arith) (omega arith) c.loop-place.invariant.spread
-          n.new.marks n.auto.marks c.if-not-marks-place.false n.ensures.marks;
-      read = later_walked rs c.args.at lanes which_are.Writes n.new.read n.new.marks c.loop-place.place _ (omega arith) n.ensures.read_walked;
-      written = later_walked rs c.args.at lanes which_are.All n.new.written n.new.marks c.loop-place.place _ (omega arith) n.ensures.written_walked;
+          n.new.marks n.auto.marks c.if-not-marks-place.false (rw c.later-in-loop-place.ensures at n.ensures.marks);
+      read = later_walked rs c.args.at lanes which_are.Writes n.new.read n.new.marks c.loop-place.place _ (omega arith) (rw c.later-in-loop-place.ensures at n.ensures.read_walked);
+      written = later_walked rs c.args.at lanes which_are.All n.new.written n.new.marks c.loop-place.place _ (omega arith) (rw c.later-in-loop-place.ensures at n.ensures.written_walked);
     }
