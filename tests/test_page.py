@@ -13,7 +13,7 @@ import pytest
 
 from support.places import TOP
 
-PACKAGES = ["chromium", "nodejs", "libjs-codemirror", "node-typescript", "eslint"]
+PACKAGES = ["chromium", "nodejs", "libjs-codemirror", "esbuild", "node-typescript", "eslint"]
 TARGETS = {TOP / "bin" / "rewind": "page", TOP / "bin" / "rewind-quick": "quick-page"}
 
 
