@@ -4,8 +4,8 @@ An edit is a file with a line `file: PATH` and pairs of lines `old: TEXT` and `n
 crates/NAME/must-fail and crates/NAME/edits:
 
 - Each applies to its files, no two of a crate have one name or make one change;
-- each changes code and not only what is said of it, but for those of definitions in crates/NAME/edits of a crate whose
-  functions do nothing;
+- each changes code and not only what is said of it, but for those of definitions in crates/NAME/edits: of a crate whose
+  functions do nothing, or of a module that laws alone name;
 - must-fail has at most 49, docs/EDITS.md has one row for each of these, and its functions and clauses are there;
 - the numbers of the others in docs/EDITS.md are right.
 """
@@ -25,6 +25,8 @@ MOST = 49
 GATE, OTHERS = "must-fail", "edits"
 # The crates whose functions do nothing: their contracts are examples and laws.
 WITHOUT_CODE = {"gr_code", "gr_laws", "gr_rules", "litmus"}
+# The modules of other crates that laws alone name.
+OF_LAWS = {"gr_session": {"specs/Claim.antt", "specs/Moves.antt"}}
 NUMBERS = re.compile(r"`crates/NAME/edits` has (\d+) edits.*?(\d+) change code.*?(\d+) change a definition", re.S)
 ROW = re.compile(r"\| (.+) \| `([\w:]+)`(?:, `(\w+)`)? \| `(\w+)` \| `([\w.-]+\.edit)` \|")
 
@@ -127,7 +129,8 @@ def changes_code(files: Files) -> bool:
 def test_an_edit(path: str) -> None:
     files = edited(path)
     _, crate, folder, _ = path.split("/")
-    may_define = folder == OTHERS and crate in WITHOUT_CODE and all(name.startswith("specs/") for name in files)
+    of_laws = OF_LAWS.get(crate, set())
+    may_define = folder == OTHERS and all(crate in WITHOUT_CODE and name.startswith("specs/") or name in of_laws for name in files)
     assert may_define or changes_code(files), "it changes no code: only a definition, a proof, or what is said of the code"
 
 

@@ -20,6 +20,9 @@ mod OneMeaningBatches
 mod OneMeaningNext
 mod ReachedWorlds
 mod OneMeaningJournals
+mod ClaimLemmas
+mod MoveLemmas
+mod TripLemmas
 mod GrantLemmas
 mod CommitLemmas
 mod Deciding

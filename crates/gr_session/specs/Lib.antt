@@ -14,3 +14,5 @@ pub mod Keeps
 pub mod Committing
 pub mod Source
 pub mod Refused
+pub mod Claim
+pub mod Moves

@@ -18,6 +18,7 @@ mod running;
 pub mod session;
 mod stepping;
 mod targets;
+pub mod trips;
 
 pub use gr_command::{Command, Refusal, Reply};
 pub use gr_rollback::Machine;
