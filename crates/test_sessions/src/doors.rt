@@ -1,5 +1,7 @@
 //! Calls of a store that the crates above do not make: they are for users of the library.
 
+ghost use Rattle.gr_step.specs.Stores.{IsStart, program_at};
+
 use gr_base::{Choice, Event, GoName, Kind};
 use gr_session::program_of_source;
 use gr_step::{Record, StepRefused, Store};
