@@ -43,7 +43,8 @@ pub data Makes (p : Program) : Asked → Said → List (Move (Logged p)) → Typ
       → Makes p (asks.Command (commands.Back target)) (replies.PartlyDone (ids_of p rs)) (taking_back (reverse rs))
   takes_again : (rs : List (Logged p)) → Makes p (asks.Command commands.Redo) (replies.Steps (ids_of p rs)) (taking rs)
   takes_some_again : (rs : List (Logged p)) → Makes p (asks.Command commands.Redo) (replies.PartlyDone (ids_of p rs)) (taking rs)
-  -- none: what was asked was refused, or asks something, or puts the steps in another order
+  -- None: what was asked was refused, or asks something, or puts the steps in another order. Of an entry that takes steps, or takes
+  -- some back, this is no trip, since its logs differ in length.
   stays : {asked : Asked} {reply : Said} → Makes p asked reply []
 
 -- entries travel from one world to another: each makes its moves, from where the ones before it lead
